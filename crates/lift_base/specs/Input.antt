@@ -1,0 +1,8 @@
+use Rattle.std.specs.Prelude.{ℕ, Bool}
+
+-- a reader with what was seen of its calls
+pub record InputState (R : Type 0) : Type 0 where
+  pub reader : R
+  pub calls : ℕ
+  pub failed : Bool  -- a call failed
+  pub ended : Bool  -- a call into a buffer found the end

@@ -1,0 +1,6 @@
+pub mod Travel
+pub mod Command
+pub mod History
+pub mod Records
+pub mod Text
+pub mod Input

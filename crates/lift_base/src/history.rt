@@ -1,0 +1,269 @@
+ghost use Rattle.std.specs.Prelude.{◌≡◌, ◌≢◌, ◌↔◌, IsTrue, IfSome, IfNone};
+ghost use Rattle.std.specs.Option.{option_to_list};
+ghost use Rattle.lift_base.specs.History.{terminal_of, number_of, record_of, dir_of, row_after, IsWithinLimits};
+
+use crate::checked::{Floor, Letter, Number, Party, Terminal};
+use crate::travel::{Dir, Stop};
+
+/// A command that was accepted and is kept: a call allotted to a car, or a stop of a car.
+#[derive(Clone, Copy, PartialEq, Eq)]
+pub enum Entry {
+    Allot {
+        kiosk: Terminal,
+        number: Number,
+        from: Floor,
+        to: Floor,
+        car: Letter,
+        party: Party,
+    },
+    Stop {
+        car: Letter,
+        number: Number,
+        floor: Floor,
+        dir: Dir,
+    },
+}
+
+/// The blank of a list with fixed room.
+impl Default for Entry {
+    fn default() -> Self {
+        Entry::Stop {
+            car: Letter::default(),
+            number: Number::default(),
+            floor: Floor::default(),
+            dir: Dir::default(),
+        }
+    }
+}
+
+impl Entry {
+    /// The terminal whose command this was.
+    pub fn terminal(&self) -> Terminal
+        ensures { result ≡ terminal_of self.now }
+    {
+        match *self {
+            Entry::Allot { kiosk, .. } => kiosk,
+            Entry::Stop { car, .. } => Terminal::of_car(car),
+        }
+    }
+
+    pub fn number(&self) -> Number
+        ensures { result ≡ number_of self.now }
+    {
+        match *self {
+            Entry::Allot { number, .. } => number,
+            Entry::Stop { number, .. } => number,
+        }
+    }
+}
+
+/// An open call: it was allotted to a car, and its passengers wait or are aboard.
+#[derive(Clone, Copy, Default, PartialEq, Eq)]
+pub struct Row {
+    pub kiosk: Terminal,
+    pub number: Number,
+    pub from: Floor,
+    pub to: Floor,
+    pub car: Letter,
+    pub party: Party,
+    pub aboard: bool,
+}
+
+impl Row {
+    /// The direction of the call.
+    pub fn dir(&self) -> Dir
+        ensures { result ≡ dir_of self.now.from self.now.to }
+    {
+        if self.to > self.from {
+            Dir::Up
+        } else {
+            Dir::Down
+        }
+    }
+
+    /// The call after a stop of its car, none once its passengers have left. Those aboard for the stop's floor leave,
+    /// whatever its direction is; those who wait there board where their direction is the stop's.
+    pub fn after(&self, stop: Stop) -> Option<Row>
+        ensures { option_to_list result ≡ row_after stop self.now }
+    {
+        if self.aboard {
+            if stop.floor == self.to {
+                None
+            } else {
+                Some(*self)
+            }
+        } else {
+            let aboard = stop.floor == self.from && stop.dir == self.dir();
+            Some(Row { aboard, ..*self })
+        }
+    }
+}
+
+/// What a terminal's last accepted command said, with the letter that a call was answered.
+#[derive(Clone, Copy, PartialEq, Eq)]
+pub enum Content {
+    Letter {
+        from: Floor,
+        to: Floor,
+        car: Letter,
+        party: Party,
+    },
+    Stopped {
+        floor: Floor,
+        dir: Dir,
+    },
+}
+
+/// The blank of a list with fixed room.
+impl Default for Content {
+    fn default() -> Self {
+        Content::Stopped {
+            floor: Floor::default(),
+            dir: Dir::default(),
+        }
+    }
+}
+
+/// The last accepted command of a terminal.
+#[derive(Clone, Copy, Default, PartialEq, Eq)]
+pub struct Last {
+    pub number: Number,
+    pub content: Content,
+}
+
+/// One record of the journal: an entry, or a part of a checkpoint.
+#[derive(Clone, Copy, PartialEq, Eq)]
+pub enum Record {
+    Allot {
+        kiosk: Terminal,
+        number: Number,
+        from: Floor,
+        to: Floor,
+        car: Letter,
+        party: Party,
+    },
+    Stop {
+        car: Letter,
+        number: Number,
+        floor: Floor,
+        dir: Dir,
+    },
+    /// An open call of a checkpoint.
+    Row(Row),
+    /// The last command of a terminal at a checkpoint.
+    Last {
+        terminal: Terminal,
+        last: Last,
+    },
+    /// How many calls were done at a checkpoint, which this ends.
+    Done {
+        count: u32,
+    },
+}
+
+/// The blank of a list with fixed room.
+impl Default for Record {
+    fn default() -> Self {
+        Record::Done { count: 0 }
+    }
+}
+
+impl Record {
+    /// The record that keeps this entry.
+    pub fn of_entry(entry: &Entry) -> Self
+        ensures { result ≡ record_of entry.now }
+    {
+        match *entry {
+            Entry::Allot {
+                kiosk,
+                number,
+                from,
+                to,
+                car,
+                party,
+            } => Record::Allot {
+                kiosk,
+                number,
+                from,
+                to,
+                car,
+                party,
+            },
+            Entry::Stop {
+                car,
+                number,
+                floor,
+                dir,
+            } => Record::Stop {
+                car,
+                number,
+                floor,
+                dir,
+            },
+        }
+    }
+}
+
+impl Record {
+    ghost use Rattle.lift_base.specs.declared.history.Entry.{Entry as EntryValue};
+
+    /// The entry that this record keeps; none for a part of a checkpoint.
+    pub fn entry(&self) -> Option<Entry>
+        ensures some { IfSome result (λ entry. record_of entry ≡ self.now) }
+        ensures none { IfNone result ((entry : EntryValue) → record_of entry ≢ self.now) }
+    {
+        match *self {
+            Record::Allot {
+                kiosk,
+                number,
+                from,
+                to,
+                car,
+                party,
+            } => Some(Entry::Allot {
+                kiosk,
+                number,
+                from,
+                to,
+                car,
+                party,
+            }),
+            Record::Stop {
+                car,
+                number,
+                floor,
+                dir,
+            } => Some(Entry::Stop {
+                car,
+                number,
+                floor,
+                dir,
+            }),
+            _ => None,
+        }
+    }
+}
+
+/// The size of an installation: how many floors, cars and kiosks, and how many sectors in half of its disk.
+#[derive(Clone, Copy, Default, PartialEq, Eq)]
+pub struct Shape {
+    pub floors: u8,
+    pub cars: u8,
+    pub kiosks: u8,
+    pub half: u32,
+}
+
+impl Shape {
+    pub fn is_within_limits(&self) -> bool
+        ensures { IsTrue result ↔ IsWithinLimits self.now }
+    {
+        2 <= self.floors
+            && self.floors <= 64
+            && 1 <= self.cars
+            && self.cars <= 16
+            && 1 <= self.kiosks
+            && self.kiosks <= 47
+            && 64 <= self.half
+            && self.half <= 1_000_000
+    }
+}

@@ -1,0 +1,15 @@
+//! The names, numbers and messages that all parts of the group controller share.
+#![tactic(auto)]
+
+mod checked;
+mod command;
+mod history;
+mod memory;
+pub mod text;
+mod travel;
+
+pub use checked::{Floor, Letter, Number, Party, Terminal};
+pub use command::{Body, Reason, Reply};
+pub use history::{Content, Entry, Last, Record, Row, Shape};
+pub use memory::Memory;
+pub use travel::{Dir, Halt, Pass, Position, Stop};

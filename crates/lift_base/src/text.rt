@@ -1,0 +1,14 @@
+//! What scripts, reports, sessions and the command line share of texts. Nothing here takes memory.
+
+mod display;
+mod input;
+mod names;
+mod number;
+mod output;
+mod words;
+
+pub use input::{Counted, ReadFault};
+pub use names::{dir_of_word, letter_of_word};
+pub use number::number_up_to;
+pub use output::{WriteFault, put_all};
+pub use words::{MOST_WORDS, words_of};

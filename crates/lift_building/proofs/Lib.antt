@@ -1,0 +1,7 @@
+pub mod Each
+pub mod Flags
+pub mod Limits
+pub mod Times
+pub mod Getters
+pub mod Described
+pub mod Again

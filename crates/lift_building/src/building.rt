@@ -1,0 +1,211 @@
+//! A building, once it is read.
+
+ghost use Rattle.std.specs.Prelude.{◌≡◌, ◌≢◌, ◌<◌, ◌≤◌, ◌↔◌, true, length, IfOk, IfErr};
+ghost use Rattle.lift_base.specs.History.{IsWithinLimits};
+ghost use Rattle.toml.specs.View.{view};
+ghost use Rattle.lift_building.specs.Plan.{Plan, HasLimits, IsBuilding, flight_ms, serves_floor, places_of, kiosk_floor_of, shape_of};
+ghost use Rattle.lift_building.specs.Reading.{document_of, plan_of};
+ghost use Rattle.lift_building.specs.Arrivals.{arrivals_of, AreArrivals};
+ghost use Rattle.lift_building.specs.Layout.{layout_view};
+ghost use Rattle.lift_building.specs.Describes.{IsTextOf};
+ghost use Rattle.lift_building.specs.Gives.{GivesIfRoom, IsFirstFault};
+
+use crate::detour::first_detour;
+use crate::fault::BuildingFault;
+use crate::layout::Layout;
+use crate::reading::layout_in;
+use arrayvec::ArrayVec;
+use lift_base::{Floor, Halt, Letter, Position, Shape};
+use std::alloc::Global;
+use std::marker::Model;
+use toml::Value;
+
+/// The document that a text spells.
+fn document_of(alloc: Global, text: &str) -> Result<Value, BuildingFault>
+    ensures { GivesIfRoom view result (document_of text.now) }
+{
+    match toml::table_from_str(alloc, text) {
+        Ok(table) => Ok(Value::Table(table)),
+        Err(error) if error.is_memory() => Err(BuildingFault::Memory),
+        Err(_) => Err(BuildingFault::NotToml),
+    }
+}
+
+/// What a text describes, before the search for detours.
+fn layout_of(alloc: Global, text: &str) -> Result<Layout, BuildingFault>
+    ensures given { GivesIfRoom layout_view result (plan_of text.now) }
+    ensures limits { IfOk result (λ layout. HasLimits (layout_view layout)) }
+{
+    let document = document_of(alloc, text)?;
+    layout_in(&document)
+}
+
+fn floor_at(number: usize) -> Floor
+    requires { number < 64 }
+    ensures { result ≡ number }
+{
+    Floor::new(number as u8).unwrap_or_default()
+}
+
+/// The fault of a flight that a stop on the way would make shorter.
+fn detour(i: usize, j: usize, k: usize) -> BuildingFault
+    requires from { i < 64 }
+    requires by { j < 64 }
+    requires to { k < 64 }
+    ensures { result ≡ BuildingFault.Detour i j k }
+{
+    BuildingFault::Detour(floor_at(i), floor_at(j), floor_at(k))
+}
+
+/// A building: its floors, its cars and kiosks, and the times of its flights.
+#[derive(Drop)]
+pub struct Building {
+    layout: Layout,
+}
+
+impl Model for Building {
+    ghost use Rattle.lift_building.specs.Plan.{Plan, IsBuilding};
+    ghost use Rattle.lift_building.specs.Layout.{layout_view};
+
+    ghost Value = { Plan };
+
+    ghost view = { λ b. layout_view b.layout };
+
+    ghost invariant = { λ b. IsBuilding (layout_view b.layout) };
+}
+
+impl Building {
+    /// The building that a TOML text describes, or the first fault of the text in the order in which it is read:
+    /// `floors`, `door_ms`, `kiosks`, `flight`, `cars`, and last the detours.
+    ///
+    /// # Errors
+    /// `Memory` where no memory was left for the document; else the text's first fault.
+    #[tactic(auto, using(crate::proofs::Again::text_is, crate::proofs::Again::text_again))]
+    pub fn read(alloc: Global, text: &str) -> Result<Self, BuildingFault>
+        // What is read is what the text says, and it is a building.
+        ensures found { IfOk result (λ building. IsTextOf text.now building × IsBuilding building) }
+        // A building's text is refused for want of memory alone.
+        ensures only { (plan : Plan) → IsTextOf text.now plan → IsBuilding plan
+            → IfErr result (λ fault. fault ≡ BuildingFault.Memory) }
+        // Each other fault is the first one of the text.
+        ensures first { IfErr result (λ fault. fault ≢ BuildingFault.Memory → IsFirstFault text.now fault) }
+    {
+        let layout = layout_of(alloc, text)?;
+        match first_detour(&layout) {
+            None => Ok(Building { layout }),
+            Some((i, j, k)) => Err(detour(i, j, k)),
+        }
+    }
+
+    /// The number of floors, 2 to 64.
+    pub fn floors(&self) -> u8
+        ensures value { result ≡ self.now.floors }
+        ensures limit { (2 ≤ result) × (result ≤ 64) }
+        ensures lawful { IsBuilding self.now }
+    {
+        self.layout.floors as u8
+    }
+
+    /// The number of cars, 1 to 16.
+    pub fn cars(&self) -> u8
+        ensures value { result ≡ length self.now.cars }
+        ensures limit { (1 ≤ result) × (result ≤ 16) }
+        ensures lawful { IsBuilding self.now }
+    {
+        self.layout.cars.len() as u8
+    }
+
+    /// The number of kiosks, 1 to 47.
+    pub fn kiosks(&self) -> u8
+        ensures value { result ≡ length self.now.kiosks }
+        ensures limit { (1 ≤ result) × (result ≤ 47) }
+        ensures lawful { IsBuilding self.now }
+    {
+        self.layout.kiosks.len() as u8
+    }
+
+    /// How long a stop takes before the next flight, 0 to 60,000 ms.
+    pub fn door_ms(&self) -> u32
+        ensures value { result ≡ self.now.door_ms }
+        ensures limit { result ≤ 60000 }
+        ensures lawful { IsBuilding self.now }
+    {
+        self.layout.door_ms
+    }
+
+    /// The time from leaving floor i to standing at floor j, at most 600,000 ms; 0 where the building lacks one of them.
+    #[tactic(auto, using(crate::proofs::Times::flight_short))]
+    pub fn flight(&self, i: Floor, j: Floor) -> u32
+        ensures value { result ≡ flight_ms self.now i j }
+        ensures limit { result ≤ 600000 }
+        ensures lawful { IsBuilding self.now }
+    {
+        self.layout.flight(i.get() as usize, j.get() as usize)
+    }
+
+    /// Whether the building has this car and this floor, and the car serves it.
+    #[tactic(auto, using(crate::proofs::Getters::serves_within))]
+    pub fn serves(&self, car: Letter, floor: Floor) -> bool
+        ensures value { result ≡ serves_floor self.now car floor }
+        ensures within { result ≡ true → (car < length self.now.cars) × (floor < self.now.floors) }
+        ensures lawful { IsBuilding self.now }
+    {
+        self.layout.serves(car.get() as usize, floor.get() as usize)
+    }
+
+    /// How many persons the car takes at a time, 1 to 32; 0 where the building lacks it.
+    #[tactic(auto, using(crate::proofs::Getters::places_short, crate::proofs::Getters::places_there))]
+    pub fn places(&self, car: Letter) -> u8
+        ensures value { result ≡ places_of self.now car }
+        ensures there { (1 ≤ result) ↔ (car < length self.now.cars) }
+        ensures limit { result ≤ 32 }
+        ensures lawful { IsBuilding self.now }
+    {
+        self.layout.places(car.get() as usize)
+    }
+
+    /// The floor at which the kiosk with this index stands.
+    pub fn kiosk_floor(&self, kiosk: u8) -> Floor
+        requires { kiosk < length self.now.kiosks }
+        ensures value { result ≡ kiosk_floor_of self.now kiosk }
+        ensures within { result < self.now.floors }
+        ensures lawful { IsBuilding self.now }
+    {
+        self.layout.kiosks[kiosk as usize]
+    }
+
+    /// The shape of a journal for this building, with so many sectors in half of its disk.
+    #[tactic(auto, using(crate::proofs::Getters::shape_within))]
+    pub fn shape(&self, half: u32) -> Shape
+        ensures value { result ≡ shape_of self.now half }
+        ensures limits { 64 ≤ half → half ≤ 1000000 → IsWithinLimits result }
+        ensures lawful { IsBuilding self.now }
+    {
+        Shape {
+            floors: self.floors(),
+            cars: self.cars(),
+            kiosks: self.kiosks(),
+            half,
+        }
+    }
+
+    /// When a car that leaves the position's floor now reaches each halt, in order.
+    pub fn arrivals(&self, position: Position, halts: &[Halt]) -> ArrayVec<u64, 66>
+        requires { length halts.now ≤ 66 }
+        ensures value { result.items ≡ arrivals_of self.now position.floor halts.now }
+        ensures laws { AreArrivals self.now position.floor halts.now result.items }
+        ensures lawful { IsBuilding self.now }
+    {
+        let door_ms = u64::from(self.door_ms());
+        let mut arrivals = ArrayVec::new();
+        let mut floor = position.floor;
+        let mut leaves = 0u64;
+        for halt in halts {
+            let arrives = leaves + u64::from(self.flight(floor, halt.floor));
+            arrivals.push(arrives);
+            floor = halt.floor;
+            leaves = arrives + door_ms;
+        }
+        arrivals
+    }
+}

@@ -1,0 +1,59 @@
+//! The parts of a building as they are kept.
+
+ghost use Rattle.std.specs.Prelude.{◌≡◌};
+ghost use Rattle.lift_building.specs.Plan.{flight_ms, places_of, serves_floor};
+ghost use Rattle.lift_building.specs.Layout.{layout_view};
+
+use arrayvec::ArrayVec;
+use lift_base::Floor;
+
+/// The flights from one floor, by the floor that they go to.
+pub(crate) type Flights = ArrayVec<u32, 64>;
+
+#[derive(Drop, Default)]
+pub(crate) struct Car {
+    pub(crate) places: u8,
+    /// For each floor whether the car serves it.
+    pub(crate) served: ArrayVec<bool, 64>,
+}
+
+#[derive(Drop)]
+pub(crate) struct Layout {
+    pub(crate) floors: u32,
+    pub(crate) door_ms: u32,
+    pub(crate) kiosks: ArrayVec<Floor, 47>,
+    pub(crate) flights: ArrayVec<Flights, 64>,
+    pub(crate) cars: ArrayVec<Car, 16>,
+}
+
+impl Layout {
+    /// The time of a flight.
+    pub(crate) fn flight(&self, i: usize, j: usize) -> u32
+        ensures { result ≡ flight_ms (layout_view self.now) i j }
+    {
+        match self.flights.get(i) {
+            Some(row) => row.get(j).copied().unwrap_or(0),
+            None => 0,
+        }
+    }
+
+    /// How many persons a car takes.
+    pub(crate) fn places(&self, car: usize) -> u8
+        ensures { result ≡ places_of (layout_view self.now) car }
+    {
+        match self.cars.get(car) {
+            Some(car) => car.places,
+            None => 0,
+        }
+    }
+
+    /// Whether a car serves a floor.
+    pub(crate) fn serves(&self, car: usize, floor: usize) -> bool
+        ensures { result ≡ serves_floor (layout_view self.now) car floor }
+    {
+        match self.cars.get(car) {
+            Some(car) => car.served.get(floor).copied().unwrap_or(false),
+            None => false,
+        }
+    }
+}

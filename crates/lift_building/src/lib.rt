@@ -1,0 +1,11 @@
+//! What a building is, read from its text, and how long its cars take.
+#![tactic(auto)]
+
+mod building;
+mod detour;
+mod fault;
+mod layout;
+mod reading;
+
+pub use building::Building;
+pub use fault::{BuildingFault, Field};

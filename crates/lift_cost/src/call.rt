@@ -1,0 +1,39 @@
+ghost use Rattle.std.specs.Prelude.{◌≡◌, ◌≤◌, length};
+ghost use Rattle.lift_cost.specs.Cost.{waiting_row, with_call};
+
+use arrayvec::ArrayVec;
+use lift_base::{Floor, Letter, Number, Party, Row, Terminal};
+
+/// A call that no car has taken yet, for a party of passengers.
+#[derive(Clone, Copy)]
+pub struct NewCall {
+    pub from: Floor,
+    pub to: Floor,
+    pub party: Party,
+}
+
+/// The call as an open one whose passengers wait.
+pub fn waiting_row(call: &NewCall) -> Row
+    ensures { result ≡ waiting_row call.now }
+{
+    Row {
+        kiosk: Terminal::default(),
+        number: Number::default(),
+        from: call.from,
+        to: call.to,
+        car: Letter::default(),
+        party: call.party,
+        aboard: false,
+    }
+}
+
+/// The open calls and the new one.
+pub fn with_call(rows: &[Row], call: &NewCall) -> ArrayVec<Row, 33>
+    requires { length rows.now ≤ 32 }
+    ensures { result.items ≡ with_call rows.now call.now }
+{
+    let mut all = ArrayVec::new();
+    let _fits = all.try_extend_from_slice(rows);
+    all.push(waiting_row(call));
+    all
+}

@@ -1,0 +1,80 @@
+//! Costs from nothing: the stop lists are made for each.
+
+ghost use Rattle.std.specs.Prelude.{◌≡◌, ◌+◌, ◌*◌, ◌<◌, ◌≤◌, length};
+ghost use Rattle.lift_cost.specs.Calls.{AreWithin};
+ghost use Rattle.lift_cost.specs.Cost.{etd, total_etd, own_etd, with_call, total_cost, degradation};
+
+use crate::among::{added_among, etd_among};
+use crate::call::{NewCall, with_call};
+use lift_base::{Position, Row};
+use lift_building::Building;
+use lift_stops::stop_list;
+
+/// The estimated time to destination of one of a car's open calls: how long from now until the car is where its
+/// passengers leave.
+#[tactic(auto, unfolding(crate::specs::Cost::etd))]
+pub fn etd(building: &Building, position: Position, rows: &[Row], row: &Row) -> u64
+    requires { length rows.now ≤ 33 }
+    ensures value { result ≡ etd building.now position rows.now row.now }
+    ensures limit { result ≤ 43560000 }
+{
+    let position = &position;
+    let halts = stop_list(rows, *position);
+    etd_among(building, position, &halts, row)
+}
+
+/// What a new call adds to the times of all passengers of a car, its own with them, and the time of its own.
+fn added(building: &Building, position: &Position, rows: &[Row], call: &NewCall) -> (u64, u64)
+    requires here { position.now.floor < building.now.floors }
+    requires calls { AreWithin building.now.floors rows.now }
+    requires from { call.now.from < building.now.floors }
+    requires to { call.now.to < building.now.floors }
+    requires few { length rows.now ≤ 32 }
+    ensures added { result.0 + total_etd building.now position.now rows.now
+        ≡ total_etd building.now position.now (with_call rows.now call.now) }
+    ensures own { result.1 ≡ own_etd building.now position.now rows.now call.now }
+    ensures no_loss { result.1 ≤ result.0 }
+{
+    let all = with_call(rows, call);
+    let halts = stop_list(rows, *position);
+    let halts_with = stop_list(&all, *position);
+    added_among(building, position, rows, call, &halts, &halts_with)
+}
+
+/// What a new call adds to the times of all passengers of a car, its own with them: each call's time counts once for
+/// each of its persons.
+pub fn total_cost(building: &Building, position: Position, rows: &[Row], call: NewCall) -> u64
+    requires here { position.floor < building.now.floors }
+    requires calls { AreWithin building.now.floors rows.now }
+    requires from { call.from < building.now.floors }
+    requires to { call.to < building.now.floors }
+    requires few { length rows.now ≤ 32 }
+    ensures value { result ≡ total_cost building.now position rows.now call }
+
+    // The sum with the new call is the sum without it and this, so nothing is cut off at 0.
+    ensures added { result + total_etd building.now position rows.now
+        ≡ total_etd building.now position (with_call rows.now call) }
+
+    // The other passengers lose nothing, so this is no less than the time of the new ones.
+    ensures own { own_etd building.now position rows.now call ≤ result }
+{
+    let (cost, _own) = added(building, &position, rows, &call);
+    cost
+}
+
+/// What a new call adds to the times of the other passengers of a car.
+pub fn degradation(building: &Building, position: Position, rows: &[Row], call: NewCall) -> u64
+    requires here { position.floor < building.now.floors }
+    requires calls { AreWithin building.now.floors rows.now }
+    requires from { call.from < building.now.floors }
+    requires to { call.to < building.now.floors }
+    requires few { length rows.now ≤ 32 }
+    ensures value { result ≡ degradation building.now position rows.now call }
+
+    // With the time of the new passengers it is the total cost, so nothing is cut off at 0.
+    ensures parts { result + own_etd building.now position rows.now call
+        ≡ total_cost building.now position rows.now call }
+{
+    let (cost, own) = added(building, &position, rows, &call);
+    cost - own
+}

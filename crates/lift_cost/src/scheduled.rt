@@ -1,0 +1,82 @@
+//! Costs read from a car's schedule, which keeps its stop list.
+
+ghost use Rattle.std.specs.Prelude.{◌≡◌, ◌+◌, ◌*◌, ◌<◌, ◌≤◌, length};
+ghost use Rattle.lift_cost.specs.Calls.{AreWithin};
+ghost use Rattle.lift_cost.specs.Cost.{etd, total_etd, own_etd, with_call, total_cost, degradation};
+
+use crate::among::{added_among, etd_among};
+use crate::call::{NewCall, waiting_row};
+use lift_base::Row;
+use lift_building::Building;
+use lift_stops::Schedule;
+
+/// The estimated time to destination of one of a car's open calls.
+#[tactic(auto, unfolding(crate::specs::Cost::etd))]
+pub fn etd_of(building: &Building, schedule: &Schedule, row: &Row) -> u64
+    ensures value { result ≡ etd building.now schedule.now.position schedule.now.rows row.now }
+    ensures limit { result ≤ 43560000 }
+{
+    etd_among(building, &schedule.position(), schedule.halts(), row)
+}
+
+/// What a new call adds to the times of all passengers of a car, its own with them, and the time of its own.
+fn added(building: &Building, schedule: &Schedule, call: &NewCall) -> (u64, u64)
+    requires here { schedule.now.position.floor < building.now.floors }
+    requires calls { AreWithin building.now.floors schedule.now.rows }
+    requires from { call.now.from < building.now.floors }
+    requires to { call.now.to < building.now.floors }
+    requires few { length schedule.now.rows ≤ 32 }
+    ensures added { result.0 + total_etd building.now schedule.now.position schedule.now.rows
+        ≡ total_etd building.now schedule.now.position (with_call schedule.now.rows call.now) }
+    ensures own { result.1 ≡ own_etd building.now schedule.now.position schedule.now.rows call.now }
+    ensures no_loss { result.1 ≤ result.0 }
+{
+    let position = schedule.position();
+    let halts_with = schedule.halts_with(&waiting_row(call));
+    added_among(
+        building,
+        &position,
+        schedule.rows(),
+        call,
+        schedule.halts(),
+        &halts_with,
+    )
+}
+
+/// What a new call adds to the times of all passengers of a car, its own with them: each call's time counts once for
+/// each of its persons.
+pub fn cost_of(building: &Building, schedule: &Schedule, call: NewCall) -> u64
+    requires here { schedule.now.position.floor < building.now.floors }
+    requires calls { AreWithin building.now.floors schedule.now.rows }
+    requires from { call.from < building.now.floors }
+    requires to { call.to < building.now.floors }
+    requires few { length schedule.now.rows ≤ 32 }
+    ensures value { result ≡ total_cost building.now schedule.now.position schedule.now.rows call }
+
+    // The sum with the new call is the sum without it and this, so nothing is cut off at 0.
+    ensures added { result + total_etd building.now schedule.now.position schedule.now.rows
+        ≡ total_etd building.now schedule.now.position (with_call schedule.now.rows call) }
+
+    // The other passengers lose nothing, so this is no less than the time of the new ones.
+    ensures own { own_etd building.now schedule.now.position schedule.now.rows call ≤ result }
+{
+    let (cost, _own) = added(building, schedule, &call);
+    cost
+}
+
+/// What a new call adds to the times of the other passengers of a car.
+pub fn degradation_of(building: &Building, schedule: &Schedule, call: NewCall) -> u64
+    requires here { schedule.now.position.floor < building.now.floors }
+    requires calls { AreWithin building.now.floors schedule.now.rows }
+    requires from { call.from < building.now.floors }
+    requires to { call.to < building.now.floors }
+    requires few { length schedule.now.rows ≤ 32 }
+    ensures value { result ≡ degradation building.now schedule.now.position schedule.now.rows call }
+
+    // With the time of the new passengers it is the total cost, so nothing is cut off at 0.
+    ensures parts { result + own_etd building.now schedule.now.position schedule.now.rows call
+        ≡ total_cost building.now schedule.now.position schedule.now.rows call }
+{
+    let (cost, own) = added(building, schedule, &call);
+    cost - own
+}

@@ -1,0 +1,536 @@
+-- Each step keeps the rule of its table.
+use Rattle.std.proofs.Common.{◌≡◌, ◌≢◌, ℕ, zero, suc, ◌<◌, ◌≤◌, Bool, true, false, true≢false, List, [], ◌∷◌, ◌++◌, map, length, set, get_or, refl, sym, ap, ◌∙◌, subst, ⊎_elim, arith}
+use Rattle.std.specs.Prelude.{nat_lt, nat_eq, ◌&&◌, if◌then◌else◌}
+use Rattle.std.proofs.lemmas.List.{length_push, length-map}
+use Rattle.std.proofs.lemmas.List.Elements.{All-push}
+use Rattle.std.proofs.lemmas.Bool.Decides.{nat_tests}
+use mathlib.Core.List.{IsPrefix, map-append}
+use mathlib.Core.Option.{none, some, some-injective, some-ne-none}
+use lib.ListN.{get_elem?}
+use Rattle.atomic_table.specs.Table.{State, Me, step, keeps, Allows, Splits, Joins}
+use Rattle.atomic_table.proofs.Lists.{at_set, at_snoc}
+use Rattle.lift_desk.specs.declared.view.ClerkView.{ClerkView}
+use Rattle.lift_desk.specs.declared.view.View.{View}
+use Rattle.lift_desk.specs.Words.{turn_of, number_of, last_of, IsAskWord, IsReplyWord}
+use Rattle.lift_desk.specs.Rule.{blank, opening_view, terminal_view, clerk_view, note_of, ahead_of, told_by, stamp_of, CountTurns, Lists, IsInOrder, IsAhead, Fits, IsKept}
+use Rattle.lift_desk.specs.Steps.{with_ask, with_answer, with_hearing, with_look, with_taking, is_new, is_awaited, at_terminal, at_clerk, Asked, Answered, Looked, LookedAhead, Heard, Met}
+use Rattle.lift_desk.proofs.WordLists.{last_of-push, CountTurns-push, turn_of-last_of, CountTurns-prefix, CountTurns-stamped, prefix_length, stamped_length, prefix_whole, prefix_refl, prefix_nil, prefix_push, prefix_next, stamped_next, stamped_same, All-last_of, IsAhead-push, IsAhead-prefix, IsAhead-take}
+
+abbrev M : Type 0
+M = Me (Unit {0}) View
+
+abbrev AllFit : ℕ → ℕ → Lists → List View → Type 0
+AllFit terminal clerk l views = (seat : ℕ) (v : View) → get_elem? views seat ≡ some v → Fits terminal clerk l seat v
+
+-- one view changes, and the lists with it
+fit_set : (terminal clerk : ℕ) (l : Lists) (views : List View) (id : ℕ) (w : View) → Fits terminal clerk l id w
+    → ((j : ℕ) (u : View) → j ≢ id → get_elem? views j ≡ some u → Fits terminal clerk l j u) → AllFit terminal clerk l (set views id w)
+fit_set terminal clerk l views id w mine others j u e =
+    ⊎_elim
+    (λ (x : (j ≡ id) × (w ≡ u)). subst (λ (y : ℕ × View). Fits terminal clerk l y.0 y.1) (λ i. (sym x.0 i, x.1 i)) mine)
+    (λ (x : (j ≢ id) × (get_elem? views j ≡ some u)). others j u x.0 x.1)
+    (at_set views id j w u e)
+
+off : {A : Type 0} → false ≡ true → A
+off e = absurd (true≢false (sym e))
+
+pub asks_keep : (slots id : ℕ) (me : M) (word : ℕ) → me.0.asks ≡ true → length me.0.terminal.asked ≡ length me.0.terminal.heard
+    → turn_of word ≡ suc (length me.0.terminal.asked) → IsAskWord word
+    → Allows IsKept slots id me 0 (λ _. word) (λ _. Asked (step slots 0 word 0 none) me word)
+asks_keep slots id me word may free turn spelled s r _ at _ =
+    let v = me.0 in
+    let l = r.lists in
+    let o = r.in_order in
+    let mine = r.views id v at in
+    let a = mine.asks may in
+    let asked = l.asked ++ word ∷ [] in
+    let l' : Lists = record { asked = asked; taken = l.taken; answered = l.answered; heard = l.heard } in
+    let same : length v.terminal.asked ≡ length l.asked = ap length a.1 in
+    let same_heard : length v.terminal.heard ≡ length l.heard = ap length a.2 in
+    let in_order : IsInOrder l' = record {
+      turns = CountTurns-push 1 l.asked word o.turns (omega arith);
+      taken = prefix_push l.taken l.asked word o.taken;
+      answered = o.answered;
+      heard = o.heard;
+      one_open = omega (arith, length_push l.asked word);
+      asks_spelled = All-push IsAskWord l.asked word o.asks_spelled spelled;
+      answers_spelled = o.answers_spelled;
+    } in
+    let w = at_terminal v (with_ask v.terminal word) in
+    let fits : Fits r.terminal r.clerk l' id w = record {
+      asks = λ _. (a.0, ap (λ z. z ++ word ∷ []) a.1, a.2);
+      answers = mine.answers;
+      looks_ahead = λ k. IsAhead-push l.asked v.clerk.taken word (mine.looks_ahead k);
+      told = mine.told;
+    } in (
+      w,
+      keeps,
+      tt,
+      record {
+        terminal = r.terminal;
+        clerk = r.clerk;
+        lists = l';
+        words = ap (λ ws. set ws 0 word) r.words ∙ ap (λ z. z ∷ last_of l.answered ∷ []) (sym (last_of-push l.asked word));
+        in_order = in_order;
+        views = fit_set r.terminal r.clerk l' s.views id w fits
+            (λ j u apart e. let f = r.views j u e in record {
+              asks = λ k. absurd (apart ((f.asks k).0 ∙ sym a.0));
+              answers = f.answers;
+              looks_ahead = λ k. IsAhead-push l.asked u.clerk.taken word (f.looks_ahead k);
+              told = f.told;
+            });
+      },
+      refl,
+    )
+
+-- a load changes no word
+loaded : (a b : ℕ) (ws : List ℕ) (i : ℕ) → i < 2 → ws ≡ a ∷ b ∷ [] → set ws i (get_or ws i 0) ≡ a ∷ b ∷ []
+loaded a b ws zero h e = ap (λ z. set z 0 (get_or z 0 0)) e
+loaded a b ws (suc zero) h e = ap (λ z. set z 1 (get_or z 1 0)) e
+loaded a b ws (suc (suc i)) h e = absurd (omega arith)
+
+-- the turns of what was taken and answered, and how many there are of each
+pub record Counts (l : Lists) : Type 0 where
+  pub asked : turn_of (last_of l.asked) ≡ length l.asked
+  pub taken : turn_of (last_of l.taken) ≡ length l.taken
+  pub answered : turn_of (last_of l.answered) ≡ length l.answered
+  pub one_open : length l.asked ≤ suc (length l.heard)
+  pub heard_le : length l.heard ≤ length l.answered
+  pub answered_le : length l.answered ≤ length l.taken
+  pub taken_le : length l.taken ≤ length l.asked
+
+counts : (l : Lists) → IsInOrder l → Counts l
+counts l o =
+    let taken : CountTurns 1 l.taken = CountTurns-prefix 1 l.taken l.asked o.taken o.turns in record {
+      asked = turn_of-last_of l.asked o.turns;
+      taken = turn_of-last_of l.taken taken;
+      answered = turn_of-last_of l.answered (CountTurns-stamped 1 l.answered l.taken o.answered taken);
+      one_open = o.one_open;
+      heard_le = prefix_length l.heard l.answered o.heard;
+      answered_le = stamped_length l.answered l.taken o.answered;
+      taken_le = prefix_length l.taken l.asked o.taken;
+    }
+
+lt_of : (m n : ℕ) → nat_lt m n ≡ true → m < n
+lt_of m n e = grind (arith, nat_tests)
+
+abbrev LooksSo : State (Unit {0}) View → ℕ → View → ℕ → Bool → Type 0
+LooksSo s id v n b =
+    IsKept record { words = set s.words 0 n; homes = s.homes; views = set s.views id (at_clerk v (record { taken = if b then v.clerk.taken ++ n ∷ [] else v.clerk.taken; answered = v.clerk.answered; looks = suc v.clerk.looks; last = n })) }
+    × (b ≡ true → IsAskWord n × (turn_of n ≡ suc (length v.clerk.taken)) × (length v.clerk.answered ≡ length v.clerk.taken))
+
+looks_so : (s : State (Unit {0}) View) (r : IsKept s) (id : ℕ) (v : View) → v.answers ≡ true → v.looks_ahead ≡ false → get_elem? s.views id ≡ some v
+    → (b : Bool) → nat_lt (turn_of (last_of v.clerk.taken)) (turn_of (get_or s.words 0 0)) ≡ b → LooksSo s id v (get_or s.words 0 0) b
+looks_so s r id v may not_ahead at false is =
+    let l = r.lists in
+    let f = r.views id v at in
+    let w = at_clerk v (record { taken = v.clerk.taken; answered = v.clerk.answered; looks = suc v.clerk.looks; last = get_or s.words 0 0 }) in
+    let mine : Fits r.terminal r.clerk l id w = record { asks = f.asks; answers = f.answers; looks_ahead = f.looks_ahead; told = f.told } in (
+      record {
+        terminal = r.terminal;
+        clerk = r.clerk;
+        lists = l;
+        words = loaded (last_of l.asked) (last_of l.answered) s.words 0 (omega arith) r.words;
+        in_order = r.in_order;
+        views = fit_set r.terminal r.clerk l s.views id w mine (λ j u apart e. r.views j u e);
+      },
+      λ e. off e,
+    )
+looks_so s r id v may not_ahead at true is =
+    let l = r.lists in
+    let o = r.in_order in
+    let f = r.views id v at in
+    let a = f.answers may in
+    let c = counts l o in
+    let n : ℕ = get_or s.words 0 0 in
+    let n_is : n ≡ last_of l.asked = ap (λ z. get_or z 0 0) r.words in
+    let turn_is : turn_of n ≡ length l.asked = ap turn_of n_is ∙ c.asked in
+    let last_is : turn_of (last_of v.clerk.taken) ≡ length l.taken = ap (λ z. turn_of (last_of z)) a.1 ∙ c.taken in
+    let above : turn_of (last_of v.clerk.taken) < turn_of n = lt_of _ _ is in
+    let more : length l.asked ≡ suc (length l.taken) = omega arith in
+    let whole : l.asked ≡ l.taken ++ n ∷ [] = prefix_next l.taken l.asked o.taken more ∙ ap (λ z. l.taken ++ z ∷ []) (sym n_is) in
+    let l' : Lists = record { asked = l.asked; taken = l.taken ++ n ∷ []; answered = l.answered; heard = l.heard } in
+    let in_order : IsInOrder l' = record {
+      turns = o.turns;
+      taken = subst (λ z. IsPrefix z l.asked) whole (prefix_refl l.asked);
+      answered = subst (λ z. IsPrefix (map stamp_of l.answered) z) (sym (map-append stamp_of l.taken (n ∷ []))) (prefix_push (map stamp_of l.answered) (map stamp_of l.taken) (stamp_of n) o.answered);
+      heard = o.heard;
+      one_open = o.one_open;
+      asks_spelled = o.asks_spelled;
+      answers_spelled = o.answers_spelled;
+    } in
+    let w = at_clerk v (record { taken = v.clerk.taken ++ n ∷ []; answered = v.clerk.answered; looks = suc v.clerk.looks; last = n }) in
+    let mine : Fits r.terminal r.clerk l' id w = record {
+      asks = f.asks;
+      answers = λ _. (a.0, ap (λ z. z ++ n ∷ []) a.1, a.2);
+      looks_ahead = λ k. off (sym not_ahead ∙ k);
+      told = f.told;
+    } in
+    let taken_same : length v.clerk.taken ≡ length l.taken = ap length a.1 in
+    let answered_same : length v.clerk.answered ≡ length l.answered = ap length a.2 in (
+      record {
+        terminal = r.terminal;
+        clerk = r.clerk;
+        lists = l';
+        words = loaded (last_of l.asked) (last_of l.answered) s.words 0 (omega arith) r.words;
+        in_order = in_order;
+        views = fit_set r.terminal r.clerk l' s.views id w mine
+            (λ j u apart e. let g = r.views j u e in record {
+              asks = g.asks;
+              answers = λ k. absurd (apart ((g.answers k).0 ∙ sym a.0));
+              looks_ahead = g.looks_ahead;
+              told = g.told;
+            });
+      },
+      λ _. (subst IsAskWord (sym n_is) (All-last_of IsAskWord l.asked o.asks_spelled (omega arith)), omega arith, omega arith),
+    )
+
+pub looks_keep : (slots id : ℕ) (me : M) → me.0.answers ≡ true → me.0.looks_ahead ≡ false
+    → Allows IsKept slots id me 0 (λ n. n) (Looked (step slots 0 0 0 none) me)
+looks_keep slots id me may not_ahead s r _ at _ =
+    let n : ℕ = get_or s.words 0 0 in
+    let so = looks_so s r id me.0 may not_ahead at (nat_lt (turn_of (last_of me.0.clerk.taken)) (turn_of n)) refl in
+    (at_clerk me.0 (with_taking me.0.clerk n), keeps, tt, so.0, (refl, so.1))
+
+pub answers_keep : (slots id : ℕ) (me : M) (word : ℕ) → me.0.answers ≡ true → length me.0.clerk.taken ≡ suc (length me.0.clerk.answered)
+    → stamp_of word ≡ stamp_of (last_of me.0.clerk.taken) → IsReplyWord word
+    → Allows IsKept slots id me 1 (λ _. word) (λ _. Answered (step slots 1 word 0 none) me word)
+answers_keep slots id me word may owed stamp spelled s r _ at _ =
+    let v = me.0 in
+    let l = r.lists in
+    let o = r.in_order in
+    let f = r.views id v at in
+    let a = f.answers may in
+    let answered = l.answered ++ word ∷ [] in
+    let l' : Lists = record { asked = l.asked; taken = l.taken; answered = answered; heard = l.heard } in
+    let taken_same : length v.clerk.taken ≡ length l.taken = ap length a.1 in
+    let answered_same : length v.clerk.answered ≡ length l.answered = ap length a.2 in
+    let in_order : IsInOrder l' = record {
+      turns = o.turns;
+      taken = o.taken;
+      answered = subst (IsPrefix (map stamp_of answered)) (stamped_next l.answered l.taken word o.answered (omega arith) (stamp ∙ ap (λ z. stamp_of (last_of z)) a.1)) (prefix_refl (map stamp_of answered));
+      heard = prefix_push l.heard l.answered word o.heard;
+      one_open = o.one_open;
+      asks_spelled = o.asks_spelled;
+      answers_spelled = All-push IsReplyWord l.answered word o.answers_spelled spelled;
+    } in
+    let w = at_clerk v (with_answer v.clerk word) in
+    let mine : Fits r.terminal r.clerk l' id w = record {
+      asks = f.asks;
+      answers = λ _. (a.0, a.1, ap (λ z. z ++ word ∷ []) a.2);
+      looks_ahead = f.looks_ahead;
+      told = prefix_push v.told l.answered word f.told;
+    } in (
+      w,
+      keeps,
+      tt,
+      record {
+        terminal = r.terminal;
+        clerk = r.clerk;
+        lists = l';
+        words = ap (λ ws. set ws 1 word) r.words ∙ ap (λ z. last_of l.asked ∷ z ∷ []) (sym (last_of-push l.answered word));
+        in_order = in_order;
+        views = fit_set r.terminal r.clerk l' s.views id w mine
+            (λ j u apart e. let g = r.views j u e in record {
+              asks = g.asks;
+              answers = λ k. absurd (apart ((g.answers k).0 ∙ sym a.0));
+              looks_ahead = g.looks_ahead;
+              told = prefix_push u.told l.answered word g.told;
+            });
+      },
+      refl,
+    )
+
+awaits : (h a t : ℕ) → (nat_lt h a && nat_eq t a) ≡ true → (h < a) × (t ≡ a)
+awaits h a t e = grind (arith, nat_tests)
+
+abbrev HearsSo : State (Unit {0}) View → ℕ → View → ℕ → Bool → Type 0
+HearsSo s id v n b =
+    IsKept record { words = set s.words 1 n; homes = s.homes; views = set s.views id (at_terminal v (record { asked = v.terminal.asked; heard = if b then v.terminal.heard ++ n ∷ [] else v.terminal.heard; looks = suc v.terminal.looks; last = n })) }
+    × (b ≡ true → IsReplyWord n × (turn_of n ≡ length v.terminal.asked) × (number_of n ≡ number_of (last_of v.terminal.asked)))
+
+hears_so : (s : State (Unit {0}) View) (r : IsKept s) (id : ℕ) (v : View) → v.asks ≡ true → get_elem? s.views id ≡ some v
+    → (b : Bool) → is_awaited v.terminal (get_or s.words 1 0) ≡ b → HearsSo s id v (get_or s.words 1 0) b
+hears_so s r id v may at false is =
+    let l = r.lists in
+    let f = r.views id v at in
+    let w = at_terminal v (with_look v.terminal (get_or s.words 1 0)) in
+    let mine : Fits r.terminal r.clerk l id w = record { asks = f.asks; answers = f.answers; looks_ahead = f.looks_ahead; told = f.told } in (
+      record {
+        terminal = r.terminal;
+        clerk = r.clerk;
+        lists = l;
+        words = loaded (last_of l.asked) (last_of l.answered) s.words 1 (omega arith) r.words;
+        in_order = r.in_order;
+        views = fit_set r.terminal r.clerk l s.views id w mine (λ j u apart e. r.views j u e);
+      },
+      λ e. off e,
+    )
+hears_so s r id v may at true is =
+    let l = r.lists in
+    let o = r.in_order in
+    let f = r.views id v at in
+    let a = f.asks may in
+    let c = counts l o in
+    let n : ℕ = get_or s.words 1 0 in
+    let n_is : n ≡ last_of l.answered = ap (λ z. get_or z 1 0) r.words in
+    let turn_is : turn_of n ≡ length l.answered = ap turn_of n_is ∙ c.answered in
+    let awaited = awaits (length v.terminal.heard) (length v.terminal.asked) (turn_of n) is in
+    let asked_same : length v.terminal.asked ≡ length l.asked = ap length a.1 in
+    let heard_same : length v.terminal.heard ≡ length l.heard = ap length a.2 in
+    let unheard = awaited.0 in
+    let latest = awaited.1 in
+    let more : length l.answered ≡ suc (length l.heard) = omega arith in
+    let whole : l.answered ≡ l.heard ++ n ∷ [] = prefix_next l.heard l.answered o.heard more ∙ ap (λ z. l.heard ++ z ∷ []) (sym n_is) in
+    let l' : Lists = record { asked = l.asked; taken = l.taken; answered = l.answered; heard = l.heard ++ n ∷ [] } in
+    let in_order : IsInOrder l' = record {
+      turns = o.turns;
+      taken = o.taken;
+      answered = o.answered;
+      heard = subst (λ z. IsPrefix z l.answered) whole (prefix_refl l.answered);
+      one_open = omega (arith, length_push l.heard n);
+      asks_spelled = o.asks_spelled;
+      answers_spelled = o.answers_spelled;
+    } in
+    let w = at_terminal v (record { asked = v.terminal.asked; heard = v.terminal.heard ++ n ∷ []; looks = suc v.terminal.looks; last = n }) in
+    let mine : Fits r.terminal r.clerk l' id w = record {
+      asks = λ _. (a.0, a.1, ap (λ z. z ++ n ∷ []) a.2);
+      answers = f.answers;
+      looks_ahead = f.looks_ahead;
+      told = f.told;
+    } in (
+      record {
+        terminal = r.terminal;
+        clerk = r.clerk;
+        lists = l';
+        words = loaded (last_of l.asked) (last_of l.answered) s.words 1 (omega arith) r.words;
+        in_order = in_order;
+        views = fit_set r.terminal r.clerk l' s.views id w mine
+            (λ j u apart e. let g = r.views j u e in record {
+              asks = λ k. absurd (apart ((g.asks k).0 ∙ sym a.0));
+              answers = g.answers;
+              looks_ahead = g.looks_ahead;
+              told = g.told;
+            });
+      },
+      λ _. (
+        subst IsReplyWord (sym n_is) (All-last_of IsReplyWord l.answered o.answers_spelled (omega arith)),
+        latest,
+        ap number_of n_is ∙ ap (λ (z : ℕ × ℕ). z.1) (stamped_last l.answered l.asked o.answered (taken_whole l o (omega arith)) (omega arith) (omega arith)) ∙ ap (λ z. number_of (last_of z)) (sym a.1),
+      ),
+    )
+  where
+    taken_whole : (l : Lists) (o : IsInOrder l) → length l.asked ≤ length l.taken → l.taken ≡ l.asked
+    taken_whole l o h = prefix_whole l.taken l.asked o.taken h
+
+    stamped_last : (xs ys : List ℕ) {zs : List ℕ} → IsPrefix (map stamp_of xs) (map stamp_of zs) → zs ≡ ys → length ys ≤ length xs → 0 < length xs → stamp_of (last_of xs) ≡ stamp_of (last_of ys)
+    stamped_last xs ys {zs} p e long some_word = stamped_same xs ys (prefix_whole (map stamp_of xs) (map stamp_of ys) (subst (λ z. IsPrefix (map stamp_of xs) (map stamp_of z)) e p) (omega (arith, length-map xs stamp_of, length-map ys stamp_of))) some_word
+
+pub hears_keep : (slots id : ℕ) (me : M) → me.0.asks ≡ true → Allows IsKept slots id me 1 (λ n. n) (Heard (step slots 1 0 0 none) me)
+hears_keep slots id me may s r _ at _ =
+    let n : ℕ = get_or s.words 1 0 in
+    let so = hears_so s r id me.0 may at (is_awaited me.0.terminal n) refl in
+    (at_terminal me.0 (with_hearing me.0.terminal n), keeps, tt, so.0, (refl, so.1))
+
+pub meets_keep : (slots id : ℕ) (me : M) → me.0.asks ≡ true → Allows IsKept slots id me 1 (λ n. n) (Met (step slots 1 0 0 none) me)
+meets_keep slots id me may s r _ at _ =
+    let v = me.0 in
+    let l = r.lists in
+    let o = r.in_order in
+    let f = r.views id v at in
+    let a = f.asks may in
+    let c = counts l o in
+    let n : ℕ = get_or s.words 1 0 in
+    let n_is : n ≡ last_of l.answered = ap (λ z. get_or z 1 0) r.words in
+    let w = at_terminal v (with_look v.terminal n) in
+    let mine : Fits r.terminal r.clerk l id w = record { asks = f.asks; answers = f.answers; looks_ahead = f.looks_ahead; told = f.told } in (
+      w,
+      keeps,
+      tt,
+      record {
+        terminal = r.terminal;
+        clerk = r.clerk;
+        lists = l;
+        words = loaded (last_of l.asked) (last_of l.answered) s.words 1 (omega arith) r.words;
+        in_order = o;
+        views = fit_set r.terminal r.clerk l s.views id w mine (λ j u apart e. r.views j u e);
+      },
+      (
+        refl,
+        λ as_long.
+            let long : length l.answered ≤ length v.told = let t : turn_of n ≡ length l.answered = ap turn_of n_is ∙ c.answered in omega arith in
+            let same : v.told ≡ l.answered = prefix_whole v.told l.answered f.told long in
+            subst (λ (z : List ℕ × List ℕ). IsPrefix z.0 z.1) (λ i. (sym a.2 i, sym same i)) o.heard,
+      ),
+    )
+
+-- the table at the start
+pub begins : IsKept record { words = 0 ∷ 0 ∷ []; homes = []; views = opening_view ∷ [] }
+begins = record {
+  terminal = 0;
+  clerk = 0;
+  lists = record { asked = []; taken = []; answered = []; heard = [] };
+  words = refl;
+  in_order = record {
+    turns = tt;
+    taken = prefix_nil [];
+    answered = prefix_nil [];
+    heard = prefix_nil [];
+    one_open = omega arith;
+    asks_spelled = λ k d below. absurd (omega arith);
+    answers_spelled = λ k d below. absurd (omega arith);
+  };
+  views = one;
+}
+  where
+    one : (seat : ℕ) (v : View) → get_elem? (opening_view ∷ []) seat ≡ some v → Fits 0 0 (record { asked = []; taken = []; answered = []; heard = [] }) seat v
+    one zero v e = subst (Fits 0 0 (record { asked = []; taken = []; answered = []; heard = [] }) 0) (some-injective opening_view v e) (record { asks = λ _. (refl, refl, refl); answers = λ _. (refl, refl, refl); looks_ahead = λ k. off k; told = prefix_nil [] })
+    one (suc seat) v e = absurd (some-ne-none v (sym e))
+
+at_end : (l : List View) (a b : View) (j : ℕ) → get_elem? l j ≢ some b → get_elem? (l ++ a ∷ []) j ≡ some b → j ≡ length l
+at_end [] a b zero n e = refl
+at_end [] a b (suc j) n e = absurd (some-ne-none b (sym e))
+at_end (x ∷ xs) a b zero n e = absurd (n e)
+at_end (x ∷ xs) a b (suc j) n e = ap suc (at_end xs a b j n e)
+
+-- the first seat becomes the terminal's, and the new one is the clerk's
+pub seats_split : (id : ℕ) → Splits IsKept id opening_view terminal_view clerk_view
+seats_split id s r at =
+    let l = r.lists in
+    let f = r.views id opening_view at in
+    let a = f.asks refl in
+    let b = f.answers refl in
+    let vs = set s.views id terminal_view in
+    let Old : ℕ → View → Type 0 = λ j u. (u.asks ≡ true → (j ≡ r.terminal) × (u.terminal.asked ≡ l.asked) × (u.terminal.heard ≡ l.heard)) × (u.answers ≢ true) × (u.looks_ahead ≡ true → IsAhead l.asked u.clerk.taken) × IsPrefix u.told l.answered in
+    let old : (j : ℕ) (u : View) → get_elem? vs j ≡ some u → Old j u = λ j u e.
+    ⊎_elim
+    (λ (x : (j ≡ id) × (terminal_view ≡ u)). subst (λ (y : ℕ × View). Old y.0 y.1) (λ i. (sym x.0 i, x.1 i)) (f.asks, (λ k. off k), (λ k. off k), prefix_nil l.answered))
+    (λ (x : (j ≢ id) × (get_elem? s.views j ≡ some u)). let g = r.views j u x.1 in (g.asks, (λ k. x.0 ((g.answers k).0 ∙ sym b.0)), g.looks_ahead, g.told))
+    (at_set s.views id j terminal_view u e) in
+    record {
+      terminal = r.terminal;
+      clerk = length vs;
+      lists = l;
+      words = r.words;
+      in_order = r.in_order;
+      views = λ j u e. ⊎_elim
+          (λ (x : get_elem? vs j ≡ some u). let g = old j u x in record { asks = g.0; answers = λ k. absurd (g.1 k); looks_ahead = g.2; told = g.3 })
+          (λ (is : clerk_view ≡ u). record {
+            asks = λ k. off (ap (λ (y : View). y.asks) is ∙ k);
+            answers = λ k. (at_end vs clerk_view u j (λ x. (old j u x).1 k) e, ap (λ (y : View). y.clerk.taken) (sym is) ∙ b.1, ap (λ (y : View). y.clerk.answered) (sym is) ∙ b.2);
+            looks_ahead = λ k. off (ap (λ (y : View). y.looks_ahead) is ∙ k);
+            told = subst (λ (z : View). IsPrefix z.told l.answered) is (prefix_nil l.answered);
+          })
+          (at_snoc vs clerk_view u j e);
+    }
+
+-- a new seat that may store nothing
+adds : (id : ℕ) (v w : View) (s : State (Unit {0}) View) (r : IsKept s) → get_elem? s.views id ≡ some v → ((j : ℕ) → Fits r.terminal r.clerk r.lists j w)
+    → IsKept record { words = s.words; homes = s.homes; views = set s.views id v ++ w ∷ [] }
+adds id v w s r at new = record {
+  terminal = r.terminal;
+  clerk = r.clerk;
+  lists = r.lists;
+  words = r.words;
+  in_order = r.in_order;
+  views = λ j u e. ⊎_elim
+      (λ (x : get_elem? (set s.views id v) j ≡ some u). fit_set r.terminal r.clerk r.lists s.views id v (r.views id v at) (λ i y apart e'. r.views i y e') j u x)
+      (λ (is : w ≡ u). subst (Fits r.terminal r.clerk r.lists j) is (new j))
+      (at_snoc (set s.views id v) w u j e);
+}
+
+pub tells_split : (id : ℕ) (v : View) → v.answers ≡ true → Splits IsKept id v v (note_of v)
+tells_split id v may s r at =
+    let a = (r.views id v at).answers may in
+    adds id v (note_of v) s r at (λ j. record { asks = λ k. off k; answers = λ k. off k; looks_ahead = λ k. off k; told = subst (λ z. IsPrefix z r.lists.answered) (sym a.2) (prefix_refl r.lists.answered) })
+
+pub ahead_split : (id : ℕ) (v : View) → v.answers ≡ true → Splits IsKept id v v (ahead_of v)
+ahead_split id v may s r at =
+    let a = (r.views id v at).answers may in
+    let o = r.in_order in
+    adds id v (ahead_of v) s r at
+    (λ j. record { asks = λ k. off k; answers = λ k. off k; looks_ahead = λ _. subst (IsAhead r.lists.asked) (sym a.1) (IsAhead-prefix r.lists.asked r.lists.taken o.turns o.taken); told = prefix_nil r.lists.answered })
+
+-- a seat is spent, and another may have learned what it was told
+spends : (id : ℕ) (v : View) (other : ℕ) (u w : View) (s : State (Unit {0}) View) (r : IsKept s) → Fits r.terminal r.clerk r.lists id w
+    → IsKept record { words = s.words; homes = s.homes; views = set (set s.views id w) other blank }
+spends id v other u w s r mine = record {
+  terminal = r.terminal;
+  clerk = r.clerk;
+  lists = r.lists;
+  words = r.words;
+  in_order = r.in_order;
+  views = fit_set r.terminal r.clerk r.lists (set s.views id w) other blank (record { asks = λ k. off k; answers = λ k. off k; looks_ahead = λ k. off k; told = prefix_nil r.lists.answered })
+      (λ j y apart e. fit_set r.terminal r.clerk r.lists s.views id w mine (λ i x _ e'. r.views i x e') j y e);
+}
+
+pub tells_join : (id : ℕ) (v : View) (other : ℕ) (u : View) → Joins IsKept id v other u (told_by v u) blank
+tells_join id v other u s r at apart there =
+    let f = r.views id v at in
+    let was : get_elem? s.views other ≡ some u = ⊎_elim (λ (x : (other ≡ id) × (told_by v u ≡ u)). absurd (apart x.0)) (λ (x : (other ≢ id) × (get_elem? s.views other ≡ some u)). x.1) (at_set s.views id other (told_by v u) u there) in
+    let g = r.views other u was in
+    spends id v other u (told_by v u) s r (record { asks = f.asks; answers = f.answers; looks_ahead = f.looks_ahead; told = g.told })
+
+pub ahead_join : (id : ℕ) (v : View) (other : ℕ) (u : View) → Joins IsKept id v other u v blank
+ahead_join id v other u s r at apart there = spends id v other u v s r (r.views id v at)
+
+abbrev AheadSo : State (Unit {0}) View → ℕ → View → ℕ → Bool → Type 0
+AheadSo s id v n b =
+    IsKept record { words = set s.words 0 n; homes = s.homes; views = set s.views id (at_clerk v (record { taken = if b then v.clerk.taken ++ n ∷ [] else v.clerk.taken; answered = v.clerk.answered; looks = suc v.clerk.looks; last = n })) }
+    × (b ≡ true → IsAskWord n)
+
+ahead_so : (s : State (Unit {0}) View) (r : IsKept s) (id : ℕ) (v : View) → v.looks_ahead ≡ true → v.answers ≡ false → get_elem? s.views id ≡ some v
+    → (b : Bool) → nat_lt (turn_of (last_of v.clerk.taken)) (turn_of (get_or s.words 0 0)) ≡ b → AheadSo s id v (get_or s.words 0 0) b
+ahead_so s r id v may no_answer at b is =
+    let l = r.lists in
+    let o = r.in_order in
+    let f = r.views id v at in
+    let c = counts l o in
+    let n : ℕ = get_or s.words 0 0 in
+    let n_is : n ≡ last_of l.asked = ap (λ z. get_or z 0 0) r.words in
+    let asked : turn_of n ≡ length l.asked = ap turn_of n_is ∙ c.asked in
+    let w = at_clerk v (record { taken = if b then v.clerk.taken ++ n ∷ [] else v.clerk.taken; answered = v.clerk.answered; looks = suc v.clerk.looks; last = n }) in
+    let mine : Fits r.terminal r.clerk l id w = record {
+      asks = f.asks;
+      answers = λ k. off (sym no_answer ∙ k);
+      looks_ahead = λ k. taken_more l.asked v.clerk.taken n b n_is asked (f.looks_ahead k) is;
+      told = f.told;
+    } in (
+      record {
+        terminal = r.terminal;
+        clerk = r.clerk;
+        lists = l;
+        words = loaded (last_of l.asked) (last_of l.answered) s.words 0 (omega arith) r.words;
+        in_order = r.in_order;
+        views = fit_set r.terminal r.clerk l s.views id w mine (λ j u apart e. r.views j u e);
+      },
+      λ e. let above : turn_of (last_of v.clerk.taken) < turn_of n = lt_of _ _ (is ∙ e) in subst IsAskWord (sym n_is) (All-last_of IsAskWord l.asked o.asks_spelled (omega arith)),
+    )
+  where
+    taken_more : (asked taken : List ℕ) (n : ℕ) (b : Bool) → n ≡ last_of asked → turn_of n ≡ length asked → IsAhead asked taken → nat_lt (turn_of (last_of taken)) (turn_of n) ≡ b
+        → IsAhead asked (if b then taken ++ n ∷ [] else taken)
+    taken_more asked taken n false n_is turn h is = h
+    taken_more asked taken n true n_is turn h is =
+        let above : turn_of (last_of taken) < turn_of n = lt_of _ _ is in
+        subst (λ z. IsAhead asked (taken ++ z ∷ [])) (sym n_is) (IsAhead-take asked taken (omega arith) h (subst (λ z. turn_of (last_of taken) < turn_of z) n_is above))
+
+pub looks_ahead_keep : (slots id : ℕ) (me : M) → me.0.looks_ahead ≡ true → me.0.answers ≡ false
+    → Allows IsKept slots id me 0 (λ n. n) (LookedAhead (step slots 0 0 0 none) me)
+looks_ahead_keep slots id me may none' s r _ at _ =
+    let n : ℕ = get_or s.words 0 0 in
+    let so = ahead_so s r id me.0 may none' at (nat_lt (turn_of (last_of me.0.clerk.taken)) (turn_of n)) refl in
+    (at_clerk me.0 (with_taking me.0.clerk n), keeps, tt, so.0, (refl, so.1))
+
+pub lt_true : (m n : ℕ) → m < n → nat_lt m n ≡ true
+lt_true m n h = grind (arith, nat_tests)
+
+pub taken_more : (v : ClerkView) (word : ℕ) → is_new v word ≡ true → (with_taking v word).taken ≡ v.taken ++ word ∷ []
+taken_more v word e = ap (λ (b : Bool). if b then v.taken ++ word ∷ [] else v.taken) e
+
+pub owes_one : (b : Bool) (taken answered : ℕ) → (b ≡ true → taken ≡ suc answered) → (b ≡ false → taken ≡ answered) → answered < taken → taken ≡ suc answered
+owes_one true taken answered one even h = one refl
+owes_one false taken answered one even h = let e = even refl in absurd (omega arith)
+
+-- the same, of a view that is known
+pub seats_split_as : (id : ℕ) (v : View) → v ≡ opening_view → Splits IsKept id v terminal_view clerk_view
+seats_split_as id v is = subst (λ (u : View). Splits IsKept id u terminal_view clerk_view) (sym is) (seats_split id)

@@ -1,0 +1,43 @@
+use Rattle.std.proofs.Common.{◌≡◌, ℕ, ◌+◌, List, [], ◌∷◌, ◌++◌, length, true≢false, sym, ap, ◌∙◌, arith}
+use Rattle.std.proofs.lemmas.List.{length_push}
+use Rattle.lift_desk.specs.Words.{number_of, last_of}
+use Rattle.lift_desk.proofs.Keeps.{asks_keep}
+use Rattle.lift_desk.proofs.WordLists.{last_of-push}
+use Rattle.lift_desk.proofs.seat.Seat.ask.Goals as goal
+
+pub store-requires : goal.store-requires
+store-requires c =
+    let i = c.self.invariant in
+    let turn = c.ask_word-word.ensures.turn in
+    (ap (λ s. s.table) c.self.view_is ∙ c.requires.0, omega arith, asks_keep _ _ _ _ i.asks (i.rests c.if-self.false) (omega arith) c.ask_word-word.ensures.spelled)
+
+pub invariant_of-self : goal.invariant_of-self
+invariant_of-self c =
+    let i = c.self.invariant in
+    let e = c.store.ensures.2 in
+    let old : List ℕ = c.self.inside.chair.me.0.terminal.asked in
+    let word : ℕ = c.ask_word-word.result in
+    let asked : c.store.new.seat.me.0.terminal.asked ≡ old ++ word ∷ [] = ap (λ m. m.0.terminal.asked) e in
+    let heard : c.store.new.seat.me.0.terminal.heard ≡ c.self.inside.chair.me.0.terminal.heard = ap (λ m. m.0.terminal.heard) e in
+    let one_more : length c.store.new.seat.me.0.terminal.asked ≡ length old + 1 = ap length asked ∙ length_push old word in
+    let same : length c.store.new.seat.me.0.terminal.heard ≡ length c.self.inside.chair.me.0.terminal.heard = ap length heard in
+    let free = i.rests c.if-self.false in record {
+      asks = ap (λ m. m.0.asks) e ∙ i.asks;
+      turn = omega arith;
+      in_range = omega arith;
+      number = sym c.ask_word-word.ensures.number ∙ ap number_of (sym (last_of-push old word)) ∙ ap (λ l. number_of (last_of l)) (sym asked);
+      waits = λ _. omega arith;
+      rests = λ k. absurd (true≢false k);
+    }
+
+pub returns-clause-pending : goal.returns-clause-pending
+returns-clause-pending c =
+    let e = c.store.ensures.2 in
+    let old : List ℕ = c.self.inside.chair.me.0.terminal.asked in
+    let word : ℕ = c.ask_word-word.result in
+    let asked : c.store.new.seat.me.0.terminal.asked ≡ old ++ word ∷ [] = ap (λ m. m.0.terminal.asked) e in
+    let heard : c.store.new.seat.me.0.terminal.heard ≡ c.self.inside.chair.me.0.terminal.heard = ap (λ m. m.0.terminal.heard) e in
+    let one_more : length c.store.new.seat.me.0.terminal.asked ≡ length old + 1 = ap length asked ∙ length_push old word in
+    let same : length c.store.new.seat.me.0.terminal.heard ≡ length c.self.inside.chair.me.0.terminal.heard = ap length heard in
+    let free = c.self.invariant.rests c.if-self.false in
+    (omega arith, ap (λ l. number_of (last_of l)) asked ∙ ap number_of (last_of-push old word) ∙ c.ask_word-word.ensures.number)

@@ -1,0 +1,91 @@
+-- The rule of one terminal's table: its two words, what the terminal knows, and what the clerk knows.
+use Rattle.std.specs.Prelude.{◌≡◌, ℕ, suc, ◌≤◌, true, false, List, [], ◌∷◌, map, length, All, Contains}
+use Rattle.std.specs.List.Sorted.{IsStrictlyIncreasing}
+use mathlib.Core.List.{IsPrefix}
+use mathlib.Core.Option.{some}
+use lib.ListN.{get_elem?}
+use Rattle.atomic_table.specs.Table.{State}
+use Rattle.lift_desk.specs.declared.view.TerminalView.{TerminalView}
+use Rattle.lift_desk.specs.declared.view.ClerkView.{ClerkView}
+use Rattle.lift_desk.specs.declared.view.View.{View}
+use Rattle.lift_desk.specs.Words.{turn_of, number_of, last_of, IsAskWord, IsReplyWord}
+
+-- no word yet
+abbrev pub no_asks : TerminalView
+no_asks = record { asked = []; heard = []; looks = 0; last = 0 }
+
+abbrev pub no_answers : ClerkView
+no_answers = record { taken = []; answered = []; looks = 0; last = 0 }
+
+-- a seat that may do nothing
+abbrev pub blank : View
+blank = record { asks = false; answers = false; looks_ahead = false; terminal = no_asks; clerk = no_answers; told = [] }
+
+-- the first seat, before it is split into the terminal's and the clerk's
+abbrev pub opening_view : View
+opening_view = record { asks = true; answers = true; looks_ahead = false; terminal = no_asks; clerk = no_answers; told = [] }
+
+abbrev pub terminal_view : View
+terminal_view = record { asks = true; answers = false; looks_ahead = false; terminal = no_asks; clerk = no_answers; told = [] }
+
+abbrev pub clerk_view : View
+clerk_view = record { asks = false; answers = true; looks_ahead = false; terminal = no_asks; clerk = no_answers; told = [] }
+
+-- a note of what was answered
+abbrev pub note_of : View → View
+note_of v = record { asks = false; answers = false; looks_ahead = false; terminal = no_asks; clerk = no_answers; told = v.clerk.answered }
+
+-- what a seat that looks ahead of the clerk begins with
+abbrev pub ahead_of : View → View
+ahead_of v = record { asks = false; answers = false; looks_ahead = true; terminal = no_asks; clerk = record { taken = v.clerk.taken; answered = []; looks = 0; last = 0 }; told = [] }
+
+-- the view of a seat that has read a note
+abbrev pub told_by : View → View → View
+told_by v note = record { asks = v.asks; answers = v.answers; looks_ahead = v.looks_ahead; terminal = v.terminal; clerk = v.clerk; told = note.told }
+
+-- the turn and the number of a word
+abbrev pub stamp_of : ℕ → ℕ × ℕ
+stamp_of word = (turn_of word, number_of word)
+
+-- the words' turns are first, first + 1 and so on
+abbrev pub CountTurns : ℕ → List ℕ → Type 0
+CountTurns first [] = Unit {0}
+CountTurns first (word ∷ words) = (turn_of word ≡ first) × CountTurns (suc first) words
+
+-- all words of one terminal so far
+pub record Lists : Type 0 where
+  pub asked : List ℕ
+  pub taken : List ℕ
+  pub answered : List ℕ
+  pub heard : List ℕ
+
+-- Asks are taken, answered and heard in order, and each waits until the one before it was heard
+pub record IsInOrder (l : Lists) : Type 0 where
+  pub turns : CountTurns 1 l.asked
+  pub taken : IsPrefix l.taken l.asked
+  pub answered : IsPrefix (map stamp_of l.answered) (map stamp_of l.taken)
+  pub heard : IsPrefix l.heard l.answered
+  pub one_open : length l.asked ≤ suc (length l.heard)
+  pub asks_spelled : All IsAskWord l.asked
+  pub answers_spelled : All IsReplyWord l.answered
+
+-- looked at ahead: each word was asked, and the turns rise
+pub record IsAhead (asked taken : List ℕ) : Type 0 where
+  pub asked_all : All (Contains asked) taken
+  pub rise : IsStrictlyIncreasing (map turn_of taken)
+
+-- One seat at most stores asks and one answers, and what these know is all that there is
+pub record Fits (terminal clerk : ℕ) (l : Lists) (seat : ℕ) (v : View) : Type 0 where
+  pub asks : v.asks ≡ true → (seat ≡ terminal) × (v.terminal.asked ≡ l.asked) × (v.terminal.heard ≡ l.heard)
+  pub answers : v.answers ≡ true → (seat ≡ clerk) × (v.clerk.taken ≡ l.taken) × (v.clerk.answered ≡ l.answered)
+  pub looks_ahead : v.looks_ahead ≡ true → IsAhead l.asked v.clerk.taken
+  pub told : IsPrefix v.told l.answered
+
+-- the two words are the last ask and the last answer
+pub record IsKept (s : State (Unit {0}) View) : Type 0 where
+  pub terminal : ℕ
+  pub clerk : ℕ
+  pub lists : Lists
+  pub words : s.words ≡ last_of lists.asked ∷ last_of lists.answered ∷ []
+  pub in_order : IsInOrder lists
+  pub views : (seat : ℕ) (v : View) → get_elem? s.views seat ≡ some v → Fits terminal clerk lists seat v

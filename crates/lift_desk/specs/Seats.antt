@@ -1,0 +1,105 @@
+-- Seats and desks as contracts see them.
+use Rattle.std.specs.Prelude.{◌≡◌, ℕ, suc, ◌<◌, Bool, true, false, List, [], ◌∷◌, map, length, slice_get, slice_index_or, slice_set, Option, Some, None, All}
+use Rattle.atomic_table.specs.Seated.{TableId}
+use Rattle.lift_base.specs.declared.command.Reply.{Reply}
+use Rattle.lift_desk.specs.declared.view.TerminalView.{TerminalView}
+use Rattle.lift_desk.specs.declared.view.ClerkView.{ClerkView}
+use Rattle.lift_desk.specs.declared.view.View.{View}
+use Rattle.lift_desk.specs.declared.words.Ask.{Ask}
+use Rattle.lift_desk.specs.Words.{turn_of, number_of, last_of, ask_word, reply_word}
+use Rattle.lift_desk.specs.Rule.{blank, no_asks, no_answers}
+use Rattle.lift_desk.specs.Steps.{is_awaited, is_new}
+
+-- a terminal's seat: its table, its terminal, and what it knows
+pub record TerminalSeat : Type 0 where
+  pub table : TableId
+  pub terminal : ℕ
+  pub view : TerminalView
+
+-- the clerk's seat at one table; where it is not seated, it stands in for one
+pub record ClerkPlace : Type 0 where
+  pub seated : Bool
+  pub table : TableId
+  pub view : ClerkView
+
+abbrev pub no_table : TableId
+no_table = record { words = 0; slots = 0; views_name = 0; atom = 0; block = 0; offset = 0; slot_names = [] }
+
+abbrev pub no_place : ClerkPlace
+no_place = record { seated = false; table = no_table; view = no_answers }
+
+-- what the clerk knows of a terminal's words
+abbrev pub view_at : List ClerkPlace → ℕ → ClerkView
+view_at clerk terminal = (slice_index_or clerk terminal no_place).view
+
+abbrev pub placed_at : TableId → ClerkView → ClerkPlace
+placed_at table view = record { seated = true; table = table; view = view }
+
+-- the seat is at the table of its terminal
+abbrev pub IsSeatOf : List TableId → TerminalSeat → Type 0
+IsSeatOf desk seat = slice_get desk seat.terminal ≡ Some seat.table
+
+-- each of these seats is at the table of its terminal
+abbrev pub AreSeatsOf : List TableId → List TerminalSeat → Type 0
+AreSeatsOf desk seats = All (IsSeatOf desk) seats
+
+-- the clerk has a seat at each table
+abbrev pub IsClerkOf : List TableId → List ClerkPlace → Type 0
+IsClerkOf desk clerk = map (λ (p : ClerkPlace). p.table) clerk ≡ desk
+
+-- the seat with another view
+abbrev pub seat_with : TerminalSeat → TerminalView → TerminalSeat
+seat_with seat view = record { table = seat.table; terminal = seat.terminal; view = view }
+
+-- the clerk's seats, with another view of one terminal's words
+abbrev pub clerk_with : List ClerkPlace → ℕ → ClerkView → List ClerkPlace
+clerk_with clerk terminal view = slice_set clerk terminal (placed_at (slice_index_or clerk terminal no_place).table view)
+
+-- the terminal's last ask has not been heard
+abbrev pub Waits : TerminalView → Type 0
+Waits v = length v.heard < length v.asked
+
+-- the clerk took an ask that it has not answered
+abbrev pub Owes : ClerkView → Type 0
+Owes v = length v.answered < length v.taken
+
+-- what the terminal hears of the word loaded
+abbrev pub HearsOf : TerminalView → ℕ → Option Reply → Type 0
+HearsOf v word None = is_awaited v word ≡ false
+HearsOf v word (Some reply) = (is_awaited v word ≡ true) × (word ≡ reply_word (length v.asked) (number_of (last_of v.asked)) reply)
+
+-- what the clerk takes of the word loaded
+abbrev pub TakesOf : ClerkView → ℕ → Option Ask → Type 0
+TakesOf v word None = is_new v word ≡ false
+TakesOf v word (Some ask) = (is_new v word ≡ true) × (word ≡ ask_word (suc (length v.taken)) ask.number ask.body)
+
+-- the terminals' seats at the start
+abbrev pub seats_from : ℕ → List TableId → List TerminalSeat
+seats_from first [] = []
+seats_from first (table ∷ tables) = record { table = table; terminal = first; view = no_asks } ∷ seats_from (suc first) tables
+
+-- the clerk's seats at the start
+abbrev pub clerk_of : List TableId → List ClerkPlace
+clerk_of desk = map (λ (table : TableId). placed_at table no_answers) desk
+
+-- what is taken ahead of the answers, of the word loaded
+abbrev pub TakesAheadOf : ClerkView → ℕ → Option Ask → Type 0
+TakesAheadOf v word None = is_new v word ≡ false
+TakesAheadOf v word (Some ask) = (is_new v word ≡ true) × (word ≡ ask_word (turn_of word) ask.number ask.body)
+
+-- a badge has one view, or none where it stands in for one
+abbrev pub is_seated : List View → Bool
+is_seated [] = false
+is_seated (v ∷ vs) = true
+
+abbrev pub view_in : List View → View
+view_in [] = blank
+view_in (v ∷ vs) = v
+
+-- what a seat ahead of the clerk begins with: what the clerk took
+abbrev pub taken_only : ClerkView → ClerkView
+taken_only v = record { taken = v.taken; answered = []; looks = 0; last = 0 }
+
+-- a seat ahead of each of the clerk's
+abbrev pub ahead_from : List ClerkPlace → List ClerkPlace
+ahead_from clerk = map (λ (p : ClerkPlace). placed_at p.table (taken_only p.view)) clerk

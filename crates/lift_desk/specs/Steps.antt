@@ -1,0 +1,75 @@
+-- What each step changes in the view of the seat that makes it, and what it tells.
+use Rattle.std.specs.Prelude.{◌≡◌, ℕ, suc, Bool, true, [], ◌∷◌, ◌++◌, length, nat_lt, nat_eq, if◌then◌else◌, ◌&&◌}
+use mathlib.Core.List.{IsPrefix}
+use Rattle.atomic_table.specs.Table.{Me, Step}
+use Rattle.lift_desk.specs.declared.view.TerminalView.{TerminalView}
+use Rattle.lift_desk.specs.declared.view.ClerkView.{ClerkView}
+use Rattle.lift_desk.specs.declared.view.View.{View}
+use Rattle.lift_desk.specs.Words.{turn_of, number_of, last_of, IsAskWord, IsReplyWord}
+
+abbrev Seated : Type 0
+Seated = Me (Unit {0}) View
+
+-- the terminal has stored this ask
+abbrev pub with_ask : TerminalView → ℕ → TerminalView
+with_ask v word = record { asked = v.asked ++ word ∷ []; heard = v.heard; looks = v.looks; last = v.last }
+
+-- the clerk has stored this answer
+abbrev pub with_answer : ClerkView → ℕ → ClerkView
+with_answer v word = record { taken = v.taken; answered = v.answered ++ word ∷ []; looks = v.looks; last = v.last }
+
+-- the word answers the last ask, which waits for it
+abbrev pub is_awaited : TerminalView → ℕ → Bool
+is_awaited v word = nat_lt (length v.heard) (length v.asked) && (nat_eq (turn_of word) (length v.asked))
+
+-- the terminal has looked at an answer and heard it, if it is the one that it waits for
+abbrev pub with_hearing : TerminalView → ℕ → TerminalView
+with_hearing v word = record { asked = v.asked; heard = if is_awaited v word then v.heard ++ word ∷ [] else v.heard; looks = suc v.looks; last = word }
+
+-- the terminal has looked at an answer
+abbrev pub with_look : TerminalView → ℕ → TerminalView
+with_look v word = record { asked = v.asked; heard = v.heard; looks = suc v.looks; last = word }
+
+-- the word's turn is above that of each ask that was taken
+abbrev pub is_new : ClerkView → ℕ → Bool
+is_new v word = nat_lt (turn_of (last_of v.taken)) (turn_of word)
+
+-- the clerk has looked at an ask and taken it, if it is new
+abbrev pub with_taking : ClerkView → ℕ → ClerkView
+with_taking v word = record { taken = if is_new v word then v.taken ++ word ∷ [] else v.taken; answered = v.answered; looks = suc v.looks; last = word }
+
+abbrev pub at_terminal : View → TerminalView → View
+at_terminal v terminal = record { asks = v.asks; answers = v.answers; looks_ahead = v.looks_ahead; terminal = terminal; clerk = v.clerk; told = v.told }
+
+abbrev pub at_clerk : View → ClerkView → View
+at_clerk v clerk = record { asks = v.asks; answers = v.answers; looks_ahead = v.looks_ahead; terminal = v.terminal; clerk = clerk; told = v.told }
+
+abbrev pub Asked : Step (Unit {0}) → Seated → ℕ → Seated → Type 0
+Asked step before found after = after ≡ (at_terminal before.0 (with_ask before.0.terminal step.first), before.1)
+
+abbrev pub Answered : Step (Unit {0}) → Seated → ℕ → Seated → Type 0
+Answered step before found after = after ≡ (at_clerk before.0 (with_answer before.0.clerk step.first), before.1)
+
+-- an ask that is taken is spelled, and all before it was answered
+abbrev pub Looked : Step (Unit {0}) → Seated → ℕ → Seated → Type 0
+Looked step before found after =
+    (after ≡ (at_clerk before.0 (with_taking before.0.clerk found), before.1))
+    × (is_new before.0.clerk found ≡ true → IsAskWord found × (turn_of found ≡ suc (length before.0.clerk.taken)) × (length before.0.clerk.answered ≡ length before.0.clerk.taken))
+
+-- an ask that is taken ahead of the answers is spelled
+abbrev pub LookedAhead : Step (Unit {0}) → Seated → ℕ → Seated → Type 0
+LookedAhead step before found after =
+    (after ≡ (at_clerk before.0 (with_taking before.0.clerk found), before.1))
+    × (is_new before.0.clerk found ≡ true → IsAskWord found)
+
+-- an answer that is heard is spelled, with the turn and the number of the last ask
+abbrev pub Heard : Step (Unit {0}) → Seated → ℕ → Seated → Type 0
+Heard step before found after =
+    (after ≡ (at_terminal before.0 (with_hearing before.0.terminal found), before.1))
+    × (is_awaited before.0.terminal found ≡ true → IsReplyWord found × (turn_of found ≡ length before.0.terminal.asked) × (number_of found ≡ number_of (last_of before.0.terminal.asked)))
+
+-- where the word is the last of those that the terminal was told, these begin with what it has heard
+abbrev pub Met : Step (Unit {0}) → Seated → ℕ → Seated → Type 0
+Met step before found after =
+    (after ≡ (at_terminal before.0 (with_look before.0.terminal found), before.1))
+    × (turn_of found ≡ length before.0.told → IsPrefix before.0.terminal.heard before.0.told)

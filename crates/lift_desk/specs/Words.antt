@@ -1,0 +1,96 @@
+-- A word of the desk: 20 bits of turn, 24 bits of number, and 20 bits that spell an ask or an answer.
+use Rattle.std.specs.Prelude.{◌≡◌, ℕ, ◌+◌, ◌*◌, ◌/◌, ◌%◌, ◌^◌, ◌<◌, ◌≤◌, List, [], ◌∷◌, Option, Some, None}
+use Rattle.lift_base.specs.declared.travel.Dir.{Dir}
+use Rattle.lift_base.specs.declared.travel.Dir.TheVariants.{Up, Down}
+use Rattle.lift_base.specs.declared.travel.Stop.{Stop as StopAt}
+use Rattle.lift_base.specs.declared.command.Body.{Body}
+use Rattle.lift_base.specs.declared.command.Body.TheVariants.{Call, Stop, Place}
+use Rattle.lift_base.specs.declared.command.Reply.{Reply}
+use Rattle.lift_base.specs.declared.command.Reply.TheVariants.{Car, Stopped, Placed, Refused, Unknown}
+use Rattle.lift_base.specs.Command.{reason_number}
+
+-- the turn in bits 63 to 44
+abbrev pub turn_of : ℕ → ℕ
+turn_of word = word / 2 ^ 44
+
+-- the number in bits 43 to 20
+abbrev pub number_of : ℕ → ℕ
+number_of word = word / 2 ^ 20 % 2 ^ 24
+
+-- the direction's bit
+abbrev pub dir_bit : Dir → ℕ
+dir_bit Up = 0
+dir_bit Down = 1
+
+-- the kind in bits 19 and 18, a call's party in bits 10 to 7, else the direction in bit 6, the floor in bits 5 to 0
+abbrev pub body_bits : Body → ℕ
+body_bits (Call floor party) = 1 * 2 ^ 18 + party * 2 ^ 7 + floor
+body_bits (Stop floor dir) = 2 * 2 ^ 18 + dir_bit dir * 2 ^ 6 + floor
+body_bits (Place floor dir) = 3 * 2 ^ 18 + dir_bit dir * 2 ^ 6 + floor
+
+abbrev pub ask_word : ℕ → ℕ → Body → ℕ
+ask_word turn number body = turn * 2 ^ 44 + number * 2 ^ 20 + body_bits body
+
+-- bit 7 for a stop, its direction in bit 6, its floor in bits 5 to 0
+abbrev pub stop_bits : Option StopAt → ℕ
+stop_bits None = 0
+stop_bits (Some stop) = 2 ^ 7 + dir_bit stop.dir * 2 ^ 6 + stop.floor
+
+-- the code in bits 19 to 12, its argument in bits 11 to 0
+abbrev pub reply_bits : Reply → ℕ
+reply_bits (Car car) = 1 * 2 ^ 12 + car
+reply_bits (Stopped next) = 2 * 2 ^ 12 + stop_bits next
+reply_bits (Placed next) = 3 * 2 ^ 12 + stop_bits next
+reply_bits (Refused reason) = 4 * 2 ^ 12 + reason_number reason
+reply_bits Unknown = 5 * 2 ^ 12
+
+abbrev pub reply_word : ℕ → ℕ → Reply → ℕ
+reply_word turn number reply = turn * 2 ^ 44 + number * 2 ^ 20 + reply_bits reply
+
+-- a turn, counted from 1, and a number that fit a word
+pub record FitsWord (turn number : ℕ) : Type 0 where
+  pub first : 1 ≤ turn
+  pub last : turn < 2 ^ 20
+  pub number_range : number < 2 ^ 24
+
+-- the floor and the party that a body names are a floor and a party
+abbrev pub IsBody : Body → Type 0
+IsBody (Call floor party) = (floor < 64) × (1 ≤ party) × (party ≤ 15)
+IsBody (Stop floor dir) = floor < 64
+IsBody (Place floor dir) = floor < 64
+
+abbrev pub IsNext : Option StopAt → Type 0
+IsNext None = Unit {0}
+IsNext (Some stop) = stop.floor < 64
+
+-- the car and the floor that a reply names are a car and a floor
+abbrev pub IsReply : Reply → Type 0
+IsReply (Car car) = car < 16
+IsReply (Stopped next) = IsNext next
+IsReply (Placed next) = IsNext next
+IsReply (Refused reason) = Unit {0}
+IsReply Unknown = Unit {0}
+
+-- the word spells an ask
+pub record IsAskWord (word : ℕ) : Type 0 where
+  pub turn : ℕ
+  pub number : ℕ
+  pub body : Body
+  pub fits : FitsWord turn number
+  pub in_range : IsBody body
+  pub spelled : word ≡ ask_word turn number body
+
+-- the word spells an answer
+pub record IsReplyWord (word : ℕ) : Type 0 where
+  pub turn : ℕ
+  pub number : ℕ
+  pub reply : Reply
+  pub fits : FitsWord turn number
+  pub in_range : IsReply reply
+  pub spelled : word ≡ reply_word turn number reply
+
+-- the last word of these, 0 for none
+abbrev pub last_of : List ℕ → ℕ
+last_of [] = 0
+last_of (x ∷ []) = x
+last_of (x ∷ y ∷ ys) = last_of (y ∷ ys)

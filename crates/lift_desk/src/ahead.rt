@@ -1,0 +1,85 @@
+//! A seat that looks ahead of the clerk at one table: it takes asks and answers none.
+ghost use Rattle.std.specs.Prelude.{◌≡◌, ℕ, true, false, []};
+ghost use Rattle.lift_desk.specs.Words.{turn_of, last_of};
+ghost use Rattle.lift_desk.specs.Steps.{with_taking};
+ghost use Rattle.lift_desk.specs.Seats.{ClerkPlace, placed_at, TakesAheadOf};
+
+use crate::seat::{Chair, DeskTable};
+use crate::view::{LooksAhead, View};
+use crate::words::{Ask, read_ask, turn_of};
+use atomic_table::Badge;
+use std::marker::Model;
+use std::mem;
+
+/// A seat ahead of the clerk's at a terminal's table, or a stand-in for it.
+#[derive(Drop)]
+pub struct AheadPlace {
+    badge: Badge<View>,
+    turn: u32,
+}
+
+impl Model for AheadPlace {
+    ghost use Rattle.lift_desk.specs.Seats.{ClerkPlace};
+
+    ghost Value = { ClerkPlace };
+
+    ghost use Rattle.lift_desk.specs.AheadInside.{seen, IsAheadPlace};
+
+    ghost view = { seen };
+
+    ghost invariant = { IsAheadPlace };
+}
+
+impl Default for AheadPlace {
+    ghost use Rattle.std.specs.Prelude.{◌≡◌, false};
+
+    ghost is_default = { λ p. p.seated ≡ false };
+
+    fn default() -> Self {
+        AheadPlace {
+            badge: Badge::blank(),
+            turn: 0,
+        }
+    }
+}
+
+impl AheadPlace {
+    pub(crate) fn new(seat: Chair, turn: u32) -> AheadPlace
+        requires held { seat.me.1 ≡ [] }
+        requires ahead { (seat.me.0.looks_ahead ≡ true) × (seat.me.0.answers ≡ false) }
+        requires turn { turn ≡ turn_of (last_of seat.me.0.clerk.taken) }
+        ensures { result ≡ placed_at seat.table_id seat.me.0.clerk }
+    {
+        AheadPlace {
+            badge: seat.into_badge(),
+            turn,
+        }
+    }
+
+    pub(crate) fn take(&mut self, table: &DeskTable) -> Option<Ask>
+        requires table { (self.old.table ≡ table.now.shared.table_id) × (table.now.shared.table_id.words ≡ 2) }
+        requires seated { self.old.seated ≡ true }
+        ensures { (word : ℕ) × (self.new ≡ placed_at self.old.table (with_taking self.old.view word))
+            × TakesAheadOf self.old.view word result }
+    {
+        let badge = mem::replace(&mut self.badge, Badge::blank());
+        let mut seat = badge.into_seat::<()>();
+        let word = table.shared.load::<LooksAhead>(&mut seat, 0);
+        self.badge = seat.into_badge();
+        let turn = turn_of(word);
+        if turn <= self.turn {
+            return None;
+        }
+        let ask = read_ask(word)?;
+        self.turn = turn;
+        Some(ask)
+    }
+
+    pub(crate) fn into_seat(self) -> Chair
+        requires { self.seated ≡ true }
+        ensures { (result.table_id ≡ self.table) × (result.me.1 ≡ []) }
+    {
+        let AheadPlace { badge, turn: _ } = self;
+        badge.into_seat::<()>()
+    }
+}

@@ -1,0 +1,274 @@
+//! The desk: a table for each terminal, with the terminal's seat and the clerk's.
+ghost use Rattle.std.specs.Prelude.{◌≡◌, ℕ, ◌<◌, ◌≤◌, ◌↔◌, IsTrue, IsSome, suc, length, OnOk, OnErr, IfOk, IfSome, Err, [], slice_get, vec_len};
+ghost use Rattle.lift_desk.specs.Rule.{terminal_view, clerk_view};
+ghost use mathlib.Core.List.{IsPrefix};
+ghost use Rattle.lift_desk.specs.Words.{turn_of, last_of, number_of, ask_word, reply_word};
+ghost use Rattle.lift_desk.specs.Steps.{with_ask, with_answer, with_hearing, with_look, with_taking};
+ghost use Rattle.lift_desk.specs.Seats.{IsSeatOf, IsClerkOf, seat_with, clerk_with, view_at, Waits, Owes, HearsOf, TakesOf, seats_from, clerk_of, ahead_from, TakesAheadOf, AreSeatsOf};
+
+use crate::ahead::AheadPlace;
+use crate::place::Place;
+use crate::seat::{AskRefusal, Chair, DeskTable, Seat};
+use crate::view::Seats;
+use crate::words::Ask;
+use arrayvec::ArrayVec;
+use lift_base::{Body, Memory, Number, Reply, Terminal};
+use std::alloc::{AllocError, Global};
+use std::marker::Model;
+
+/// The words that 1 to 63 terminals share with the clerk: for each its last ask, and the last answer to it.
+/// Terminals are numbered from 0. Contracts see which table each terminal has.
+#[derive(Drop)]
+pub struct Desk {
+    tables: Vec<DeskTable>,
+}
+
+impl Model for Desk {
+    ghost use Rattle.std.specs.Prelude.{List};
+    ghost use Rattle.atomic_table.specs.Seated.{TableId};
+
+    ghost Value = { List TableId };
+
+    ghost use Rattle.lift_desk.specs.DeskInside.{seen, IsDesk};
+
+    ghost view = { seen };
+
+    ghost invariant = { IsDesk };
+}
+
+/// The clerk's seats, one for each terminal. Contracts see what was taken and answered at each.
+#[derive(Drop)]
+pub struct ClerkSeat {
+    places: ArrayVec<Place, 63>,
+}
+
+impl Model for ClerkSeat {
+    ghost use Rattle.std.specs.Prelude.{List};
+    ghost use Rattle.lift_desk.specs.Seats.{ClerkPlace};
+
+    ghost Value = { List ClerkPlace };
+
+    ghost use Rattle.lift_desk.specs.ClerkInside.{seen, AllSeated};
+
+    ghost view = { seen };
+
+    ghost invariant = { AllSeated };
+}
+
+impl ClerkSeat {
+    /// Whether the clerk took an ask of the terminal that it has not answered.
+    pub fn owes(&self, terminal: Terminal) -> bool
+        requires { terminal < length self.now }
+        ensures { IsTrue result ↔ Owes (view_at self.now terminal) }
+    {
+        self.places[usize::from(terminal.get())].owes()
+    }
+}
+
+/// A new desk, with a seat for each terminal, in order, and the clerk's seats.
+#[derive(Drop)]
+pub struct DeskParts {
+    pub desk: Desk,
+    pub seats: Vec<Seat>,
+    pub clerk: ClerkSeat,
+}
+
+// A new table, with the terminal's seat and the clerk's.
+fn new_table(alloc: Global) -> Result<(DeskTable, Chair, Chair), AllocError>
+    ensures { IfOk result (λ made. (made.0.shared.table_id.words ≡ 2)
+        × (made.1.table_id ≡ made.0.shared.table_id) × (made.1.me.0 ≡ terminal_view)
+        × (made.2.table_id ≡ made.0.shared.table_id) × (made.2.me ≡ (clerk_view, []))) }
+{
+    let (table, mut first) = DeskTable::of_words(alloc, &[0, 0], &())?;
+    let second = table.shared.split_seat::<Seats>(&mut first);
+    Ok((table, first, second))
+}
+
+/// Seats ahead of the clerk's, one for each terminal. They take asks and answer none.
+/// Contracts see what was taken at each.
+#[derive(Drop)]
+pub struct TakeSeat {
+    places: ArrayVec<AheadPlace, 63>,
+}
+
+impl Model for TakeSeat {
+    ghost use Rattle.std.specs.Prelude.{List};
+    ghost use Rattle.lift_desk.specs.Seats.{ClerkPlace};
+
+    ghost Value = { List ClerkPlace };
+
+    ghost use Rattle.lift_desk.specs.TakeInside.{seen, AllSeated};
+
+    ghost view = { seen };
+
+    ghost invariant = { AllSeated };
+}
+
+impl Desk {
+    /// A desk of so many terminals, with all its seats. An error comes only where a growth was refused.
+    pub fn open(alloc: Global, terminals: usize) -> Result<DeskParts, Memory>
+        requires { (1 ≤ terminals) × (terminals ≤ 63) }
+        ensures count { IfOk result (λ parts. (length parts.desk ≡ terminals) × (vec_len parts.seats ≡ terminals)) }
+        ensures seats { IfOk result (λ parts. parts.seats.items ≡ seats_from 0 parts.desk) }
+        ensures clerk { IfOk result (λ parts. parts.clerk ≡ clerk_of parts.desk) }
+        ensures seats_at { IfOk result (λ parts. AreSeatsOf parts.desk parts.seats.items) }
+        ensures clerk_at { IfOk result (λ parts. IsClerkOf parts.desk parts.clerk) }
+    {
+        let mut tables = Vec::with_capacity(alloc, terminals)?;
+        let mut seats = Vec::with_capacity(alloc, terminals)?;
+        let mut places: ArrayVec<Place, 63> = ArrayVec::new();
+        for t in 0..terminals {
+            let terminal = Terminal::new(t as u8).unwrap();
+            let (table, first, second) = new_table(alloc)?;
+            tables.push_reserved(table);
+            seats.push_reserved(Seat::new(terminal, first));
+            places.push(Place::new(second));
+        }
+        Ok(DeskParts {
+            desk: Desk { tables },
+            seats,
+            clerk: ClerkSeat { places },
+        })
+    }
+
+    /// How many terminals it has, 1 to 63.
+    pub fn len(&self) -> usize
+        ensures count { result ≡ length self.now }
+        ensures in_range { (1 ≤ result) × (result ≤ 63) }
+    {
+        self.tables.len()
+    }
+
+    /// Stores an ask with the terminal's next turn. It is refused while the last ask has not been heard, and then where
+    /// turn 1,048,575 was used; a refusal stores nothing.
+    pub fn ask(&self, seat: &mut Seat, number: Number, body: Body) -> Result<(), AskRefusal>
+        requires { IsSeatOf self.now seat.old }
+        ensures waiting { (result ≡ Err AskRefusal.Waiting) ↔ Waits seat.old.view }
+        ensures spent { (result ≡ Err AskRefusal.Spent)
+            ↔ (¬ (Waits seat.old.view) × (length seat.old.view.asked ≡ 1048575)) }
+        ensures ok { OnOk result (seat.new ≡ seat_with seat.old
+            (with_ask seat.old.view (ask_word (suc (length seat.old.view.asked)) number body))) }
+        ensures pending { OnOk result (Waits seat.new.view × (number_of (last_of seat.new.view.asked) ≡ number)) }
+        ensures err { OnErr result (seat.new ≡ seat.old) }
+        ensures stays { IsSeatOf self.now seat.new }
+    {
+        let table = &self.tables[usize::from(seat.terminal.get())];
+        seat.ask(table, number, body)
+    }
+
+    /// Looks once for the answer to the last ask, and gives it once. It looks also where no answer is awaited.
+    pub fn hear(&self, seat: &mut Seat) -> Option<Reply>
+        requires { IsSeatOf self.now seat.old }
+        ensures looked { (word : ℕ) × (seat.new ≡ seat_with seat.old (with_hearing seat.old.view word))
+            × HearsOf seat.old.view word result }
+        ensures rests { IsSome result → ¬ (Waits seat.new.view) }
+        ensures stays { IsSeatOf self.now seat.new }
+    {
+        let table = &self.tables[usize::from(seat.terminal.get())];
+        seat.hear(table)
+    }
+
+    /// Looks once for an ask of the terminal that is new to the clerk.
+    pub fn look(&self, clerk: &mut ClerkSeat, terminal: Terminal) -> Option<Ask>
+        requires clerk { IsClerkOf self.now clerk.old }
+        requires terminal { terminal < length self.now }
+        ensures looked { (word : ℕ)
+            × (clerk.new ≡ clerk_with clerk.old terminal (with_taking (view_at clerk.old terminal) word))
+            × TakesOf (view_at clerk.old terminal) word result }
+        ensures even { IsSome result
+            → length (view_at clerk.old terminal).answered ≡ length (view_at clerk.old terminal).taken }
+        ensures owes { IfSome result (λ ask. Owes (view_at clerk.new terminal)
+            × (number_of (last_of (view_at clerk.new terminal).taken) ≡ ask.number)) }
+        ensures stays { IsClerkOf self.now clerk.new }
+    {
+        let at = usize::from(terminal.get());
+        let table = &self.tables[at];
+        let place = &mut clerk.places[at];
+        place.look(table)
+    }
+
+    /// Stores the answer to the last ask that the clerk took of the terminal.
+    pub fn answer(&self, clerk: &mut ClerkSeat, terminal: Terminal, reply: Reply)
+        requires clerk { IsClerkOf self.now clerk.old }
+        requires terminal { terminal < length self.now }
+        requires owes { Owes (view_at clerk.old terminal) }
+        ensures answered { let view = view_at clerk.old terminal in
+            clerk.new ≡ clerk_with clerk.old terminal
+            (with_answer view (reply_word (length view.taken) (number_of (last_of view.taken)) reply)) }
+        ensures rests { ¬ (Owes (view_at clerk.new terminal)) }
+        ensures stays { IsClerkOf self.now clerk.new }
+    {
+        let at = usize::from(terminal.get());
+        let table = &self.tables[at];
+        let place = &mut clerk.places[at];
+        place.answer(table, reply)
+    }
+
+    /// Looks once at the terminal's last answer, and says whether it is the last that the clerk stored there.
+    pub fn meet(&self, seat: &mut Seat, clerk: &mut ClerkSeat) -> bool
+        requires seat { IsSeatOf self.now seat.old }
+        requires clerk { IsClerkOf self.now clerk.old }
+        ensures looked { (word : ℕ) × (seat.new ≡ seat_with seat.old (with_look seat.old.view word))
+            × (IsTrue result ↔ (word ≡ last_of (view_at clerk.old seat.old.terminal).answered)) }
+        ensures stays { IsSeatOf self.now seat.new }
+        ensures clerk { clerk.new ≡ clerk.old }
+        ensures heard { IsTrue result
+            → IsPrefix seat.old.view.heard (view_at clerk.old seat.old.terminal).answered }
+    {
+        let at = usize::from(seat.terminal.get());
+        let table = &self.tables[at];
+        let place = &mut clerk.places[at];
+        let note = place.tell(table);
+        let word = seat.meet(table, note);
+        place.is_last(word)
+    }
+
+    /// Cuts off seats that take asks ahead of the answers. They begin with what the clerk took, and the clerk keeps the right to answer.
+    pub fn split(&self, clerk: ClerkSeat) -> (TakeSeat, ClerkSeat)
+        requires { IsClerkOf self.now clerk }
+        ensures ahead { result.0 ≡ ahead_from clerk }
+        ensures clerk { result.1 ≡ clerk }
+        ensures stays { IsClerkOf self.now result.0 }
+    {
+        let ClerkSeat { mut places } = clerk;
+        let mut ahead: ArrayVec<AheadPlace, 63> = ArrayVec::new();
+        for at in 0..places.len() {
+            let table = &self.tables[at];
+            let place = &mut places[at];
+            ahead.push(place.split(table));
+        }
+        (TakeSeat { places: ahead }, ClerkSeat { places })
+    }
+
+    /// Looks once for an ask of the terminal that is new to these seats.
+    pub fn take(&self, ahead: &mut TakeSeat, terminal: Terminal) -> Option<Ask>
+        requires ahead { IsClerkOf self.now ahead.old }
+        requires terminal { terminal < length self.now }
+        ensures looked { (word : ℕ)
+            × (ahead.new ≡ clerk_with ahead.old terminal (with_taking (view_at ahead.old terminal) word))
+            × TakesAheadOf (view_at ahead.old terminal) word result }
+        ensures stays { IsClerkOf self.now ahead.new }
+    {
+        let at = usize::from(terminal.get());
+        let table = &self.tables[at];
+        let place = &mut ahead.places[at];
+        place.take(table)
+    }
+
+    /// Gives the seats ahead back to the clerk.
+    pub fn join(&self, ahead: TakeSeat, clerk: ClerkSeat) -> ClerkSeat
+        requires ahead { IsClerkOf self.now ahead }
+        requires clerk { IsClerkOf self.now clerk }
+        ensures { result ≡ clerk }
+    {
+        let TakeSeat { places: mut seats } = ahead;
+        let ClerkSeat { mut places } = clerk;
+        while let Some(seat) = seats.pop() {
+            let at = seats.len();
+            let table = &self.tables[at];
+            let place = &mut places[at];
+            place.join(table, seat);
+        }
+        ClerkSeat { places }
+    }
+}

@@ -1,0 +1,166 @@
+//! The clerk's seat at one table.
+ghost use Rattle.std.specs.Prelude.{◌≡◌, ℕ, ◌<◌, ◌^◌, ◌↔◌, IsTrue, IsSome, IfSome, suc, length, true, false, []};
+ghost use mathlib.Core.List.{IsPrefix};
+ghost use Rattle.lift_desk.specs.Words.{turn_of, last_of, number_of, reply_word};
+ghost use Rattle.lift_desk.specs.Rule.{clerk_view, no_answers};
+ghost use Rattle.lift_desk.specs.Steps.{with_answer, with_taking};
+ghost use Rattle.lift_desk.specs.Seats.{ClerkPlace, placed_at, taken_only, Owes, TakesOf};
+
+use crate::ahead::AheadPlace;
+use crate::seat::{Chair, DeskTable};
+use crate::view::{Ahead, Answers, Looks, Tells, View};
+use crate::words::{Ask, read_ask, reply_word, turn_of};
+use atomic_table::Badge;
+use lift_base::{Number, Reply};
+use std::marker::Model;
+use std::mem;
+
+/// The clerk's seat at a terminal's table, or a stand-in for it.
+#[derive(Drop)]
+pub struct Place {
+    badge: Badge<View>,
+    turn: u32,
+    number: Number,
+    owes: bool,
+    answered: u64,
+}
+
+impl Model for Place {
+    ghost use Rattle.lift_desk.specs.Seats.{ClerkPlace};
+
+    ghost Value = { ClerkPlace };
+
+    ghost use Rattle.lift_desk.specs.PlaceInside.{seen, IsPlaced};
+
+    ghost view = { seen };
+
+    ghost invariant = { IsPlaced };
+}
+
+impl Default for Place {
+    ghost use Rattle.std.specs.Prelude.{◌≡◌, false};
+
+    ghost is_default = { λ p. p.seated ≡ false };
+
+    fn default() -> Self {
+        Place {
+            badge: Badge::blank(),
+            turn: 0,
+            number: Number::default(),
+            owes: false,
+            answered: 0,
+        }
+    }
+}
+
+impl Place {
+    pub(crate) fn new(seat: Chair) -> Place
+        requires { seat.me ≡ (clerk_view, []) }
+        ensures { result ≡ placed_at seat.table_id no_answers }
+    {
+        Place {
+            badge: seat.into_badge(),
+            turn: 0,
+            number: Number::default(),
+            owes: false,
+            answered: 0,
+        }
+    }
+
+    pub(crate) fn look(&mut self, table: &DeskTable) -> Option<Ask>
+        requires table { (self.old.table ≡ table.now.shared.table_id) × (table.now.shared.table_id.words ≡ 2) }
+        requires seated { self.old.seated ≡ true }
+        ensures looked { (word : ℕ) × (self.new ≡ placed_at self.old.table (with_taking self.old.view word))
+            × TakesOf self.old.view word result }
+        ensures even { IsSome result → length self.old.view.answered ≡ length self.old.view.taken }
+        ensures owes { IfSome result (λ ask. Owes self.new.view × (number_of (last_of self.new.view.taken) ≡ ask.number)) }
+    {
+        let badge = mem::replace(&mut self.badge, Badge::blank());
+        let mut seat = badge.into_seat::<()>();
+        let word = table.shared.load::<Looks>(&mut seat, 0);
+        self.badge = seat.into_badge();
+        let turn = turn_of(word);
+        if turn <= self.turn {
+            return None;
+        }
+        let ask = read_ask(word)?;
+        self.turn = turn;
+        self.number = ask.number;
+        self.owes = true;
+        Some(ask)
+    }
+
+    pub(crate) fn answer(&mut self, table: &DeskTable, reply: Reply)
+        requires table { (self.old.table ≡ table.now.shared.table_id) × (table.now.shared.table_id.words ≡ 2) }
+        requires seated { self.old.seated ≡ true }
+        requires owes { Owes self.old.view }
+        ensures answered { let view = self.old.view in self.new ≡ placed_at self.old.table
+            (with_answer view (reply_word (length view.taken) (number_of (last_of view.taken)) reply)) }
+        ensures rests { ¬ (Owes self.new.view) }
+    {
+        let word = reply_word(self.turn, self.number, reply);
+        let badge = mem::replace(&mut self.badge, Badge::blank());
+        let mut seat = badge.into_seat::<()>();
+        table.shared.store::<Answers>(&mut seat, 1, word);
+        self.badge = seat.into_badge();
+        self.owes = false;
+        self.answered = word;
+    }
+
+    // A note of all that was answered.
+    pub(crate) fn tell(&mut self, table: &DeskTable) -> Chair
+        requires table { (self.old.table ≡ table.now.shared.table_id) × (table.now.shared.table_id.words ≡ 2) }
+        requires seated { self.old.seated ≡ true }
+        ensures same { self.new ≡ self.old }
+        ensures note { (result.table_id ≡ self.old.table) × (result.me.0.told ≡ self.old.view.answered) × (result.me.1 ≡ []) }
+    {
+        let badge = mem::replace(&mut self.badge, Badge::blank());
+        let mut seat = badge.into_seat::<()>();
+        let note = table.shared.split_seat::<Tells>(&mut seat);
+        self.badge = seat.into_badge();
+        note
+    }
+
+    // Whether the last ask that was taken is not answered.
+    pub(crate) fn owes(&self) -> bool
+        ensures { IsTrue result ↔ Owes self.now.view }
+    {
+        self.owes
+    }
+
+    // Whether this is the last word that was answered.
+    pub(crate) fn is_last(&self, word: u64) -> bool
+        ensures last { IsTrue result ↔ (word ≡ last_of self.now.view.answered) }
+        ensures turn { turn_of (last_of self.now.view.answered) ≡ length self.now.view.answered }
+    {
+        word == self.answered
+    }
+
+    // A seat ahead of this one, which begins with what this one took.
+    pub(crate) fn split(&mut self, table: &DeskTable) -> AheadPlace
+        requires table { (self.old.table ≡ table.now.shared.table_id) × (table.now.shared.table_id.words ≡ 2) }
+        requires seated { self.old.seated ≡ true }
+        ensures same { self.new ≡ self.old }
+        ensures ahead { result ≡ placed_at self.old.table (taken_only self.old.view) }
+    {
+        let badge = mem::replace(&mut self.badge, Badge::blank());
+        let mut seat = badge.into_seat::<()>();
+        let ahead = table.shared.split_seat::<Ahead>(&mut seat);
+        self.badge = seat.into_badge();
+        AheadPlace::new(ahead, self.turn)
+    }
+
+    // Takes back the seat ahead of this one.
+    pub(crate) fn join(&mut self, table: &DeskTable, ahead: AheadPlace)
+        requires table { (self.old.table ≡ table.now.shared.table_id) × (table.now.shared.table_id.words ≡ 2) }
+        requires seated { (self.old.seated ≡ true) × (ahead.seated ≡ true) × (ahead.table ≡ self.old.table) }
+        ensures { self.new ≡ self.old }
+    {
+        let badge = mem::replace(&mut self.badge, Badge::blank());
+        let mut seat = badge.into_seat::<()>();
+        table
+            .shared
+            .join_seat::<Ahead>(&mut seat, ahead.into_seat());
+        self.badge = seat.into_badge();
+    }
+}

@@ -1,0 +1,139 @@
+//! A terminal's seat at its table.
+ghost use Rattle.std.specs.Prelude.{◌≡◌, ℕ, ◌<◌, ◌^◌, ◌↔◌, suc, length, [], true, OnOk, OnErr, IfSome, IsSome, Err};
+ghost use Rattle.atomic_table.specs.Seated.{TableId};
+ghost use Rattle.lift_desk.specs.Words.{turn_of, last_of, number_of, ask_word};
+ghost use Rattle.lift_desk.specs.Steps.{with_ask, with_hearing, with_look};
+ghost use mathlib.Core.List.{IsPrefix};
+ghost use Rattle.lift_desk.specs.Seats.{TerminalSeat, seat_with, Waits, HearsOf};
+ghost use Rattle.lift_desk.specs.Rule.{terminal_view, no_asks};
+
+use crate::view::{Asks, DeskRule, Hears, Meets, Tells, View};
+use crate::words::{ask_word, read_reply, turn_of};
+use atomic_table::Table;
+use lift_base::{Body, Number, Reply, Terminal};
+use std::alloc::Global;
+use std::marker::Model;
+
+/// The last turn that a word can hold.
+const LAST_TURN: u32 = 1_048_575;
+
+pub(crate) type DeskTable = Table<(), View, (), DeskRule, Global>;
+
+// A seat at a table, as the tables know it.
+pub(crate) type Chair = atomic_table::Seat<(), View>;
+
+/// Why an ask was not stored.
+#[derive(Clone, Copy, PartialEq, Eq)]
+pub enum AskRefusal {
+    /// The last ask has not been heard.
+    Waiting,
+    /// All turns were used.
+    Spent,
+}
+
+/// A terminal's seat at the desk. Contracts see its table, its terminal, and what it asked, heard and read.
+#[derive(Drop)]
+pub struct Seat {
+    pub(crate) terminal: Terminal,
+    turn: u32,
+    number: Number,
+    waits: bool,
+    chair: Chair,
+}
+
+impl Model for Seat {
+    ghost use Rattle.lift_desk.specs.Seats.{TerminalSeat};
+
+    ghost Value = { TerminalSeat };
+
+    ghost use Rattle.lift_desk.specs.SeatInside.{seen, IsSeated};
+
+    ghost view = { seen };
+
+    ghost invariant = { IsSeated };
+}
+
+impl Seat {
+    pub(crate) fn new(terminal: Terminal, chair: Chair) -> Seat
+        requires { chair.me.0 ≡ terminal_view }
+        ensures { result ≡ record { table = chair.table_id; terminal = terminal; view = no_asks } }
+    {
+        Seat {
+            terminal,
+            turn: 0,
+            number: Number::default(),
+            waits: false,
+            chair,
+        }
+    }
+
+    /// The terminal that it is for.
+    pub fn terminal(&self) -> Terminal
+        ensures { result ≡ self.now.terminal }
+    {
+        self.terminal
+    }
+
+    /// The number of the ask whose answer was not heard yet; none where each was heard.
+    pub fn pending(&self) -> Option<Number>
+        ensures some { IsSome result ↔ Waits self.now.view }
+        ensures number { IfSome result (λ number. number ≡ number_of (last_of self.now.view.asked)) }
+    {
+        if self.waits { Some(self.number) } else { None }
+    }
+
+    pub(crate) fn ask(
+        &mut self,
+        table: &DeskTable,
+        number: Number,
+        body: Body,
+    ) -> Result<(), AskRefusal>
+        requires { (self.old.table ≡ table.now.shared.table_id) × (table.now.shared.table_id.words ≡ 2) }
+        ensures waiting { (result ≡ Err AskRefusal.Waiting) ↔ Waits self.old.view }
+        ensures spent { (result ≡ Err AskRefusal.Spent)
+            ↔ (¬ (Waits self.old.view) × (length self.old.view.asked ≡ LAST_TURN)) }
+        ensures ok { OnOk result (self.new ≡ seat_with self.old
+            (with_ask self.old.view (ask_word (suc (length self.old.view.asked)) number body))) }
+        ensures pending { OnOk result (Waits self.new.view × (number_of (last_of self.new.view.asked) ≡ number)) }
+        ensures err { OnErr result (self.new ≡ self.old) }
+    {
+        if self.waits {
+            return Err(AskRefusal::Waiting);
+        }
+        if self.turn >= LAST_TURN {
+            return Err(AskRefusal::Spent);
+        }
+        let turn = self.turn + 1;
+        let word = ask_word(turn, number, body);
+        table.shared.store::<Asks>(&mut self.chair, 0, word);
+        self.turn = turn;
+        self.number = number;
+        self.waits = true;
+        Ok(())
+    }
+
+    pub(crate) fn hear(&mut self, table: &DeskTable) -> Option<Reply>
+        requires { (self.old.table ≡ table.now.shared.table_id) × (table.now.shared.table_id.words ≡ 2) }
+        ensures looked { (word : ℕ) × (self.new ≡ seat_with self.old (with_hearing self.old.view word))
+            × HearsOf self.old.view word result }
+        ensures rests { IsSome result → ¬ (Waits self.new.view) }
+    {
+        let word = table.shared.load::<Hears>(&mut self.chair, 1);
+        if !self.waits || turn_of(word) != self.turn {
+            return None;
+        }
+        self.waits = false;
+        read_reply(word)
+    }
+
+    // One look, by a terminal that was told what was answered.
+    pub(crate) fn meet(&mut self, table: &DeskTable, note: Chair) -> u64
+        requires table { (self.old.table ≡ table.now.shared.table_id) × (table.now.shared.table_id.words ≡ 2) }
+        requires note { (note.table_id ≡ self.old.table) × (note.me.1 ≡ []) }
+        ensures looked { self.new ≡ seat_with self.old (with_look self.old.view result) }
+        ensures heard { turn_of result ≡ length note.me.0.told → IsPrefix self.old.view.heard note.me.0.told }
+    {
+        table.shared.join_seat::<Tells>(&mut self.chair, note);
+        table.shared.load::<Meets>(&mut self.chair, 1)
+    }
+}

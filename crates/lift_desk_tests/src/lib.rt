@@ -1,0 +1,13 @@
+//! Callers of the desk, written as the layers above it are, and its tests.
+#![tactic(auto)]
+
+mod clerk;
+mod relay;
+mod terminal;
+
+pub use clerk::scan;
+pub use relay::relay_once;
+pub use terminal::{Answer, ask_and_hear};
+
+#[cfg(test)]
+mod tests;

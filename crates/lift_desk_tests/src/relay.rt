@@ -1,0 +1,29 @@
+//! Two seats for the clerk: one takes asks ahead, and the other looks again and answers.
+ghost use Rattle.std.specs.Prelude.{◌≡◌, ◌+◌, ◌<◌, suc, length};
+ghost use Rattle.lift_desk.specs.Seats.{IsClerkOf, view_at};
+
+use lift_base::{Reply, Terminal};
+use lift_desk::{ClerkSeat, Desk};
+
+/// Takes an ask of the terminal ahead, looks at it again, and answers it. The number of the asks answered, 0 or 1.
+pub fn relay_once(
+    desk: &Desk,
+    clerk: ClerkSeat,
+    terminal: Terminal,
+    reply: Reply,
+) -> (ClerkSeat, u8)
+    requires clerk { IsClerkOf desk.now clerk }
+    requires terminal { terminal < length desk.now }
+    ensures stays { IsClerkOf desk.now result.0 }
+    ensures looks { (view_at result.0 terminal).looks ≡ suc (view_at clerk terminal).looks }
+    ensures answers { length (view_at result.0 terminal).answered ≡ length (view_at clerk terminal).answered + result.1 }
+{
+    let (mut ahead, mut clerk) = desk.split(clerk);
+    let first = desk.take(&mut ahead, terminal).is_some();
+    let mut answered = 0u8;
+    if desk.look(&mut clerk, terminal).is_some() && first {
+        desk.answer(&mut clerk, terminal, reply);
+        answered = 1;
+    }
+    (desk.join(ahead, clerk), answered)
+}

@@ -1,0 +1,180 @@
+-- One call more in the record of a device in memory.
+use Rattle.std.specs.Result.{is_err}
+use Rattle.std.proofs.Common.{Result, Ok, Err, OnOk}
+use Rattle.std.proofs.Common.{◌≡◌, ◌≢◌, ◌⊎◌, ◌↔◌, ◌<◌, ◌≤◌, ◌+◌, inl, inr, ⊎_elim, ℕ, zero, suc, Bool, true, false, List, [], ◌∷◌, ◌++◌, length, take, replicate, slice_get, slice_set, Some, Vec, refl, sym, ◌∙◌, ap, subst, arith, length-append}
+use Rattle.std.proofs.lemmas.List.{take-append-le, take_all, length-set}
+use Rattle.std.specs.declared.alloc.Global.{Global}
+use Rattle.lift_disk.specs.Disk.{DiskState, Image, ChangesWithin, GoesOn}
+use Rattle.lift_disk.specs.Memory.{image_after, IsFlagged, WasLeft, memory_state}
+use Rattle.lift_disk.specs.declared.call.Call.{Call}
+use Rattle.lift_disk.specs.declared.call.Call.TheVariants.{Write, Sync}
+
+pub image_after-push : (calls : List Call) (call : Call) (image : Image) → image_after (calls ++ call ∷ []) image ≡ image_after (call ∷ []) (image_after calls image)
+image_after-push [] call image = refl
+image_after-push (Write sector bytes ∷ calls) call image = image_after-push calls call (slice_set image sector bytes)
+image_after-push (Sync loose ∷ calls) call image = image_after-push calls call image
+
+pub length-image_after : (calls : List Call) (image : Image) → length (image_after calls image) ≡ length image
+length-image_after [] image = refl
+length-image_after (Write sector bytes ∷ calls) image = length-image_after calls (slice_set image sector bytes) ∙ length-set image sector bytes
+length-image_after (Sync loose ∷ calls) image = length-image_after calls image
+
+pub set_other : {X : Type 0} (xs : List X) (i k : ℕ) (x : X) → k ≢ i → slice_get (slice_set xs i x) k ≡ slice_get xs k
+set_other [] i k x other = refl
+set_other (y ∷ xs) zero zero x other = absurd (other refl)
+set_other (y ∷ xs) zero (suc k) x other = refl
+set_other (y ∷ xs) (suc i) zero x other = refl
+set_other (y ∷ xs) (suc i) (suc k) x other = set_other xs i k x (λ same. other (ap suc same))
+
+pub set_here : {X : Type 0} (xs : List X) (i : ℕ) (x : X) → i < length xs → slice_get (slice_set xs i x) i ≡ Some x
+set_here [] i x within = absurd (omega arith)
+set_here (y ∷ xs) zero x within = refl
+set_here (y ∷ xs) (suc i) x within = set_here xs i x (omega arith)
+
+pub same_or_not : (k i : ℕ) → (k ≡ i) ⊎ (k ≢ i)
+same_or_not zero zero = inl refl
+same_or_not zero (suc i) = inr (λ same. omega arith)
+same_or_not (suc k) zero = inr (λ same. omega arith)
+same_or_not (suc k) (suc i) = ⊎_elim (λ same. inl (ap suc same)) (λ other. inr (λ same. other (omega arith))) (same_or_not k i)
+
+-- a flag that is set
+pub flagged_set : (flags : List Bool) (i k : ℕ) → i < length flags → IsFlagged (slice_set flags i true) k ↔ (IsFlagged flags k ⊎ (k ≡ i))
+flagged_set flags i k within = (there, back)
+  where
+    there : IsFlagged (slice_set flags i true) k → IsFlagged flags k ⊎ (k ≡ i)
+    there is = ⊎_elim (λ same. inr same) (λ other. inl (sym (set_other flags i k true other) ∙ is)) (same_or_not k i)
+
+    back : IsFlagged flags k ⊎ (k ≡ i) → IsFlagged (slice_set flags i true) k
+    back (inl was) = ⊎_elim (λ (same : k ≡ i). subst (IsFlagged (slice_set flags i true)) (sym same) (set_here flags i true within)) (λ other. set_other flags i k true other ∙ was) (same_or_not k i)
+    back (inr same) = subst (IsFlagged (slice_set flags i true)) (sym same) (set_here flags i true within)
+
+pub none_flagged : (n k : ℕ) → ¬ IsFlagged (replicate n false) k
+none_flagged zero k is = cc is
+none_flagged (suc n) zero is = cc is
+none_flagged (suc n) (suc k) is = none_flagged n k is
+
+get_pushed : (calls : List Call) (call found : Call) (j : ℕ) → slice_get (calls ++ call ∷ []) j ≡ Some found → ((j < length calls) × (slice_get calls j ≡ Some found)) ⊎ ((j ≡ length calls) × (call ≡ found))
+get_pushed [] call found zero is = inr (refl, cc is)
+get_pushed [] call found (suc j) is = absurd (cc is)
+get_pushed (first ∷ calls) call found zero is = inl (omega arith, is)
+get_pushed (first ∷ calls) call found (suc j) is =
+    ⊎_elim (λ early. inl (omega (arith, early.0), early.1)) (λ last. inr (ap suc last.0, last.1)) (get_pushed calls call found j is)
+
+get_early : (calls : List Call) (call found : Call) (j : ℕ) → slice_get calls j ≡ Some found → slice_get (calls ++ call ∷ []) j ≡ Some found
+get_early [] call found j is = absurd (cc is)
+get_early (first ∷ calls) call found zero is = is
+get_early (first ∷ calls) call found (suc j) is = get_early calls call found j is
+
+get_last : (calls : List Call) (call : Call) → slice_get (calls ++ call ∷ []) (length calls) ≡ Some call
+get_last [] call = refl
+get_last (first ∷ calls) call = get_last calls call
+
+within_calls : (calls : List Call) (found : Call) (j : ℕ) → slice_get calls j ≡ Some found → j < length calls
+within_calls [] found j is = absurd (cc is)
+within_calls (first ∷ calls) found zero is = omega arith
+within_calls (first ∷ calls) found (suc j) is = omega (arith, within_calls calls found j is)
+
+was_early : (first : Image) (calls : List Call) (call : Call) (since : ℕ) (left : Image) → WasLeft first calls since left → WasLeft first (calls ++ call ∷ []) since left
+was_early first calls call since left was =
+    let early = within_calls calls (Sync was.loose) was.at was.synced in
+    record {
+      at = was.at;
+      loose = was.loose;
+      late = was.late;
+      synced = get_early calls call (Sync was.loose) was.at was.synced;
+      within = subst (λ (l : List Call). ChangesWithin (IsFlagged was.loose.items) (image_after l first) left) (sym (take-append-le was.at calls (call ∷ []) (omega arith))) was.within;
+    }
+
+-- no sync more
+still_early : (first : Image) (calls : List Call) (sector : ℕ) (bytes : List ℕ) (since : ℕ) (left : Image) → WasLeft first (calls ++ Write sector bytes ∷ []) since left → WasLeft first calls since left
+still_early first calls sector bytes since left was = ⊎_elim (λ early. record {
+  at = was.at;
+  loose = was.loose;
+  late = was.late;
+  synced = early.1;
+  within = subst (λ (l : List Call). ChangesWithin (IsFlagged was.loose.items) (image_after l first) left) (take-append-le was.at calls (Write sector bytes ∷ []) (omega (arith, early.0))) was.within;
+}) (λ last. absurd (cc (last.1))) (get_pushed calls (Write sector bytes) (Sync was.loose) was.at was.synced)
+
+-- a write
+pub write_within : (now : Image) (loose : List Bool) (sector : ℕ) (bytes : List ℕ) → sector < length loose → ChangesWithin (IsFlagged (slice_set loose sector true)) now (slice_set now sector bytes)
+write_within now loose sector bytes there = record {
+  size = length-set now sector bytes;
+  others = λ i other. set_other now sector i bytes (λ same. other ((flagged_set loose sector i there).1 (inr same)));
+}
+
+-- one flag more, and a write there
+pub kept_write : (now synced : Image) (loose : List Bool) (sector : ℕ) (bytes : List ℕ) → sector < length loose → ChangesWithin (IsFlagged loose) now synced → ChangesWithin (IsFlagged (slice_set loose sector true)) (slice_set now sector bytes) synced
+kept_write now synced loose sector bytes there kept = record {
+  size = kept.size ∙ sym (length-set now sector bytes);
+  others = λ i other. kept.others i (λ was. other ((flagged_set loose sector i there).1 (inl was))) ∙ sym ((write_within now loose sector bytes there).others i other);
+}
+
+module _ (first : Image) (calls : List Call) (now synced : Image) (loose : List Bool) (steady short : Bool) (failures made writes : ℕ) where
+  abbrev old : DiskState
+  old = memory_state first calls now synced loose steady short failures made writes
+
+  pub write_goes_on : (sector : ℕ) (bytes : List ℕ) (later : List Call) (made2 writes2 : ℕ) → sector < length loose → later ≡ calls ++ Write sector bytes ∷ [] → made2 ≡ made + 1
+      → GoesOn old (memory_state first later (slice_set now sector bytes) synced (slice_set loose sector true) steady short failures made2 writes2)
+  write_goes_on sector bytes later made2 writes2 there is one = subst (λ (l : List Call). GoesOn old (memory_state first l (slice_set now sector bytes) synced (slice_set loose sector true) steady short failures made2 writes2)) (sym is) (record {
+    size = length-set now sector bytes;
+    calls = one;
+    failures = omega arith;
+    honest = (λ h. h, λ h. h);
+    inert = (λ h. h, λ h. h);
+    told = λ call later. (λ no. no, λ no. no);
+    time = λ _. record {
+      later = omega (arith, length-append calls (Write sector bytes ∷ []));
+      nothing_else = λ t left le since. ⊎_elim (λ is. inr is) (λ was. inl (inr (still_early first calls sector bytes t left was))) since;
+      keeps = λ t left le since. ⊎_elim
+          (λ is. inl (kept_write now left loose sector bytes there is))
+          (λ was. inr (was_early first calls (Write sector bytes) t left was)) since;
+    };
+  })
+
+  -- a sync
+  pub sync_goes_on : (v : Vec Bool Global) (later : List Call) (saved : Image) (flags : List Bool) (calm : Bool) (made2 : ℕ) → v.items ≡ loose → image_after calls first ≡ now → later ≡ calls ++ Sync v ∷ [] → made2 ≡ made + 1
+      → ((i : ℕ) → ¬ IsFlagged flags i) → GoesOn old (memory_state first later now saved flags calm short failures made2 writes)
+  sync_goes_on v later saved flags calm made2 same recorded is one none = subst (λ (l : List Call). GoesOn old (memory_state first l now saved flags calm short failures made2 writes)) (sym is) (record {
+    size = refl;
+    calls = one;
+    failures = omega arith;
+    honest = (λ h. h, λ h. h);
+    inert = (λ h. h, λ h. h);
+    told = λ call later. (λ no. no, λ no. no);
+    time = λ _. record {
+      later = omega (arith, length-append calls (Sync v ∷ []));
+      nothing_else = λ t left le since. ⊎_elim (λ is. inr is) (λ was. inl (earlier t left was)) since;
+      keeps = λ t left le since. inr (⊎_elim (now_kept t left le) (λ was. was_early first calls (Sync v) t left was) since);
+    };
+  })
+    where
+      whole : image_after (take (length calls) (calls ++ Sync v ∷ [])) first ≡ now
+      whole = ap (λ (l : List Call). image_after l first) (take-append-le (length calls) calls (Sync v ∷ []) (omega arith) ∙ take_all (length calls) calls (omega arith)) ∙ recorded
+
+      now_kept : (t : ℕ) (left : Image) → t ≤ length calls → ChangesWithin (IsFlagged loose) now left → WasLeft first (calls ++ Sync v ∷ []) t left
+      now_kept t left le is = record {
+        at = length calls;
+        loose = v;
+        late = le;
+        synced = get_last calls (Sync v);
+        within = subst (λ (l : Image). ChangesWithin (IsFlagged v.items) l left) (sym whole) (subst (λ (f : List Bool). ChangesWithin (IsFlagged f) now left) (sym same) is);
+      }
+
+      last_was : (t : ℕ) (left : Image) (was : WasLeft first (calls ++ Sync v ∷ []) t left) → was.at ≡ length calls → Sync v ≡ Sync was.loose → ChangesWithin (IsFlagged loose) now left
+      last_was t left was at one =
+          let v_is : v.items ≡ was.loose.items = let e : v ≡ was.loose = cc one in ap (λ (w : Vec Bool Global). w.items) e in
+          subst (λ (f : List Bool). ChangesWithin (IsFlagged f) now left) (sym v_is ∙ same)
+          (subst (λ (l : Image). ChangesWithin (IsFlagged was.loose.items) l left) (ap (λ k. image_after (take k (calls ++ Sync v ∷ [])) first) at ∙ whole) was.within)
+
+      earlier : (t : ℕ) (left : Image) → WasLeft first (calls ++ Sync v ∷ []) t left → ChangesWithin (IsFlagged loose) now left ⊎ WasLeft first calls t left
+      earlier t left was = ⊎_elim (λ early. inr (record {
+        at = was.at;
+        loose = was.loose;
+        late = was.late;
+        synced = early.1;
+        within = subst (λ (l : List Call). ChangesWithin (IsFlagged was.loose.items) (image_after l first) left) (take-append-le was.at calls (Sync v ∷ []) (omega (arith, early.0))) was.within;
+      })) (λ last. inl (last_was t left was last.0 last.1)) (get_pushed calls (Sync v) (Sync was.loose) was.at was.synced)
+
+pub ok_items : {T E P : Type 0} (r : Result T E) {b : Bool} → b ≡ is_err r → b ≡ false → OnOk r P → P
+ok_items (Ok x) is not p = p
+ok_items (Err e) is not p = absurd (cc (is, not))

@@ -1,0 +1,4 @@
+pub mod Moments
+pub mod History
+pub mod Fills
+pub mod Cuts

@@ -1,0 +1,26 @@
+use Rattle.std.proofs.Common.{ℕ, ◌∙◌, sym, ap, length, replicate, false, subst, arith, refl, List, Bool}
+use Rattle.std.proofs.lemmas.List.{length-replicate}
+use Rattle.lift_disk.specs.Disk.{Image, ChangesWithin}
+use Rattle.lift_disk.specs.Memory.{IsFlagged, image_after}
+use Rattle.lift_disk.specs.declared.call.Call.{Call}
+use Rattle.lift_disk.proofs.History.{none_flagged}
+use Rattle.lift_disk.proofs.Moments.{changes_nothing}
+use Rattle.lift_disk.proofs.memory.MemDisk.new.Goals as goal
+
+pub invariant_of-result : goal.invariant_of-result
+invariant_of-result c =
+    let n = c.args.sectors in
+    let zeros : List ℕ = replicate 512 0 in
+    let now = c.in_ok-zeros-2.field-0.items in
+    record {
+      sized = ap length c.in_ok-no_flags.ensures ∙ length-replicate n false ∙ sym (ap length c.in_ok-zeros-2.ensures ∙ length-replicate n zeros);
+      fits = omega (arith, ap length c.in_ok-zeros-2.ensures, length-replicate n zeros, c.ranges.sectors.fits);
+      recorded = ap (λ (l : List Call). image_after l c.in_ok-zeros.field-0.items) c.new.ensures.items ∙ c.in_ok-zeros.ensures ∙ sym c.in_ok-zeros-2.ensures;
+      kept = subst (λ (l : Image). ChangesWithin (IsFlagged c.in_ok-no_flags.field-0.items) now l) (c.in_ok-zeros-2.ensures ∙ sym c.in_ok-zeros-3.ensures) (changes_nothing (IsFlagged c.in_ok-no_flags.field-0.items) now);
+    }
+
+pub returns-clause-synced : goal.returns-clause-synced
+returns-clause-synced c = record {
+  steady = refl;
+  none_loose = λ i is. none_flagged c.args.sectors i (subst (λ (l : List Bool). IsFlagged l i) c.in_ok-no_flags.ensures is);
+}

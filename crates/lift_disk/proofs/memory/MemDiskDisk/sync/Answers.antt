@@ -1,0 +1,49 @@
+use Rattle.std.proofs.Common.{List, Bool, false, length, subst, refl, sym, ◌∙◌, ap}
+use Rattle.std.proofs.lemmas.List.{length-replicate}
+use Rattle.lift_disk.specs.Disk.{Image, ChangesWithin}
+use Rattle.lift_disk.specs.Memory.{image_after, IsFlagged}
+use Rattle.lift_disk.specs.declared.call.Call.{Call}
+use Rattle.lift_disk.specs.declared.call.Call.TheVariants.{Sync}
+use Rattle.lift_disk.proofs.Moments.{changes_nothing}
+use Rattle.lift_disk.proofs.History.{image_after-push, none_flagged, sync_goes_on, ok_items}
+use Rattle.lift_disk.proofs.memory.MemDiskDisk.sync.Goals as goal
+
+pub invariant_of-self-2-clause-sized : goal.invariant_of-self-2-clause-sized
+invariant_of-self-2-clause-sized c =
+    let m = c.args.self.now in
+    ap length c.clear.ensures ∙ length-replicate (length m.loose.items) false ∙ m.sized
+
+pub invariant_of-self-2-clause-recorded : goal.invariant_of-self-2-clause-recorded
+invariant_of-self-2-clause-recorded c =
+    let m = c.args.self.now in
+    let noted = ok_items c.note_sync.result c.is_err.ensures.value c.if-is_err.false c.note_sync.ensures.ok in
+    ap (λ (l : List Call). image_after l m.first.items) noted.2 ∙ image_after-push m.history.items (Sync noted.0) m.first.items ∙ m.recorded
+
+pub invariant_of-self-2-clause-kept : goal.invariant_of-self-2-clause-kept
+invariant_of-self-2-clause-kept c =
+    let m = c.args.self.now in
+    subst (λ (l : Image). ChangesWithin (IsFlagged c.clear.new.flags.items) m.image.items l) (sym (c.copy.ensures ∙ c.deref-2.ensures.value)) (changes_nothing (IsFlagged c.clear.new.flags.items) m.image.items)
+
+pub returns-clause-goes_on : goal.returns-clause-goes_on
+returns-clause-goes_on c =
+    let m = c.args.self.now in
+    let noted = ok_items c.note_sync.result c.is_err.ensures.value c.if-is_err.false c.note_sync.ensures.ok in
+    sync_goes_on m.first.items m.history.items m.image.items m.synced.items m.loose.items m.is_steady m.is_short m.failures.count m.calls.count m.writes.count
+    noted.0 c.note_sync.new.calls.items c.copy.new.to.items c.clear.new.flags.items _ _ (noted.1 ∙ c.deref.ensures.value) m.recorded noted.2 c.next-self.ensures
+    (λ i. subst (λ (l : List Bool). ¬ IsFlagged l i) (sym c.clear.ensures) (none_flagged (length m.loose.items) i))
+
+pub returns-clause-touched : goal.returns-clause-touched
+returns-clause-touched c honest =
+    let m = c.args.self.now in
+    record {
+      loose = λ i is. absurd (none_flagged (length m.loose.items) i (subst (λ (l : List Bool). IsFlagged l i) c.clear.ensures is));
+      within = changes_nothing (IsFlagged m.loose.items) m.image.items;
+    }
+
+pub returns-clause-synced : goal.returns-clause-synced
+returns-clause-synced c honest =
+    let m = c.args.self.now in
+    record {
+      steady = refl;
+      none_loose = λ i is. none_flagged (length m.loose.items) i (subst (λ (l : List Bool). IsFlagged l i) c.clear.ensures is);
+    }

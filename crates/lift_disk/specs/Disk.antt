@@ -1,0 +1,200 @@
+-- What a device holds, what its calls do to it, and what a crash may leave of it.
+use Rattle.std.specs.Prelude.{◌≡◌, ◌⊎◌, ◌↔◌, ◌<◌, ◌≤◌, ◌+◌, ℕ, Bool, true, List, length, replicate, slice_get, slice_set, Some, Result, OnOk, OnErr}
+
+-- the sectors, each the list of its bytes
+abbrev pub Image : Type 0
+Image = List (List ℕ)
+
+-- What is said of a device at one moment. All but its size and its counts rests on its honesty.
+pub record DiskState : Type 1 where
+  -- how many sectors it has
+  pub size : ℕ
+  -- how many of its calls have failed
+  pub failures : ℕ
+  -- how many calls it has had: reads, writes and syncs, failed ones too
+  pub calls : ℕ
+  -- how many of these were writes
+  pub writes : ℕ
+  -- it does what the definitions below say
+  pub is_honest : Type 0
+  -- It fails only where it was told to, or where it wants memory, and a failed call changes no byte of the image as read.
+  pub is_inert : Type 0
+  -- the image as read
+  pub image : Image
+  -- the image as it was read after the last successful sync
+  pub synced : Image
+  -- the sector was written, or a write of it failed, since the last successful sync
+  pub is_loose : ℕ → Type 0
+  -- no call has failed since the last successful sync
+  pub is_steady : Type 0
+  -- a growth inside the device was refused, now or earlier
+  pub is_short : Bool
+  -- of the calls to come, counted as calls is, this one was told to fail
+  pub fails_at : ℕ → Type 0
+  -- a number that doesn't fall
+  pub moment : ℕ
+  -- what a crash at some moment from that one on might have left
+  pub left_since : ℕ → Image → Type 0
+
+-- these sectors may have changed to anything at all, and no other did
+pub record ChangesWithin (changed : ℕ → Type 0) (old new : Image) : Type 0 where
+  pub size : length new ≡ length old
+  pub others : (i : ℕ) → ¬ changed i → slice_get new i ≡ slice_get old i
+
+-- a crash now may leave this image: any bytes at all in the loose sectors, the others as they are
+abbrev pub MayLeave : DiskState → Image → Type 0
+MayLeave disk left = ChangesWithin disk.is_loose disk.image left
+
+-- the image has as many sectors as the device says
+abbrev pub IsWhole : DiskState → Type 0
+IsWhole disk = disk.is_honest → length disk.image ≡ disk.size
+
+-- This moment is one of those since an earlier one.
+abbrev pub CountsNow : DiskState → Type 0
+CountsNow disk = disk.is_honest → (t : ℕ) (left : Image) → t ≤ disk.moment → MayLeave disk left → disk.left_since t left
+
+-- Since this moment there is no other.
+abbrev pub LeavesNoOther : DiskState → Type 0
+LeavesNoOther disk = disk.is_honest → (left : Image) → disk.left_since disk.moment left → MayLeave disk left
+
+-- A crash now may take back what the loose sectors hold: the others are as the last sync left them.
+abbrev pub MayLose : DiskState → Type 0
+MayLose disk = disk.is_honest → MayLeave disk disk.synced
+
+-- this is the image with that byte all over the loose sectors
+pub record IsFilled (byte : ℕ) (disk : DiskState) (left : Image) : Type 0 where
+  pub size : length left ≡ length disk.image
+  pub loose : (i : ℕ) → i < length disk.image → disk.is_loose i → slice_get left i ≡ Some (replicate 512 byte)
+  pub others : (i : ℕ) → ¬ disk.is_loose i → slice_get left i ≡ slice_get disk.image i
+
+-- Time goes on: a crash since t might have left what it might have left before, or what it may leave now.
+pub record Elapses (old new : DiskState) : Type 0 where
+  pub later : old.moment ≤ new.moment
+  pub nothing_else : (t : ℕ) (left : Image) → t ≤ old.moment → new.left_since t left → old.left_since t left ⊎ MayLeave new left
+  pub keeps : (t : ℕ) (left : Image) → t ≤ old.moment → old.left_since t left → new.left_since t left
+
+-- what every call keeps, whether it fails or not
+pub record GoesOn (old new : DiskState) : Type 0 where
+  pub size : new.size ≡ old.size
+  pub calls : new.calls ≡ old.calls + 1
+  pub failures : old.failures ≤ new.failures
+  pub honest : new.is_honest ↔ old.is_honest
+  pub inert : new.is_inert ↔ old.is_inert
+  -- what later calls were told stands
+  pub told : (call : ℕ) → new.calls < call → new.fails_at call ↔ old.fails_at call
+  pub time : old.is_honest → Elapses old new
+
+-- after a run of calls: it is the same device, told the same, and no count has fallen
+pub record RunsOn (old new : DiskState) : Type 0 where
+  pub size : new.size ≡ old.size
+  pub calls : old.calls ≤ new.calls
+  pub failures : old.failures ≤ new.failures
+  pub honest : new.is_honest ↔ old.is_honest
+  pub inert : new.is_inert ↔ old.is_inert
+  pub told : (call : ℕ) → new.calls < call → new.fails_at call ↔ old.fails_at call
+
+-- the same device: it has as many sectors, and is as honest
+pub record IsSameDevice (old new : DiskState) : Type 0 where
+  pub size : new.size ≡ old.size
+  pub honest : new.is_honest ↔ old.is_honest
+
+-- a fault is answered exactly where the count rose
+pub record HasCause {T E : Type 0} (result : Result T E) (old new : DiskState) : Type 0 where
+  pub ok : OnOk result (new.failures ≡ old.failures)
+  pub err : OnErr result (old.failures < new.failures)
+
+-- An inert device fails this call exactly where it was told to. It takes no memory.
+pub record FailsAsTold {T E : Type 0} (result : Result T E) (old new : DiskState) : Type 0 where
+  pub ok : OnOk result (old.is_inert → ¬ old.fails_at (old.calls + 1))
+  pub err : OnErr result (old.is_inert → old.fails_at (old.calls + 1))
+  pub short : new.is_short ≡ old.is_short
+
+-- An inert device fails this call exactly where it was told to, or where a growth was refused in it: then it is short from now on.
+pub record FailsAsToldOrShort {T E : Type 0} (result : Result T E) (old new : DiskState) : Type 0 where
+  pub ok : OnOk result (old.is_inert → ¬ old.fails_at (old.calls + 1))
+  pub same : OnOk result (new.is_short ≡ old.is_short)
+  pub err : OnErr result (old.is_inert → old.fails_at (old.calls + 1) × (new.is_short ≡ old.is_short) ⊎ ¬ old.fails_at (old.calls + 1) × (new.is_short ≡ true))
+  pub short : old.is_short ≡ true → new.is_short ≡ true
+
+-- One sector more is loose, and nothing but loose sectors has changed.
+pub record Touches (sector : ℕ) (old new : DiskState) : Type 0 where
+  pub loose : (i : ℕ) → new.is_loose i ↔ (old.is_loose i ⊎ (i ≡ sector))
+  pub within : ChangesWithin new.is_loose old.image new.image
+
+-- No sector more is loose, and nothing but loose sectors has changed.
+pub record TouchesNothing (old new : DiskState) : Type 0 where
+  pub loose : (i : ℕ) → new.is_loose i → old.is_loose i
+  pub within : ChangesWithin old.is_loose old.image new.image
+
+-- a loose sector stays so
+abbrev pub StaysLoose : DiskState → DiskState → Type 0
+StaysLoose old new = (i : ℕ) → old.is_loose i → new.is_loose i
+
+-- the image of the last sync is the same
+abbrev pub KeepsSynced : DiskState → DiskState → Type 0
+KeepsSynced old new = old.is_honest → new.synced ≡ old.synced
+
+-- an inert device reads as before
+abbrev pub KeepsImage : DiskState → DiskState → Type 0
+KeepsImage old new = old.is_honest → old.is_inert → new.image ≡ old.image
+
+-- an inert device reads as before, with these bytes in the sector
+abbrev pub SetsSector : ℕ → List ℕ → DiskState → DiskState → Type 0
+SetsSector sector bytes old new = old.is_honest → old.is_inert → new.image ≡ slice_set old.image sector bytes
+
+-- this is read, and it stays so until a call fails
+pub record IsSteadyAt (image : Image) (disk : DiskState) : Type 0 where
+  pub steady : disk.is_steady
+  pub same : disk.image ≡ image
+
+-- after a sync a crash leaves what is read
+pub record IsSynced (disk : DiskState) : Type 0 where
+  pub steady : disk.is_steady
+  pub none_loose : (i : ℕ) → ¬ disk.is_loose i
+
+-- nothing that is said of the device has changed, but for what it was told
+pub record IsUnchanged (old new : DiskState) : Type 0 where
+  pub size : new.size ≡ old.size
+  pub failures : new.failures ≡ old.failures
+  pub calls : new.calls ≡ old.calls
+  pub writes : new.writes ≡ old.writes
+  pub honest : new.is_honest ↔ old.is_honest
+  pub inert : new.is_inert ↔ old.is_inert
+  pub short : new.is_short ≡ old.is_short
+  pub image : new.image ≡ old.image
+  pub synced : new.synced ≡ old.synced
+  pub loose : (i : ℕ) → new.is_loose i ↔ old.is_loose i
+  pub steady : new.is_steady ↔ old.is_steady
+  pub moment : new.moment ≡ old.moment
+  pub left_since : (t : ℕ) (left : Image) → new.left_since t left ↔ old.left_since t left
+
+-- no call to come was told to fail
+abbrev pub IsUnarmed : DiskState → Type 0
+IsUnarmed disk = (call : ℕ) → disk.calls < call → ¬ disk.fails_at call
+
+-- of the calls to come just these were told to fail
+abbrev pub IsTold : (ℕ → Type 0) → DiskState → Type 0
+IsTold fails disk = (call : ℕ) → disk.calls < call → disk.fails_at call ↔ fails call
+
+-- Every image that a crash at some moment from old to new may leave has P, if the device is honest.
+pub record LeavesOnly (old new : DiskState) (P : Image → Type 0) : Type 0 where
+  pub honest : new.is_honest ↔ old.is_honest
+  pub later : old.is_honest → old.moment ≤ new.moment
+  pub each : old.is_honest → (left : Image) → new.left_since old.moment left → P left
+  -- for a run that began earlier
+  pub before : old.is_honest → (t : ℕ) (left : Image) → t ≤ old.moment → new.left_since t left → old.left_since t left ⊎ P left
+
+-- every image that a crash now may leave has P, if the device is honest
+abbrev pub LeavesNow : DiskState → (Image → Type 0) → Type 0
+LeavesNow disk P = disk.is_honest → (left : Image) → MayLeave disk left → P left
+
+-- no sector but these is loose
+abbrev pub LooseWithin : (ℕ → Type 0) → DiskState → Type 0
+LooseWithin changed disk = disk.is_honest → (i : ℕ) → disk.is_loose i → changed i
+
+-- From old to new no sector but these was touched, so a crash at any moment leaves the others as they were.
+pub record TouchesOnly (changed : ℕ → Type 0) (old new : DiskState) : Type 0 where
+  pub size : new.size ≡ old.size
+  pub moments : LeavesOnly old new (ChangesWithin changed old.image)
+  pub loose : LooseWithin changed new
+  pub within : old.is_honest → ChangesWithin changed old.image new.image

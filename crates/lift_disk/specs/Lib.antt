@@ -1,0 +1,5 @@
+pub mod Disk
+pub mod Memory
+pub mod Outcomes
+pub mod Faults
+pub mod Files

@@ -1,0 +1,88 @@
+//! What a device promises. Its contract says what is read, and what a crash at any moment may leave.
+ghost use Rattle.std.specs.Prelude.{◌≡◌, ◌≤◌, ◌<◌, ◌+◌, ℕ, OnOk, OnErr, List, length, Bool, slice_get, slice_set, Some};
+ghost use Rattle.lift_disk.specs.Disk.{DiskState, GoesOn, HasCause, FailsAsTold, FailsAsToldOrShort, Touches, TouchesNothing, StaysLoose, KeepsSynced, KeepsImage, SetsSector, IsSteadyAt, IsSynced, IsUnchanged, IsTold, IsWhole, CountsNow, LeavesNoOther, MayLose};
+
+/// A call of the device has failed.
+#[derive(Clone, Copy, PartialEq, Eq)]
+pub struct DiskFault;
+
+/// A device of sectors. What was written may be lost, or torn, until a sync succeeds.
+pub trait Disk {
+    /// What is said of the device.
+    ghost state: { Self → DiskState };
+
+    /// How many sectors the device has.
+    fn sectors(&self) -> u32
+        ensures { result ≡ (state self.now).size };
+
+    /// Reads a sector. A failed read leaves the buffer open.
+    fn read(&mut self, sector: u32, buffer: &mut [u8; 512]) -> Result<(), DiskFault>
+        requires { sector < (state self.old).size }
+        ensures goes_on { GoesOn (state self.old) (state self.new) }
+        ensures cause { HasCause result (state self.old) (state self.new) }
+        ensures told { FailsAsTold result (state self.old) (state self.new) }
+        ensures writes { (state self.new).writes ≡ (state self.old).writes }
+        ensures touched { (state self.old).is_honest → TouchesNothing (state self.old) (state self.new) }
+        ensures loose { (state self.old).is_honest → StaysLoose (state self.old) (state self.new) }
+        ensures gives { OnOk result ((state self.old).is_honest → slice_get (state self.new).image sector ≡ Some buffer.new) }
+        ensures steady { OnOk result ((state self.old).is_honest → (state self.old).is_steady
+            → IsSteadyAt (state self.old).image (state self.new)) }
+        ensures image { KeepsImage (state self.old) (state self.new) }
+        ensures kept { KeepsSynced (state self.old) (state self.new) };
+
+    /// Writes a sector. Until a sync succeeds a crash may leave any bytes at all in it, also where the write failed.
+    fn write(&mut self, sector: u32, bytes: &[u8; 512]) -> Result<(), DiskFault>
+        requires { sector < (state self.old).size }
+        ensures goes_on { GoesOn (state self.old) (state self.new) }
+        ensures cause { HasCause result (state self.old) (state self.new) }
+        ensures told { FailsAsToldOrShort result (state self.old) (state self.new) }
+        ensures writes { (state self.new).writes ≡ (state self.old).writes + 1 }
+        ensures touched { (state self.old).is_honest → Touches sector (state self.old) (state self.new) }
+        ensures steady { OnOk result ((state self.old).is_honest → (state self.old).is_steady
+            → IsSteadyAt (slice_set (state self.old).image sector bytes.now) (state self.new)) }
+        ensures image { OnOk result (SetsSector sector bytes.now (state self.old) (state self.new)) }
+        ensures image_err { OnErr result (KeepsImage (state self.old) (state self.new)) }
+        ensures kept { KeepsSynced (state self.old) (state self.new) };
+
+    /// Once it succeeds, a crash leaves what is read.
+    fn sync(&mut self) -> Result<(), DiskFault>
+        ensures goes_on { GoesOn (state self.old) (state self.new) }
+        ensures cause { HasCause result (state self.old) (state self.new) }
+        ensures told { FailsAsToldOrShort result (state self.old) (state self.new) }
+        ensures writes { (state self.new).writes ≡ (state self.old).writes }
+        ensures touched { (state self.old).is_honest → TouchesNothing (state self.old) (state self.new) }
+        ensures synced { OnOk result ((state self.old).is_honest → IsSynced (state self.new)) }
+        ensures steady { OnOk result ((state self.old).is_honest → (state self.old).is_steady
+            → IsSteadyAt (state self.old).image (state self.new)) }
+        ensures loose { OnErr result ((state self.old).is_honest → StaysLoose (state self.old) (state self.new)) }
+        ensures image { KeepsImage (state self.old) (state self.new) }
+        ensures saved { OnOk result ((state self.old).is_honest → (state self.new).synced ≡ (state self.new).image) }
+        ensures kept { OnErr result (KeepsSynced (state self.old) (state self.new)) };
+
+    /// The image has as many sectors as the device says.
+    ghost whole: { (disk : Self) → IsWhole (state disk) };
+
+    /// This moment is one of those since an earlier one.
+    ghost counts_now: { (disk : Self) → CountsNow (state disk) };
+
+    /// Since this moment there is no other.
+    ghost only_now: { (disk : Self) → LeavesNoOther (state disk) };
+
+    /// Sectors that aren't loose are as the last sync left them.
+    ghost may_lose: { (disk : Self) → MayLose (state disk) };
+}
+
+/// A device that can be told to fail.
+pub trait Arm: Disk {
+    /// Armed with this number, when so many calls had been made: whether it fails this call, counted from the first of all.
+    ghost fails_by: { ℕ → ℕ → ℕ → Type 0 };
+
+    /// Tells it anew which calls to fail. It changes no image and is no call of the device.
+    fn arm(&mut self, calls: u32)
+        ensures same { IsUnchanged (Self.state self.old) (Self.state self.new) }
+        ensures told { IsTold (fails_by calls (Self.state self.old).calls) (Self.state self.new) };
+
+    /// Whether a growth inside the device was refused, now or earlier.
+    fn short(&self) -> bool
+        ensures { result ≡ (Self.state self.now).is_short };
+}

@@ -1,0 +1,144 @@
+//! A device on a file of the operating system.
+ghost use Rattle.std.specs.Prelude.{◌≡◌, IfOk};
+
+use crate::count::ProofCount;
+use crate::{Disk, DiskFault};
+use std::fs::{File, Files, OpenFile, OpenOptions};
+use std::os::unix::fs::FileExt;
+use std::{fs, io};
+
+const SECTOR_BYTES: u64 = 512;
+
+/// Why a file can't be a device.
+#[derive(Drop)]
+pub enum FileFault {
+    /// The system refused a call.
+    System(io::Error),
+    /// A folder, a pipe or another thing that is no plain file stands there.
+    NotAFile,
+}
+
+/// A file of whole sectors. Nothing shows that it keeps what was synced.
+#[derive(Drop)]
+pub struct FileDisk {
+    file: File,
+    sectors: u32,
+    failures: ProofCount,
+    calls: ProofCount,
+    writes: ProofCount,
+}
+
+/// Where a sector begins, in bytes.
+fn offset_of(sector: u32) -> u64 {
+    u64::from(sector) * SECTOR_BYTES
+}
+
+impl FileDisk {
+    ghost use Rattle.lift_disk.specs.Files.{file_state_of};
+
+    /// Opens a file that is there. Its whole sectors count, 4,294,967,295 at most; the end that is less than one doesn't. A pipe or a terminal isn't opened, so that nothing waits for its other end.
+    pub fn open<R: Files<File = File>>(rt: &R, path: &str) -> Result<FileDisk, FileFault>
+        ensures failures { IfOk result (λ disk. (file_state_of disk).failures ≡ 0) }
+        ensures calls { IfOk result (λ disk. (file_state_of disk).calls ≡ 0) }
+    {
+        if !fs::metadata(rt, path).map_err(FileFault::System)?.is_file() {
+            return Err(FileFault::NotAFile);
+        }
+        let file = OpenOptions::new()
+            .read(true)
+            .write(true)
+            .open(rt, path)
+            .map_err(FileFault::System)?;
+        let bytes = file.metadata().map_err(FileFault::System)?.len();
+        let sectors = u32::try_from(bytes / SECTOR_BYTES).unwrap_or(u32::MAX);
+        Ok(FileDisk::over(file, sectors))
+    }
+
+    /// Makes a file of so many sectors of zeros, or makes one that is there into that.
+    pub fn create<R: Files<File = File>>(
+        rt: &R,
+        path: &str,
+        sectors: u32,
+    ) -> Result<FileDisk, FileFault>
+        ensures size { IfOk result (λ disk. (file_state_of disk).size ≡ sectors) }
+        ensures failures { IfOk result (λ disk. (file_state_of disk).failures ≡ 0) }
+        ensures calls { IfOk result (λ disk. (file_state_of disk).calls ≡ 0) }
+    {
+        if let Ok(there) = fs::metadata(rt, path) {
+            if !there.is_file() {
+                return Err(FileFault::NotAFile);
+            }
+        }
+        let file = OpenOptions::new()
+            .read(true)
+            .write(true)
+            .create(true)
+            .truncate(true)
+            .open(rt, path)
+            .map_err(FileFault::System)?;
+        file.set_len(offset_of(sectors)).map_err(FileFault::System)?;
+        file.sync_all().map_err(FileFault::System)?;
+        Ok(FileDisk::over(file, sectors))
+    }
+
+    fn over(file: File, sectors: u32) -> FileDisk
+        ensures size { (file_state_of result).size ≡ sectors }
+        ensures failures { (file_state_of result).failures ≡ 0 }
+        ensures calls { (file_state_of result).calls ≡ 0 }
+    {
+        FileDisk {
+            file,
+            sectors,
+            failures: ProofCount::new(),
+            calls: ProofCount::new(),
+            writes: ProofCount::new(),
+        }
+    }
+}
+
+impl Disk for FileDisk {
+    ghost use Rattle.lift_disk.specs.Files.{file_state_of};
+
+    ghost state = { λ d. file_state_of d };
+
+    ghost whole = { λ d no. absurd no };
+
+    ghost counts_now = { λ d no. absurd no };
+
+    ghost only_now = { λ d no. absurd no };
+
+    ghost may_lose = { λ d no. absurd no };
+
+    fn sectors(&self) -> u32 {
+        self.sectors
+    }
+
+    fn read(&mut self, sector: u32, buffer: &mut [u8; 512]) -> Result<(), DiskFault> {
+        self.calls = ProofCount::next(&self.calls);
+        if self.file.read_exact_at(buffer, offset_of(sector)).is_err() {
+            self.failures = ProofCount::next(&self.failures);
+            return Err(DiskFault);
+        }
+        Ok(())
+    }
+
+    fn write(&mut self, sector: u32, bytes: &[u8; 512]) -> Result<(), DiskFault> {
+        self.calls = ProofCount::next(&self.calls);
+        self.writes = ProofCount::next(&self.writes);
+        if self.file.write_all_at(bytes, offset_of(sector)).is_err() {
+            self.failures = ProofCount::next(&self.failures);
+            return Err(DiskFault);
+        }
+        Ok(())
+    }
+
+    /// By `fdatasync`: the bytes and what is needed to find them, without the file's times.
+    fn sync(&mut self) -> Result<(), DiskFault> {
+        self.calls = ProofCount::next(&self.calls);
+        if self.file.sync_data().is_err() {
+            self.failures = ProofCount::next(&self.failures);
+            return Err(DiskFault);
+        }
+        Ok(())
+    }
+}

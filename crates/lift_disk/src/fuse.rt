@@ -1,0 +1,96 @@
+//! A device in memory that fails every call from one on.
+ghost use Rattle.std.specs.Prelude.{◌≡◌, ◌+◌, ◌<◌, ◌↔◌, ℕ, Some, None, true, false, refl};
+ghost use Rattle.std.proofs.Common.{inl};
+ghost use Rattle.lift_disk.specs.Disk.{IsUnchanged, IsUnarmed};
+ghost use Rattle.lift_disk.specs.Memory.{no_other};
+
+use crate::countdown::is_blown;
+use crate::{Arm, Disk, DiskFault, MemDisk};
+
+/// Passes everything until it is armed, and then so many calls; after these it fails each one.
+#[derive(Drop)]
+pub struct FuseDisk {
+    inner: MemDisk,
+    calls_left: Option<u32>,
+}
+
+impl FuseDisk {
+    ghost use Rattle.lift_disk.specs.Outcomes.{state_of};
+    ghost use Rattle.lift_disk.specs.Faults.{fuse_state_of};
+
+    /// Not armed: it passes every call.
+    pub fn new(inner: MemDisk) -> FuseDisk
+        ensures same { IsUnchanged (state_of inner) (fuse_state_of result) }
+        ensures unarmed { IsUnarmed (fuse_state_of result) }
+    {
+        FuseDisk {
+            inner,
+            calls_left: None,
+        }
+    }
+
+    /// The device in memory, which fails no call by itself.
+    pub fn into_inner(self) -> MemDisk
+        ensures same { IsUnchanged (fuse_state_of self) (state_of result) }
+        ensures unarmed { IsUnarmed (state_of result) }
+    {
+        let FuseDisk { inner, .. } = self;
+        inner
+    }
+}
+
+impl Disk for FuseDisk {
+    ghost use Rattle.lift_disk.specs.Faults.{fuse_state_of};
+
+    ghost state = { λ d. fuse_state_of d };
+
+    ghost whole = { λ d _. refl };
+
+    ghost counts_now = { λ d _ t left le now. inl now };
+
+    ghost only_now = { λ d _ left since. no_other d.inner.first.items d.inner.history.items d.inner.image.items d.inner.loose.items left since };
+
+    ghost may_lose = { λ d _. d.inner.kept };
+
+    fn sectors(&self) -> u32 {
+        self.inner.sectors()
+    }
+
+    fn read(&mut self, sector: u32, buffer: &mut [u8; 512]) -> Result<(), DiskFault> {
+        if is_blown(&mut self.calls_left) {
+            self.inner.spoil(None);
+            return Err(DiskFault);
+        }
+        self.inner.read(sector, buffer)
+    }
+
+    fn write(&mut self, sector: u32, bytes: &[u8; 512]) -> Result<(), DiskFault> {
+        if is_blown(&mut self.calls_left) {
+            self.inner.spoil(Some(sector));
+            return Err(DiskFault);
+        }
+        self.inner.write(sector, bytes)
+    }
+
+    fn sync(&mut self) -> Result<(), DiskFault> {
+        if is_blown(&mut self.calls_left) {
+            self.inner.spoil(None);
+            return Err(DiskFault);
+        }
+        self.inner.sync()
+    }
+}
+
+impl Arm for FuseDisk {
+    ghost use Rattle.lift_disk.specs.Faults.{AllAfter};
+
+    ghost fails_by = { AllAfter };
+
+    fn arm(&mut self, calls: u32) {
+        self.calls_left = Some(calls);
+    }
+
+    fn short(&self) -> bool {
+        self.inner.is_short()
+    }
+}

@@ -1,0 +1,20 @@
+//! A device of sectors of 512 bytes, by what it may have kept after a crash.
+#![tactic(auto)]
+
+mod call;
+mod count;
+mod countdown;
+mod disk;
+mod file;
+mod flaky;
+mod fuse;
+mod memory;
+mod outcome;
+mod record;
+
+pub use disk::{Arm, Disk, DiskFault};
+pub use file::{FileDisk, FileFault};
+pub use flaky::FlakyDisk;
+pub use fuse::FuseDisk;
+pub use memory::MemDisk;
+pub use outcome::Outcome;

@@ -1,0 +1,177 @@
+//! A device in memory. It records its calls, so what a crash at any past moment might have left is still known.
+ghost use Rattle.std.specs.Prelude.{◌≡◌, ◌<◌, ◌+◌, ◌^◌, ◌++◌, [], ◌∷◌, length, replicate, true, false, refl, OnOk, OnErr, IfOk, IfSome};
+ghost use Rattle.std.proofs.Common.{inl};
+ghost use Rattle.lift_disk.specs.Disk.{ChangesWithin, IsSynced, IsUnarmed};
+ghost use Rattle.lift_disk.specs.Memory.{IsFlagged, image_after, no_other};
+
+use crate::call::Call;
+use crate::count::ProofCount;
+use crate::record::{clear, copy, leave, no_flags, note_sync, note_write, zeros};
+use crate::{Disk, DiskFault, Outcome};
+use lift_base::Memory;
+use std::alloc::Global;
+
+#[derive(Drop)]
+pub struct MemDisk {
+    alloc: Global,
+    first: Vec<[u8; 512]>,
+    history: Vec<Call>,
+    image: Vec<[u8; 512]>,
+    synced: Vec<[u8; 512]>,
+    loose: Vec<bool>,
+    is_steady: bool,
+    is_short: bool,
+    failures: ProofCount,
+    calls: ProofCount,
+    writes: ProofCount,
+    ghost sized: { length loose.items ≡ length image.items },
+    ghost fits: { length image.items < 2 ^ 32 },
+    ghost recorded: { image_after history.items first.items ≡ image.items },
+    ghost kept: { ChangesWithin (IsFlagged loose.items) image.items synced.items },
+}
+
+impl MemDisk {
+    ghost use Rattle.lift_disk.specs.Outcomes.{state_of, SpoilsAt, RunsShortAt, IsLeftBy, IsCut};
+
+    /// So many sectors of zeros, all of them on the disk. Refused only for want of memory.
+    pub fn new(alloc: Global, sectors: u32) -> Result<MemDisk, Memory>
+        ensures zeros { IfOk result (λ disk. (state_of disk).image ≡ replicate sectors (replicate 512 0)) }
+        ensures synced { IfOk result (λ disk. IsSynced (state_of disk)) }
+        ensures same { IfOk result (λ disk. (state_of disk).synced ≡ (state_of disk).image) }
+        ensures honest { IfOk result (λ disk. (state_of disk).is_honest) }
+        ensures inert { IfOk result (λ disk. (state_of disk).is_inert) }
+        ensures unarmed { IfOk result (λ disk. IsUnarmed (state_of disk)) }
+        ensures short { IfOk result (λ disk. (state_of disk).is_short ≡ false) }
+        ensures failures { IfOk result (λ disk. (state_of disk).failures ≡ 0) }
+        ensures calls { IfOk result (λ disk. (state_of disk).calls ≡ 0) }
+        ensures writes { IfOk result (λ disk. (state_of disk).writes ≡ 0) }
+    {
+        Ok(MemDisk {
+            alloc,
+            first: zeros(alloc, sectors)?,
+            history: Vec::new(alloc),
+            image: zeros(alloc, sectors)?,
+            synced: zeros(alloc, sectors)?,
+            loose: no_flags(alloc, sectors)?,
+            is_steady: true,
+            is_short: false,
+            failures: ProofCount::new(),
+            calls: ProofCount::new(),
+            writes: ProofCount::new(),
+        })
+    }
+
+    /// A growth inside the device was refused, now or earlier.
+    pub(crate) fn is_short(&self) -> bool
+        ensures { result ≡ (state_of self.now).is_short }
+    {
+        self.is_short
+    }
+
+    /// Stands for a failed call: a write of this sector, or a read or a sync.
+    pub fn spoil(&mut self, sector: Option<u32>)
+        requires { IfSome sector (λ i. i < (state_of self.old).size) }
+        ensures { SpoilsAt sector (state_of self.old) (state_of self.new) }
+    {
+        self.failures = ProofCount::next(&self.failures);
+        self.calls = ProofCount::next(&self.calls);
+        self.is_steady = false;
+        if let Some(i) = sector {
+            self.writes = ProofCount::next(&self.writes);
+            self.loose[i as usize] = true;
+        }
+    }
+
+    /// A call that fails because a growth was refused.
+    fn fail_short(&mut self, sector: Option<u32>)
+        requires { IfSome sector (λ i. i < (state_of self.old).size) }
+        ensures { RunsShortAt sector (state_of self.old) (state_of self.new) }
+    {
+        self.is_short = true;
+        self.spoil(sector);
+    }
+
+    /// Cuts the power. It takes no memory; what a crash might have left before is no longer asked.
+    pub fn cut(self, outcome: Outcome) -> MemDisk
+        ensures image { IsLeftBy outcome (state_of self) (state_of result).image }
+        ensures cut { IsCut (state_of self) (state_of result) }
+    {
+        let MemDisk {
+            alloc,
+            mut first,
+            mut history,
+            mut image,
+            synced,
+            loose,
+            is_steady,
+            is_short,
+            failures,
+            calls,
+            writes,
+        } = self;
+        leave(outcome, &mut image, &synced, &loose);
+        copy(&image, &mut first);
+        history.clear();
+        MemDisk {
+            alloc,
+            first,
+            history,
+            image,
+            synced,
+            loose,
+            is_steady,
+            is_short,
+            failures,
+            calls,
+            writes,
+        }
+    }
+}
+
+impl Disk for MemDisk {
+    ghost use Rattle.lift_disk.specs.Outcomes.{state_of};
+
+    ghost state = { λ m. state_of m };
+
+    ghost whole = { λ m _. refl };
+
+    ghost counts_now = { λ m _ t left le now. inl now };
+
+    ghost only_now = { λ m _ left since. no_other m.first.items m.history.items m.image.items m.loose.items left since };
+
+    ghost may_lose = { λ m _. m.kept };
+
+    fn sectors(&self) -> u32 {
+        self.image.len() as u32
+    }
+
+    fn read(&mut self, sector: u32, buffer: &mut [u8; 512]) -> Result<(), DiskFault> {
+        self.calls = ProofCount::next(&self.calls);
+        *buffer = self.image[sector as usize];
+        Ok(())
+    }
+
+    fn write(&mut self, sector: u32, bytes: &[u8; 512]) -> Result<(), DiskFault> {
+        if note_write(&mut self.history, sector, bytes).is_err() {
+            self.fail_short(Some(sector));
+            return Err(DiskFault);
+        }
+        self.calls = ProofCount::next(&self.calls);
+        self.writes = ProofCount::next(&self.writes);
+        self.image[sector as usize] = *bytes;
+        self.loose[sector as usize] = true;
+        Ok(())
+    }
+
+    fn sync(&mut self) -> Result<(), DiskFault> {
+        if note_sync(self.alloc, &mut self.history, &self.loose).is_err() {
+            self.fail_short(None);
+            return Err(DiskFault);
+        }
+        self.calls = ProofCount::next(&self.calls);
+        copy(&self.image, &mut self.synced);
+        clear(&mut self.loose);
+        self.is_steady = true;
+        Ok(())
+    }
+}

@@ -1,0 +1,58 @@
+use crate::calls::{get, holds, put};
+use lift_disk::{Disk, MemDisk, Outcome};
+use std::process::Abort;
+
+/// Four sectors: 1 and 2 are safe in the first two, then 3 and 4 were written to the second and third, and a write of the fourth failed.
+fn written<R: AllocGlobal + Abort>(rt: &R) -> MemDisk {
+    let mut disk = MemDisk::new(rt.alloc(), 4).ok().expect(rt, "memory");
+    assert!(rt; put(&mut disk, 0, 1) && put(&mut disk, 1, 2));
+    assert!(rt; disk.sync().is_ok());
+    assert!(rt; put(&mut disk, 1, 3) && put(&mut disk, 2, 4));
+    assert!(rt; disk.sectors() == 4);
+    if 3 < disk.sectors() {
+        disk.spoil(Some(3));
+    }
+    disk
+}
+
+#[test]
+fn a_new_device_is_of_zeros(rt: HostRuntime) {
+    for sectors in [0, 1, 130] {
+        let mut disk = MemDisk::new(rt.alloc(), sectors).ok().expect(&rt, "memory");
+        assert!(rt; disk.sectors() == sectors);
+        for sector in 0..sectors {
+            assert!(rt; get(&mut disk, sector) == Some(0));
+        }
+    }
+}
+
+#[test]
+fn a_cut_leaves_what_its_word_says(rt: HostRuntime) {
+    for (outcome, left) in [
+        (Outcome::Keep, [1, 3, 4, 0]),
+        (Outcome::Lose, [1, 2, 0, 0]),
+        (Outcome::Fill(165), [1, 165, 165, 165]),
+        (Outcome::Fill(0), [1, 0, 0, 0]),
+    ] {
+        let mut disk = written(&rt).cut(outcome);
+        assert!(rt; holds(&mut disk, left));
+        // the same sectors are still loose
+        let mut disk = disk.cut(Outcome::Fill(9));
+        assert!(rt; holds(&mut disk, [1, 9, 9, 9]));
+        let mut disk = disk.cut(Outcome::Lose);
+        assert!(rt; holds(&mut disk, [1, 2, 0, 0]));
+    }
+}
+
+#[test]
+fn a_sync_makes_it_safe(rt: HostRuntime) {
+    for outcome in [Outcome::Keep, Outcome::Lose, Outcome::Fill(9)] {
+        let mut disk = written(&rt);
+        disk.spoil(None);
+        assert!(rt; disk.sync().is_ok());
+        let mut disk = disk.cut(outcome);
+        assert!(rt; holds(&mut disk, [1, 3, 4, 0]));
+        assert!(rt; put(&mut disk, 0, 5));
+        assert!(rt; holds(&mut disk.cut(Outcome::Lose), [1, 3, 4, 0]));
+    }
+}

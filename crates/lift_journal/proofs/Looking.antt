@@ -1,0 +1,80 @@
+-- Calls that write nothing, one after another.
+use Rattle.std.proofs.Common.{◌≡◌, ◌<◌, refl, ◌∙◌, arith, Result, Ok, Err, OnOk, OnErr}
+use Rattle.std.specs.Prelude.{IfErr, true, false}
+use Rattle.std.specs.Result.{is_err}
+use Rattle.lift_disk.specs.Disk.{DiskState, LeavesNoOther}
+use Rattle.lift_disk.proofs.Moments.{runs_none, runs_then, touches_none, touches_nothing_then}
+use Rattle.lift_journal.specs.declared.fault.JournalFault.{JournalFault}
+use Rattle.lift_journal.specs.declared.fault.JournalFault.TheVariants.{Disk, NotFormatted, Damaged, Full, Broken}
+use Rattle.lift_journal.specs.Steps.{ReadsOnly, ReadsWell, Looks, Examines, HasItsCause}
+
+pub reads_none : (disk : DiskState) → LeavesNoOther disk → ReadsOnly disk disk
+reads_none disk only_now = record { runs = runs_none disk; writes = refl; touched = touches_none disk.is_loose disk (λ _ i is. is) only_now }
+
+pub reads_then : (old mid new : DiskState) → ReadsOnly old mid → ReadsOnly mid new → ReadsOnly old new
+reads_then old mid new first second = record {
+  runs = runs_then old mid new first.runs second.runs;
+  writes = second.writes ∙ first.writes;
+  touched = touches_nothing_then old mid new first.touched second.touched;
+}
+
+pub well_none : (disk : DiskState) → ReadsWell disk disk
+well_none disk = record { failures = refl; kept = λ honest synced. record { synced = synced; same = refl } }
+
+pub well_then : (old mid new : DiskState) → ReadsOnly old mid → ReadsWell old mid → ReadsWell mid new → ReadsWell old new
+well_then old mid new only first second = record {
+  failures = second.failures ∙ first.failures;
+  kept = λ honest synced.
+      let before = first.kept honest synced in
+      let after = second.kept (only.runs.honest.1 honest) before.synced in
+      record { synced = after.synced; same = after.same ∙ before.same };
+}
+
+-- a clause of an answer, weakened
+pub ok_weaker : {T E : Type 0} (r : Result T E) (P Q : Type 0) → (P → Q) → OnOk r P → OnOk r Q
+ok_weaker (Ok x) P Q f p = f p
+ok_weaker (Err e) P Q f p = tt
+
+pub err_weaker : {T E : Type 0} (r : Result T E) (P Q : Type 0) → (P → Q) → OnErr r P → OnErr r Q
+err_weaker (Ok x) P Q f p = tt
+err_weaker (Err e) P Q f p = f p
+
+pub looks_then : {T E : Type 0} (r : Result T E) (old mid new : DiskState) → ReadsOnly old mid → ReadsWell old mid → Looks r mid new → Looks r old new
+looks_then r old mid new only well looks = record {
+  only = reads_then old mid new only looks.only;
+  ok = ok_weaker r (ReadsWell mid new) (ReadsWell old new) (λ w. well_then old mid new only well w) looks.ok;
+  err = err_weaker r (mid.failures < new.failures) (old.failures < new.failures) (λ lt. omega (arith, lt, well.failures)) looks.err;
+}
+
+pub cause_then : (fault : JournalFault) (old mid new : DiskState) → ReadsOnly old mid → ReadsWell old mid → HasItsCause fault mid new → HasItsCause fault old new
+cause_then Disk old mid new only well cause = omega (arith, cause, well.failures)
+cause_then NotFormatted old mid new only well cause = well_then old mid new only well cause
+cause_then (Damaged sector) old mid new only well cause = well_then old mid new only well cause
+cause_then Full old mid new only well cause = well_then old mid new only well cause
+cause_then Broken old mid new only well cause = well_then old mid new only well cause
+
+pub examines_then : {T : Type 0} (r : Result T JournalFault) (old mid new : DiskState) → ReadsOnly old mid → ReadsWell old mid → Examines r mid new → Examines r old new
+examines_then (Ok x) old mid new only well next = record { only = reads_then old mid new only next.only; ok = well_then old mid new only well next.ok; err = tt }
+examines_then (Err fault) old mid new only well next = record { only = reads_then old mid new only next.only; ok = tt; err = cause_then fault old mid new only well next.err }
+
+-- a fault's clause, weakened
+pub if_err_weaker : {T : Type 0} (r : Result T JournalFault) (P Q : JournalFault → Type 0) → ((fault : JournalFault) → r ≡ Err fault → P fault → Q fault) → IfErr r P → IfErr r Q
+if_err_weaker (Ok x) P Q f p = tt
+if_err_weaker (Err fault) P Q f p = f fault refl p
+
+pub if_err_both : {T : Type 0} (r : Result T JournalFault) (P Q : JournalFault → Type 0) → IfErr r P → IfErr r Q → IfErr r (λ fault. P fault × Q fault)
+if_err_both (Ok x) P Q p q = tt
+if_err_both (Err fault) P Q p q = (p, q)
+
+-- what stands under `Ok`, where the answer is no error
+pub open_ok : {T E : Type 0} (r : Result T E) (P : Type 0) → is_err r ≡ false → OnOk r P → P
+open_ok (Ok x) P is p = p
+open_ok (Err e) P is p = absurd (cc is)
+
+pub open_err : {T E : Type 0} (r : Result T E) (P : Type 0) → is_err r ≡ true → OnErr r P → P
+open_err (Ok x) P is p = absurd (cc is)
+open_err (Err e) P is p = p
+
+pub both_on_ok : {T E : Type 0} (r : Result T E) (P Q : Type 0) → OnOk r P → OnOk r Q → OnOk r (P × Q)
+both_on_ok (Ok x) P Q p q = (p, q)
+both_on_ok (Err e) P Q p q = tt

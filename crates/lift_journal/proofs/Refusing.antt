@@ -1,0 +1,43 @@
+-- What an opening says of its device, from its steps.
+use Rattle.std.proofs.Common.{◌≡◌, ◌+◌, ℕ, refl, ◌∙◌, arith}
+use Rattle.lift_base.specs.declared.history.Shape.{Shape}
+use Rattle.lift_disk.specs.Disk.{DiskState, IsSynced, MayLeave}
+use Rattle.lift_journal.specs.declared.fault.JournalFault.{JournalFault}
+use Rattle.lift_journal.specs.declared.fault.JournalFault.TheVariants.{Disk, NotFormatted, Damaged, Full, Broken}
+use Rattle.lift_journal.specs.Fronts.{IsOfChain, IsOfStamp}
+use Rattle.lift_journal.specs.Layout.{IsStamped, start_of}
+use Rattle.lift_journal.specs.Steps.{HasItsCause, ReadsOnly}
+use Rattle.lift_journal.specs.Walk.{IsDamagedAt}
+use Rattle.lift_journal.specs.Opening.{RefusedFor}
+
+module _ (fault : JournalFault) (old mid new : DiskState) (only : ReadsOnly old mid) (failures : mid.failures ≡ old.failures) (synced : old.is_honest → IsSynced mid) (cause : HasItsCause fault mid new) where
+  seen : old.is_honest → MayLeave old mid.image
+  seen honest = only.touched.within honest
+
+  -- it lacks a stamp
+  pub refused_stamp : IsOfStamp fault → (fault ≡ NotFormatted → mid.is_honest → IsSynced mid → (shape : Shape) → IsStamped shape mid.image → ⊥) → RefusedFor fault old new
+  refused_stamp is none = by_fault fault refl cause is
+    where
+      by_fault : (f : JournalFault) → fault ≡ f → HasItsCause f mid new → IsOfStamp f → RefusedFor f old new
+      by_fault Disk same cause is = omega (arith, cause, failures)
+      by_fault NotFormatted same cause is = (cause.failures ∙ failures, λ honest. (mid.image, seen honest, none same (only.runs.honest.1 honest) (synced honest)))
+      by_fault (Damaged sector) same cause is = absurd is
+      by_fault Full same cause is = absurd is
+      by_fault Broken same cause is = absurd is
+
+  -- its chain is damaged
+  pub refused_chain : (shape : Shape) → IsOfChain fault → (mid.is_honest → IsSynced mid → IsStamped shape mid.image)
+      → ((s : ℕ) → fault ≡ Damaged s → mid.is_honest → IsSynced mid → IsDamagedAt mid.image (start_of shape.half mid.image) (start_of shape.half mid.image + shape.half) s)
+      → RefusedFor fault old new
+  refused_chain shape is stamped damaged = by_fault fault refl cause is
+    where
+      by_fault : (f : JournalFault) → fault ≡ f → HasItsCause f mid new → IsOfChain f → RefusedFor f old new
+      by_fault Disk same cause is = omega (arith, cause, failures)
+      by_fault NotFormatted same cause is = absurd is
+      by_fault (Damaged sector) same cause is = (
+        cause.failures ∙ failures,
+        λ honest.
+            (mid.image, shape, seen honest, stamped (only.runs.honest.1 honest) (synced honest), damaged sector same (only.runs.honest.1 honest) (synced honest)),
+      )
+      by_fault Full same cause is = absurd is
+      by_fault Broken same cause is = absurd is

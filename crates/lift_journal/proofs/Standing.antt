@@ -1,0 +1,124 @@
+-- What a journal that isn't broken stands for.
+use Rattle.std.proofs.Common.{◌≡◌, ◌⊎◌, ◌≤◌, ◌+◌, ◌-◌, inl, inr, ⊎_elim, ℕ, List, [], ◌∷◌, ◌++◌, None, length, take, All, sym, ◌∙◌, ap, subst, arith, append_assoc, length-append, length-take}
+use Rattle.std.proofs.lemmas.List.Elements.{All-append, All-from_recursion}
+use Rattle.lift_base.specs.declared.history.Record.{Record}
+use Rattle.lift_base.specs.declared.history.Shape.{Shape}
+use Rattle.lift_record.specs.declared.version.Version.TheVariants.{Two}
+use Rattle.lift_disk.specs.Disk.{DiskState, Image, LeavesOnly, IsSameDevice, IsSynced}
+use Rattle.lift_disk.proofs.Moments.{leaves_weaker, leaves_if_honest, changes_nothing}
+use Rattle.lift_journal.specs.Order.{IsEntry, IsOfBase}
+use Rattle.lift_journal.specs.Layout.{Batch, records_of, size_of, IsBody, start_of, Holds}
+use Rattle.lift_journal.specs.Steps.{IsReady, IsSettled, ReadsOnly}
+use Rattle.lift_journal.specs.Journal.{ReadsAs, StandsFor, StandsAt}
+use Rattle.lift_journal.specs.Opening.{Opens}
+use Rattle.lift_journal.proofs.Unique.{holds_unique}
+use Rattle.lift_journal.proofs.Chains.{all_same, used_more}
+use Rattle.lift_journal.proofs.Orders.{order_parts, Parts, records_push, sound_push}
+use Rattle.lift_journal.proofs.Seeing.{bodies_few}
+
+-- what an image that holds batches reads as
+pub holds_parts : (shape : Shape) (batches : List Batch) (image : Image) → Holds shape batches image → Parts (records_of batches)
+holds_parts shape batches image holds = order_parts None (records_of batches) holds.sound.ordered
+
+pub holds_reads : (shape : Shape) (batches : List Batch) (image : Image) (parts : Parts (records_of batches)) → Holds shape batches image → ReadsAs shape parts.base parts.entries image
+holds_reads shape batches image parts holds = record {
+  batches = batches;
+  holds = holds;
+  joined = parts.joined;
+  is_base = All-from_recursion IsOfBase parts.base parts.is_base;
+  are_entries = All-from_recursion IsEntry parts.entries parts.are_entries;
+}
+
+-- a settled device stands for what it is read as
+pub stands_synced : (shape : Shape) (base entries : List Record) (disk : DiskState) → (disk.is_honest → IsSynced disk) → (disk.is_honest → ReadsAs shape base entries disk.image) → StandsFor shape base entries disk
+stands_synced shape base entries disk synced reads honest left leaves =
+    let same : left ≡ disk.image = all_same disk.is_loose disk.image left (synced honest).none_loose leaves in
+    subst (ReadsAs shape base entries) (sym same) (reads honest)
+
+-- what an opening has found
+pub opens : (old new : DiskState) (shape : Shape) (start gate number : ℕ) → ReadsOnly old new → new.failures ≡ old.failures → (old.is_honest → IsSynced new)
+    → (old.is_honest → StandsAt shape start gate number new) → Opens old new shape (gate - start)
+opens old new shape start gate number only failures synced stands = record {
+  moments = only.touched.moments;
+  runs = only.runs;
+  writes = only.writes;
+  failures = failures;
+  synced = synced;
+  seen = only.touched.within;
+  holds = λ honest. (let at = stands honest in (at.batches, at.holds, omega (arith, at.at, at.starts)));
+  stands = λ honest.
+      (let at = stands honest in
+      let parts : Parts (records_of at.batches) = holds_parts shape at.batches new.image at.holds in
+      (parts.base, parts.entries, stands_synced shape parts.base parts.entries new (λ _. synced honest) (λ _. holds_reads shape at.batches new.image parts at.holds)));
+}
+
+module _ (shape : Shape) (start gate number n : ℕ) (old : DiskState) (items : List Record) where
+  pub ready : (sectors : Image) → (stands : StandsAt shape start gate number old) → n ≡ size_of (record { version = Two; records = items }) → gate - start + n + 2 ≤ shape.half → length sectors ≡ 2
+      → IsBody number (record { version = Two; records = items }) (take (size_of (record { version = Two; records = items })) sectors) → All IsEntry items
+      → IsReady shape stands.batches (record { version = Two; records = items }) gate (take n sectors) old
+  ready sectors stands is room two body kinds =
+      let batch : Batch = record { version = Two; records = items } in
+      let size : length (take n sectors) ≡ n = omega (arith, length-take n sectors, bodies_few (length items)) in
+      record {
+        synced = stands.synced;
+        holds = stands.holds;
+        at = stands.at;
+        room = omega (arith, stands.starts, stands.at, room, size);
+        spelled = subst (λ k. IsBody k batch (take n sectors)) stands.counts (subst (λ k. IsBody number batch (take k sectors)) (sym is) body);
+        size = size ∙ is;
+        sound = sound_push stands.batches items stands.holds.sound kinds;
+      }
+
+  module _ (base entries : List Record) (stands : StandsAt shape start gate number old) (honest : old.is_honest) (reads : StandsFor shape base entries old) where
+    found : ReadsAs shape base entries old.image
+    found = reads honest old.image (changes_nothing old.is_loose old.image)
+
+    joined : records_of stands.batches ≡ base ++ entries
+    joined = ap records_of (holds_unique shape stands.batches found.batches old.image stands.holds found.holds) ∙ found.joined
+
+    pub reads_old : (left : Image) → Holds shape stands.batches left → ReadsAs shape base entries left
+    reads_old left holds = record { batches = stands.batches; holds = holds; joined = joined; is_base = found.is_base; are_entries = found.are_entries }
+
+    pub reads_new : All IsEntry items → (left : Image) → Holds shape (stands.batches ++ (record { version = Two; records = items }) ∷ []) left → ReadsAs shape base (entries ++ items) left
+    reads_new kinds left holds =
+        let batch : Batch = record { version = Two; records = items } in
+        record {
+          batches = stands.batches ++ batch ∷ [];
+          holds = holds;
+          joined = records_push stands.batches batch ∙ ap (λ (l : List Record). l ++ items) joined ∙ append_assoc base entries items;
+          is_base = found.is_base;
+          are_entries = All-append IsEntry entries items found.are_entries kinds;
+        }
+
+  -- a crash at any moment leaves the entries from before, or these and the batch
+  pub append_leaves : (new : DiskState) → IsSameDevice old new → (stands : old.is_honest → StandsAt shape start gate number old) → All IsEntry items
+      → ((honest : old.is_honest) → LeavesOnly old new (λ left. Holds shape (stands honest).batches left ⊎ Holds shape ((stands honest).batches ++ (record { version = Two; records = items }) ∷ []) left))
+      → (base entries : List Record) → StandsFor shape base entries old → LeavesOnly old new (λ left. ReadsAs shape base entries left ⊎ ReadsAs shape base (entries ++ items) left)
+  append_leaves new same stands kinds leaves base entries reads =
+      let batch : Batch = record { version = Two; records = items } in
+      let P : Image → Type 0 = λ left. ReadsAs shape base entries left ⊎ ReadsAs shape base (entries ++ items) left in
+      leaves_if_honest old new P same.honest (λ honest.
+      leaves_weaker old new (λ left. Holds shape (stands honest).batches left ⊎ Holds shape ((stands honest).batches ++ batch ∷ []) left) P
+      (λ _ left holds. ⊎_elim (λ was. inl (reads_old base entries (stands honest) honest reads left was)) (λ more. inr (reads_new base entries (stands honest) honest reads kinds left more)) holds)
+      (leaves honest))
+
+  -- at the end each crash leaves the batch too
+  pub append_stands : (new : DiskState) (from : ℕ) → IsSameDevice old new → (stands : old.is_honest → StandsAt shape start gate number old) → All IsEntry items
+      → ((honest : old.is_honest) → IsSettled shape ((stands honest).batches ++ (record { version = Two; records = items }) ∷ []) from new)
+      → (base entries : List Record) → StandsFor shape base entries old → StandsFor shape base (entries ++ items) new
+  append_stands new from same stands kinds settled base entries reads honest_new left leaves =
+      let honest = same.honest.0 honest_new in
+      let now = settled honest in
+      let same_image : left ≡ new.image = all_same new.is_loose new.image left now.synced.none_loose leaves in
+      subst (ReadsAs shape base (entries ++ items)) (sym same_image) (reads_new base entries (stands honest) honest reads kinds new.image now.holds)
+
+pub stands_then : (shape : Shape) (start gate number n : ℕ) (old new : DiskState) (batch : Batch) → (stands : StandsAt shape start gate number old) → n ≡ size_of batch
+    → IsSettled shape (stands.batches ++ batch ∷ []) (start_of shape.half old.image) new → StandsAt shape start (gate + (n + 1)) (number + 1) new
+stands_then shape start gate number n old new batch stands is settled = record {
+  batches = stands.batches ++ batch ∷ [];
+  synced = settled.synced;
+  holds = settled.holds;
+  starts = stands.starts ∙ sym settled.from;
+  at = omega (arith, stands.at, settled.from, used_more stands.batches batch, is);
+  counts = omega (arith, stands.counts, length-append stands.batches (batch ∷ []));
+}

@@ -1,0 +1,242 @@
+-- The bytes of a batch.
+use Rattle.std.proofs.Common.{◌≡◌, ◌≤◌, ◌<◌, ◌+◌, ◌-◌, ◌*◌, ℕ, suc, List, [], ◌∷◌, ◌++◌, length, take, drop, get_or, replicate, All, refl, sym, ◌∙◌, ap, arith, length-append, length-drop, append_assoc, take-append-drop, zero, Bool, true, false, cond, nat_lt}
+use Rattle.std.proofs.lemmas.List.{take_at, drop_at, drop_all, drop-drop, drop-replicate, flat_map_more, append-nil, take-replicate, length-replicate, replicate-append-replicate, take-append-le, take-take, drop-take, drop_more}
+use Rattle.std.proofs.lemmas.Option.{unwrap_or-slice_get}
+use Rattle.std.proofs.lemmas.List.Elements.{All-nil, All-append, All-from_recursion}
+use Rattle.std.specs.List.{flat_map, concat}
+use Rattle.std.proofs.Math.Seq.{take-append-add, take-add}
+use borrow.Author.Tests.{ltb-true}
+use Rattle.lift_base.specs.declared.history.Record.{Record}
+use Rattle.lift_disk.specs.Disk.{Image}
+use Rattle.lift_record.specs.declared.version.Version.{Version}
+use Rattle.lift_record.specs.Record.{spelling_of}
+use Rattle.lift_record.specs.Header.{header_bytes}
+use Rattle.lift_record.proofs.Spellings.{length-spelling_of, length-header_bytes}
+use Rattle.lift_journal.specs.Layout.{Batch, filled, bodies, size_of, batch_bytes, IsBody, IsRecordIn, sector_at}
+use Rattle.lift_journal.specs.Seen.{IsRecordsIn, IsTailOf}
+
+pub length-spellings : (version : Version) (contents : List Record) → length (flat_map (spelling_of version) contents) ≡ 16 * length contents
+length-spellings version [] = refl
+length-spellings version (content ∷ contents) =
+    omega (arith, length-append (spelling_of version content) (flat_map (spelling_of version) contents), length-spelling_of version content, length-spellings version contents)
+
+pub length-batch_bytes : (number : ℕ) (batch : Batch) → length (batch_bytes number batch) ≡ 16 + 16 * length batch.records
+length-batch_bytes number batch =
+    omega (
+      arith,
+      length-append (header_bytes batch.version (length batch.records) number) (flat_map (spelling_of batch.version) batch.records),
+      length-header_bytes batch.version (length batch.records) number,
+      length-spellings batch.version batch.records,
+    )
+
+-- bytes that are put behind those that stand already
+pub put_more : (done text piece : List ℕ) (at n : ℕ) → length done ≡ at → n ≡ length piece → text ≡ filled 2 done → take at text ++ (piece ++ drop (at + n) text) ≡ filled 2 (done ++ piece)
+put_more done text piece at n so_long size is =
+    let zeros = replicate (1024 - length done) 0 in
+    let front : take at text ≡ done = ap (take at) is ∙ take_at done zeros at so_long in
+    let back : drop (at + n) text ≡ replicate (1024 - length (done ++ piece)) 0 =
+    sym (drop-drop n at text) ∙ ap (λ (l : List ℕ). drop n (drop at l)) is ∙ ap (drop n) (drop_at done zeros at so_long)
+    ∙ drop-replicate n (1024 - length done) 0
+    ∙ ap (λ k. replicate k 0) (omega (arith, length-append done piece)) in
+    ap (λ (l : List ℕ). l ++ (piece ++ drop (at + n) text)) front ∙ ap (λ (l : List ℕ). done ++ (piece ++ l)) back
+    ∙ sym (append_assoc done piece (replicate (1024 - length (done ++ piece)) 0))
+
+take_past : (xs ys : List ℕ) (n : ℕ) → length xs ≤ n → take n (xs ++ ys) ≡ xs ++ take (n - length xs) ys
+take_past xs ys n le = (let whole : n ≡ length xs + (n - length xs) = omega arith in ap (λ k. take k (xs ++ ys)) whole) ∙ take-append-add xs ys (n - length xs)
+
+-- the front of a text, cut into sectors
+pub sectors_spelled : (count : ℕ) (content text : List ℕ) → length content ≡ 16 + 16 * count → count ≤ 63 → text ≡ filled 2 content
+    → concat (take (bodies count) (take 512 text ∷ drop 512 text ∷ [])) ≡ filled (bodies count) content
+sectors_spelled count content text size few is = by_size (nat_lt count 32) refl
+  where
+    one : count < 32 → take 512 text ++ [] ≡ content ++ replicate (512 - length content) 0
+    one small =
+        append-nil (take 512 text) ∙ ap (take 512) is
+        ∙ take_past content (replicate (1024 - length content) 0) 512 (omega arith)
+        ∙ ap (λ (l : List ℕ). content ++ l) (take-replicate (512 - length content) (1024 - length content) 0 (omega arith))
+
+    two : take 512 text ++ (drop 512 text ++ []) ≡ content ++ replicate (1024 - length content) 0
+    two = ap (λ (l : List ℕ). take 512 text ++ l) (append-nil (drop 512 text)) ∙ take-append-drop 512 text ∙ is
+
+    by_size : (b : Bool) → nat_lt count 32 ≡ b → concat (take (cond b 1 2) (take 512 text ∷ drop 512 text ∷ [])) ≡ filled (cond b 1 2) content
+    by_size true small = one (ltb-true count 32 small)
+    by_size false large = two
+
+-- two sectors whose header and tail are right hold the batch
+pub body_found : (number : ℕ) (batch : Batch) (first second : List ℕ) → length first ≡ 512 → length second ≡ 512
+    → 1 ≤ length batch.records → length batch.records ≤ 63
+    → take 16 first ≡ header_bytes batch.version (length batch.records) number → IsTailOf batch.version batch.records (drop 16 (first ++ second))
+    → IsBody number batch (take (size_of batch) (first ∷ second ∷ []))
+body_found number batch first second one two some few header tail =
+    let text = first ++ second in
+    let head = header_bytes batch.version (length batch.records) number in
+    let texts = flat_map (spelling_of batch.version) batch.records in
+    let n = length batch.records in
+    let front : take 16 text ≡ head = take-append-le 16 first second (omega (arith, one)) ∙ header in
+    let spelled : text ≡ filled 2 (batch_bytes number batch) =
+    sym (take-append-drop 16 text) ∙ ap (λ (l : List ℕ). l ++ drop 16 text) front ∙ ap (λ (l : List ℕ). head ++ l) tail.spelled
+    ∙ sym (append_assoc head texts (replicate (1008 - 16 * n) 0))
+    ∙ ap (λ k. (head ++ texts) ++ replicate k 0) (omega (arith, length-batch_bytes number batch)) in
+    let cut : take 512 text ∷ drop 512 text ∷ [] ≡ first ∷ second ∷ [] =
+    ap (λ (l : List ℕ). l ∷ drop 512 text ∷ []) (take_at first second 512 one) ∙ ap (λ (l : List ℕ). first ∷ l ∷ []) (drop_at first second 512 one) in
+    record {
+      some = some;
+      few = few;
+      lawful = tail.lawful;
+      spelled = sym (ap (λ (l : Image). concat (take (bodies n) l)) cut) ∙ sectors_spelled n (batch_bytes number batch) text (length-batch_bytes number batch) few spelled;
+    }
+
+-- the text of two sectors, zeros standing for a second one that isn't there
+pub text_of_body : (number : ℕ) (batch : Batch) (first second : List ℕ) → IsBody number batch (take (size_of batch) (first ∷ second ∷ []))
+    → (size_of batch ≡ 1 → second ≡ replicate 512 0) → first ++ second ≡ filled 2 (batch_bytes number batch)
+text_of_body number batch first second body blank = by_size (nat_lt (length batch.records) 32) refl body.spelled blank
+  where
+    content : List ℕ
+    content = batch_bytes number batch
+
+    by_size : (b : Bool) → nat_lt (length batch.records) 32 ≡ b → concat (take (cond b 1 2) (first ∷ second ∷ [])) ≡ filled (cond b 1 2) (batch_bytes number batch)
+        → (◌≡◌ {A = ℕ} (cond b 1 2) 1 → second ≡ replicate 512 0) → first ++ second ≡ filled 2 (batch_bytes number batch)
+    by_size true small spelled zeros =
+        let few = ltb-true (length batch.records) 32 small in
+        let size = length-batch_bytes number batch in
+        ap (λ (l : List ℕ). l ++ second) (sym (append-nil first) ∙ spelled) ∙ ap (λ (l : List ℕ). filled 1 (batch_bytes number batch) ++ l) (zeros refl)
+        ∙ append_assoc (batch_bytes number batch) (replicate (512 - length (batch_bytes number batch)) 0) (replicate 512 0)
+        ∙ ap (λ (l : List ℕ). batch_bytes number batch ++ l) (replicate-append-replicate (512 - length (batch_bytes number batch)) 512 0
+        ∙ ap (λ k. replicate k 0) (omega (arith, size, few)))
+    by_size false large spelled zeros = ap (λ (l : List ℕ). first ++ l) (sym (append-nil second)) ∙ spelled
+
+-- its header
+pub header_of_text : (number : ℕ) (batch : Batch) (first second : List ℕ) → 16 ≤ length first → first ++ second ≡ filled 2 (batch_bytes number batch)
+    → take 16 first ≡ header_bytes batch.version (length batch.records) number
+header_of_text number batch first second long is =
+    let head = header_bytes batch.version (length batch.records) number in
+    let texts = flat_map (spelling_of batch.version) batch.records in
+    let zeros = replicate (1024 - length (head ++ texts)) 0 in
+    sym (take-append-le 16 first second long) ∙ ap (take 16) is ∙ ap (take 16) (append_assoc head texts zeros)
+    ∙ take_at head (texts ++ zeros) 16 (length-header_bytes batch.version (length batch.records) number)
+
+-- its records and zeros
+pub tail_of_text : (number : ℕ) (batch : Batch) (first second : List ℕ) → All (IsRecordIn batch.version) batch.records
+    → first ++ second ≡ filled 2 (batch_bytes number batch) → IsTailOf batch.version batch.records (drop 16 (first ++ second))
+tail_of_text number batch first second lawful is =
+    let head = header_bytes batch.version (length batch.records) number in
+    let texts = flat_map (spelling_of batch.version) batch.records in
+    let zeros = replicate (1024 - length (head ++ texts)) 0 in
+    record {
+      lawful = lawful;
+      spelled = ap (drop 16) is ∙ ap (drop 16) (append_assoc head texts zeros) ∙ drop_at head (texts ++ zeros) 16 (length-header_bytes batch.version (length batch.records) number)
+          ∙ ap (λ k. texts ++ replicate k 0) (omega (arith, length-batch_bytes number batch));
+    }
+
+-- the header of a body, whatever stands behind its first sector
+pub header_of_body : (number : ℕ) (batch : Batch) (first : List ℕ) (rest : Image) → 16 ≤ length first → IsBody number batch (take (size_of batch) (first ∷ rest))
+    → take 16 first ≡ header_bytes batch.version (length batch.records) number
+header_of_body number batch first rest long body = by_size (nat_lt (length batch.records) 32) body.spelled
+  where
+    head : List ℕ
+    head = header_bytes batch.version (length batch.records) number
+
+    by_size : (b : Bool) → concat (take (cond b 1 2) (first ∷ rest)) ≡ filled (cond b 1 2) (batch_bytes number batch)
+        → take 16 first ≡ header_bytes batch.version (length batch.records) number
+    by_size true spelled = finish [] (512 - length (batch_bytes number batch)) spelled
+      where
+        finish : (more : List ℕ) (k : ℕ) → first ++ more ≡ batch_bytes number batch ++ replicate k 0 → take 16 first ≡ header_bytes batch.version (length batch.records) number
+        finish more k is = front more k is
+          where
+            front : (more : List ℕ) (k : ℕ) → first ++ more ≡ batch_bytes number batch ++ replicate k 0 → take 16 first ≡ header_bytes batch.version (length batch.records) number
+            front more k is =
+                sym (take-append-le 16 first more long) ∙ ap (take 16) (is ∙ append_assoc (header_bytes batch.version (length batch.records) number) (flat_map (spelling_of batch.version) batch.records) (replicate k 0))
+                ∙ take_at (header_bytes batch.version (length batch.records) number) (flat_map (spelling_of batch.version) batch.records ++ replicate k 0) 16 (length-header_bytes batch.version (length batch.records) number)
+    by_size false spelled =
+        sym (take-append-le 16 first (concat (take 1 rest)) long) ∙ ap (take 16) (spelled ∙ append_assoc (header_bytes batch.version (length batch.records) number) (flat_map (spelling_of batch.version) batch.records) (replicate (1024 - length (batch_bytes number batch)) 0))
+        ∙ take_at (header_bytes batch.version (length batch.records) number) (flat_map (spelling_of batch.version) batch.records ++ replicate (1024 - length (batch_bytes number batch)) 0) 16 (length-header_bytes batch.version (length batch.records) number)
+
+-- the sectors of a body
+pub body_sectors : (n at : ℕ) (image : Image) (first second : List ℕ) → (1 ≤ n) × (n ≤ 2) → at + n ≤ length image → sector_at image at ≡ first
+    → (n ≡ 2 → sector_at image (at + 1) ≡ second) → take n (drop at image) ≡ take n (first ∷ second ∷ [])
+body_sectors zero at image first second some within is next = absurd (omega (arith, some.0))
+body_sectors (suc zero) at image first second some within is next =
+    ap (take 1) (drop_more image at [] (omega (arith, within))) ∙ ap (λ (s : List ℕ). s ∷ []) (sym (unwrap_or-slice_get image at []) ∙ is)
+body_sectors (suc (suc zero)) at image first second some within is next =
+    let one : get_or image at [] ≡ first = sym (unwrap_or-slice_get image at []) ∙ is in
+    let two : get_or image (at + 1) [] ≡ second = sym (unwrap_or-slice_get image (at + 1) []) ∙ next refl in
+    ap (take 2) (drop_more image at [] (omega (arith, within))) ∙ ap (λ (l : Image). get_or image at [] ∷ take 1 l) (drop_more image (at + 1) [] (omega (arith, within)))
+    ∙ ap (λ (s : List ℕ). s ∷ get_or image (at + 1) [] ∷ []) one ∙ ap (λ (s : List ℕ). first ∷ s ∷ []) two
+body_sectors (suc (suc (suc n))) at image first second some within is next = absurd (omega (arith, some.1))
+
+-- record k of a text
+pub record_at : (version : Version) (text : List ℕ) (count k : ℕ) (records : List Record) (blank : Record) → IsRecordsIn version text count records → k < count
+    → take 16 (drop (16 * k) text) ≡ spelling_of version (get_or records k blank)
+record_at version text count k records blank there below =
+    sym (slice 16 (16 * k) (16 * count) text (omega arith)) ∙ ap (λ (l : List ℕ). take 16 (drop (16 * k) l)) (sym there.spelled)
+    ∙ chunk records k (omega (arith, there.counted))
+  where
+    slice : (n at whole : ℕ) (text : List ℕ) → at + n ≤ whole → take n (drop at (take whole text)) ≡ take n (drop at text)
+    slice n at whole text le =
+        let split : whole ≡ at + (whole - at) = omega arith in
+        ap (λ w. take n (drop at (take w text))) split ∙ ap (take n) (drop-take at (whole - at) text) ∙ take-take n (whole - at) (drop at text) (omega arith)
+
+    chunk : (records : List Record) (k : ℕ) → k < length records → take 16 (drop (16 * k) (flat_map (spelling_of version) records)) ≡ spelling_of version (get_or records k blank)
+    chunk [] k lt = absurd (omega arith)
+    chunk (first ∷ records) zero lt = take_at (spelling_of version first) (flat_map (spelling_of version) records) 16 (length-spelling_of version first)
+    chunk (first ∷ records) (suc k) lt =
+        let step : 16 * suc k ≡ 16 + 16 * k = omega arith in
+        ap (λ n. take 16 (drop n (spelling_of version first ++ flat_map (spelling_of version) records))) step
+        ∙ ap (take 16) (sym (drop-drop (16 * k) 16 (spelling_of version first ++ flat_map (spelling_of version) records)))
+        ∙ ap (λ (l : List ℕ). take 16 (drop (16 * k) l)) (drop_at (spelling_of version first) (flat_map (spelling_of version) records) 16 (length-spelling_of version first))
+        ∙ chunk records k (omega arith)
+
+pub records_none : (version : Version) (text : List ℕ) → IsRecordsIn version text 0 []
+records_none version text = record { counted = refl; lawful = All-nil (IsRecordIn version); spelled = refl }
+
+-- one record more
+pub records_more : (version : Version) (text : List ℕ) (k : ℕ) (records : List Record) (next : Record) → IsRecordsIn version text k records → IsRecordIn version next
+    → 16 * k + 16 ≤ length text → take 16 (drop (16 * k) text) ≡ spelling_of version next → IsRecordsIn version text (k + 1) (records ++ next ∷ [])
+records_more version text k records next so_far lawful room is =
+    let twice : 16 * (k + 1) ≡ 16 * k + 16 = omega arith in
+    record {
+      counted = omega (arith, so_far.counted, length-append records (next ∷ []));
+      lawful = All-append (IsRecordIn version) records (next ∷ []) so_far.lawful (All-from_recursion (IsRecordIn version) (next ∷ []) (lawful, tt));
+      spelled = sym (flat_map_more (spelling_of version) [] records next) ∙ ap (λ (l : List ℕ). l ++ spelling_of version next) so_far.spelled
+          ∙ ap (λ (l : List ℕ). take (16 * k) text ++ l) (sym is) ∙ sym (take-add (16 * k) 16 text) ∙ ap (λ n. take n text) (sym twice);
+    }
+
+-- two pieces put into a blank text fill it
+pub joined_is : (first second mid text : List ℕ) → length first ≡ 512 → length second ≡ 512
+    → mid ≡ take 0 (replicate 1024 0) ++ (first ++ drop (0 + length first) (replicate 1024 0))
+    → text ≡ take 512 mid ++ (second ++ drop (512 + length second) mid) → text ≡ first ++ second
+joined_is first second mid text one two is also =
+    let zeros : List ℕ = replicate 1024 0 in
+    let rest = drop (0 + length first) zeros in
+    let size : length rest ≡ 512 = omega (arith, length-drop (0 + length first) zeros, length-replicate {A = ℕ} 1024 0, one) in
+    let front : take 512 mid ≡ first = ap (take 512) is ∙ take_at first rest 512 one in
+    let none : drop (512 + length second) mid ≡ [] =
+    ap (drop (512 + length second)) is ∙ drop_all (512 + length second) (first ++ rest) (omega (arith, length-append first rest, size, one, two)) in
+    also ∙ ap (λ (l : List ℕ). l ++ (second ++ drop (512 + length second) mid)) front
+    ∙ ap (λ (l : List ℕ). first ++ (second ++ l)) none ∙ ap (λ (l : List ℕ). first ++ l) (append-nil second)
+
+-- what stands behind the header, as records and zeros
+pub tail_split : (version : Version) (count : ℕ) (records : List Record) (text : List ℕ) → length text ≡ 1024 → count ≤ 63 → IsRecordsIn version (drop 16 text) count records
+    → drop (16 + 16 * count) text ≡ replicate (1024 - (16 + 16 * count)) 0 → IsTailOf version records (drop 16 text)
+tail_split version count records text size few there blank = record {
+  lawful = there.lawful;
+  spelled = sym (take-append-drop (16 * count) (drop 16 text)) ∙ ap (λ (l : List ℕ). l ++ drop (16 * count) (drop 16 text)) (sym there.spelled)
+      ∙ ap (λ (l : List ℕ). flat_map (spelling_of version) records ++ l)
+      (drop-drop (16 * count) 16 text ∙ blank ∙ ap (λ k. replicate k 0) (omega (arith, there.counted)));
+}
+
+pub tail_records : (version : Version) (count : ℕ) (records : List Record) (text : List ℕ) → length records ≡ count → IsTailOf version records (drop 16 text)
+    → IsRecordsIn version (drop 16 text) count records
+tail_records version count records text counted tail = record {
+  counted = counted;
+  lawful = tail.lawful;
+  spelled = sym (ap (take (16 * count)) tail.spelled
+      ∙ take_at (flat_map (spelling_of version) records) (replicate (1008 - 16 * length records) 0) (16 * count) (omega (arith, length-spellings version records, counted)));
+}
+
+pub tail_blank : (version : Version) (count : ℕ) (records : List Record) (text : List ℕ) → length records ≡ count → IsTailOf version records (drop 16 text)
+    → drop (16 + 16 * count) text ≡ replicate (1024 - (16 + 16 * count)) 0
+tail_blank version count records text counted tail =
+    sym (drop-drop (16 * count) 16 text) ∙ ap (drop (16 * count)) tail.spelled
+    ∙ drop_at (flat_map (spelling_of version) records) (replicate (1008 - 16 * length records) 0) (16 * count) (omega (arith, length-spellings version records, counted))
+    ∙ ap (λ k. replicate k 0) (omega (arith, counted))

@@ -1,0 +1,64 @@
+-- A run of writes, sector by sector.
+use Rattle.std.proofs.Common.{◌≡◌, ◌↔◌, ◌≤◌, ◌<◌, ◌+◌, ℕ, [], length, take, drop, get_or, slice_set, ◌++◌, refl, ◌∙◌, ap, arith}
+use Rattle.std.proofs.lemmas.List.{take_all}
+use Rattle.std.proofs.lemmas.List.Edits.{paste_none, paste_more}
+use Rattle.std.proofs.Math.Seq.{paste}
+use Rattle.lift_disk.specs.Disk.{DiskState, Image, GoesOn, Touches, LooseWithin, TouchesOnly, IsSteadyAt, LeavesNoOther, IsWhole}
+use Rattle.lift_disk.proofs.Moments.{touches_write, touches_then, touches_none}
+use Rattle.lift_journal.specs.Steps.{overwritten, IsInRange}
+
+-- so many of the sectors are written
+pub record Written (old now : DiskState) (first : ℕ) (sectors : Image) (count : ℕ) : Type 0 where
+  pub size : now.size ≡ old.size
+  pub failures : now.failures ≡ old.failures
+  pub honest : now.is_honest ↔ old.is_honest
+  pub touched : (low high : ℕ) → low ≤ first → first + length sectors ≤ high → LooseWithin (IsInRange low high) old → TouchesOnly (IsInRange low high) old now
+  pub steady : old.is_honest → old.is_steady → IsSteadyAt (paste old.image first sectors count) now
+
+pub written_none : (old : DiskState) (first : ℕ) (sectors : Image) → LeavesNoOther old → Written old old first sectors 0
+written_none old first sectors only_now = record {
+  size = refl;
+  failures = refl;
+  honest = (λ h. h, λ h. h);
+  touched = λ low high le ge loose. touches_none (IsInRange low high) old loose only_now;
+  steady = λ honest steady. record { steady = steady; same = paste_none old.image first sectors };
+}
+
+-- the next write touches no other sector, even if it fails
+pub touched_more : (old now new : DiskState) (first : ℕ) (sectors : Image) (count : ℕ) → Written old now first sectors count → count < length sectors → LeavesNoOther now
+    → GoesOn now new → (now.is_honest → Touches (first + count) now new)
+    → (low high : ℕ) → low ≤ first → first + length sectors ≤ high → LooseWithin (IsInRange low high) old → TouchesOnly (IsInRange low high) old new
+touched_more old now new first sectors count so_far within only_now goes_on touched low high le ge loose =
+    let before = so_far.touched low high le ge loose in
+    touches_then (IsInRange low high) old now new before
+    (touches_write (IsInRange low high) now new (first + count) goes_on touched (omega arith, omega arith) before.loose only_now)
+
+pub written_more : (old now new : DiskState) (first : ℕ) (sectors : Image) (count : ℕ) → Written old now first sectors count → count < length sectors → LeavesNoOther now
+    → GoesOn now new → (now.is_honest → Touches (first + count) now new) → new.failures ≡ now.failures
+    → first + length sectors ≤ old.size → IsWhole old
+    → (now.is_honest → now.is_steady → IsSteadyAt (slice_set now.image (first + count) (get_or sectors count [])) new)
+    → Written old new first sectors (count + 1)
+written_more old now new first sectors count so_far within only_now goes_on touched cause room whole steady = record {
+  size = goes_on.size ∙ so_far.size;
+  failures = cause ∙ so_far.failures;
+  honest = (λ h. so_far.honest.0 (goes_on.honest.0 h), λ h. goes_on.honest.1 (so_far.honest.1 h));
+  touched = touched_more old now new first sectors count so_far within only_now goes_on touched;
+  steady = λ honest was_steady.
+      let before = so_far.steady honest was_steady in
+      let after = steady (so_far.honest.1 honest) before.steady in
+      record {
+        steady = after.steady;
+        same = after.same ∙ ap (λ (l : Image). slice_set l (first + count) (get_or sectors count [])) before.same
+            ∙ paste_more old.image first sectors count [] (omega (arith, whole honest)) within;
+      };
+}
+
+pub written_all : (old now : DiskState) (first : ℕ) (sectors : Image) (count : ℕ) → Written old now first sectors count → count ≡ length sectors → old.is_honest → old.is_steady → IsSteadyAt (overwritten old.image first sectors) now
+written_all old now first sectors count so_far all honest steady =
+    let done = so_far.steady honest steady in
+    record {
+      steady = done.steady;
+      same = done.same
+          ∙ ap (λ (l : Image). take first old.image ++ l ++ drop (first + count) old.image) (take_all count sectors (omega arith))
+          ∙ ap (λ n. take first old.image ++ sectors ++ drop (first + n) old.image) all;
+    }

@@ -1,0 +1,14 @@
+use Rattle.std.proofs.Common.{◌≡◌, ◌+◌, ◌*◌, ◌++◌, length, take, All}
+use Rattle.std.specs.List.{flat_map}
+use Rattle.lift_record.specs.Record.{spelling_of}
+use Rattle.lift_record.specs.Header.{header_bytes}
+use Rattle.lift_record.specs.declared.version.Version.TheVariants.{Two}
+use Rattle.lift_journal.specs.Layout.{filled, IsRecordIn}
+use Rattle.lift_journal.proofs.body.text_of.Given as goal
+
+abbrev pub invariant-loop-content : goal.invariant-loop-content
+invariant-loop-content l = record {
+  at : l.at ≡ 16 + 16 * l.content-index;
+  text : l.text ≡ filled 2 (header_bytes Two (length l.batch) l.number ++ flat_map (spelling_of Two) (take l.content-index l.batch));
+  typed : All (IsRecordIn Two) (take l.content-index l.batch);
+}

@@ -1,0 +1,39 @@
+use Rattle.std.proofs.Common.{◌+◌, length, ap, ◌∙◌, arith, slice_set, Result, OnOk, Ok, Err}
+use Rattle.std.proofs.lemmas.Result.{on_ok_weaker}
+use Rattle.lift_disk.proofs.Moments.{touches_then_write, touches_then_rest}
+use Rattle.lift_journal.specs.Steps.{IsInRange, unmarked}
+use Rattle.lift_journal.proofs.device.store_behind.Goals as goal
+
+pub returns-in_err-write_sectors-clause-touched : goal.returns-in_err-write_sectors-clause-touched
+returns-in_err-write_sectors-clause-touched g c loose =
+    c.write_sectors.ensures.touched (c.args.gate + 1) (c.args.gate + length c.args.body.now + 2) (omega arith) (omega arith) loose
+
+pub returns-in_err-write-clause-touched : goal.returns-in_err-write-clause-touched
+returns-in_err-write-clause-touched g c loose =
+    let changed = IsInRange (c.args.gate + 1) (c.args.gate + length c.args.body.now + 2) in
+    touches_then_write changed (g.D.Disk.state c.args.disk.now) (g.D.Disk.state c.write_sectors.new.disk) (g.D.Disk.state c.write.new.self)
+    (c.write_sectors.ensures.touched (c.args.gate + 1) (c.args.gate + length c.args.body.now + 2) (omega arith) (omega arith) loose)
+    (g.met.D.Disk.only_now c.write_sectors.new.disk) c.write.ensures.goes_on (c.args.gate + 1 + length c.args.body.now) c.write.ensures.touched (omega arith, omega arith)
+
+pub returns-clause-touched : goal.returns-clause-touched
+returns-clause-touched g c loose =
+    let changed = IsInRange (c.args.gate + 1) (c.args.gate + length c.args.body.now + 2) in
+    let mid = g.D.Disk.state c.write.new.self in
+    let written = touches_then_write changed (g.D.Disk.state c.args.disk.now) (g.D.Disk.state c.write_sectors.new.disk) mid
+    (c.write_sectors.ensures.touched (c.args.gate + 1) (c.args.gate + length c.args.body.now + 2) (omega arith) (omega arith) loose)
+    (g.met.D.Disk.only_now c.write_sectors.new.disk) c.write.ensures.goes_on (c.args.gate + 1 + length c.args.body.now) c.write.ensures.touched (omega arith, omega arith) in
+    touches_then_rest changed (g.D.Disk.state c.args.disk.now) mid (g.D.Disk.state c.sync.new.self) written (g.met.D.Disk.only_now c.write.new.self) c.sync.ensures.goes_on c.sync.ensures.touched
+
+pub returns-clause-stored : goal.returns-clause-stored
+returns-clause-stored g c =
+    on_ok_weaker c.sync.result (λ sync honest steady.
+    let body = c.in_ok-write_sectors.ensures.written honest steady in
+    let honest_body = c.write_sectors.ensures.same.honest.1 honest in
+    let next = c.in_ok-write.ensures.steady honest_body body.steady in
+    let honest_then = c.write.ensures.goes_on.honest.1 honest_body in
+    let after = sync.0 honest_then next.steady in
+    record { synced = sync.1 honest_then; same = after.same ∙ next.same ∙ ap (λ l. slice_set l (c.args.gate + 1 + length c.args.body.now) unmarked) body.same }) (both_on_ok c.sync.result _ _ c.sync.ensures.steady c.sync.ensures.synced)
+  where
+    both_on_ok : {T E : Type 0} (r : Result T E) (P Q : Type 0) → OnOk r P → OnOk r Q → OnOk r (P × Q)
+    both_on_ok (Ok x) P Q p q = (p, q)
+    both_on_ok (Err e) P Q p q = tt

@@ -1,0 +1,60 @@
+use Rattle.std.proofs.Common.{◌≡◌, ◌⊎◌, ◌+◌, ◌++◌, [], ◌∷◌, inl, ℕ, length, ◌∙◌, arith, ◌<◌}
+use Rattle.std.proofs.lemmas.Result.{on_ok_weaker}
+use Rattle.lift_disk.specs.Disk.{Image, ChangesWithin}
+use Rattle.lift_disk.proofs.Moments.{leaves_weaker, leaves_then, changes_more}
+use Rattle.lift_journal.specs.Layout.{Holds}
+use Rattle.lift_journal.specs.Steps.{IsInRange}
+use Rattle.lift_journal.proofs.Chains.{holds_either}
+use Rattle.lift_journal.proofs.Appends.{body_leaves, body_start, body_prepares, gate_opens, gate_start}
+use Rattle.lift_journal.proofs.device.write_batch.Goals as goal
+
+-- the sectors of a gate alone
+at_gate : (gate : ℕ) (old new : Image) → ChangesWithin (IsInRange gate (gate + 1)) old new → ChangesWithin (λ i. i ≡ gate) old new
+at_gate gate old new within = changes_more (IsInRange gate (gate + 1)) (λ i. i ≡ gate) old new (λ i is. omega (arith, is.0, is.1)) within
+
+pub returns-in_err-store_behind-clause-any_moment : goal.returns-in_err-store_behind-clause-any_moment
+returns-in_err-store_behind-clause-any_moment g c shape batches batch ready =
+    let old = g.D.Disk.state c.args.disk.now in
+    let touched = c.store_behind.ensures.touched (λ honest i is. absurd ((ready honest).synced.none_loose i is)) in
+    leaves_weaker old (g.D.Disk.state c.store_behind.new.disk) (ChangesWithin (IsInRange (c.args.gate + 1) (c.args.gate + length c.args.body.now + 2)) old.image)
+    (λ left. Holds shape batches left ⊎ Holds shape (batches ++ batch ∷ []) left)
+    (λ honest left within. inl (body_leaves shape batches batch c.args.gate c.args.body.now old (ready honest) left within)) touched.moments
+
+pub returns-clause-any_moment : goal.returns-clause-any_moment
+returns-clause-any_moment g c shape batches batch ready =
+    let old = g.D.Disk.state c.args.disk.now in
+    let mid = g.D.Disk.state c.store_behind.new.disk in
+    let new = g.D.Disk.state c.open_gate.new.disk in
+    let P : Image → Type 0 = λ left. Holds shape batches left ⊎ Holds shape (batches ++ batch ∷ []) left in
+    let touched = c.store_behind.ensures.touched (λ honest i is. absurd ((ready honest).synced.none_loose i is)) in
+    let first = leaves_weaker old mid (ChangesWithin (IsInRange (c.args.gate + 1) (c.args.gate + length c.args.body.now + 2)) old.image) P
+    (λ honest left within. inl (body_leaves shape batches batch c.args.gate c.args.body.now old (ready honest) left within)) touched.moments in
+    let was = c.store_behind.ensures.same.honest.0 in
+    let opened = c.open_gate.ensures.touched (λ honest i is. absurd ((c.in_ok-store_behind.ensures.stored (was honest) (ready (was honest)).synced.steady).synced.none_loose i is)) in
+    let second = leaves_weaker mid new (ChangesWithin (IsInRange c.args.gate (c.args.gate + 1)) mid.image) P
+    (λ honest left within.
+    let ready_old = ready (was honest) in
+    let prepared = body_prepares shape batches batch c.args.gate c.args.body.now old ready_old mid.image (touched.within (was honest))
+    (c.in_ok-store_behind.ensures.stored (was honest) ready_old.synced.steady).same in
+    holds_either shape batches batch mid.image left c.args.gate prepared (at_gate c.args.gate mid.image left within)) opened.moments in
+    leaves_then old mid new P first second
+
+pub returns-clause-written : goal.returns-clause-written
+returns-clause-written g c =
+    let old = g.D.Disk.state c.args.disk.now in
+    let mid = g.D.Disk.state c.store_behind.new.disk in
+    let new = g.D.Disk.state c.open_gate.new.disk in
+    on_ok_weaker c.open_gate.result (λ opened_at shape batches batch honest ready.
+    let touched = c.store_behind.ensures.touched (λ honest i is. absurd (ready.synced.none_loose i is)) in
+    let stored = c.in_ok-store_behind.ensures.stored honest ready.synced.steady in
+    let prepared = body_prepares shape batches batch c.args.gate c.args.body.now old ready mid.image (touched.within honest) stored.same in
+    let honest_mid = c.store_behind.ensures.same.honest.1 honest in
+    let opened = c.open_gate.ensures.touched (λ honest i is. absurd (stored.synced.none_loose i is)) in
+    let within = at_gate c.args.gate mid.image new.image (opened.within honest_mid) in
+    let after = opened_at honest_mid stored.synced.steady in
+    let inside : c.args.gate < length mid.image = omega (arith, c.requires.there, c.store_behind.ensures.same.size, g.met.D.Disk.whole c.store_behind.new.disk honest_mid) in
+    record {
+      synced = after.synced;
+      holds = gate_opens shape batches batch c.args.gate mid.image new.image prepared within inside after.same;
+      from = gate_start shape batches batch c.args.gate mid.image new.image prepared within ∙ body_start shape batches batch c.args.gate c.args.body.now old ready mid.image (touched.within honest);
+    }) c.open_gate.ensures.opened

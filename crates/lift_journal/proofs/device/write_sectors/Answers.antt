@@ -1,0 +1,45 @@
+use Rattle.std.proofs.Common.{[], slice_set, get_or, subst, arith}
+use Rattle.lift_disk.specs.Disk.{Touches, IsSteadyAt}
+use Rattle.lift_journal.proofs.Writes.{written_none, written_more, written_all, touched_more}
+use Rattle.lift_journal.proofs.device.write_sectors.Goals as goal
+
+pub loop-sector-init : goal.loop-sector-init
+loop-sector-init g c = record {
+  at = omega arith;
+  written = written_none (g.D.Disk.state c.args.disk.now) c.args.first c.args.sectors.now (g.met.D.Disk.only_now c.args.disk.now);
+}
+
+pub write-requires : goal.write-requires
+write-requires g c = omega (arith, c.loop-sector.invariant.written.size)
+
+pub returns-in_err-write-clause-touched : goal.returns-in_err-write-clause-touched
+returns-in_err-write-clause-touched g c =
+    let now = g.D.Disk.state c.loop-sector.disk in
+    let new = g.D.Disk.state c.write.new.self in
+    touched_more (g.D.Disk.state c.args.disk.now) now new c.args.first c.args.sectors.now c.loop-sector.sector-index c.loop-sector.invariant.written
+    c.loop-sector-test.true (g.met.D.Disk.only_now c.loop-sector.disk) c.write.ensures.goes_on
+    (subst (λ n. now.is_honest → Touches n now new) c.loop-sector.invariant.at c.write.ensures.touched)
+
+pub loop-sector-preserved : goal.loop-sector-preserved
+loop-sector-preserved g c =
+    let now = g.D.Disk.state c.loop-sector.disk in
+    let new = g.D.Disk.state c.write.new.self in
+    record {
+      at = omega (arith, c.loop-sector.invariant.at);
+      written = written_more (g.D.Disk.state c.args.disk.now) now new c.args.first c.args.sectors.now c.loop-sector.sector-index c.loop-sector.invariant.written
+          c.loop-sector-test.true (g.met.D.Disk.only_now c.loop-sector.disk) c.write.ensures.goes_on
+          (subst (λ n. now.is_honest → Touches n now new) c.loop-sector.invariant.at c.write.ensures.touched)
+          c.in_ok-write.ensures.cause.ok c.requires.there (g.met.D.Disk.whole c.args.disk.now)
+          (subst (λ n. now.is_honest → now.is_steady → IsSteadyAt (slice_set now.image n (get_or c.args.sectors.now c.loop-sector.sector-index [])) new) c.loop-sector.invariant.at c.in_ok-write.ensures.steady);
+    }
+
+pub returns-clause-cause : goal.returns-clause-cause
+returns-clause-cause g c = record { ok = c.loop-sector.invariant.written.failures; err = tt }
+
+pub returns-clause-touched : goal.returns-clause-touched
+returns-clause-touched g c = c.loop-sector.invariant.written.touched
+
+pub returns-clause-written : goal.returns-clause-written
+returns-clause-written g c =
+    written_all (g.D.Disk.state c.args.disk.now) (g.D.Disk.state c.loop-sector.disk) c.args.first c.args.sectors.now c.loop-sector.sector-index
+    c.loop-sector.invariant.written (omega (arith, c.loop-sector-test.false, c.loop-sector.auto.sector-index-end))

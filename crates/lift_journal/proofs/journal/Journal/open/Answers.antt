@@ -1,0 +1,16 @@
+use Rattle.lift_journal.proofs.Standing.{opens}
+use Rattle.lift_journal.proofs.journal.Journal.open.Goals as goal
+
+pub returns-in-Ok-clause-opens : goal.returns-in-Ok-clause-opens
+returns-in-Ok-clause-opens g c =
+    let place = c.in-Ok.place in
+    opens (g.D.Disk.state c.args.disk) (g.D.Disk.state c.find_place.new.disk) place.shape place.start place.gate place.number
+    c.find_place.ensures.only c.in-Ok.ensures.failures c.in-Ok.ensures.settled c.in-Ok.ensures.stands
+
+pub returns-in-Err-clause-refused : goal.returns-in-Err-clause-refused
+returns-in-Err-clause-refused g c = record {
+  moments = c.find_place.ensures.only.touched.moments;
+  runs = c.find_place.ensures.only.runs;
+  writes = c.find_place.ensures.only.writes;
+  cause = c.in-Err.ensures.refused;
+}

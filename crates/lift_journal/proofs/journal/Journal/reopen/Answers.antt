@@ -1,0 +1,13 @@
+use Rattle.std.proofs.Common.{◌-◌, subst}
+use Rattle.lift_journal.specs.Journal.{JournalView}
+use Rattle.lift_journal.specs.Opening.{Opens}
+use Rattle.lift_journal.proofs.Standing.{opens}
+use Rattle.lift_journal.proofs.journal.Journal.reopen.Goals as goal
+
+pub returns-in-Ok-clause-opens : goal.returns-in-Ok-clause-opens
+returns-in-Ok-clause-opens g c =
+    let place = c.in-Ok.place in
+    let new = g.D.Disk.state c.find_place.new.disk in
+    let made = opens (g.D.Disk.state c.self.inside.device) new place.shape place.start place.gate place.number
+    c.find_place.ensures.only c.in-Ok.ensures.failures c.in-Ok.ensures.settled c.in-Ok.ensures.stands in
+    subst (λ (v : JournalView g.row.D.Denot). Opens (g.D.Disk.state v.device) new place.shape (place.gate - place.start)) c.self.view_is made

@@ -1,0 +1,40 @@
+use Rattle.std.proofs.Common.{◌≡◌, ◌+◌, ◌*◌, ℕ, List, take, drop, get_or, sym, subst, ap, ◌∙◌, arith, length-drop}
+use Rattle.std.proofs.lemmas.List.{drop-drop}
+use Rattle.lift_base.specs.declared.history.Record.TheVariants.{Done}
+use Rattle.lift_record.specs.Record.{spelling_of}
+use Rattle.lift_journal.specs.Layout.{IsRecordIn}
+use Rattle.lift_journal.specs.Seen.{IsRecordsIn}
+use Rattle.lift_journal.proofs.Texts.{record_at, records_none, records_more}
+use Rattle.lift_journal.proofs.parse.read_records.Goals as goal
+
+-- the bytes of record k
+piece_is : (text : List ℕ) (k : ℕ) → take 16 (drop (16 + 16 * k) text) ≡ take 16 (drop (16 * k) (drop 16 text))
+piece_is text k = ap (take 16) (sym (drop-drop (16 * k) 16 text))
+
+pub loop-k-init : goal.loop-k-init
+loop-k-init c = subst (IsRecordsIn c.args.version (drop 16 c.args.text.now) 0) (sym c.new-records.ensures) (records_none c.args.version (drop 16 c.args.text.now))
+
+pub loop-k-preserved : goal.loop-k-preserved
+loop-k-preserved c =
+    let text = c.args.text.now in
+    let spells = (c.decode.ensures c.in-Some.content).0 c.in-Some.is in
+    let same : take 16 (drop (16 * c.loop-k.k) (drop 16 text)) ≡ spelling_of c.args.version c.in-Some.content =
+    sym (piece_is text c.loop-k.k) ∙ sym c.sixteen.ensures ∙ spells.spelled in
+    subst (IsRecordsIn c.args.version (drop 16 text) (c.loop-k.k + 1)) (sym c.push.ensures.items)
+    (records_more c.args.version (drop 16 text) c.loop-k.k c.loop-k.records.items c.in-Some.content c.loop-k.invariant
+    (record { is_record = (spells.typed, spells.lawful); sayable = spells.sayable })
+    (omega (arith, length-drop 16 text, c.told-text, c.loop-k-test.true, c.requires)) same)
+
+pub returns-in_default-clause-none : goal.returns-in_default-clause-none
+returns-in_default-clause-none c records there =
+    let text = c.args.text.now in
+    let next = get_or records c.loop-k.k (Done 0) in
+    let lawful : IsRecordIn c.args.version next = there.lawful c.loop-k.k (Done 0) (omega (arith, there.counted, c.loop-k-test.true)) in
+    let spelled : c.sixteen.result ≡ spelling_of c.args.version next =
+    c.sixteen.ensures ∙ piece_is text c.loop-k.k ∙ record_at c.args.version (drop 16 text) c.args.count c.loop-k.k records (Done 0) there c.loop-k-test.true in
+    c.in_default.not-Some next ((c.decode.ensures next).1 (record {
+      typed = lawful.is_record.0;
+      lawful = lawful.is_record.1;
+      sayable = lawful.sayable;
+      spelled = spelled;
+    }))

@@ -1,0 +1,36 @@
+use Rattle.std.proofs.Common.{arith}
+use Rattle.lift_journal.proofs.Looking.{reads_then, well_then}
+use Rattle.lift_journal.proofs.reads.look.Goals as goal
+
+pub returns-in-Ok-Some-clause-looks : goal.returns-in-Ok-Some-clause-looks
+returns-in-Ok-Some-clause-looks g c =
+    let old = g.D.Disk.state c.args.disk.now in
+    let mid = g.D.Disk.state c.read_mark.new.disk in
+    let new = g.D.Disk.state c.read_body.new.disk in
+    record {
+      only = reads_then old mid new c.read_mark.ensures.looks.only c.read_body.ensures.looks.only;
+      ok = well_then old mid new c.read_mark.ensures.looks.only c.in_ok-read_mark.ensures.looks.ok c.in-Ok-Some.ensures.looks.ok;
+      err = tt;
+    }
+
+pub returns-in-Ok-None-clause-looks : goal.returns-in-Ok-None-clause-looks
+returns-in-Ok-None-clause-looks g c =
+    let old = g.D.Disk.state c.args.disk.now in
+    let mid = g.D.Disk.state c.read_mark.new.disk in
+    let new = g.D.Disk.state c.read_body.new.disk in
+    record {
+      only = reads_then old mid new c.read_mark.ensures.looks.only c.read_body.ensures.looks.only;
+      ok = well_then old mid new c.read_mark.ensures.looks.only c.in_ok-read_mark.ensures.looks.ok c.in-Ok-None.ensures.looks.ok;
+      err = tt;
+    }
+
+pub returns-in-Err-clause-looks : goal.returns-in-Err-clause-looks
+returns-in-Err-clause-looks g c =
+    let old = g.D.Disk.state c.args.disk.now in
+    let mid = g.D.Disk.state c.read_mark.new.disk in
+    let new = g.D.Disk.state c.read_body.new.disk in
+    record {
+      only = reads_then old mid new c.read_mark.ensures.looks.only c.read_body.ensures.looks.only;
+      ok = tt;
+      err = omega (arith, c.in-Err.ensures.looks.err, c.in_ok-read_mark.ensures.looks.ok.failures);
+    }

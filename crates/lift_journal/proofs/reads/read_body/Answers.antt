@@ -1,0 +1,14 @@
+use Rattle.std.proofs.Common.{◌≡◌, length, refl, arith}
+use Rattle.lift_journal.proofs.Seeing.{no_header}
+use Rattle.lift_journal.proofs.reads.read_body.Goals as goal
+
+pub read_rest-requires-clause-header : goal.read_rest-requires-clause-header
+read_rest-requires-clause-header g c = ((c.in-Some.ensures c.in-Some.header).0 refl).0
+
+pub returns-in-None-clause-seen : goal.returns-in-None-clause-seen
+returns-in-None-clause-seen g c honest synced =
+    let image = (g.D.Disk.state c.args.disk.now).image in
+    let whole : length image ≡ (g.D.Disk.state c.args.disk.now).size = g.met.D.Disk.whole c.args.disk.now honest in
+    no_header image c.args.gate c.args.end c.args.number c.in_ok-first.first (c.in_ok-first.ensures.gives honest synced) c.in_ok-first.ensures.length
+    (omega (arith, whole, c.requires.inside)) c.requires.numbered (omega arith)
+    (λ header spelled numbered. absurd (cc ((c.in-None.ensures header).1 (spelled, numbered))))

@@ -1,0 +1,36 @@
+use Rattle.std.proofs.Common.{◌≡◌, length, nat_eq, refl, ◌∙◌, ap, arith}
+use Rattle.lift_journal.specs.Layout.{Batch}
+use Rattle.lift_journal.proofs.Seeing.{no_next, batch_there, no_records}
+use Rattle.lift_journal.proofs.reads.read_rest.Goals as goal
+
+pub returns-then-bodies-end-clause-seen : goal.returns-then-bodies-end-clause-seen
+returns-then-bodies-end-clause-seen g c honest synced is =
+    let image = (g.D.Disk.state c.args.disk.now).image in
+    let whole : length image ≡ (g.D.Disk.state c.args.disk.now).size = g.met.D.Disk.whole c.args.disk.now honest in
+    no_next image c.args.gate c.args.end c.args.header.number c.args.first.now is c.told-first (omega (arith, whole, c.requires.inside)) c.args.header c.requires.header refl
+    (omega (arith, c.if-bodies-end.true, c.body_count-bodies.ensures, c.requires.below))
+
+pub returns-in-Some-clause-seen : goal.returns-in-Some-clause-seen
+returns-in-Some-clause-seen g c honest synced is =
+    let image = (g.D.Disk.state c.args.disk.now).image in
+    let whole : length image ≡ (g.D.Disk.state c.args.disk.now).size = g.met.D.Disk.whole c.args.disk.now honest in
+    let few = c.body_count-bodies.ensures in
+    let batch : Batch = record { version = c.args.header.version; records = c.in-Some.records.items } in
+    batch_there image c.args.gate c.args.end c.args.header.number c.args.first.now is c.told-first (omega (arith, whole, c.requires.inside)) c.args.header c.requires.header refl
+    c.in_ok-second.second c.in_ok-second.ensures.length
+    (λ two. c.in_ok-second.ensures.gives (ap (λ k. nat_eq k 2) (few ∙ two)) honest synced)
+    (λ one. c.in_ok-second.ensures.zeros (ap (λ k. nat_eq k 2) (few ∙ one)))
+    (omega (arith, c.if-bodies-end.false, few, c.requires.below))
+    batch refl c.in-Some.ensures.some.0 c.in-Some.ensures.some.1
+
+pub returns-in-None-clause-seen : goal.returns-in-None-clause-seen
+returns-in-None-clause-seen g c honest synced is =
+    let image = (g.D.Disk.state c.args.disk.now).image in
+    let whole : length image ≡ (g.D.Disk.state c.args.disk.now).size = g.met.D.Disk.whole c.args.disk.now honest in
+    let few = c.body_count-bodies.ensures in
+    no_records image c.args.gate c.args.end c.args.header.number c.args.first.now is c.told-first (omega (arith, whole, c.requires.inside)) c.args.header c.requires.header refl
+    c.in_ok-second.second c.in_ok-second.ensures.length
+    (λ two. c.in_ok-second.ensures.gives (ap (λ k. nat_eq k 2) (few ∙ two)) honest synced)
+    (λ one. c.in_ok-second.ensures.zeros (ap (λ k. nat_eq k 2) (few ∙ one)))
+    (omega (arith, c.if-bodies-end.false, few, c.requires.below))
+    c.in-None.ensures.none

@@ -1,0 +1,160 @@
+use Rattle.std.proofs.Common.{◌≡◌, ◌≤◌, length, ap, sym, subst, arith}
+use Rattle.lift_journal.specs.Walk.{IsDamagedAt}
+use Rattle.lift_journal.specs.declared.walk.Front.{Front}
+use Rattle.lift_journal.specs.declared.reads.AtGate.TheVariants.{Closed, Batch, Damaged}
+use Rattle.lift_journal.proofs.Walks.{IsAtFront, walk_begins, goes_on, ends, ends_early, none_here, may_not, seen_at}
+use Rattle.lift_journal.proofs.Looking.{reads_then, well_then}
+use Rattle.lift_journal.proofs.Seeing.{bodies_few}
+use Rattle.lift_journal.proofs.walk.walk.Goals as goal
+
+pub pass-requires-clause-room : goal.pass-requires-clause-room
+pass-requires-clause-room g c =
+    let fits = c.in-Ok-Batch.ensures.fits c.in-Ok-Batch.stored c.in-Ok-Batch.field-0-is in
+    omega (arith, fits.below, bodies_few (length c.in-Ok-Batch.stored.records.items))
+
+pub loop-front-init : goal.loop-front-init
+loop-front-init g c =
+    walk_begins (g.D.Disk.state c.args.disk.now) c.args.start c.args.end c.at-front.result (g.met.D.Disk.only_now c.args.disk.now) c.requires.first c.requires.below c.at-front.ensures
+
+pub loop-front-preserved : goal.loop-front-preserved
+loop-front-preserved g c =
+    let old = g.D.Disk.state c.args.disk.now in
+    let mid = g.D.Disk.state c.loop-front.disk in
+    let new = g.D.Disk.state c.look.new.disk in
+    let inv = c.loop-front.invariant in
+    let front = c.loop-front.front in
+    let stored = c.in-Ok-Batch.stored in
+    let fits = c.in-Ok-Batch.ensures.fits stored c.in-Ok-Batch.field-0-is in
+    let is = c.pass.ensures.passed c.if-not-pass.false in
+    let gate = ap (λ (f : Front). f.gate) is in
+    let number = ap (λ (f : Front). f.number) is in
+    record {
+      low = omega (arith, inv.low, gate);
+      below = omega (arith, gate, fits.below);
+      some = omega (arith, number);
+      few = omega (arith, inv.few, gate, number);
+      only = reads_then old mid new inv.only c.look.ensures.looks.only;
+      well = well_then old mid new inv.only inv.well c.in-Ok-Batch.ensures.looks.ok;
+      at = λ honest synced.
+          let before = inv.well.kept honest synced in
+          let shows = seen_at old.image mid.image front.gate c.args.end front.number c.in-Ok-Batch.field-0 (Batch stored) before.same c.in-Ok-Batch.field-0-is
+          (c.in-Ok-Batch.ensures.seen (inv.only.runs.honest.1 honest) before.synced) in
+          let whole : c.args.end ≤ length old.image = omega (arith, c.requires.inside, g.met.D.Disk.whole c.args.disk.now honest) in
+          subst (λ (f : Front). IsAtFront old.image c.args.start c.args.end f) (sym is)
+          (goes_on old.image c.args.start c.args.end front (inv.at honest synced) inv.below whole stored shows.0 shows.1 (c.pass.ensures.may.0 c.if-not-pass.false));
+    }
+
+pub returns-in-Err-clause-examines : goal.returns-in-Err-clause-examines
+returns-in-Err-clause-examines g c =
+    let inv = c.loop-front.invariant in
+    record {
+      only = reads_then (g.D.Disk.state c.args.disk.now) (g.D.Disk.state c.loop-front.disk) (g.D.Disk.state c.look.new.disk) inv.only c.look.ensures.looks.only;
+      ok = tt;
+      err = omega (arith, c.in-Err.ensures.looks.err, inv.well.failures);
+    }
+
+pub returns-in-Err-clause-damaged : goal.returns-in-Err-clause-damaged
+returns-in-Err-clause-damaged g c s is = absurd (cc is)
+
+pub returns-in-Ok-Damaged-clause-examines : goal.returns-in-Ok-Damaged-clause-examines
+returns-in-Ok-Damaged-clause-examines g c =
+    let old = g.D.Disk.state c.args.disk.now in
+    let mid = g.D.Disk.state c.loop-front.disk in
+    let new = g.D.Disk.state c.look.new.disk in
+    let inv = c.loop-front.invariant in
+    record {
+      only = reads_then old mid new inv.only c.look.ensures.looks.only;
+      ok = tt;
+      err = well_then old mid new inv.only inv.well c.in-Ok-Damaged.ensures.looks.ok;
+    }
+
+pub returns-in-Ok-Damaged-clause-damaged : goal.returns-in-Ok-Damaged-clause-damaged
+returns-in-Ok-Damaged-clause-damaged g c s is honest synced =
+    let old = g.D.Disk.state c.args.disk.now in
+    let mid = g.D.Disk.state c.loop-front.disk in
+    let inv = c.loop-front.invariant in
+    let front = c.loop-front.front in
+    let before = inv.well.kept honest synced in
+    let shows = seen_at old.image mid.image front.gate c.args.end front.number c.in-Ok-Damaged.field-0 Damaged before.same c.in-Ok-Damaged.field-0-is
+    (c.in-Ok-Damaged.ensures.seen (inv.only.runs.honest.1 honest) before.synced) in
+    let whole : c.args.end ≤ length old.image = omega (arith, c.requires.inside, g.met.D.Disk.whole c.args.disk.now honest) in
+    let here : front.gate ≡ s = cc is in
+    subst (λ k. IsDamagedAt old.image c.args.start c.args.end k) here
+    (none_here old.image c.args.start c.args.end front (inv.at honest synced) inv.below whole shows.0 shows.1)
+
+pub returns-in-Ok-Closed-clause-examines : goal.returns-in-Ok-Closed-clause-examines
+returns-in-Ok-Closed-clause-examines g c =
+    let old = g.D.Disk.state c.args.disk.now in
+    let mid = g.D.Disk.state c.loop-front.disk in
+    let new = g.D.Disk.state c.look.new.disk in
+    let inv = c.loop-front.invariant in
+    record {
+      only = reads_then old mid new inv.only c.look.ensures.looks.only;
+      ok = tt;
+      err = well_then old mid new inv.only inv.well c.in-Ok-Closed.ensures.looks.ok;
+    }
+
+pub returns-in-Ok-Closed-clause-damaged : goal.returns-in-Ok-Closed-clause-damaged
+returns-in-Ok-Closed-clause-damaged g c s is honest synced =
+    let old = g.D.Disk.state c.args.disk.now in
+    let mid = g.D.Disk.state c.loop-front.disk in
+    let inv = c.loop-front.invariant in
+    let front = c.loop-front.front in
+    let before = inv.well.kept honest synced in
+    let shows = seen_at old.image mid.image front.gate c.args.end front.number c.in-Ok-Closed.field-0 Closed before.same c.in-Ok-Closed.field-0-is
+    (c.in-Ok-Closed.ensures.seen (inv.only.runs.honest.1 honest) before.synced) in
+    let whole : c.args.end ≤ length old.image = omega (arith, c.requires.inside, g.met.D.Disk.whole c.args.disk.now honest) in
+    let here : front.gate ≡ s = cc is in
+    subst (λ k. IsDamagedAt old.image c.args.start c.args.end k) here
+    (ends_early old.image c.args.start c.args.end front (inv.at honest synced) inv.below whole shows (λ may. absurd (cc (c.may_end.ensures.1 may, c.if-may_end.false))))
+
+pub returns-then-may_end-clause-examines : goal.returns-then-may_end-clause-examines
+returns-then-may_end-clause-examines g c =
+    let old = g.D.Disk.state c.args.disk.now in
+    let mid = g.D.Disk.state c.loop-front.disk in
+    let new = g.D.Disk.state c.look.new.disk in
+    let inv = c.loop-front.invariant in
+    record {
+      only = reads_then old mid new inv.only c.look.ensures.looks.only;
+      ok = well_then old mid new inv.only inv.well c.in-Ok-Closed.ensures.looks.ok;
+      err = tt;
+    }
+
+pub returns-then-may_end-clause-found : goal.returns-then-may_end-clause-found
+returns-then-may_end-clause-found g c honest synced =
+    let old = g.D.Disk.state c.args.disk.now in
+    let mid = g.D.Disk.state c.loop-front.disk in
+    let inv = c.loop-front.invariant in
+    let front = c.loop-front.front in
+    let before = inv.well.kept honest synced in
+    let shows = seen_at old.image mid.image front.gate c.args.end front.number c.in-Ok-Closed.field-0 Closed before.same c.in-Ok-Closed.field-0-is
+    (c.in-Ok-Closed.ensures.seen (inv.only.runs.honest.1 honest) before.synced) in
+    let whole : c.args.end ≤ length old.image = omega (arith, c.requires.inside, g.met.D.Disk.whole c.args.disk.now honest) in
+    ends old.image c.args.start c.args.end front (inv.at honest synced) inv.below whole shows (c.may_end.ensures.0 c.if-may_end.true)
+
+pub returns-then-not-pass-clause-examines : goal.returns-then-not-pass-clause-examines
+returns-then-not-pass-clause-examines g c =
+    let old = g.D.Disk.state c.args.disk.now in
+    let mid = g.D.Disk.state c.loop-front.disk in
+    let new = g.D.Disk.state c.look.new.disk in
+    let inv = c.loop-front.invariant in
+    record {
+      only = reads_then old mid new inv.only c.look.ensures.looks.only;
+      ok = tt;
+      err = well_then old mid new inv.only inv.well c.in-Ok-Batch.ensures.looks.ok;
+    }
+
+pub returns-then-not-pass-clause-damaged : goal.returns-then-not-pass-clause-damaged
+returns-then-not-pass-clause-damaged g c s is honest synced =
+    let old = g.D.Disk.state c.args.disk.now in
+    let mid = g.D.Disk.state c.loop-front.disk in
+    let inv = c.loop-front.invariant in
+    let front = c.loop-front.front in
+    let stored = c.in-Ok-Batch.stored in
+    let before = inv.well.kept honest synced in
+    let shows = seen_at old.image mid.image front.gate c.args.end front.number c.in-Ok-Batch.field-0 (Batch stored) before.same c.in-Ok-Batch.field-0-is
+    (c.in-Ok-Batch.ensures.seen (inv.only.runs.honest.1 honest) before.synced) in
+    let whole : c.args.end ≤ length old.image = omega (arith, c.requires.inside, g.met.D.Disk.whole c.args.disk.now honest) in
+    let here : front.gate ≡ s = cc is in
+    subst (λ k. IsDamagedAt old.image c.args.start c.args.end k) here
+    (may_not old.image c.args.start c.args.end front (inv.at honest synced) inv.below whole stored shows.0 shows.1 (λ passes. absurd (cc (c.pass.ensures.may.1 passes, c.if-not-pass.true))))

@@ -1,0 +1,48 @@
+-- One step along a chain.
+use Rattle.std.specs.Prelude.{◌≤◌, ◌+◌}
+use Rattle.lift_record.specs.Version.{version_number}
+use Rattle.lift_journal.specs.declared.batch.Stored.{Stored}
+use Rattle.lift_journal.specs.declared.fault.JournalFault.{JournalFault}
+use Rattle.lift_journal.specs.declared.fault.JournalFault.TheVariants.{Disk, NotFormatted, Damaged, Full, Broken}
+use Rattle.lift_journal.specs.declared.walk.Front.{Front}
+use Rattle.lift_journal.specs.Layout.{bodies}
+use Rattle.lift_journal.specs.Order.{IsInOrderBehind, last_behind}
+use Rattle.std.specs.Prelude.{length}
+
+-- the batch may stand behind those before it
+pub record Passes (front : Front) (stored : Stored) : Type 0 where
+  pub rises : version_number front.version ≤ version_number stored.version
+  pub ordered : IsInOrderBehind front.last stored.records.items
+
+-- the front behind it
+abbrev pub passed : Front → Stored → Front
+passed front stored = record {
+  gate = front.gate + (1 + bodies (length stored.records.items));
+  number = front.number + 1;
+  version = stored.version;
+  last = last_behind front.last stored.records.items;
+}
+
+-- a fault that a walk along a chain may end with
+abbrev pub IsOfChain : JournalFault → Type 0
+IsOfChain Disk = Unit {0}
+IsOfChain NotFormatted = ⊥
+IsOfChain (Damaged sector) = Unit {0}
+IsOfChain Full = ⊥
+IsOfChain Broken = ⊥
+
+-- a fault that the reading of a stamp may end with
+abbrev pub IsOfStamp : JournalFault → Type 0
+IsOfStamp Disk = Unit {0}
+IsOfStamp NotFormatted = Unit {0}
+IsOfStamp (Damaged sector) = ⊥
+IsOfStamp Full = ⊥
+IsOfStamp Broken = ⊥
+
+-- a fault that the reading of one batch more may end with
+abbrev pub IsOfCursor : JournalFault → Type 0
+IsOfCursor Disk = Unit {0}
+IsOfCursor NotFormatted = ⊥
+IsOfCursor (Damaged sector) = Unit {0}
+IsOfCursor Full = ⊥
+IsOfCursor Broken = Unit {0}

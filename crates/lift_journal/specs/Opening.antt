@@ -1,0 +1,42 @@
+-- What an opening does to a device, whatever it answers: an opening writes nothing.
+use Rattle.std.specs.Prelude.{◌≡◌, ◌<◌, ◌+◌, ℕ, List}
+use Rattle.lift_base.specs.declared.history.Record.{Record}
+use Rattle.lift_base.specs.declared.history.Shape.{Shape}
+use Rattle.lift_disk.specs.Disk.{DiskState, Image, MayLeave, IsSynced, LeavesOnly, RunsOn}
+use Rattle.lift_journal.specs.declared.fault.JournalFault.{JournalFault}
+use Rattle.lift_journal.specs.declared.fault.JournalFault.TheVariants.{Disk, NotFormatted, Damaged, Full, Broken}
+use Rattle.lift_journal.specs.Layout.{Batch, Holds, IsStamped, start_of, used}
+use Rattle.lift_journal.specs.Walk.{IsDamagedAt}
+use Rattle.lift_journal.specs.Journal.{StandsFor}
+
+-- It has opened: this is the shape, and so many sectors of the picked half are used.
+pub record Opens (old new : DiskState) (shape : Shape) (taken : ℕ) : Type 0 where
+  -- a crash at any moment leaves what one before it might have left
+  pub moments : LeavesOnly old new (MayLeave old)
+  pub runs : RunsOn old new
+  pub writes : new.writes ≡ old.writes
+  pub failures : new.failures ≡ old.failures
+  -- at the end every crash leaves one and the same of these images
+  pub synced : old.is_honest → IsSynced new
+  pub seen : old.is_honest → MayLeave old new.image
+  pub holds : old.is_honest → (batches : List Batch) × Holds shape batches new.image × (taken ≡ used batches)
+  -- these are the checkpoint and the entries that it reads as
+  pub stands : old.is_honest → (base entries : List Record) × StandsFor shape base entries new
+
+-- the cause of a refusal: a call that failed, or what some image holds that a crash might have left
+abbrev pub RefusedFor : JournalFault → DiskState → DiskState → Type 0
+RefusedFor Disk old new = old.failures < new.failures
+RefusedFor NotFormatted old new = (new.failures ≡ old.failures)
+    × (old.is_honest → (seen : Image) × MayLeave old seen × ((shape : Shape) → ¬ IsStamped shape seen))
+RefusedFor (Damaged sector) old new = (new.failures ≡ old.failures)
+    × (old.is_honest → (seen : Image) × (shape : Shape) × MayLeave old seen × IsStamped shape seen
+    × IsDamagedAt seen (start_of shape.half seen) (start_of shape.half seen + shape.half) sector)
+RefusedFor Full old new = ⊥
+RefusedFor Broken old new = ⊥
+
+-- it was refused
+pub record Refuses (old new : DiskState) (fault : JournalFault) : Type 0 where
+  pub moments : LeavesOnly old new (MayLeave old)
+  pub runs : RunsOn old new
+  pub writes : new.writes ≡ old.writes
+  pub cause : RefusedFor fault old new

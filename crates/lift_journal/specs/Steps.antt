@@ -1,0 +1,74 @@
+-- What the steps of a call leave of an image, by sectors. No public clause names these.
+use Rattle.std.specs.Prelude.{◌≡◌, ◌<◌, ◌≤◌, ◌+◌, ℕ, List, [], ◌∷◌, ◌++◌, length, take, drop, Result, OnOk, OnErr, IfErr}
+use Rattle.lift_base.specs.declared.history.Shape.{Shape}
+use Rattle.lift_disk.specs.Disk.{DiskState, Image, IsSynced, RunsOn, TouchesOnly}
+use Rattle.lift_journal.specs.declared.fault.JournalFault.{JournalFault}
+use Rattle.lift_journal.specs.declared.fault.JournalFault.TheVariants.{Disk, NotFormatted, Damaged, Full, Broken}
+use Rattle.lift_journal.specs.Layout.{Batch, filled, Holds, IsBody, size_of, used, start_of, IsSound}
+
+-- these sectors stand in a row from the first one on, and the others are as they were
+abbrev pub overwritten : Image → ℕ → Image → Image
+overwritten image first sectors = take first image ++ sectors ++ drop (first + length sectors) image
+
+abbrev pub IsInRange : ℕ → ℕ → ℕ → Type 0
+IsInRange low high i = (low ≤ i) × (i < high)
+
+-- an open gate, or the pick of the second half
+abbrev pub marked : List ℕ
+marked = filled 1 (165 ∷ [])
+
+-- a closed gate, or the pick of the first half
+abbrev pub unmarked : List ℕ
+unmarked = filled 1 []
+
+-- this is read, and a crash leaves just that
+pub record IsSyncedAt (image : Image) (disk : DiskState) : Type 0 where
+  pub synced : IsSynced disk
+  pub same : disk.image ≡ image
+
+-- calls that wrote nothing
+pub record ReadsOnly (old new : DiskState) : Type 0 where
+  pub runs : RunsOn old new
+  pub writes : new.writes ≡ old.writes
+  pub touched : TouchesOnly old.is_loose old new
+
+-- and none of them failed, so that what was safe is read as it was
+pub record ReadsWell (old new : DiskState) : Type 0 where
+  pub failures : new.failures ≡ old.failures
+  pub kept : old.is_honest → IsSynced old → IsSyncedAt old.image new
+
+-- calls that write nothing and stop at the first that fails
+pub record Looks {T E : Type 0} (result : Result T E) (old new : DiskState) : Type 0 where
+  pub only : ReadsOnly old new
+  pub ok : OnOk result (ReadsWell old new)
+  pub err : OnErr result (old.failures < new.failures)
+
+-- the cause of a fault: a call that failed, and without one nothing has changed
+abbrev pub HasItsCause : JournalFault → DiskState → DiskState → Type 0
+HasItsCause Disk old new = old.failures < new.failures
+HasItsCause NotFormatted old new = ReadsWell old new
+HasItsCause (Damaged sector) old new = ReadsWell old new
+HasItsCause Full old new = ReadsWell old new
+HasItsCause Broken old new = ReadsWell old new
+
+-- calls that write nothing, and what they have found
+pub record Examines {T : Type 0} (result : Result T JournalFault) (old new : DiskState) : Type 0 where
+  pub only : ReadsOnly old new
+  pub ok : OnOk result (ReadsWell old new)
+  pub err : IfErr result (λ fault. HasItsCause fault old new)
+
+-- The image holds these batches, nothing is in doubt, and there is room behind the closed gate for the body of one more.
+pub record IsReady (shape : Shape) (batches : List Batch) (batch : Batch) (gate : ℕ) (body : Image) (disk : DiskState) : Type 0 where
+  pub synced : IsSynced disk
+  pub holds : Holds shape batches disk.image
+  pub at : gate ≡ start_of shape.half disk.image + used batches
+  pub room : used batches + length body + 2 ≤ shape.half
+  pub spelled : IsBody (1 + length batches) batch body
+  pub size : length body ≡ size_of batch
+  pub sound : IsSound (batches ++ batch ∷ [])
+
+-- The image holds these batches, and a crash leaves just that.
+pub record IsSettled (shape : Shape) (batches : List Batch) (start : ℕ) (disk : DiskState) : Type 0 where
+  pub synced : IsSynced disk
+  pub holds : Holds shape batches disk.image
+  pub from : start_of shape.half disk.image ≡ start

@@ -1,0 +1,85 @@
+//! The journal's writes, in steps of a few device calls each.
+ghost use Rattle.std.specs.Prelude.{◌≡◌, ◌≤◌, ◌<◌, ◌+◌, ◌^◌, ◌++◌, [], ◌∷◌, ◌⊎◌, ℕ, List, length, OnOk, slice_set};
+ghost use Rattle.lift_disk.specs.Disk.{HasCause, LooseWithin, TouchesOnly, IsSteadyAt, IsSameDevice};
+ghost use Rattle.lift_disk.specs.Disk.{LeavesOnly};
+ghost use Rattle.lift_journal.specs.Layout.{Batch, Holds, start_of};
+ghost use Rattle.lift_journal.specs.Steps.{overwritten, IsInRange, marked, unmarked, IsReady, IsSettled, IsSyncedAt};
+ghost use Rattle.lift_base.specs.declared.history.Shape.{Shape};
+
+use lift_disk::{Disk, DiskFault};
+
+/// Writes these sectors in a row.
+fn write_sectors<D: Disk>(disk: &mut D, first: u32, sectors: &[[u8; 512]]) -> Result<(), DiskFault>
+    requires there { first + length sectors.now ≤ (D.state disk.old).size }
+    requires fits { first + length sectors.now < 2 ^ 32 }
+    ensures same { IsSameDevice (D.state disk.old) (D.state disk.new) }
+    ensures cause { HasCause result (D.state disk.old) (D.state disk.new) }
+    ensures touched { (low high : ℕ) → low ≤ first → first + length sectors.now ≤ high
+        → LooseWithin (IsInRange low high) (D.state disk.old)
+        → TouchesOnly (IsInRange low high) (D.state disk.old) (D.state disk.new) }
+    ensures written { OnOk result ((D.state disk.old).is_honest → (D.state disk.old).is_steady
+        → IsSteadyAt (overwritten (D.state disk.old).image first sectors.now) (D.state disk.new)) }
+{
+    let mut at = first;
+    for sector in sectors {
+        disk.write(at, sector)?;
+        at += 1;
+    }
+    Ok(())
+}
+
+/// An open gate, and the pick of the second half.
+pub fn mark() -> [u8; 512]
+    ensures { result ≡ marked }
+{
+    let mut sector = [0; 512];
+    sector[0] = 0xA5;
+    sector
+}
+
+/// Writes the body of a batch behind a closed gate, and a closed gate behind it.
+fn store_behind<D: Disk>(disk: &mut D, gate: u32, body: &[[u8; 512]]) -> Result<(), DiskFault>
+    requires there { gate + 1 + length body.now < (D.state disk.old).size }
+    requires fits { gate + 1 + length body.now < 2 ^ 32 }
+    ensures same { IsSameDevice (D.state disk.old) (D.state disk.new) }
+    ensures cause { HasCause result (D.state disk.old) (D.state disk.new) }
+    ensures touched { LooseWithin (IsInRange (gate + 1) (gate + length body.now + 2)) (D.state disk.old)
+        → TouchesOnly (IsInRange (gate + 1) (gate + length body.now + 2)) (D.state disk.old) (D.state disk.new) }
+    ensures stored { OnOk result ((D.state disk.old).is_honest → (D.state disk.old).is_steady
+        → IsSyncedAt (slice_set (overwritten (D.state disk.old).image (gate + 1) body.now) (gate + 1 + length body.now) unmarked) (D.state disk.new)) }
+{
+    write_sectors(disk, gate + 1, body)?;
+    disk.write(gate + 1 + body.len() as u32, &[0; 512])?;
+    disk.sync()
+}
+
+/// Opens a gate, so that the batch behind it counts.
+fn open_gate<D: Disk>(disk: &mut D, gate: u32) -> Result<(), DiskFault>
+    requires { gate < (D.state disk.old).size }
+    ensures same { IsSameDevice (D.state disk.old) (D.state disk.new) }
+    ensures cause { HasCause result (D.state disk.old) (D.state disk.new) }
+    ensures touched { LooseWithin (IsInRange gate (gate + 1)) (D.state disk.old)
+        → TouchesOnly (IsInRange gate (gate + 1)) (D.state disk.old) (D.state disk.new) }
+    ensures opened { OnOk result ((D.state disk.old).is_honest → (D.state disk.old).is_steady
+        → IsSyncedAt (slice_set (D.state disk.old).image gate marked) (D.state disk.new)) }
+{
+    disk.write(gate, &mark())?;
+    disk.sync()
+}
+
+/// Writes a batch. A crash at any moment leaves the batches from before, or these and the new one.
+pub fn write_batch<D: Disk>(disk: &mut D, gate: u32, body: &[[u8; 512]]) -> Result<(), DiskFault>
+    requires there { gate + 1 + length body.now < (D.state disk.old).size }
+    requires fits { gate + 1 + length body.now < 2 ^ 32 }
+    ensures same { IsSameDevice (D.state disk.old) (D.state disk.new) }
+    ensures cause { HasCause result (D.state disk.old) (D.state disk.new) }
+    ensures any_moment { (shape : Shape) (batches : List Batch) (batch : Batch)
+        → ((D.state disk.old).is_honest → IsReady shape batches batch gate body.now (D.state disk.old))
+        → LeavesOnly (D.state disk.old) (D.state disk.new) (λ left. Holds shape batches left ⊎ Holds shape (batches ++ batch ∷ []) left) }
+    ensures written { OnOk result ((shape : Shape) (batches : List Batch) (batch : Batch) → (D.state disk.old).is_honest
+        → IsReady shape batches batch gate body.now (D.state disk.old)
+        → IsSettled shape (batches ++ batch ∷ []) (start_of shape.half (D.state disk.old).image) (D.state disk.new)) }
+{
+    store_behind(disk, gate, body)?;
+    open_gate(disk, gate)
+}

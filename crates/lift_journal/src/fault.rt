@@ -1,0 +1,27 @@
+ghost use Rattle.std.specs.Prelude.{◌≡◌, ◌↔◌, IsTrue};
+ghost use Rattle.lift_journal.specs.declared.fault.JournalFault.TheVariants.{Disk};
+
+/// Why a call of the journal was refused.
+#[derive(Clone, Copy, PartialEq, Eq)]
+pub enum JournalFault {
+    /// A call of the device failed.
+    Disk,
+    /// The device lacks sectors, or its stamp isn't spelled right.
+    NotFormatted,
+    /// The gate in this sector breaks a rule of the chain: it is open and no lawful batch stands behind it, or it
+    /// closes a chain within a checkpoint.
+    Damaged(u32),
+    /// The batch has no room in its half.
+    Full,
+    /// A call of the device has failed, and no reopening has succeeded since.
+    Broken,
+}
+
+impl JournalFault {
+    /// Whether a call of the device has failed just now.
+    pub fn is_of_disk(self) -> bool
+        ensures { IsTrue result ↔ (self ≡ Disk) }
+    {
+        matches!(self, JournalFault::Disk)
+    }
+}

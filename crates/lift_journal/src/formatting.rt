@@ -1,0 +1,55 @@
+//! The making of an empty journal.
+ghost use Rattle.std.specs.Prelude.{◌≡◌, ◌≤◌, ◌<◌, ◌+◌, ◌*◌, [], OnOk, slice_set};
+ghost use Rattle.lift_base.specs.History.{IsWithinLimits};
+ghost use Rattle.lift_disk.specs.Disk.{HasCause, RunsOn, IsSynced};
+ghost use Rattle.lift_journal.specs.Layout.{filled, stamp_bytes};
+ghost use Rattle.lift_journal.specs.Journal.{ReadsAs};
+ghost use Rattle.lift_journal.specs.Steps.{IsSyncedAt, unmarked};
+
+use crate::stamp::stamp_of;
+use lift_base::Shape;
+use lift_disk::{Disk, DiskFault};
+
+/// Picks the first half and closes its first gate.
+fn empty_half<D: Disk>(disk: &mut D) -> Result<(), DiskFault>
+    requires { 2 < (D.state disk.old).size }
+    ensures runs { RunsOn (D.state disk.old) (D.state disk.new) }
+    ensures cause { HasCause result (D.state disk.old) (D.state disk.new) }
+    ensures calls { OnOk result ((D.state disk.new).calls ≡ (D.state disk.old).calls + 3) }
+    ensures stored { OnOk result ((D.state disk.old).is_honest → (D.state disk.old).is_steady
+        → IsSyncedAt (slice_set (slice_set (D.state disk.old).image 0 unmarked) 2 unmarked) (D.state disk.new)) }
+{
+    disk.write(0, &[0; 512])?;
+    disk.write(2, &[0; 512])?;
+    disk.sync()
+}
+
+/// Writes the stamp.
+fn put_stamp<D: Disk>(disk: &mut D, shape: &Shape) -> Result<(), DiskFault>
+    requires { 1 < (D.state disk.old).size }
+    ensures runs { RunsOn (D.state disk.old) (D.state disk.new) }
+    ensures cause { HasCause result (D.state disk.old) (D.state disk.new) }
+    ensures calls { OnOk result ((D.state disk.new).calls ≡ (D.state disk.old).calls + 2) }
+    ensures stored { OnOk result ((D.state disk.old).is_honest → (D.state disk.old).is_steady
+        → IsSyncedAt (slice_set (D.state disk.old).image 1 (filled 1 (stamp_bytes shape.now))) (D.state disk.new)) }
+    ensures synced { OnOk result ((D.state disk.old).is_honest → IsSynced (D.state disk.new)) }
+{
+    disk.write(1, &stamp_of(shape))?;
+    disk.sync()
+}
+
+/// Makes an empty journal of this shape, over whatever the device holds. The other sectors stay as they are.
+/// After a fault it is begun again.
+pub fn format<D: Disk>(disk: &mut D, shape: Shape) -> Result<(), DiskFault>
+    requires within { IsWithinLimits shape }
+    requires room { 2 * shape.half + 2 ≤ (D.state disk.old).size }
+    ensures runs { RunsOn (D.state disk.old) (D.state disk.new) }
+    ensures cause { HasCause result (D.state disk.old) (D.state disk.new) }
+    ensures calls { OnOk result ((D.state disk.new).calls ≡ (D.state disk.old).calls + 5) }
+    ensures synced { OnOk result ((D.state disk.old).is_honest → IsSynced (D.state disk.new)) }
+    ensures empty { OnOk result ((D.state disk.old).is_honest → (D.state disk.old).is_steady
+        → ReadsAs shape [] [] (D.state disk.new).image) }
+{
+    empty_half(disk)?;
+    put_stamp(disk, &shape)
+}

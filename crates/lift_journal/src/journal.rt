@@ -1,0 +1,272 @@
+//! Batches of records, each in the journal whole or not at all.
+ghost use Rattle.std.specs.Prelude.{◌≡◌, ◌≤◌, ◌<◌, ◌+◌, ◌-◌, ◌++◌, ◌⊎◌, ◌↔◌, List, IsTrue, length, OnOk, true, false, All, Ok, Err, IsErrOf, IfOk, IfErr, OnErr};
+ghost use Rattle.lift_base.specs.declared.history.Record.{Record as RecordValue};
+ghost use Rattle.lift_base.specs.Records.{IsLawful};
+ghost use Rattle.lift_disk.specs.Disk.{LeavesOnly, MayLeave, IsSynced, Image, RunsOn};
+ghost use Rattle.lift_journal.specs.Layout.{bodies, Batch, Holds, used};
+ghost use Rattle.std.specs.Option.{option_map};
+ghost use Rattle.lift_journal.specs.Order.{IsEntry};
+ghost use Rattle.lift_journal.specs.Steps.{ReadsOnly, IsSyncedAt};
+ghost use Rattle.lift_journal.specs.Fronts.{IsOfCursor};
+
+use crate::body::{body_count, body_of};
+use crate::device::write_batch;
+use crate::fault::JournalFault;
+use crate::place::find_place;
+use crate::reads::{AtGate, look};
+use arrayvec::ArrayVec;
+use lift_base::{Record, Shape};
+use lift_disk::{Arm, Disk, DiskFault};
+use std::marker::Model;
+use std::snapshot::Snapshot;
+
+/// A journal over a device.
+#[derive(Drop)]
+pub struct Journal<D: Disk> {
+    device: D,
+    shape: Shape,
+    /// The first sector of the picked half.
+    start: u32,
+    /// The closing gate.
+    gate: u32,
+    /// The number of the next batch.
+    number: u32,
+    is_broken: bool,
+    /// The device when it was last opened.
+    opened: Snapshot<D>,
+}
+
+impl<D: Disk> Model for Journal<D> {
+    ghost use Rattle.std.specs.Prelude.{◌-◌};
+    ghost use Rattle.lift_journal.specs.Journal.{JournalView, IsJournal};
+
+    ghost Value = { JournalView D };
+
+    ghost view = { λ j. record { device = j.device; shape = j.shape; used = j.gate - j.start; opened = (D.state j.opened.value).failures; is_broken = j.is_broken } };
+
+    ghost invariant = { λ j. IsJournal j.shape j.start j.gate j.number j.is_broken (D.state j.opened.value).failures (D.state j.device) };
+}
+
+/// A place in the list of batches, for [`Journal::next`].
+#[derive(Clone, Copy)]
+pub struct Cursor {
+    skipped: u32,
+    given: u32,
+}
+
+impl Model for Cursor {
+    ghost use Rattle.std.specs.Prelude.{◌<◌, ◌≤◌};
+    ghost use Rattle.lift_journal.specs.Journal.{CursorView};
+
+    ghost Value = { CursorView };
+
+    ghost view = { λ c. record { skipped = c.skipped; given = c.given } };
+
+    ghost invariant = { λ c. (c.skipped < 1000000) × (c.given ≤ c.skipped) };
+
+    ghost inverse = { λ c. record { skipped = c.skipped; given = c.given } };
+}
+
+impl<D: Disk> Journal<D> {
+    ghost use Rattle.lift_journal.specs.Journal.{ReadsAs, StandsFor, IsCursorIn, IsNext};
+    ghost use Rattle.lift_journal.specs.Opening.{Opens, Refuses};
+
+    /// The installation that the device was formatted for.
+    pub fn shape(&self) -> Shape
+        ensures { result ≡ self.now.shape }
+    {
+        self.shape
+    }
+
+    /// Whether a batch of so many records (1 to 63) has room.
+    pub fn room(&self, count: usize) -> bool
+        ensures { IsTrue result ↔ (self.now.used + bodies count + 2 ≤ self.now.shape.half) }
+    {
+        (self.gate - self.start) as usize + body_count(count) + 2 <= self.shape.half as usize
+    }
+
+    /// The device, as it is.
+    pub fn into_disk(self) -> D
+        ensures { result ≡ self.device }
+    {
+        self.device
+    }
+
+    /// Opens a device that a crash may have left. It writes nothing. An `Err` hands the device back.
+    pub fn open(disk: D) -> Result<Journal<D>, (D, JournalFault)>
+        ensures opens { IfOk result (λ journal. Opens (D.state disk) (D.state journal.device) journal.shape journal.used) }
+        ensures whole { IfOk result (λ journal. journal.is_broken ≡ false) }
+        ensures opened { IfOk result (λ journal. journal.opened ≡ (D.state journal.device).failures) }
+        ensures refused { IfErr result (λ err. Refuses (D.state disk) (D.state err.0) err.1) }
+    {
+        let mut device = disk;
+        match find_place(&mut device) {
+            Ok(place) => {
+                let opened = Snapshot::of(&device);
+                Ok(Journal {
+                    device,
+                    shape: place.shape,
+                    start: place.start,
+                    gate: place.gate,
+                    number: place.number,
+                    is_broken: false,
+                    opened,
+                })
+            }
+            Err(fault) => Err((device, fault)),
+        }
+    }
+
+    /// Adds a batch. At `Ok` it is safe: from then on each crash leaves an image that has it.
+    pub fn append(&mut self, batch: &ArrayVec<Record, 63>) -> Result<(), JournalFault>
+        requires some { 1 ≤ length batch.now.items }
+        requires lawful { All IsLawful batch.now.items }
+        requires entries { All IsEntry batch.now.items }
+
+        ensures acknowledged { OnOk result ((base entries : List RecordValue)
+            → StandsFor self.old.shape base entries (D.state self.old.device)
+            → StandsFor self.new.shape base (entries ++ batch.now.items) (D.state self.new.device)) }
+
+        // A crash at any moment of the call leaves the entries from before it, or these and the batch.
+        ensures any_moment { (base entries : List RecordValue)
+            → StandsFor self.old.shape base entries (D.state self.old.device)
+            → LeavesOnly (D.state self.old.device) (D.state self.new.device)
+            (λ left. ReadsAs self.old.shape base entries left ⊎ ReadsAs self.old.shape base (entries ++ batch.now.items) left) }
+
+        ensures failed { IsErrOf result JournalFault.Disk → (D.state self.old.device).failures < (D.state self.new.device).failures }
+        ensures breaks { IsErrOf result JournalFault.Disk → self.new.is_broken ≡ true }
+        ensures whole { OnOk result ((D.state self.new.device).failures ≡ (D.state self.old.device).failures) }
+        ensures stays { OnOk result (self.new.is_broken ≡ false) }
+        ensures full { IsErrOf result JournalFault.Full → (self.old.is_broken ≡ false) × (self.old.shape.half < self.old.used + bodies (length batch.now.items) + 2) }
+        ensures broken { IsErrOf result JournalFault.Broken ↔ (self.old.is_broken ≡ true) }
+        ensures refused { IsErrOf result JournalFault.Full ⊎ IsErrOf result JournalFault.Broken → self.new ≡ self.old }
+        ensures causes { IfErr result (λ fault. (fault ≡ JournalFault.Disk) ⊎ (fault ≡ JournalFault.Full) ⊎ (fault ≡ JournalFault.Broken)) }
+        ensures shape { self.new.shape ≡ self.old.shape }
+        ensures opened { self.new.opened ≡ self.old.opened }
+        ensures used { OnOk result (self.new.used ≡ self.old.used + bodies (length batch.now.items) + 1) }
+    {
+        if self.is_broken {
+            return Err(JournalFault::Broken);
+        }
+        let bodies = body_count(batch.len());
+        if (self.gate - self.start) as usize + bodies + 2 > self.shape.half as usize {
+            return Err(JournalFault::Full);
+        }
+        let body = body_of(batch, self.number);
+        if write_batch(&mut self.device, self.gate, &body[..bodies]).is_err() {
+            self.is_broken = true;
+            return Err(JournalFault::Disk);
+        }
+        self.gate += bodies as u32 + 1;
+        self.number += 1;
+        Ok(())
+    }
+
+    /// The place of the first batch. [`Journal::next`] takes it until the next reopening or checkpoint.
+    pub fn first(&self) -> Cursor
+        ensures start { (batches : List Batch) → IsCursorIn batches result }
+        ensures none { result.given ≡ 0 }
+    {
+        Cursor {
+            skipped: 0,
+            given: 0,
+        }
+    }
+
+    /// The next batch, and the cursor goes on behind it; `None` at the end. It writes nothing.
+    pub fn next(
+        &mut self,
+        cursor: &mut Cursor,
+    ) -> Result<Option<ArrayVec<Record, 63>>, JournalFault>
+        ensures gives { IfOk result (λ found. (D.state self.old.device).is_honest → (batches : List Batch) → Holds self.old.shape batches (D.state self.old.device).image
+            → IsCursorIn batches cursor.old → IsNext batches cursor.old cursor.new (option_map (λ l. l.items) found)) }
+        ensures kept { OnOk result ((D.state self.old.device).is_honest → IsSyncedAt (D.state self.old.device).image (D.state self.new.device)) }
+        ensures reads { ReadsOnly (D.state self.old.device) (D.state self.new.device) }
+        ensures failures { OnOk result ((D.state self.new.device).failures ≡ (D.state self.old.device).failures) }
+        ensures stays { OnOk result (self.new.is_broken ≡ false) }
+        ensures failed { IsErrOf result JournalFault.Disk → (D.state self.old.device).failures < (D.state self.new.device).failures }
+        ensures breaks { IsErrOf result JournalFault.Disk → self.new.is_broken ≡ true }
+        ensures damaged { (s : _) → IsErrOf result (JournalFault.Damaged s) → (D.state self.old.device).is_honest → (batches : List Batch)
+            → Holds self.old.shape batches (D.state self.old.device).image → IsCursorIn batches cursor.old → ⊥ }
+        ensures broken { IsErrOf result JournalFault.Broken ↔ (self.old.is_broken ≡ true) }
+        ensures refused { IsErrOf result JournalFault.Broken → self.new ≡ self.old }
+        ensures causes { IfErr result (λ fault. IsOfCursor fault) }
+        ensures same { (self.new.shape ≡ self.old.shape) × (self.new.used ≡ self.old.used) × (self.new.opened ≡ self.old.opened) }
+    {
+        if self.is_broken {
+            return Err(JournalFault::Broken);
+        }
+        if cursor.skipped >= self.gate - self.start {
+            return Ok(None);
+        }
+        let gate = self.start + cursor.skipped;
+        match look(
+            &mut self.device,
+            gate,
+            self.start + self.shape.half,
+            cursor.given + 1,
+        ) {
+            Err(DiskFault) => {
+                self.is_broken = true;
+                Err(JournalFault::Disk)
+            }
+            Ok(AtGate::Damaged) => Err(JournalFault::Damaged(gate)),
+            Ok(AtGate::Closed) => Err(JournalFault::Damaged(gate)),
+            Ok(AtGate::Batch(stored)) => {
+                cursor.skipped += 1 + body_count(stored.records.len()) as u32;
+                cursor.given += 1;
+                Ok(Some(stored.records))
+            }
+        }
+    }
+
+    /// Opens it again, also after a fault. It writes nothing. A fault of the device leaves it broken, a refusal for
+    /// another cause as it was.
+    pub fn reopen(&mut self) -> Result<(), JournalFault>
+        ensures opens { OnOk result (Opens (D.state self.old.device) (D.state self.new.device) self.new.shape self.new.used) }
+        ensures whole { OnOk result (self.new.is_broken ≡ false) }
+        ensures opened { OnOk result (self.new.opened ≡ (D.state self.new.device).failures) }
+        ensures refused { IfErr result (λ fault. Refuses (D.state self.old.device) (D.state self.new.device) fault) }
+        ensures breaks { IsErrOf result JournalFault.Disk → self.new.is_broken ≡ true }
+        ensures stays { IfErr result (λ fault. (fault ≡ JournalFault.Disk) ⊎ (self.new.is_broken ≡ self.old.is_broken)) }
+        ensures same { OnErr result ((self.new.shape ≡ self.old.shape) × (self.new.used ≡ self.old.used) × (self.new.opened ≡ self.old.opened)) }
+    {
+        match find_place(&mut self.device) {
+            Ok(place) => {
+                self.shape = place.shape;
+                self.start = place.start;
+                self.gate = place.gate;
+                self.number = place.number;
+                self.is_broken = false;
+                self.opened = Snapshot::of(&self.device);
+                Ok(())
+            }
+            Err(fault) => {
+                if fault.is_of_disk() {
+                    self.is_broken = true;
+                }
+                Err(fault)
+            }
+        }
+    }
+}
+
+impl<D: Arm> Journal<D> {
+    ghost use Rattle.lift_disk.specs.Disk.{IsUnchanged, IsTold};
+
+    /// Tells the device anew which calls to fail. It changes no image.
+    pub fn arm(&mut self, calls: u32)
+        ensures same { IsUnchanged (D.state self.old.device) (D.state self.new.device) }
+        ensures told { IsTold (D.fails_by calls (D.state self.old.device).calls) (D.state self.new.device) }
+        ensures rest { (self.new.shape ≡ self.old.shape) × (self.new.used ≡ self.old.used) × (self.new.opened ≡ self.old.opened) × (self.new.is_broken ≡ self.old.is_broken) }
+    {
+        self.device.arm(calls);
+    }
+
+    /// Whether a growth inside the device was refused, now or earlier.
+    pub fn short(&self) -> bool
+        ensures { result ≡ (D.state self.now.device).is_short }
+    {
+        self.device.short()
+    }
+}

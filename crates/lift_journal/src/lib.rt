@@ -1,0 +1,20 @@
+//! The journal: batches of records on a device of sectors, each in it whole or not at all, whatever a power cut leaves.
+#![tactic(auto)]
+
+mod batch;
+mod body;
+mod bytes;
+mod device;
+mod fault;
+mod formatting;
+mod journal;
+mod order;
+mod parse;
+mod place;
+mod reads;
+mod stamp;
+mod walk;
+
+pub use fault::JournalFault;
+pub use formatting::format;
+pub use journal::{Cursor, Journal};

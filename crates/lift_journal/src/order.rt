@@ -1,0 +1,69 @@
+//! The order of the records in a chain.
+ghost use Rattle.std.specs.Prelude.{◌≡◌, ◌↔◌, IsTrue};
+ghost use Rattle.lift_journal.specs.Order.{IsEntry, MayFollow, MayFollowRow, MayFollowLast, IsInOrderBehind, last_behind, MayEnd};
+
+use lift_base::{Letter, Record, Terminal};
+
+fn is_entry(content: &Record) -> bool
+    ensures { IsTrue result ↔ IsEntry content.now }
+{
+    match *content {
+        Record::Allot { .. } | Record::Stop { .. } => true,
+        Record::Row(_) | Record::Last { .. } | Record::Done { .. } => false,
+    }
+}
+
+fn may_follow_row(car: Letter, next: &Record) -> bool
+    ensures { IsTrue result ↔ MayFollowRow car next.now }
+{
+    match *next {
+        Record::Row(row) => car.get() <= row.car.get(),
+        Record::Last { .. } | Record::Done { .. } => true,
+        Record::Allot { .. } | Record::Stop { .. } => false,
+    }
+}
+
+fn may_follow_last(terminal: Terminal, next: &Record) -> bool
+    ensures { IsTrue result ↔ MayFollowLast terminal next.now }
+{
+    match *next {
+        Record::Last {
+            terminal: other,
+            ..
+        } => terminal.get() < other.get(),
+        Record::Done { .. } => true,
+        Record::Row(_) | Record::Allot { .. } | Record::Stop { .. } => false,
+    }
+}
+
+fn may_follow(last: &Option<Record>, next: &Record) -> bool
+    ensures { IsTrue result ↔ MayFollow last.now next.now }
+{
+    match *last {
+        None => true,
+        Some(Record::Row(row)) => may_follow_row(row.car, next),
+        Some(Record::Last { terminal, .. }) => may_follow_last(terminal, next),
+        Some(Record::Allot { .. } | Record::Stop { .. } | Record::Done { .. }) => is_entry(next),
+    }
+}
+
+/// Goes on behind these records, if they may stand in this order behind that one.
+pub fn pass_records(last: &mut Option<Record>, records: &[Record]) -> bool
+    ensures ordered { IsTrue result ↔ IsInOrderBehind last.old records.now }
+    ensures passed { IsTrue result → last.new ≡ last_behind last.old records.now }
+{
+    for next in records {
+        if !may_follow(last, next) {
+            return false;
+        }
+        *last = Some(*next);
+    }
+    true
+}
+
+/// Whether a chain may end behind this record.
+pub fn may_end(last: &Option<Record>) -> bool
+    ensures { IsTrue result ↔ MayEnd last.now }
+{
+    !matches!(*last, Some(Record::Row(_) | Record::Last { .. }))
+}

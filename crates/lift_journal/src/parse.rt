@@ -1,0 +1,80 @@
+//! The reading of a batch.
+ghost use Rattle.std.specs.Prelude.{◌≡◌, ◌≤◌, ◌-◌, ◌++◌, ◌↔◌, IsTrue, IfSome, IfNone, Some, List, length, take, drop, replicate};
+ghost use Rattle.lift_base.specs.declared.history.Record.{Record as RecordValue};
+ghost use Rattle.lift_record.specs.Header.{IsHeaderSpelling};
+ghost use Rattle.lift_journal.specs.Seen.{IsRecordsIn, IsTailOf};
+
+use crate::bytes::{put, sixteen};
+use arrayvec::ArrayVec;
+use lift_base::Record;
+use lift_record::{Header, Version, decode, decode_header};
+
+/// The header at the front of a body, if it is one and has this number.
+pub fn header_of(first: &[u8; 512], number: u32) -> Option<Header>
+    ensures { (header : _) → (result ≡ Some header ↔ (IsHeaderSpelling (take 16 first.now) header × (header.number ≡ number))) }
+{
+    let header = decode_header(&sixteen(first, 0))?;
+    if header.number == number {
+        Some(header)
+    } else {
+        None
+    }
+}
+
+/// So many records behind the header of this text, if they are spelled there.
+fn read_records(version: Version, text: &[u8; 1024], count: usize) -> Option<ArrayVec<Record, 63>>
+    requires { count ≤ 63 }
+    ensures some { IfSome result (λ records. IsRecordsIn version (drop 16 text.now) count records.items) }
+    ensures none { IfNone result ((records : List RecordValue) → ¬ IsRecordsIn version (drop 16 text.now) count records) }
+{
+    let mut records = ArrayVec::new();
+    for k in 0..count {
+        let Some(content) = decode(version, &sixteen(text, 16 + 16 * k)) else {
+            return None;
+        };
+        records.push(content);
+    }
+    Some(records)
+}
+
+/// Whether all bytes from this place on are zero.
+fn is_zero_from(text: &[u8; 1024], at: usize) -> bool
+    requires { at ≤ 1024 }
+    ensures { IsTrue result ↔ (drop at text.now ≡ replicate (1024 - at) 0) }
+{
+    let zeros = [0; 1024];
+    let rest: &[u8] = &text[at..];
+    rest == &zeros[at..]
+}
+
+/// Two sectors as one text.
+fn joined(first: &[u8; 512], second: &[u8; 512]) -> [u8; 1024]
+    ensures { result ≡ first.now ++ second.now }
+{
+    let mut text = [0; 1024];
+    put(&mut text, 0, first);
+    put(&mut text, 512, second);
+    text
+}
+
+/// The records behind the header of a body of two sectors, if they and zeros stand there.
+pub fn parse(
+    version: Version,
+    count: usize,
+    first: &[u8; 512],
+    second: &[u8; 512],
+) -> Option<ArrayVec<Record, 63>>
+    requires { count ≤ 63 }
+    ensures some { IfSome result (λ records. (length records.items ≡ count) × IsTailOf version records.items (drop 16 (first.now ++ second.now))) }
+    ensures none { IfNone result ((records : List RecordValue) → length records ≡ count → ¬ IsTailOf version records (drop 16 (first.now ++ second.now))) }
+{
+    let text = joined(first, second);
+    let Some(records) = read_records(version, &text, count) else {
+        return None;
+    };
+    if is_zero_from(&text, 16 + 16 * count) {
+        Some(records)
+    } else {
+        None
+    }
+}

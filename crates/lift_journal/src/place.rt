@@ -1,0 +1,99 @@
+//! Where a formatted device goes on. This reads and writes nothing.
+ghost use Rattle.std.specs.Prelude.{◌≡◌, ◌⊎◌, ◌≤◌, ◌<◌, ◌+◌, ◌*◌, IsErrOf, IfOk, IfErr, OnOk};
+ghost use Rattle.lift_base.specs.declared.history.Shape.{Shape as ShapeValue};
+ghost use Rattle.lift_base.specs.History.{IsWithinLimits};
+ghost use Rattle.lift_disk.specs.Disk.{IsSynced, Image, MayLeave};
+ghost use Rattle.lift_journal.specs.Layout.{IsStamped, start_of};
+ghost use Rattle.lift_journal.specs.Journal.{HasPlace, StandsAt};
+ghost use Rattle.lift_journal.specs.Steps.{Examines, ReadsOnly, HasItsCause};
+ghost use Rattle.lift_journal.specs.Walk.{IsDamagedAt};
+ghost use Rattle.lift_journal.specs.Opening.{RefusedFor};
+ghost use Rattle.lift_journal.specs.Fronts.{IsOfChain, IsOfStamp};
+
+use crate::fault::JournalFault;
+use crate::reads::{read_mark, read_sector, settle};
+use crate::stamp::read_stamp;
+use crate::walk::walk;
+use lift_base::Shape;
+use lift_disk::Disk;
+
+/// Where the next batch goes.
+#[derive(Drop)]
+pub struct Place {
+    pub shape: Shape,
+    /// The first sector of the picked half.
+    pub start: u32,
+    /// The closing gate.
+    pub gate: u32,
+    /// The number of the next batch.
+    pub number: u32,
+}
+
+/// The shape of a settled device.
+fn read_shape<D: Disk>(disk: &mut D) -> Result<Shape, JournalFault>
+    ensures examines { Examines result (D.state disk.old) (D.state disk.new) }
+    ensures causes { IfErr result (λ fault. IsOfStamp fault) }
+    ensures stamped { IfOk result (λ shape. IsWithinLimits shape × (2 * shape.half + 2 ≤ (D.state disk.old).size)
+        × ((D.state disk.old).is_honest → IsSynced (D.state disk.old) → IsStamped shape (D.state disk.old).image)) }
+    ensures not_formatted { IsErrOf result JournalFault.NotFormatted → (D.state disk.old).is_honest → IsSynced (D.state disk.old)
+        → (shape : ShapeValue) → IsStamped shape (D.state disk.old).image → ⊥ }
+{
+    if disk.sectors() < 2 {
+        return Err(JournalFault::NotFormatted);
+    }
+    let Ok(stamp) = read_sector(disk, 1) else {
+        return Err(JournalFault::Disk);
+    };
+    match read_stamp(&stamp) {
+        Some(shape) if disk.sectors() >= 2 * shape.half + 2 => Ok(shape),
+        _ => Err(JournalFault::NotFormatted),
+    }
+}
+
+/// The place of a settled device of this shape.
+fn place_of<D: Disk>(disk: &mut D, shape: Shape) -> Result<Place, JournalFault>
+    requires within { IsWithinLimits shape }
+    requires room { 2 * shape.half + 2 ≤ (D.state disk.old).size }
+    ensures examines { Examines result (D.state disk.old) (D.state disk.new) }
+    ensures causes { IfErr result (λ fault. IsOfChain fault) }
+    ensures shape { IfOk result (λ place. place.shape ≡ shape) }
+    ensures place { IfOk result (λ place. HasPlace (D.state disk.new).size place.shape place.start place.gate place.number) }
+    ensures stands { IfOk result (λ place. (D.state disk.old).is_honest → IsSynced (D.state disk.old) → IsStamped shape (D.state disk.old).image
+        → StandsAt place.shape place.start place.gate place.number (D.state disk.new)) }
+    ensures damaged { (s : _) → IsErrOf result (JournalFault.Damaged s) → (D.state disk.old).is_honest → IsSynced (D.state disk.old)
+        → IsDamagedAt (D.state disk.old).image (start_of shape.half (D.state disk.old).image) (start_of shape.half (D.state disk.old).image + shape.half) s }
+{
+    let Ok(is_second) = read_mark(disk, 0) else {
+        return Err(JournalFault::Disk);
+    };
+    let start = if is_second { shape.half + 2 } else { 2 };
+    match walk(disk, start, start + shape.half) {
+        Ok(front) => Ok(Place {
+            shape,
+            start,
+            gate: front.gate,
+            number: front.number,
+        }),
+        Err(fault) => Err(fault),
+    }
+}
+
+/// Settles a device and finds its place.
+pub fn find_place<D: Disk>(disk: &mut D) -> Result<Place, JournalFault>
+    ensures only { ReadsOnly (D.state disk.old) (D.state disk.new) }
+    ensures failures { OnOk result ((D.state disk.new).failures ≡ (D.state disk.old).failures) }
+    ensures settled { OnOk result ((D.state disk.old).is_honest → IsSynced (D.state disk.new)) }
+    ensures place { IfOk result (λ place. HasPlace (D.state disk.new).size place.shape place.start place.gate place.number) }
+    ensures stands { IfOk result (λ place. (D.state disk.old).is_honest → StandsAt place.shape place.start place.gate place.number (D.state disk.new)) }
+    ensures refused { IfErr result (λ fault. RefusedFor fault (D.state disk.old) (D.state disk.new)) }
+    ensures cause { IfErr result (λ fault. HasItsCause fault (D.state disk.old) (D.state disk.new)) }
+{
+    if settle(disk).is_err() {
+        return Err(JournalFault::Disk);
+    }
+    let shape = match read_shape(disk) {
+        Ok(shape) => shape,
+        Err(fault) => return Err(fault),
+    };
+    place_of(disk, shape)
+}

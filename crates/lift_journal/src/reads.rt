@@ -1,0 +1,151 @@
+//! The journal's reads: they write nothing and stop at the first call that fails.
+ghost use Rattle.std.specs.Prelude.{◌≡◌, ◌≤◌, ◌<◌, ◌+◌, length, take, OnOk, IfOk, IfSome, true, false};
+ghost use Rattle.lift_disk.specs.Disk.{IsSynced};
+ghost use Rattle.lift_record.specs.Header.{IsHeaderSpelling};
+ghost use Rattle.lift_journal.specs.Layout.{sector_at, is_marked};
+ghost use Rattle.lift_journal.specs.Steps.{Looks};
+ghost use Rattle.lift_journal.specs.Seen.{ShowsBody, ShowsAt, FitsBelow, zeros};
+
+use crate::batch::Stored;
+use crate::body::body_count;
+use crate::parse::{header_of, parse};
+use lift_disk::{Disk, DiskFault};
+use lift_record::Header;
+
+/// What stands at a gate.
+#[derive(Drop)]
+pub enum AtGate {
+    Closed,
+    Batch(Stored),
+    /// The gate is open, and no batch of this number stands behind it.
+    Damaged,
+}
+
+/// Begins an opening: from here on a crash leaves what is read.
+pub fn settle<D: Disk>(disk: &mut D) -> Result<(), DiskFault>
+    ensures looks { Looks result (D.state disk.old) (D.state disk.new) }
+    ensures synced { OnOk result ((D.state disk.old).is_honest → IsSynced (D.state disk.new)) }
+{
+    disk.sync()
+}
+
+/// Reads a sector of a settled device.
+pub fn read_sector<D: Disk>(disk: &mut D, sector: u32) -> Result<[u8; 512], DiskFault>
+    requires { sector < (D.state disk.old).size }
+    ensures looks { Looks result (D.state disk.old) (D.state disk.new) }
+    ensures length { IfOk result (λ bytes. length bytes ≡ 512) }
+    ensures gives { IfOk result (λ bytes. (D.state disk.old).is_honest → IsSynced (D.state disk.old)
+        → sector_at (D.state disk.old).image sector ≡ bytes) }
+{
+    let mut buffer = [0; 512];
+    disk.read(sector, &mut buffer)?;
+    Ok(buffer)
+}
+
+/// Reads a sector if it is wanted; else zeros stand for it.
+fn read_second<D: Disk>(disk: &mut D, sector: u32, is_wanted: bool) -> Result<[u8; 512], DiskFault>
+    requires { is_wanted ≡ true → sector < (D.state disk.old).size }
+    ensures looks { Looks result (D.state disk.old) (D.state disk.new) }
+    ensures length { IfOk result (λ bytes. length bytes ≡ 512) }
+    ensures gives { IfOk result (λ bytes. is_wanted ≡ true → (D.state disk.old).is_honest → IsSynced (D.state disk.old)
+        → sector_at (D.state disk.old).image sector ≡ bytes) }
+    ensures zeros { IfOk result (λ bytes. is_wanted ≡ false → bytes ≡ zeros) }
+{
+    if !is_wanted {
+        return Ok([0; 512]);
+    }
+    read_sector(disk, sector)
+}
+
+/// The batch behind an open gate, whose header is read: its second body sector, if it has one.
+fn read_rest<D: Disk>(
+    disk: &mut D,
+    gate: u32,
+    end: u32,
+    header: Header,
+    first: &[u8; 512],
+) -> Result<Option<Stored>, DiskFault>
+    requires below { gate < end }
+    requires inside { end ≤ (D.state disk.old).size }
+    requires header { IsHeaderSpelling (take 16 first.now) header }
+    ensures looks { Looks result (D.state disk.old) (D.state disk.new) }
+    ensures fits { IfOk result (λ found. IfSome found (λ stored. FitsBelow gate end stored)) }
+    ensures seen { IfOk result (λ found. (D.state disk.old).is_honest → IsSynced (D.state disk.old)
+        → sector_at (D.state disk.old).image (gate + 1) ≡ first.now → ShowsBody (D.state disk.old).image gate end header.number found) }
+{
+    let count = header.count as usize;
+    let bodies = body_count(count) as u32;
+    if bodies >= end - gate - 1 {
+        return Ok(None);
+    }
+    let second = read_second(disk, gate + 2, bodies == 2)?;
+    match parse(header.version, count, first, &second) {
+        Some(records) => Ok(Some(Stored {
+            version: header.version,
+            records,
+        })),
+        None => Ok(None),
+    }
+}
+
+/// The batch of this number behind an open gate, if one is there whose next gate stands below the end.
+fn read_body<D: Disk>(
+    disk: &mut D,
+    gate: u32,
+    end: u32,
+    number: u32,
+) -> Result<Option<Stored>, DiskFault>
+    requires below { gate < end }
+    requires inside { end ≤ (D.state disk.old).size }
+    requires numbered { 1 ≤ number }
+    ensures looks { Looks result (D.state disk.old) (D.state disk.new) }
+    ensures fits { IfOk result (λ found. IfSome found (λ stored. FitsBelow gate end stored)) }
+    ensures seen { IfOk result (λ found. (D.state disk.old).is_honest → IsSynced (D.state disk.old)
+        → ShowsBody (D.state disk.old).image gate end number found) }
+{
+    if end - gate <= 2 {
+        return Ok(None);
+    }
+    let first = read_sector(disk, gate + 1)?;
+    match header_of(&first, number) {
+        Some(header) => read_rest(disk, gate, end, header, &first),
+        None => Ok(None),
+    }
+}
+
+fn has_mark(sector: &[u8; 512]) -> bool
+    ensures { result ≡ is_marked sector.now }
+{
+    sector[0] == 0xA5
+}
+
+/// Whether the sector is marked, as an open gate and the pick of the second half are.
+pub fn read_mark<D: Disk>(disk: &mut D, sector: u32) -> Result<bool, DiskFault>
+    requires { sector < (D.state disk.old).size }
+    ensures looks { Looks result (D.state disk.old) (D.state disk.new) }
+    ensures gives { IfOk result (λ marked. (D.state disk.old).is_honest → IsSynced (D.state disk.old)
+        → is_marked (sector_at (D.state disk.old).image sector) ≡ marked) }
+{
+    let bytes = read_sector(disk, sector)?;
+    Ok(has_mark(&bytes))
+}
+
+/// What stands at this gate, by at most three reads.
+pub fn look<D: Disk>(disk: &mut D, gate: u32, end: u32, number: u32) -> Result<AtGate, DiskFault>
+    requires below { gate < end }
+    requires inside { end ≤ (D.state disk.old).size }
+    requires numbered { 1 ≤ number }
+    ensures looks { Looks result (D.state disk.old) (D.state disk.new) }
+    ensures fits { IfOk result (λ at. (stored : _) → at ≡ AtGate.Batch stored → FitsBelow gate end stored) }
+    ensures seen { IfOk result (λ at. (D.state disk.old).is_honest → IsSynced (D.state disk.old)
+        → ShowsAt (D.state disk.old).image gate end number at) }
+{
+    if !read_mark(disk, gate)? {
+        return Ok(AtGate::Closed);
+    }
+    match read_body(disk, gate, end, number) {
+        Ok(Some(stored)) => Ok(AtGate::Batch(stored)),
+        Ok(None) => Ok(AtGate::Damaged),
+        Err(fault) => Err(fault),
+    }
+}

@@ -1,0 +1,104 @@
+-- What changes keep.
+use Rattle.std.proofs.Common.{◌≡◌, ℕ, zero, suc, ◌+◌, ◌<◌, ◌≤◌, List, [], ◌∷◌, ◌++◌, length, set, get_or, Option, Some, None, All, refl, sym, ap, subst, ◌∙◌, arith}
+use Rattle.std.proofs.Math.ListN.{length-set}
+use Rattle.std.proofs.lemmas.List.{length-append, length-map}
+use Rattle.std.specs.Prelude.{option_map}
+use Rattle.lift_base.specs.declared.history.Row.{Row}
+use Rattle.std.proofs.lemmas.List.Elements.{All-push}
+use Rattle.std.specs.Prelude.{replicate}
+use Rattle.lift_base.specs.History.{record_of}
+use Rattle.lift_base.specs.Records.{IsRecord}
+use Rattle.lift_base.specs.declared.travel.Dir.{Dir}
+use Rattle.lift_base.specs.declared.travel.Position.{Position}
+use Rattle.lift_base.specs.declared.history.Entry.{Entry}
+use Rattle.lift_building.specs.Plan.{Plan}
+use Rattle.lift_register.specs.Register.{RegisterState, register_of, empty}
+use Rattle.lift_register.specs.WellFormed.{IsWellFormed}
+use Rattle.lift_register.specs.Belongs.{BelongsTo}
+use Rattle.lift_register.specs.Balanced.{IsBalanced}
+use Rattle.lift_register.proofs.Laws.{IsWellFormed-empty, BelongsTo-empty, IsBalanced-empty}
+use Rattle.lift_stops.specs.Schedule.{ScheduleState}
+use Rattle.lift_policy.specs.View.{positions_of, position_of, AreSchedulesOf}
+use Rattle.lift_policy.specs.Step.{State, accepting, standing}
+use Rattle.lift_policy.specs.Laws.{IsStateIn}
+use Rattle.lift_keeper.specs.Decider.{IsBatch, nothing, state_of}
+use Rattle.lift_keeper.proofs.Changes.{set_here, positions_at, positions_kept, with_row}
+
+pub standing_inside : (plan : Plan) (state : State) (car floor : ℕ) (dir : Dir) → floor < plan.floors → IsStateIn plan state → IsStateIn plan (standing state car floor dir)
+standing_inside plan state car floor dir lt is = record {
+  possible = record {
+    register = is.possible.register;
+    belongs = is.possible.belongs;
+    here = set_here plan state.positions car (record { floor = floor; dir = dir }) lt is.possible.here;
+  };
+  balanced = is.balanced;
+  cars = length-set state.positions car (Some (record { floor = floor; dir = dir })) ∙ is.cars;
+}
+
+pub accepting_inside : (plan : Plan) (state : State) (entry : Entry) (register : RegisterState) → register ≡ register_of state.register (entry ∷ [])
+    → IsWellFormed register → BelongsTo plan register → IsBalanced register → IsStateIn plan state → IsStateIn plan (accepting state entry)
+accepting_inside plan state entry register e lawful belongs balanced is = record {
+  possible = record { register = subst IsWellFormed e lawful; belongs = subst (BelongsTo plan) e belongs; here = is.possible.here };
+  balanced = subst IsBalanced e balanced;
+  cars = is.cars;
+}
+
+nobody_here : (n k : ℕ) (q : Position) → position_of (replicate n None) k ≡ Some q → ⊥
+nobody_here zero k q h = cc
+nobody_here (suc n) zero q h = cc
+nobody_here (suc n) (suc k) q h = nobody_here n k q h
+
+pub nothing_inside : (plan : Plan) → IsStateIn plan nothing
+nothing_inside plan = record {
+  possible = record { register = IsWellFormed-empty; belongs = BelongsTo-empty plan; here = λ k q h. absurd (nobody_here 16 k q h) };
+  balanced = IsBalanced-empty;
+  cars = refl;
+}
+
+no_schedules_at : (n k : ℕ) (s : ScheduleState) → get_or (replicate n None) k None ≡ Some s → ⊥
+no_schedules_at zero k s h = cc
+no_schedules_at (suc n) zero s h = cc
+no_schedules_at (suc n) (suc k) s h = no_schedules_at n k s h
+
+pub no_schedules_own : (register : RegisterState) → AreSchedulesOf register (replicate 16 None)
+no_schedules_own register car s h = absurd (no_schedules_at 16 car s h)
+
+pub same_state : (r s : RegisterState) (p q : List (Option Position)) (b d : List Entry) → r ≡ s → p ≡ q → b ≡ d
+    → ◌≡◌ {A = State} (record { register = r; positions = p; batch = b }) (record { register = s; positions = q; batch = d })
+same_state r s p q b d e f g = rw (e, f, g) refl
+
+-- an entry that can be written joins a batch that has room
+pub batch_push : (entries : List Entry) (entry : Entry) → IsBatch entries → length entries < 63 → IsRecord (record_of entry) → IsBatch (entries ++ entry ∷ [])
+batch_push entries entry is room written = record {
+  limit = omega (arith, length-append entries (entry ∷ []));
+  written = All-push (λ (e : Entry). IsRecord (record_of e)) entries entry is.written written;
+}
+
+-- the state after a car stands somewhere, of its parts
+pub stood : (s : State) (r : RegisterState) (schedules : List (Option ScheduleState)) (b : List Entry) (i car : ℕ) (m : Option ScheduleState) (t : ScheduleState) (p : Position)
+    → state_of r schedules b ≡ s → i ≡ car → t.position ≡ p → state_of r (set (set schedules i m) i (Some t)) b ≡ standing s car p.floor p.dir
+stood s r schedules b i car m t p is at here =
+    subst (λ (x : State). state_of r (set (set schedules i m) i (Some t)) b ≡ standing x car p.floor p.dir) is
+    (same_state r r (positions_of (set (set schedules i m) i (Some t))) (set (positions_of schedules) car (Some p)) b b refl (positions_at schedules i car m t p at here) refl)
+
+-- and after an entry that its car's stop is
+pub accepted_stood : (s : State) (r q : RegisterState) (schedules : List (Option ScheduleState)) (b d : List Entry) (entry : Entry) (i car : ℕ) (m : Option ScheduleState) (t : ScheduleState) (p : Position)
+    → state_of r schedules b ≡ s → q ≡ register_of r (entry ∷ []) → d ≡ b ++ entry ∷ [] → i ≡ car → t.position ≡ p
+    → state_of q (set (set schedules i m) i (Some t)) d ≡ standing (accepting s entry) car p.floor p.dir
+accepted_stood s r q schedules b d entry i car m t p is e f at here =
+    subst (λ (x : State). state_of q (set (set schedules i m) i (Some t)) d ≡ standing (accepting x entry) car p.floor p.dir) is
+    (same_state q (register_of r (entry ∷ [])) (positions_of (set (set schedules i m) i (Some t))) (set (positions_of schedules) car (Some p)) d (b ++ entry ∷ []) e (positions_at schedules i car m t p at here) f)
+
+-- and after one that is a new call
+pub accepted_with : (s : State) (r q : RegisterState) (schedules : List (Option ScheduleState)) (b d : List Entry) (entry : Entry) (i : ℕ) (m o taken default : Option ScheduleState) (row : Row)
+    → state_of r schedules b ≡ s → q ≡ register_of r (entry ∷ []) → d ≡ b ++ entry ∷ [] → o ≡ with_row row taken → taken ≡ get_or schedules i default
+    → state_of q (set (set schedules i m) i o) d ≡ accepting s entry
+accepted_with s r q schedules b d entry i m o taken default row is e f with_it was =
+    subst (λ (x : State). state_of q (set (set schedules i m) i o) d ≡ accepting x entry) is
+    (same_state q (register_of r (entry ∷ [])) (positions_of (set (set schedules i m) i o)) (positions_of schedules) d (b ++ entry ∷ []) e (positions_kept schedules i m o taken default row with_it was) f)
+
+-- each car has a place among the schedules
+pub room_at : (s : State) (r : RegisterState) (schedules : List (Option ScheduleState)) (b : List Entry) (i : ℕ) → state_of r schedules b ≡ s → length s.positions ≡ 16 → i < 16 → i < length schedules
+room_at s r schedules b i is cars lt =
+    let count : length (positions_of schedules) ≡ 16 = subst (λ (x : State). length x.positions ≡ 16) (sym is) cars in
+    omega (arith, count, length-map schedules (option_map (λ (x : ScheduleState). x.position)))

@@ -1,0 +1,4 @@
+pub mod Firsts
+pub mod Changes
+pub mod Inside
+pub mod Decided

@@ -1,0 +1,49 @@
+use Rattle.std.proofs.Common.{◌≡◌, ◌∙◌, ◌<◌, ◌∷◌, [], Some, List, length, refl, sym, ap, subst, arith}
+use Rattle.std.specs.List.{flat_map}
+use Rattle.lift_base.specs.History.{row_after}
+use Rattle.lift_base.specs.declared.history.Entry.TheVariants.{Stop}
+use Rattle.lift_base.specs.declared.history.Row.{Row}
+use Rattle.lift_register.specs.Register.{RegisterState, rows_of, register_of}
+use Rattle.lift_stops.specs.Schedule.{ScheduleState, position_after}
+use Rattle.lift_policy.specs.Step.{State, accepting}
+use Rattle.lift_policy.specs.Laws.{IsStateIn}
+use Rattle.lift_keeper.specs.Decider.{IsBatch}
+use Rattle.lift_keeper.proofs.Changes.{own_again, taken_rows, if_some, made_rows, rows_of-stop, rows_of-other_stop}
+use Rattle.lift_keeper.proofs.Inside.{room_at, accepted_stood, accepting_inside, standing_inside, batch_push}
+use Rattle.lift_keeper.proofs.group.Group.serve.Goals as goal
+
+pub served-schedule-requires : goal.served-schedule-requires
+served-schedule-requires c = record {
+  own = if_some (λ (s : ScheduleState). flat_map (row_after c.args.stop) s.rows ≡ rows_of c.join.new.register c.args.car) c.take-schedule.result
+      (λ s h. ap (λ (rows : List Row). flat_map (row_after c.args.stop) rows)
+      (taken_rows c.self.inside.register c.self.inside.schedules c.from-place.result c.args.car c.index-self-place.result c.take-schedule.result
+      (c.from-place.ensures ∙ c.get.ensures.value) (room_at c.args.self.now c.self.inside.register c.self.inside.schedules c.self.inside.batch.items c.from-place.result c.self.view_is c.requires.inside.cars (omega (arith, c.from-place.ensures, c.get.ensures.in_range))) c.take-schedule.ensures.value c.self.invariant.0 s h)
+      ∙ sym (rows_of-stop c.self.inside.register c.args.car c.args.number c.args.stop.floor c.args.stop.dir c.join.ensures.was (omega (arith, c.get.ensures.in_range, c.get.ensures.value)))
+      ∙ ap (λ (r : RegisterState). rows_of r c.args.car) (sym c.join.ensures.value));
+}
+
+pub invariant_of-self : goal.invariant_of-self
+invariant_of-self c = (
+  own_again c.self.inside.register c.join.new.register c.self.inside.schedules c.from-place.result c.args.car _ (Some c.served-schedule.result)
+      (c.from-place.ensures ∙ c.get.ensures.value) (room_at c.args.self.now c.self.inside.register c.self.inside.schedules c.self.inside.batch.items c.from-place.result c.self.view_is c.requires.inside.cars (omega (arith, c.from-place.ensures, c.get.ensures.in_range)))
+      (λ k other. ap (λ (r : RegisterState). rows_of r k) c.join.ensures.value
+      ∙ rows_of-other_stop c.self.inside.register c.args.car c.args.number c.args.stop.floor c.args.stop.dir c.join.ensures.was (omega (arith, c.get.ensures.in_range, c.get.ensures.value)) k other)
+      (λ s h. made_rows c.served-schedule.result s (position_after c.args.stop) (rows_of c.join.new.register c.args.car) c.served-schedule.ensures h) c.self.invariant.0,
+  subst IsBatch (sym c.join.ensures.batch)
+      (batch_push c.self.inside.batch.items (Stop c.args.car c.args.number c.args.stop.floor c.args.stop.dir) c.self.invariant.1
+      (subst (λ (s : State). length s.batch < 63) (sym c.self.view_is) c.requires.room) c.join.ensures.written),
+)
+
+pub returns-clause-state : goal.returns-clause-state
+returns-clause-state c =
+    accepted_stood c.args.self.now c.self.inside.register c.join.new.register c.self.inside.schedules c.self.inside.batch.items c.join.new.batch.items
+    (Stop c.args.car c.args.number c.args.stop.floor c.args.stop.dir) c.from-place.result c.args.car _ c.served-schedule.result (position_after c.args.stop)
+    c.self.view_is c.join.ensures.value c.join.ensures.batch (c.from-place.ensures ∙ c.get.ensures.value) (ap (λ (s : ScheduleState). s.position) c.served-schedule.ensures)
+
+pub returns-clause-inside : goal.returns-clause-inside
+returns-clause-inside c lt =
+    let entry = Stop c.args.car c.args.number c.args.stop.floor c.args.stop.dir in
+    subst (IsStateIn c.args.building.now) (sym (returns-clause-state c))
+    (standing_inside c.args.building.now (accepting c.args.self.now entry) c.args.car c.args.stop.floor c.args.stop.dir lt
+    (accepting_inside c.args.building.now c.args.self.now entry c.join.new.register (c.join.ensures.value ∙ ap (λ (s : State). register_of s.register (entry ∷ [])) c.self.view_is)
+    c.join.ensures.lawful c.join.ensures.belongs c.join.ensures.balanced c.requires.inside))

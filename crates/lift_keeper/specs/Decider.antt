@@ -1,0 +1,37 @@
+-- What a decider holds: the building that it decides for, and what decisions read and change.
+use Rattle.std.specs.Prelude.{◌≤◌, All, List, [], length, replicate, Option, Some, None}
+use Rattle.lift_base.specs.History.{record_of}
+use Rattle.lift_base.specs.Records.{IsRecord}
+use Rattle.lift_base.specs.declared.history.Entry.{Entry}
+use Rattle.lift_building.specs.Plan.{Plan, IsBuilding}
+use Rattle.lift_register.specs.Register.{RegisterState, empty}
+use Rattle.lift_stops.specs.Schedule.{ScheduleState}
+use Rattle.lift_policy.specs.Step.{State}
+use Rattle.lift_policy.specs.View.{ViewState, positions_of}
+use Rattle.lift_policy.specs.Laws.{IsStateIn}
+
+pub record DeciderState : Type 0 where
+  pub plan : Plan
+  pub state : State
+
+-- what decisions read and change, of a register, the cars' schedules and the batch so far
+abbrev pub state_of : RegisterState → List (Option ScheduleState) → List Entry → State
+state_of register schedules batch = record { register = register; positions = positions_of schedules; batch = batch }
+
+-- what decisions read of what a policy sees
+abbrev pub state_seen : ViewState → State
+state_seen view = record { register = view.register; positions = view.positions; batch = [] }
+
+-- no calls, and no car has told where it is
+abbrev pub nothing : State
+nothing = record { register = empty; positions = replicate 16 None; batch = [] }
+
+-- entries that the journal may hold, as many as one batch may have
+pub record IsBatch (entries : List Entry) : Type 0 where
+  pub limit : length entries ≤ 63
+  pub written : All (λ (e : Entry). IsRecord (record_of e)) entries
+
+-- what is true of each decider: what decisions read is possible in the building, and no call was lost
+pub record IsPossible (plan : Plan) (state : State) : Type 0 where
+  pub building : IsBuilding plan
+  pub inside : IsStateIn plan state

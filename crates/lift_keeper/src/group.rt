@@ -1,0 +1,202 @@
+//! The calls and the cars of a lift group, as decisions change them.
+
+ghost use Rattle.std.specs.Prelude.{ℕ, ◌≡◌, ◌<◌, ◌∷◌, ◌++◌, [], length, Some};
+ghost use Rattle.lift_base.specs.History.{record_of};
+ghost use Rattle.lift_base.specs.Records.{IsRecord};
+ghost use Rattle.lift_base.specs.declared.history.Entry.{Entry as EntryValue};
+ghost use Rattle.lift_base.specs.declared.history.Content.{Content as ContentValue};
+ghost use Rattle.lift_register.specs.Register.{register_of, last_of, waiting_row};
+ghost use Rattle.lift_register.specs.Balanced.{IsBalanced};
+ghost use Rattle.lift_register.specs.Belongs.{BelongsTo};
+ghost use Rattle.lift_register.specs.WellFormed.{IsWellFormed};
+ghost use Rattle.lift_register.specs.Fits.{Fits};
+ghost use Rattle.lift_policy.specs.Step.{view_of, accepting, standing, next_from};
+ghost use Rattle.lift_policy.specs.Laws.{IsStateIn};
+ghost use Rattle.lift_keeper.specs.Decider.{IsBatch, nothing};
+
+use crate::schedules::{inserted, moved, served};
+use arrayvec::ArrayVec;
+use lift_base::{Content, Entry, Letter, Number, Position, Row, Shape, Stop, Terminal};
+use lift_building::Building;
+use lift_cost::NewCall;
+use lift_policy::{Command, View};
+use lift_register::Register;
+use lift_stops::Schedule;
+use std::marker::Model;
+
+/// An entry joins the register and the batch.
+fn join(
+    building: &Building,
+    register: &mut Register,
+    batch: &mut ArrayVec<Entry, 63>,
+    entry: &Entry,
+)
+    requires fits { Fits building.now register.old entry.now }
+    requires balanced { IsBalanced register.old }
+    requires belongs { BelongsTo building.now register.old }
+    requires room { length batch.old.items < 63 }
+    ensures value { register.new ≡ register_of register.old (entry.now ∷ []) }
+    ensures was { IsWellFormed register.old }
+    ensures lawful { IsWellFormed register.new }
+    ensures balanced { IsBalanced register.new }
+    ensures belongs { BelongsTo building.now register.new }
+    ensures batch { batch.new.items ≡ batch.old.items ++ entry.now ∷ [] }
+    ensures written { IsRecord (record_of entry.now) }
+{
+    prove!(register.fits(building, entry));
+    register.apply(building, entry);
+    batch.push(*entry);
+}
+
+/// What decisions read and change: the calls, for each car that has told where it is its open calls in the order in
+/// which it serves them, and the entries that were accepted and not given out.
+#[derive(Drop)]
+pub struct Group {
+    pub register: Register,
+    pub schedules: [Option<Schedule>; 16],
+    pub batch: ArrayVec<Entry, 63>,
+}
+
+impl Model for Group {
+    ghost use Rattle.lift_policy.specs.Step.{State};
+    ghost use Rattle.lift_policy.specs.View.{AreSchedulesOf};
+    ghost use Rattle.lift_keeper.specs.Decider.{state_of, IsBatch};
+
+    ghost Value = { State };
+
+    ghost view = { λ g. state_of g.register g.schedules g.batch.items };
+
+    ghost invariant = { λ g. AreSchedulesOf g.register g.schedules × IsBatch g.batch.items };
+}
+
+impl Group {
+    /// No calls, and no car has told where it is.
+    pub fn new(shape: Shape) -> Self
+        ensures { result ≡ nothing }
+    {
+        Group {
+            register: Register::empty(shape),
+            schedules: Default::default(),
+            batch: ArrayVec::new(),
+        }
+    }
+
+    /// What a policy sees.
+    pub fn view(&self) -> View
+        ensures { result ≡ view_of self.now }
+    {
+        View::new(&self.register, &self.schedules)
+    }
+
+    /// The car that a kiosk's last call was allotted to.
+    pub fn kept_car(&self, kiosk: Terminal) -> Option<Letter>
+        ensures { (number from to car party : ℕ) → last_of self.now.register kiosk ≡ Some (record { number = number; content = ContentValue.Letter from to car party })
+            → result ≡ Some car }
+    {
+        kept_car(&self.register, kiosk)
+    }
+
+    /// Gives the batch out.
+    pub fn seal(&mut self) -> ArrayVec<Entry, 63>
+        ensures batch { result.items ≡ self.old.batch }
+        ensures lawful { IsBatch result.items }
+        ensures kept { self.new ≡ record self.old { batch = [] } }
+    {
+        self.batch.take()
+    }
+
+    /// A new call goes to this car.
+    pub fn allot(&mut self, building: &Building, command: &Command, call: &NewCall, car: Letter)
+        requires fits { Fits building.now self.old.register (EntryValue.Allot command.now.terminal command.now.number call.now.from call.now.to car call.now.party) }
+        requires inside { IsStateIn building.now self.old }
+        requires room { length self.old.batch < 63 }
+        ensures state { self.new ≡ accepting self.old (EntryValue.Allot command.now.terminal command.now.number call.now.from call.now.to car call.now.party) }
+        ensures inside { IsStateIn building.now self.new }
+    {
+        let entry = Entry::Allot {
+            kiosk: command.terminal,
+            number: command.number,
+            from: call.from,
+            to: call.to,
+            car,
+            party: call.party,
+        };
+        prove!(command.terminal.get() < 63 && car.get() < 16);
+        join(building, &mut self.register, &mut self.batch, &entry);
+        let place = usize::from(car.get());
+        let schedule = self.schedules[place].take();
+        self.schedules[place] = inserted(schedule, &row_of(command, call, car));
+    }
+
+    /// A car stands at a position.
+    pub fn stand(&mut self, car: Letter, position: Position) -> Option<Stop>
+        requires cars { length self.old.positions ≡ 16 }
+        ensures state { self.new ≡ standing self.old car position.floor position.dir }
+        ensures next { result ≡ next_from self.new car position.floor position.dir }
+    {
+        let place = usize::from(car.get());
+        let schedule = self.schedules[place].take();
+        let schedule = moved(&self.register, car, schedule, &position);
+        let next = schedule.next_stop();
+        self.schedules[place] = Some(schedule);
+        next
+    }
+
+    /// A car made a stop of a new number.
+    pub fn serve(
+        &mut self,
+        building: &Building,
+        number: Number,
+        car: Letter,
+        stop: Stop,
+    ) -> Option<Stop>
+        requires fits { Fits building.now self.old.register (EntryValue.Stop car number stop.floor stop.dir) }
+        requires inside { IsStateIn building.now self.old }
+        requires room { length self.old.batch < 63 }
+        ensures state { self.new ≡ standing (accepting self.old (EntryValue.Stop car number stop.floor stop.dir)) car stop.floor stop.dir }
+        ensures next { result ≡ next_from self.new car stop.floor stop.dir }
+        ensures inside { stop.floor < building.now.floors → IsStateIn building.now self.new }
+    {
+        let stop = &stop;
+        let entry = Entry::Stop {
+            car,
+            number,
+            floor: stop.floor,
+            dir: stop.dir,
+        };
+        join(building, &mut self.register, &mut self.batch, &entry);
+        let place = usize::from(car.get());
+        let schedule = self.schedules[place].take();
+        let schedule = served(&self.register, car, schedule, stop);
+        let next = schedule.next_stop();
+        self.schedules[place] = Some(schedule);
+        next
+    }
+}
+
+/// The open call that a new call is once it is allotted.
+fn row_of(command: &Command, call: &NewCall, car: Letter) -> Row
+    ensures { result ≡ waiting_row command.now.terminal command.now.number call.now.from call.now.to car call.now.party }
+{
+    Row {
+        kiosk: command.terminal,
+        number: command.number,
+        from: call.from,
+        to: call.to,
+        car,
+        party: call.party,
+        aboard: false,
+    }
+}
+
+/// The car that a kiosk's last call was allotted to.
+fn kept_car(register: &Register, kiosk: Terminal) -> Option<Letter>
+    ensures { (number from to car party : ℕ) → last_of register.now kiosk ≡ Some (record { number = number; content = ContentValue.Letter from to car party })
+        → result ≡ Some car }
+{
+    let last = register.last(kiosk)?;
+    match &last.content {
+        Content::Letter { car, .. } => Some(*car),
+        Content::Stopped { .. } => None,
+    }
+}

@@ -1,0 +1,69 @@
+-- The eligible cars as a list that grows letter by letter.
+use Rattle.std.proofs.Common.{◌≡◌, ℕ, zero, suc, ◌+◌, ◌<◌, ◌≤◌, Bool, true, false, cond, List, [], ◌∷◌, ◌++◌, length, filter, refl, sym, ap, ◌∙◌, arith}
+use Rattle.std.specs.List.{range_with_len}
+use Rattle.std.specs.Prelude.{Option}
+use Rattle.std.specs.Option.{option_to_list}
+use Rattle.std.proofs.lemmas.List.Elements.{filter-append}
+use Rattle.lift_building.specs.Plan.{Plan}
+use Rattle.lift_register.specs.Register.{cars}
+use Rattle.lift_cost.specs.declared.call.NewCall.{NewCall}
+use Rattle.lift_policy.specs.View.{ViewState}
+use Rattle.lift_policy.specs.Eligible.{is_eligible, eligible_cars, Rise, AreLetters}
+
+range_suc : (a n : ℕ) → range_with_len a (suc n) ≡ range_with_len a n ++ (a + n) ∷ []
+range_suc a zero = let e : a ≡ a + 0 = omega arith in ap (λ (x : ℕ). x ∷ []) e
+range_suc a (suc n) =
+    let e : a + 1 + n ≡ a + suc n = omega arith in
+    ap (λ (xs : List ℕ). a ∷ xs) (range_suc (a + 1) n ∙ ap (λ (x : ℕ). range_with_len (a + 1) n ++ x ∷ []) e)
+
+-- those that pass among one number more
+pub filter-range_more : (p : ℕ → Bool) (n : ℕ) → filter p (range_with_len 0 (n + 1)) ≡ filter p (range_with_len 0 n) ++ cond (p n) (n ∷ []) []
+filter-range_more p n =
+    let e : n + 1 ≡ suc n = omega arith in
+    let z : 0 + n ≡ n = omega arith in
+    ap (λ (m : ℕ). filter p (range_with_len 0 m)) e ∙ ap (filter p) (range_suc 0 n) ∙ filter-append p (range_with_len 0 n) ((0 + n) ∷ [])
+    ∙ ap (λ (m : ℕ). filter p (range_with_len 0 n) ++ cond (p m) (m ∷ []) []) z
+
+length-filter_le : (p : ℕ → Bool) (a n : ℕ) → length (filter p (range_with_len a n)) ≤ n
+length-filter_le p a zero = omega arith
+length-filter_le p a (suc n) = at (p a) (length-filter_le p (a + 1) n)
+  where
+    at : (b : Bool) → length (filter p (range_with_len (a + 1) n)) ≤ n → length (cond b (a ∷ filter p (range_with_len (a + 1) n)) (filter p (range_with_len (a + 1) n))) ≤ suc n
+    at true h = omega (arith, h)
+    at false h = omega (arith, h)
+
+pub few_so_far : (p : ℕ → Bool) (letters : List ℕ) (n : ℕ) → letters ≡ filter p (range_with_len 0 n) → n < 16 → length letters < 16
+few_so_far p letters n e h = let a = length-filter_le p 0 n in let b = ap (λ (xs : List ℕ). length xs) e in omega arith
+
+-- one more number, which passes or not
+pub letters_more : (p : ℕ → Bool) (letters more : List ℕ) (n : ℕ) (found : Option ℕ) → letters ≡ filter p (range_with_len 0 n)
+    → option_to_list found ≡ cond (p n) (n ∷ []) [] → more ≡ letters ++ option_to_list found → more ≡ filter p (range_with_len 0 (n + 1))
+letters_more p letters more n found so_far is new =
+    new ∙ ap (λ (xs : List ℕ). xs ++ option_to_list found) so_far ∙ ap (λ (xs : List ℕ). filter p (range_with_len 0 n) ++ xs) is ∙ sym (filter-range_more p n)
+
+Rise-weaker : (low : ℕ) (xs : List ℕ) → Rise (low + 1) xs → Rise low xs
+Rise-weaker low [] h = tt
+Rise-weaker low (x ∷ xs) h = (omega arith, h.1)
+
+Rise-filter : (p : ℕ → Bool) (a n : ℕ) → Rise a (filter p (range_with_len a n))
+Rise-filter p a zero = tt
+Rise-filter p a (suc n) = at (p a) (Rise-filter p (a + 1) n)
+  where
+    at : (b : Bool) → Rise (a + 1) (filter p (range_with_len (a + 1) n)) → Rise a (cond b (a ∷ filter p (range_with_len (a + 1) n)) (filter p (range_with_len (a + 1) n)))
+    at true h = (omega arith, h)
+    at false h = Rise-weaker a _ h
+
+pub eligible_cars-is : (plan : Plan) (view : ViewState) (call : NewCall) → eligible_cars plan view call ≡ filter (is_eligible plan view call) (range_with_len 0 16)
+unfolding eligible_cars cars
+eligible_cars-is plan view call = refl
+
+pub eligible_cars-rise : (plan : Plan) (view : ViewState) (call : NewCall) → Rise 0 (eligible_cars plan view call)
+unfolding eligible_cars cars
+eligible_cars-rise plan view call = Rise-filter (is_eligible plan view call) 0 16
+
+some_of : (letters : List ℕ) → (letters ≡ [] → ⊥) → 0 < length letters
+some_of [] h = absurd (h refl)
+some_of (x ∷ letters) h = omega arith
+
+pub letters_of : (plan : Plan) (view : ViewState) (call : NewCall) (letters : List ℕ) → letters ≡ eligible_cars plan view call → (letters ≡ [] → ⊥) → AreLetters letters
+letters_of plan view call letters e h = record { some = some_of letters h; rising = rw e (eligible_cars-rise plan view call) }

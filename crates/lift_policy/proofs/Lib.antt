@@ -1,0 +1,11 @@
+pub mod Runs
+pub mod Views
+pub mod Moments
+pub mod Letters
+pub mod Least
+pub mod Steps
+pub mod Joins
+pub mod States
+pub mod Refusals
+pub mod Picks
+pub mod Decisions

@@ -1,0 +1,9 @@
+pub mod Terminals
+pub mod View
+pub mod Eligible
+pub mod Least
+pub mod Choices
+pub mod Step
+pub mod Run
+pub mod Decision
+pub mod Laws

@@ -1,0 +1,10 @@
+use lift_base::{Body, Number, Terminal};
+
+/// What a terminal asks.
+#[derive(Clone, Copy, PartialEq, Eq)]
+pub struct Command {
+    pub terminal: Terminal,
+    /// 0 for a position, else the number at the terminal, from 1.
+    pub number: Number,
+    pub body: Body,
+}

@@ -1,0 +1,103 @@
+ghost use Rattle.std.specs.Prelude.{◌≡◌, ◌↔◌, ◌<◌, ◌≤◌, [], ◌∷◌, if◌then◌else◌, length, IfSome, IsNone};
+ghost use Rattle.std.specs.Option.{option_to_list};
+ghost use Rattle.lift_register.specs.Fits.{persons_of};
+ghost use Rattle.lift_policy.specs.Eligible.{can_take, is_eligible, eligible_cars, AreLetters};
+
+use crate::view::View;
+use arrayvec::ArrayVec;
+use lift_base::{Letter, Row};
+use lift_building::Building;
+use lift_cost::NewCall;
+use lift_register::Register;
+use std::marker::Model;
+
+/// How many persons these calls are for.
+pub(crate) fn persons(rows: &[Row]) -> u32
+    requires { length rows.now ≤ 32 }
+    ensures count { result ≡ persons_of rows.now }
+    ensures limit { result ≤ 480 }
+{
+    let mut count = 0;
+    for row in rows {
+        count += u32::from(row.party.get());
+    }
+    count
+}
+
+/// Whether the car serves both floors, and has places for the party beside the persons of its open calls.
+pub fn can_take(building: &Building, register: &Register, call: NewCall, car: Letter) -> bool
+    ensures { result ≡ can_take building.now register.now call car }
+{
+    building.serves(car, call.from)
+        && building.serves(car, call.to)
+        && persons(register.open_rows(car)) + u32::from(call.party.get())
+            <= u32::from(building.places(car))
+}
+
+/// The cars that may take a call: one at least, by rising letter.
+#[derive(Drop)]
+pub struct Eligible {
+    letters: ArrayVec<Letter, 16>,
+}
+
+impl Model for Eligible {
+    ghost use Rattle.std.specs.Prelude.{ℕ, List};
+    ghost use Rattle.lift_policy.specs.Eligible.{AreLetters};
+
+    ghost Value = { List ℕ };
+
+    ghost view = { λ e. e.letters.items };
+
+    ghost invariant = { λ e. AreLetters e.letters.items };
+}
+
+impl Eligible {
+    /// The cars that may take a call now; none where there is no such car.
+    pub fn among(building: &Building, view: &View, call: NewCall) -> Option<Self>
+        ensures some { IfSome result (λ eligible. eligible ≡ eligible_cars building.now view.now call) }
+        ensures none { IsNone result ↔ (eligible_cars building.now view.now call ≡ []) }
+    {
+        let letters = letters_among(building, view, &call);
+        if letters.is_empty() {
+            None
+        } else {
+            Some(Eligible { letters })
+        }
+    }
+
+    /// The letters, each above those before it.
+    pub fn letters(&self) -> &[Letter]
+        ensures value { result.now ≡ self.now }
+        ensures lawful { AreLetters self.now }
+        ensures limit { length result.now ≤ 16 }
+    {
+        self.letters.as_slice()
+    }
+}
+
+/// The car with this index, where it may take a call.
+fn eligible_at(building: &Building, view: &View, call: &NewCall, index: u8) -> Option<Letter>
+    requires { index < 16 }
+    ensures { option_to_list result ≡ (if is_eligible building.now view.now call.now index then index ∷ [] else []) }
+{
+    let car = Letter::new(index)?;
+    if view.is_eligible(building, *call, car) {
+        Some(car)
+    } else {
+        None
+    }
+}
+
+/// The cars that may take a call, by rising letter.
+fn letters_among(building: &Building, view: &View, call: &NewCall) -> ArrayVec<Letter, 16>
+    ensures { result.items ≡ eligible_cars building.now view.now call.now }
+{
+    let mut letters = ArrayVec::new();
+    for index in 0..16 {
+        match eligible_at(building, view, call, index) {
+            Some(car) => letters.push(car),
+            None => {}
+        }
+    }
+    letters
+}

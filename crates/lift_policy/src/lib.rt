@@ -1,0 +1,21 @@
+//! Which car takes a call, and what each command is answered.
+#![tactic(auto)]
+
+mod command;
+mod eligible;
+mod laws;
+mod policies;
+mod policy;
+mod schedules;
+mod shipped;
+mod view;
+mod waits;
+
+pub use command::Command;
+pub use eligible::{Eligible, can_take};
+pub use laws::{decisions_are_computed, decisions_keep};
+pub use policies::{Etd, FewestOpen, ShortestWait};
+pub use policy::Policy;
+pub use schedules::{schedule_of, schedules_at};
+pub use shipped::Shipped;
+pub use view::View;

@@ -1,0 +1,152 @@
+ghost use Rattle.std.specs.Prelude.{ℕ, ◌≡◌, ◌<◌, length};
+ghost use Rattle.lift_building.specs.Plan.{Plan};
+ghost use Rattle.lift_cost.specs.declared.call.NewCall.{NewCall as Call};
+ghost use Rattle.lift_policy.specs.View.{ViewState, IsViewIn};
+ghost use Rattle.lift_policy.specs.Choices.{IsFirstLeast, total_cost_at, wait_at, open_at, IsEtdChoice, IsFewestOpen, IsShortestWait};
+ghost use Rattle.lift_policy.specs.Least.{IsFirstLeastAt};
+
+use crate::eligible::{Eligible, persons};
+use crate::policy::Policy;
+use crate::view::View;
+use crate::waits::wait_of;
+use arrayvec::ArrayVec;
+use lift_base::Letter;
+use lift_building::Building;
+use lift_cost::{NewCall, cost_of};
+
+/// Picks the car at which the call adds least to the times of all persons, its own party with them.
+#[derive(Clone, Copy)]
+pub struct Etd;
+
+/// Picks the car whose open calls are for the fewest persons.
+#[derive(Clone, Copy)]
+pub struct FewestOpen;
+
+/// Picks the car that is first where the passengers wait.
+#[derive(Clone, Copy)]
+pub struct ShortestWait;
+
+/// What a policy measures of each eligible car, to pick the least.
+trait Measure {
+    ghost measures: { Self → Plan → ViewState → Call → ℕ → ℕ };
+
+    fn measure(&self, building: &Building, view: &View, call: &NewCall, car: Letter) -> u64
+        requires possible { IsViewIn building.now view.now }
+        requires from { call.now.from < building.now.floors }
+        requires to { call.now.to < building.now.floors }
+        ensures { result ≡ measures self.now building.now view.now call.now car };
+}
+
+/// The place of the first least number.
+fn first_least(numbers: &[u64]) -> usize
+    requires { 0 < length numbers.now }
+    ensures { IsFirstLeastAt numbers.now (length numbers.now) result }
+{
+    let mut best = 0;
+    for i in 1..numbers.len() {
+        if numbers[i] < numbers[best] {
+            best = i;
+        }
+    }
+    best
+}
+
+/// The car that measures least; of several such, the one with the lowest letter.
+fn pick<M: Measure>(
+    policy: &M,
+    building: &Building,
+    view: &View,
+    call: &NewCall,
+    eligible: &Eligible,
+) -> Letter
+    requires possible { IsViewIn building.now view.now }
+    requires from { call.now.from < building.now.floors }
+    requires to { call.now.to < building.now.floors }
+    ensures { IsFirstLeast (M.measures policy.now building.now view.now call.now) eligible.now result }
+{
+    let letters = eligible.letters();
+    let mut measures = ArrayVec::<u64, 16>::new();
+    for car in letters {
+        measures.push(policy.measure(building, view, call, *car));
+    }
+    letters[first_least(&measures)]
+}
+
+impl Measure for Etd {
+    ghost measures = { λ _. total_cost_at };
+
+    fn measure(&self, building: &Building, view: &View, call: &NewCall, car: Letter) -> u64 {
+        let _lawful = building.floors();
+        match view.schedule(car) {
+            Some(schedule) => cost_of(building, schedule, *call),
+            None => 0,
+        }
+    }
+}
+
+impl Measure for FewestOpen {
+    ghost measures = { λ _ _ view _. open_at view };
+
+    fn measure(&self, _building: &Building, view: &View, _call: &NewCall, car: Letter) -> u64 {
+        u64::from(persons(view.open_rows(car)))
+    }
+}
+
+impl Measure for ShortestWait {
+    ghost measures = { λ _. wait_at };
+
+    fn measure(&self, building: &Building, view: &View, call: &NewCall, car: Letter) -> u64 {
+        match view.schedule(car) {
+            Some(schedule) => wait_of(building, schedule, call),
+            None => 0,
+        }
+    }
+}
+
+impl Policy for Etd {
+    ghost chooses = { λ _. IsEtdChoice };
+
+    fn choose(
+        &self,
+        building: &Building,
+        view: &View,
+        call: NewCall,
+        eligible: Eligible,
+    ) -> Letter {
+        pick(self, building, view, &call, &eligible)
+    }
+
+    ghost only_members = { λ policy plan view call eligible car h. h.member };
+}
+
+impl Policy for FewestOpen {
+    ghost chooses = { λ _. IsFewestOpen };
+
+    fn choose(
+        &self,
+        building: &Building,
+        view: &View,
+        call: NewCall,
+        eligible: Eligible,
+    ) -> Letter {
+        pick(self, building, view, &call, &eligible)
+    }
+
+    ghost only_members = { λ policy plan view call eligible car h. h.member };
+}
+
+impl Policy for ShortestWait {
+    ghost chooses = { λ _. IsShortestWait };
+
+    fn choose(
+        &self,
+        building: &Building,
+        view: &View,
+        call: NewCall,
+        eligible: Eligible,
+    ) -> Letter {
+        pick(self, building, view, &call, &eligible)
+    }
+
+    ghost only_members = { λ policy plan view call eligible car h. h.member };
+}

@@ -1,0 +1,41 @@
+ghost use Rattle.std.specs.Prelude.{ℕ, List, Contains};
+ghost use Rattle.lift_building.specs.Plan.{Plan};
+ghost use Rattle.lift_cost.specs.declared.call.NewCall.{NewCall as Call};
+ghost use Rattle.lift_policy.specs.View.{ViewState};
+ghost use Rattle.lift_policy.specs.Choices.{IsShipped, IsShipped-member};
+
+use crate::eligible::Eligible;
+use crate::policies::{Etd, FewestOpen, ShortestWait};
+use crate::policy::Policy;
+use crate::view::View;
+use lift_base::Letter;
+use lift_building::Building;
+use lift_cost::NewCall;
+
+/// One of the three policies.
+#[derive(Clone, Copy)]
+pub enum Shipped {
+    Etd(Etd),
+    FewestOpen(FewestOpen),
+    ShortestWait(ShortestWait),
+}
+
+impl Policy for Shipped {
+    ghost chooses = { IsShipped };
+
+    fn choose(
+        &self,
+        building: &Building,
+        view: &View,
+        call: NewCall,
+        eligible: Eligible,
+    ) -> Letter {
+        match self {
+            Shipped::Etd(policy) => policy.choose(building, view, call, eligible),
+            Shipped::FewestOpen(policy) => policy.choose(building, view, call, eligible),
+            Shipped::ShortestWait(policy) => policy.choose(building, view, call, eligible),
+        }
+    }
+
+    ghost only_members = { IsShipped-member };
+}

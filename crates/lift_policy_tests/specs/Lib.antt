@@ -1,0 +1,2 @@
+pub mod Highest
+pub mod Group

@@ -1,0 +1,166 @@
+use crate::parts::{allot, last_call, last_stop, row, stop};
+use lift_base::{Dir, Record};
+use lift_record::{Version, decode, encode, is_lawful};
+
+/// Each record of the second version is spelled so, and is read back.
+#[test]
+fn second_version_is_written_and_read(rt: HostRuntime) {
+    for (content, bytes) in [
+        (
+            allot(16, 1, [0, 5], 0, 2),
+            [1, 16, 0, 5, 0, 2, 0, 0, 0, 0, 0, 1, 0, 0, 0, 0],
+        ),
+        (
+            allot(62, 0xFF_FFFF, [63, 0], 15, 15),
+            [1, 62, 63, 0, 15, 15, 0, 0, 0, 0xFF, 0xFF, 0xFF, 0, 0, 0, 0],
+        ),
+        (
+            stop(0, 1, 0, Dir::Down),
+            [2, 0, 0, 1, 0, 0, 0, 0, 0, 0, 0, 1, 0, 0, 0, 0],
+        ),
+        (
+            stop(15, 0x01_0203, 63, Dir::Up),
+            [2, 15, 63, 0, 0, 0, 0, 0, 0, 1, 2, 3, 0, 0, 0, 0],
+        ),
+        (
+            row(16, 1, [0, 5], 0, 1, true),
+            [4, 16, 0, 5, 0, 1, 1, 0, 0, 0, 0, 1, 0, 0, 0, 0],
+        ),
+        (
+            row(17, 2, [5, 2], 1, 3, false),
+            [4, 17, 5, 2, 1, 3, 0, 0, 0, 0, 0, 2, 0, 0, 0, 0],
+        ),
+        (
+            last_stop(0, 31, 0, Dir::Up),
+            [5, 0, 0, 0, 0, 0, 0, 0, 0, 0, 0, 31, 0, 0, 0, 0],
+        ),
+        (
+            last_stop(1, 1, 9, Dir::Down),
+            [5, 1, 9, 1, 0, 0, 0, 0, 0, 0, 0, 1, 0, 0, 0, 0],
+        ),
+        (
+            last_call(16, 1, [0, 5], 0, 1),
+            [5, 16, 0, 5, 0, 1, 0, 0, 0, 0, 0, 1, 0, 0, 0, 0],
+        ),
+        (
+            Record::Done { count: 0 },
+            [6, 0, 0, 0, 0, 0, 0, 0, 0, 0, 0, 0, 0, 0, 0, 0],
+        ),
+        (
+            Record::Done { count: 788_529_105 },
+            [6, 0, 0, 0, 0, 0, 0, 0, 0x2E, 0xFF, 0xFF, 0xD1, 0, 0, 0, 0],
+        ),
+    ] {
+        assert!(rt; is_lawful(&content));
+        assert!(rt; encode(&content) == bytes);
+        assert!(rt; decode(Version::Two, &bytes) == Some(content));
+    }
+}
+
+/// Records of the first version are read; each of their calls is for one person.
+#[test]
+fn first_version_is_read(rt: HostRuntime) {
+    for (content, bytes) in [
+        (
+            allot(16, 1, [0, 5], 0, 1),
+            [1, 16, 0, 5, 0, 0, 0, 0, 0, 0, 0, 1, 0, 0, 0, 0],
+        ),
+        (
+            allot(17, 1, [5, 2], 1, 1),
+            [1, 17, 5, 2, 1, 0, 0, 0, 0, 0, 0, 1, 0, 0, 0, 0],
+        ),
+        (
+            stop(0, 1, 0, Dir::Up),
+            [2, 0, 0, 0, 0, 0, 0, 0, 0, 0, 0, 1, 0, 0, 0, 0],
+        ),
+        (
+            stop(0, 1, 0, Dir::Down),
+            [2, 0, 0, 1, 0, 0, 0, 0, 0, 0, 0, 1, 0, 0, 0, 0],
+        ),
+        (
+            row(16, 1, [0, 5], 0, 1, true),
+            [4, 16, 0, 5, 0, 0, 1, 0, 0, 0, 0, 1, 0, 0, 0, 0],
+        ),
+        (
+            last_stop(0, 1, 0, Dir::Up),
+            [5, 0, 0, 0, 0, 0, 0, 0, 0, 0, 0, 1, 0, 0, 0, 0],
+        ),
+        (
+            last_call(16, 1, [0, 5], 0, 1),
+            [5, 16, 0, 5, 0, 0, 0, 0, 0, 0, 0, 1, 0, 0, 0, 0],
+        ),
+        (
+            Record::Done { count: 0 },
+            [6, 0, 0, 0, 0, 0, 0, 0, 0, 0, 0, 0, 0, 0, 0, 0],
+        ),
+    ] {
+        assert!(rt; decode(Version::One, &bytes) == Some(content));
+    }
+    let party = [1, 16, 0, 5, 0, 1, 0, 0, 0, 0, 0, 1, 0, 0, 0, 0];
+    assert!(rt; decode(Version::One, &party).is_none());
+}
+
+/// Bytes that differ from a good spelling at one place and are no spelling.
+#[test]
+fn other_bytes_are_refused(rt: HostRuntime) {
+    let calls = [1u8, 16, 0, 5, 0, 2, 0, 0, 0, 0, 0, 1, 0, 0, 0, 0];
+    let stops = [2u8, 0, 7, 1, 0, 0, 0, 0, 0, 0, 0, 1, 0, 0, 0, 0];
+    let rows = [4u8, 16, 0, 5, 0, 2, 1, 0, 0, 0, 0, 1, 0, 0, 0, 0];
+    let done = [6u8, 0, 0, 0, 0, 0, 0, 0, 0x2E, 0xFF, 0xFF, 0xD1, 0, 0, 0, 0];
+    for (good, at, byte) in [
+        (calls, 0, 0),
+        (calls, 0, 3),
+        (calls, 0, 7),
+        (calls, 1, 0),
+        (calls, 1, 15),
+        (calls, 1, 63),
+        (calls, 2, 64),
+        (calls, 2, 5),
+        (calls, 3, 0),
+        (calls, 3, 64),
+        (calls, 4, 16),
+        (calls, 5, 0),
+        (calls, 5, 16),
+        (calls, 6, 1),
+        (calls, 7, 1),
+        (calls, 8, 1),
+        (calls, 11, 0),
+        (calls, 12, 1),
+        (calls, 15, 1),
+        (stops, 1, 16),
+        (stops, 3, 2),
+        (stops, 4, 1),
+        (stops, 5, 1),
+        (stops, 11, 0),
+        (rows, 6, 2),
+        (rows, 5, 0),
+        (done, 1, 1),
+        (done, 5, 1),
+        (done, 11, 0xD2),
+    ] {
+        let mut bytes = good;
+        assert!(rt; decode(Version::Two, &bytes).is_some());
+        *bytes.get_mut(at).expect(&rt, "below 16") = byte;
+        assert!(rt;
+            decode(Version::Two, &bytes).is_none(),
+            "byte {at} = {byte}"
+        );
+    }
+}
+
+/// Records that the types allow and the journal may not hold.
+#[test]
+fn unlawful_records_are_told(rt: HostRuntime) {
+    for content in [
+        allot(16, 0, [0, 5], 0, 1),
+        allot(16, 1, [5, 5], 0, 1),
+        allot(3, 1, [0, 5], 0, 1),
+        stop(0, 0, 5, Dir::Up),
+        row(15, 1, [0, 5], 0, 1, false),
+        last_call(0, 1, [0, 5], 0, 1),
+        last_stop(16, 1, 0, Dir::Up),
+        Record::Done { count: 788_529_106 },
+    ] {
+        assert!(rt; !is_lawful(&content));
+    }
+}

@@ -1,0 +1,9 @@
+pub mod Status
+pub mod Register
+pub mod Fits
+pub mod Balanced
+pub mod Base
+pub mod WellFormed
+pub mod Belongs
+pub mod Rows
+pub mod Steps

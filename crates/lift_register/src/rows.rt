@@ -1,0 +1,67 @@
+ghost use Rattle.std.specs.Prelude.{◌≡◌, ◌↔◌, IsTrue, ◌+◌, ◌<◌, ◌≤◌, [], ◌∷◌, ◌++◌, length, slice_index_or, slice_set};
+ghost use Rattle.std.specs.List.{flat_map};
+ghost use Rattle.lift_base.specs.History.{row_after};
+ghost use Rattle.lift_register.specs.Rows.{row_lists};
+
+use arrayvec::ArrayVec;
+use lift_base::{Last, Letter, Row, Stop};
+
+/// Takes a stop of a car into the car's rows, and answers how many calls it ends.
+fn serve(rows: &mut ArrayVec<Row, 32>, stop: Stop) -> u32
+    ensures rows { rows.new.items ≡ flat_map (row_after stop) rows.old.items }
+    ensures ended { result + length rows.new.items ≡ length rows.old.items }
+    ensures limit { length rows.old.items ≤ 32 }
+{
+    let stop = &stop;
+    let mut open = ArrayVec::new();
+    let mut ended = 0;
+    for row in rows.iter() {
+        match row.after(*stop) {
+            Some(row) => open.push(row),
+            None => ended += 1,
+        }
+    }
+    *rows = open;
+    ended
+}
+
+/// Adds an open call to the rows of its car.
+pub fn push_row(rows: &mut [ArrayVec<Row, 32>; 16], row: Row)
+    requires { length (slice_index_or (row_lists rows.old) row.car []) < 32 }
+    ensures car { row.car < 16 }
+    ensures rows { row_lists rows.new
+        ≡ slice_set (row_lists rows.old) row.car
+        (slice_index_or (row_lists rows.old) row.car [] ++ row ∷ []) }
+{
+    let rows = &mut rows[row.car.get() as usize];
+    rows.push(row);
+}
+
+/// Takes a stop of a car, and answers how many calls it ends.
+pub fn serve_car(rows: &mut [ArrayVec<Row, 32>; 16], car: Letter, stop: Stop) -> u32
+    ensures rows { row_lists rows.new
+        ≡ slice_set (row_lists rows.old) car
+        (flat_map (row_after stop) (slice_index_or (row_lists rows.old) car [])) }
+    ensures ended { result
+        + length (flat_map (row_after stop) (slice_index_or (row_lists rows.old) car []))
+        ≡ length (slice_index_or (row_lists rows.old) car []) }
+    ensures car { car < 16 }
+    ensures limit { result ≤ 32 }
+{
+    let rows = &mut rows[car.get() as usize];
+    serve(rows, stop)
+}
+
+/// Whether both have the same open calls in each car.
+pub fn same_rows(rows: &[ArrayVec<Row, 32>; 16], others: &[ArrayVec<Row, 32>; 16]) -> bool
+    ensures { IsTrue result ↔ (row_lists rows.now ≡ row_lists others.now) }
+{
+    rows == others
+}
+
+/// Whether both have the same last commands.
+pub fn same_lasts(lasts: &[Option<Last>; 63], others: &[Option<Last>; 63]) -> bool
+    ensures { IsTrue result ↔ (lasts.now ≡ others.now) }
+{
+    lasts == others
+}

@@ -1,0 +1,12 @@
+use Rattle.std.proofs.Common.{◌≡◌, ◌≤◌, false, vec_len}
+use Rattle.std.specs.Io.KnownBytes.{Consumes}
+use Rattle.lift_replay.proofs.input.read_all.Given as goal
+
+abbrev pub invariant-loop : goal.invariant-loop
+invariant-loop g l = record {
+  taken : Consumes (g.R.Read.remaining l.fn.input.reader) (g.R.Read.remaining l.input.reader) l.bytes.items;
+  room : vec_len l.bytes ≤ l.most;
+  calls : l.input.calls ≡ l.counter;
+  unhurt : l.input.failed ≡ false;
+  unended : l.input.ended ≡ false;
+}

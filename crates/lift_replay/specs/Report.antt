@@ -1,0 +1,52 @@
+-- The lines of a report.
+use Rattle.std.specs.Prelude.{ℕ, ◌-◌, ◌+◌, ◌<◌, Bool, true, false, List, [], ◌∷◌, ◌++◌, codes, length, nat_lt, if◌then◌else◌, Option, Some, None}
+use Rattle.std.specs.Fmt.{decimal}
+use Rattle.std.specs.List.{flat_map}
+use Rattle.lift_base.specs.Travel.{pass_number}
+use Rattle.lift_base.specs.Text.{letter_text, terminal_text, dir_text, reply_text}
+use Rattle.lift_base.specs.declared.history.Row.{Row}
+use Rattle.lift_base.specs.declared.travel.Halt.{Halt}
+use Rattle.lift_base.specs.declared.command.Reply.{Reply}
+
+-- whether a call's passengers wait or ride
+abbrev pub status_text : Bool → List ℕ
+status_text false = codes "waiting"
+status_text true = codes "aboard"
+
+-- the party, where it is more than one person
+abbrev pub party_text : ℕ → List ℕ
+party_text party = if nat_lt 1 party then codes " x" ++ decimal party else []
+
+-- one open call
+abbrev pub row_text : Row → List ℕ
+row_text row =
+    letter_text row.car ++ 32 ∷ terminal_text row.kiosk ++ 32 ∷ decimal row.number ++ 32 ∷ decimal row.from ++ 32 ∷ decimal row.to
+    ++ 32 ∷ status_text row.aboard ++ party_text row.party ++ 10 ∷ []
+
+-- the head of the open calls: how many are open, and how many are done
+abbrev pub rows_text : (calls done : ℕ) → List ℕ
+rows_text calls done = codes "rows " ++ decimal calls ++ 32 ∷ decimal done ++ 10 ∷ []
+
+-- a halt, as a stop list shows it
+abbrev pub halt_text : Halt → List ℕ
+halt_text halt = 32 ∷ decimal (pass_number halt.pass) ++ 58 ∷ decimal halt.floor
+
+-- what a terminal hears
+abbrev pub heard_text : (terminal number : ℕ) → Reply → List ℕ
+heard_text terminal number reply = terminal_text terminal ++ 32 ∷ decimal number ++ 32 ∷ reply_text reply ++ 10 ∷ []
+
+-- an ask that the terminal may not make while one waits
+abbrev pub waiting_text : (terminal number : ℕ) → List ℕ
+waiting_text terminal number = terminal_text terminal ++ 32 ∷ decimal number ++ codes " WAITING" ++ 10 ∷ []
+
+-- how many commands a turn took, and how many it accepted
+abbrev pub turn_text : (taken accepted : ℕ) → List ℕ
+turn_text taken accepted = codes "turn " ++ decimal taken ++ 32 ∷ decimal accepted ++ 10 ∷ []
+
+-- what a call would cost an eligible car
+abbrev pub cost_text : (car cost : ℕ) → List ℕ
+cost_text car cost = 32 ∷ letter_text car ++ 61 ∷ decimal cost
+
+-- a malformed line ends the run
+abbrev pub bad_text : ℕ → List ℕ
+bad_text line = codes "BAD " ++ decimal line ++ 10 ∷ []

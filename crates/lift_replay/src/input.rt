@@ -1,0 +1,87 @@
+//! All bytes of a reader, within bounds.
+
+ghost use Rattle.std.specs.Prelude.{◌≡◌, ℕ, List, ◌+◌, ◌≤◌, ◌<◌, ◌^◌, ◌++◌, length, vec_len, IfOk, OnErr, OnOk, IfSome, ◌⊎◌, true, false};
+ghost use Rattle.std.specs.Io.KnownBytes.{Consumes, IsAtEnd};
+ghost use Rattle.lift_replay.specs.declared.input.InputFault.TheVariants.{Memory as NoMemory};
+
+use lift_base::text::{Counted, ReadFault};
+use std::alloc::{AllocError, Global};
+use std::io::Read;
+
+/// Why the bytes were not read.
+#[derive(Clone, Copy, PartialEq, Eq)]
+pub enum InputFault {
+    /// A call of the reader failed, or all calls were used and the end was not found.
+    Read,
+    /// A growth was refused.
+    Memory,
+}
+
+impl From<AllocError> for InputFault {
+    ghost from_gives = { λ _ fault. fault ≡ NoMemory };
+
+    fn from(_error: AllocError) -> InputFault {
+        InputFault::Memory
+    }
+}
+
+const CHUNK: usize = 4096;
+
+/// One call of the reader, which adds what it gives to the bytes, as long as these are no more than `most` and one.
+/// The answer is whether anything came.
+fn read_some<R: Read + Drop>(
+    input: &mut Counted<R>,
+    bytes: &mut Vec<u8>,
+    most: usize,
+) -> Result<bool, InputFault>
+    requires room { vec_len bytes.old ≤ most }
+    requires limit { most < 2 ^ 63 }
+    requires few_calls { input.old.calls < 2 ^ 63 }
+    ensures calls { input.new.calls ≡ input.old.calls + 1 }
+    ensures gave { OnOk result ((more : List ℕ) × (bytes.new.items ≡ bytes.old.items ++ more)
+        × Consumes (R.remaining input.old.reader) (R.remaining input.new.reader) more) }
+    ensures end { result ≡ Ok false → IsAtEnd (R.remaining input.new.reader) }
+    ensures ended { IfOk result (λ came. came ≡ true → input.new.ended ≡ input.old.ended) }
+    ensures ok { OnOk result (input.new.failed ≡ input.old.failed) }
+    ensures failed { result ≡ Err InputFault.Read → input.new.failed ≡ true }
+{
+    let mut buffer = [0u8; CHUNK];
+    let room = CHUNK.min(most - bytes.len() + 1);
+    match input.read(&mut buffer[..room]) {
+        Ok(count) => {
+            bytes.extend_from_slice(&buffer[..count])?;
+            Ok(count != 0)
+        }
+        Err(_) => Err(InputFault::Read),
+    }
+}
+
+/// All bytes of a reader that was not called yet. Reading stops once more than `most` have come; that the end was not
+/// found in so many calls is a fault.
+pub fn read_all<R: Read + Drop>(
+    alloc: Global,
+    input: &mut Counted<R>,
+    most: usize,
+    calls: u32,
+) -> Result<Vec<u8>, InputFault>
+    requires limit { most < 2 ^ 63 }
+    requires fresh { input.old.calls ≡ 0 }
+    requires unhurt { input.old.failed ≡ false }
+    requires before_end { input.old.ended ≡ false }
+    ensures whole { IfOk result (λ bytes. vec_len bytes ≤ most
+        → IfSome (R.remaining input.old.reader) (λ all. bytes.items ≡ all)) }
+    ensures front { IfOk result (λ bytes.
+        Consumes (R.remaining input.old.reader) (R.remaining input.new.reader) bytes.items) }
+    ensures few_calls { input.new.calls ≤ calls }
+    ensures unfailed { OnOk result (input.new.failed ≡ false) }
+    ensures cause { result ≡ Err InputFault.Read
+        → (input.new.failed ≡ true) ⊎ ((input.new.calls ≡ calls) × (input.new.ended ≡ false)) }
+{
+    let mut bytes = Vec::new(alloc);
+    for _ in 0..calls {
+        if !read_some(input, &mut bytes, most)? || bytes.len() > most {
+            return Ok(bytes);
+        }
+    }
+    Err(InputFault::Read)
+}

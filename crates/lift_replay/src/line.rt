@@ -1,0 +1,59 @@
+use lift_base::{Dir, Floor, Letter, Number, Party};
+
+/// What a power cut leaves in the sectors that weren't safe.
+#[derive(Clone, Copy, PartialEq, Eq)]
+pub enum Cut {
+    /// Their bytes as they are.
+    Keep,
+    /// Their bytes as of the last successful sync.
+    Lose,
+    /// This byte everywhere.
+    Fill(u8),
+}
+
+/// What a line of a script asks for.
+#[derive(Clone, Copy, PartialEq, Eq)]
+pub enum ScriptLine {
+    /// The car asks Place, with number 0.
+    Place {
+        car: Letter,
+        floor: Floor,
+        dir: Dir,
+    },
+    /// The kiosk, 0 to 46, asks Call.
+    Call {
+        kiosk: u8,
+        number: Number,
+        floor: Floor,
+        party: Party,
+    },
+    /// The car asks Stop.
+    Stop {
+        car: Letter,
+        number: Number,
+        floor: Floor,
+        dir: Dir,
+    },
+    /// One turn of the clerk, then all terminals hear.
+    Turn,
+    /// The stop list of a car.
+    Stops {
+        car: Letter,
+    },
+    /// What a call would cost each eligible car.
+    Cost {
+        kiosk: u8,
+        floor: Floor,
+        party: Party,
+    },
+    /// The open calls.
+    Rows,
+    /// After so many device calls, at most 1,000,000, every call fails.
+    Fuse {
+        calls: u32,
+    },
+    /// The power is cut, and comes back.
+    Cut {
+        outcome: Cut,
+    },
+}

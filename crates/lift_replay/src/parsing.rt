@@ -1,0 +1,283 @@
+//! From a script's line to what it asks for.
+
+ghost use Rattle.std.specs.Prelude.{◌≡◌, ◌≢◌, ◌<◌, ◌≤◌, ◌⊎◌, ◌∷◌, [], ℕ, List, map, IfSome, IfNone, codes};
+ghost use Rattle.std.specs.Fmt.{decimal};
+ghost use Rattle.lift_base.specs.Text.{letter_text, dir_text};
+ghost use Rattle.lift_replay.specs.Grammar.{Spells, AskFor, ArePartyWords, outcome_words, IsOutcomeInRange, IsInRange};
+ghost use Rattle.lift_replay.specs.declared.line.Cut.{Cut as Outcome};
+ghost use Rattle.lift_replay.specs.declared.line.ScriptLine.{ScriptLine as Wanted};
+
+use crate::line::{Cut, ScriptLine};
+use lift_base::text::{dir_of_word, letter_of_word, number_up_to, words_of};
+use lift_base::{Floor, Number, Party};
+
+/// The floor, 0 to 63, that a word names.
+fn floor_of(word: &str) -> Option<Floor>
+    ensures some { IfSome result (λ floor. (word.now ≡ decimal floor) × (floor < 64)) }
+    ensures none { IfNone result ((floor : ℕ) → floor < 64 → word.now ≢ decimal floor) }
+{
+    match number_up_to(word, 63) {
+        Some(number) => Floor::new(number as u8),
+        None => None,
+    }
+}
+
+/// The number, 0 to 16,777,215, that a word names.
+fn number_of(word: &str) -> Option<Number>
+    ensures some { IfSome result (λ number. (word.now ≡ decimal number) × (number < 16777216)) }
+    ensures none { IfNone result ((number : ℕ) → number < 16777216 → word.now ≢ decimal number) }
+{
+    match number_up_to(word, 16_777_215) {
+        Some(number) => Number::new(number),
+        None => None,
+    }
+}
+
+/// The kiosk, 0 to 46, that a word names.
+fn kiosk_of(word: &str) -> Option<u8>
+    ensures some { IfSome result (λ kiosk. (word.now ≡ decimal kiosk) × (kiosk < 47)) }
+    ensures none { IfNone result ((kiosk : ℕ) → kiosk < 47 → word.now ≢ decimal kiosk) }
+{
+    match number_up_to(word, 46) {
+        Some(number) => Some(number as u8),
+        None => None,
+    }
+}
+
+/// The party, 1 to 15, that the last words name: absent means 1.
+fn party_of(words: &[&str]) -> Option<Party>
+    ensures some { IfSome result (λ party.
+        ArePartyWords (map (λ word. word.now) words.now) party × (1 ≤ party) × (party ≤ 15)) }
+    ensures none { IfNone result ((party : ℕ) → 1 ≤ party → party ≤ 15
+        → ArePartyWords (map (λ word. word.now) words.now) party → ⊥) }
+{
+    match words {
+        [] => Some(Party::default()),
+        [word] => match number_up_to(word, 15) {
+            Some(number) => Party::new(number as u8),
+            None => None,
+        },
+        _ => None,
+    }
+}
+
+/// What the last words of a power cut say that it leaves.
+fn outcome_of(words: &[&str]) -> Option<Cut>
+    ensures some { IfSome result (λ outcome. map (λ word. word.now) words.now ≡ outcome_words outcome) }
+    ensures range { IfSome result (λ outcome. IsOutcomeInRange outcome) }
+    ensures none { IfNone result ((outcome : Outcome) → IsOutcomeInRange outcome
+        → map (λ word. word.now) words.now ≢ outcome_words outcome) }
+{
+    match words {
+        [word] => {
+            if *word == "keep" {
+                Some(Cut::Keep)
+            } else if *word == "lose" {
+                Some(Cut::Lose)
+            } else {
+                None
+            }
+        }
+        [word, byte] => {
+            if *word == "fill" {
+                let byte = number_up_to(byte, 255)?;
+                Some(Cut::Fill(byte as u8))
+            } else {
+                None
+            }
+        }
+        _ => None,
+    }
+}
+
+fn place_of(words: &[&str]) -> Option<ScriptLine>
+    ensures some { IfSome result (λ wanted.
+        AskFor (codes "place" ∷ map (λ word. word.now) words.now) wanted × IsInRange wanted) }
+    ensures none { IfNone result ((wanted : Wanted) → IsInRange wanted
+        → AskFor (codes "place" ∷ map (λ word. word.now) words.now) wanted → ⊥) }
+{
+    match words {
+        [car, floor, dir] => {
+            let car = letter_of_word(car)?;
+            let floor = floor_of(floor)?;
+            let dir = dir_of_word(dir)?;
+            Some(ScriptLine::Place { car, floor, dir })
+        }
+        _ => None,
+    }
+}
+
+fn call_of(words: &[&str]) -> Option<ScriptLine>
+    ensures some { IfSome result (λ wanted.
+        AskFor (codes "call" ∷ map (λ word. word.now) words.now) wanted × IsInRange wanted) }
+    ensures none { IfNone result ((wanted : Wanted) → IsInRange wanted
+        → AskFor (codes "call" ∷ map (λ word. word.now) words.now) wanted → ⊥) }
+{
+    match words {
+        [kiosk, number, floor, party @ ..] => {
+            let kiosk = kiosk_of(kiosk)?;
+            let number = number_of(number)?;
+            let floor = floor_of(floor)?;
+            let party = party_of(party)?;
+            Some(ScriptLine::Call {
+                kiosk,
+                number,
+                floor,
+                party,
+            })
+        }
+        _ => None,
+    }
+}
+
+fn stop_of(words: &[&str]) -> Option<ScriptLine>
+    ensures some { IfSome result (λ wanted.
+        AskFor (codes "stop" ∷ map (λ word. word.now) words.now) wanted × IsInRange wanted) }
+    ensures none { IfNone result ((wanted : Wanted) → IsInRange wanted
+        → AskFor (codes "stop" ∷ map (λ word. word.now) words.now) wanted → ⊥) }
+{
+    match words {
+        [car, number, floor, dir] => {
+            let car = letter_of_word(car)?;
+            let number = number_of(number)?;
+            let floor = floor_of(floor)?;
+            let dir = dir_of_word(dir)?;
+            Some(ScriptLine::Stop {
+                car,
+                number,
+                floor,
+                dir,
+            })
+        }
+        _ => None,
+    }
+}
+
+fn stops_of(words: &[&str]) -> Option<ScriptLine>
+    ensures some { IfSome result (λ wanted.
+        AskFor (codes "stops" ∷ map (λ word. word.now) words.now) wanted × IsInRange wanted) }
+    ensures none { IfNone result ((wanted : Wanted) → IsInRange wanted
+        → AskFor (codes "stops" ∷ map (λ word. word.now) words.now) wanted → ⊥) }
+{
+    match words {
+        [car] => {
+            let car = letter_of_word(car)?;
+            Some(ScriptLine::Stops { car })
+        }
+        _ => None,
+    }
+}
+
+fn cost_of(words: &[&str]) -> Option<ScriptLine>
+    ensures some { IfSome result (λ wanted.
+        AskFor (codes "cost" ∷ map (λ word. word.now) words.now) wanted × IsInRange wanted) }
+    ensures none { IfNone result ((wanted : Wanted) → IsInRange wanted
+        → AskFor (codes "cost" ∷ map (λ word. word.now) words.now) wanted → ⊥) }
+{
+    match words {
+        [kiosk, floor, party @ ..] => {
+            let kiosk = kiosk_of(kiosk)?;
+            let floor = floor_of(floor)?;
+            let party = party_of(party)?;
+            Some(ScriptLine::Cost {
+                kiosk,
+                floor,
+                party,
+            })
+        }
+        _ => None,
+    }
+}
+
+fn fuse_of(words: &[&str]) -> Option<ScriptLine>
+    ensures some { IfSome result (λ wanted.
+        AskFor (codes "fuse" ∷ map (λ word. word.now) words.now) wanted × IsInRange wanted) }
+    ensures none { IfNone result ((wanted : Wanted) → IsInRange wanted
+        → AskFor (codes "fuse" ∷ map (λ word. word.now) words.now) wanted → ⊥) }
+{
+    match words {
+        [calls] => {
+            let calls = number_up_to(calls, 1_000_000)?;
+            Some(ScriptLine::Fuse { calls })
+        }
+        _ => None,
+    }
+}
+
+fn cut_of(words: &[&str]) -> Option<ScriptLine>
+    ensures some { IfSome result (λ wanted.
+        AskFor (codes "cut" ∷ map (λ word. word.now) words.now) wanted × IsInRange wanted) }
+    ensures none { IfNone result ((wanted : Wanted) → IsInRange wanted
+        → AskFor (codes "cut" ∷ map (λ word. word.now) words.now) wanted → ⊥) }
+{
+    let outcome = outcome_of(words)?;
+    Some(ScriptLine::Cut { outcome })
+}
+
+fn turn_of(words: &[&str]) -> Option<ScriptLine>
+    ensures some { IfSome result (λ wanted.
+        AskFor (codes "turn" ∷ map (λ word. word.now) words.now) wanted × IsInRange wanted) }
+    ensures none { IfNone result ((wanted : Wanted) → IsInRange wanted
+        → AskFor (codes "turn" ∷ map (λ word. word.now) words.now) wanted → ⊥) }
+{
+    if words.is_empty() {
+        Some(ScriptLine::Turn)
+    } else {
+        None
+    }
+}
+
+fn rows_of(words: &[&str]) -> Option<ScriptLine>
+    ensures some { IfSome result (λ wanted.
+        AskFor (codes "rows" ∷ map (λ word. word.now) words.now) wanted × IsInRange wanted) }
+    ensures none { IfNone result ((wanted : Wanted) → IsInRange wanted
+        → AskFor (codes "rows" ∷ map (λ word. word.now) words.now) wanted → ⊥) }
+{
+    if words.is_empty() {
+        Some(ScriptLine::Rows)
+    } else {
+        None
+    }
+}
+
+/// What a line's words ask for, by the first one.
+fn asked_by(first: &str, others: &[&str]) -> Option<ScriptLine>
+    ensures some { IfSome result (λ wanted.
+        AskFor (first.now ∷ map (λ word. word.now) others.now) wanted × IsInRange wanted) }
+    ensures none { IfNone result ((wanted : Wanted) → IsInRange wanted
+        → AskFor (first.now ∷ map (λ word. word.now) others.now) wanted → ⊥) }
+{
+    if first == "place" {
+        place_of(others)
+    } else if first == "call" {
+        call_of(others)
+    } else if first == "stop" {
+        stop_of(others)
+    } else if first == "turn" {
+        turn_of(others)
+    } else if first == "stops" {
+        stops_of(others)
+    } else if first == "cost" {
+        cost_of(others)
+    } else if first == "rows" {
+        rows_of(others)
+    } else if first == "fuse" {
+        fuse_of(others)
+    } else if first == "cut" {
+        cut_of(others)
+    } else {
+        None
+    }
+}
+
+/// What a line asks for, none where it is malformed.
+pub fn parse(line: &str) -> Option<ScriptLine>
+    ensures some { IfSome result (λ wanted. Spells line.now wanted) }
+    ensures none { IfNone result ((wanted : Wanted) → Spells line.now wanted → ⊥) }
+{
+    let words = words_of(line)?;
+    match words.as_slice() {
+        [first, others @ ..] => asked_by(first, others),
+        [] => None,
+    }
+}

@@ -1,0 +1,103 @@
+//! The lines of a report.
+
+ghost use Rattle.std.specs.Prelude.{◌≡◌, ◌++◌, OnOk, string_bytes};
+ghost use Rattle.lift_replay.specs.Report.{status_text, party_text, row_text, rows_text, halt_text, heard_text, waiting_text, turn_text, cost_text, bad_text};
+
+use lift_base::{Halt, Letter, Number, Party, Reply, Row, Terminal};
+use std::alloc::AllocError;
+use std::fmt::Write;
+
+fn status_word(aboard: bool) -> &'static str
+    ensures { result.now ≡ status_text aboard }
+{
+    if aboard { "aboard" } else { "waiting" }
+}
+
+/// Adds the party, where it is more than one person.
+fn push_party(report: &mut String, party: Party) -> Result<(), AllocError>
+    ensures { OnOk result (string_bytes report.new ≡ string_bytes report.old ++ party_text party) }
+{
+    let persons = party.get();
+    if persons > 1 {
+        write!(report, " x{persons}")
+    } else {
+        Ok(())
+    }
+}
+
+/// Adds the line of an open call.
+pub fn push_row(report: &mut String, row: &Row) -> Result<(), AllocError>
+    ensures { OnOk result (string_bytes report.new ≡ string_bytes report.old ++ row_text row.now) }
+{
+    let car = row.car;
+    let kiosk = row.kiosk;
+    let number = row.number.get();
+    let from = row.from.get();
+    let to = row.to.get();
+    let status = status_word(row.aboard);
+    write!(report, "{car} {kiosk} {number} {from} {to} {status}")?;
+    push_party(report, row.party)?;
+    report.push('\n')
+}
+
+/// Adds the head of the open calls.
+pub fn push_rows_head(report: &mut String, calls: usize, done: u32) -> Result<(), AllocError>
+    ensures { OnOk result (string_bytes report.new ≡ string_bytes report.old ++ rows_text calls done) }
+{
+    writeln!(report, "rows {calls} {done}")
+}
+
+/// Adds a halt to the line of a stop list.
+pub fn push_halt(report: &mut String, halt: &Halt) -> Result<(), AllocError>
+    ensures { OnOk result (string_bytes report.new ≡ string_bytes report.old ++ halt_text halt.now) }
+{
+    let pass = halt.pass.number();
+    let floor = halt.floor.get();
+    write!(report, " {pass}:{floor}")
+}
+
+/// Adds what a terminal heard.
+pub fn push_heard(
+    report: &mut String,
+    terminal: Terminal,
+    number: Number,
+    reply: Reply,
+) -> Result<(), AllocError>
+    ensures { OnOk result (string_bytes report.new ≡ string_bytes report.old ++ heard_text terminal number reply) }
+{
+    let number = number.get();
+    writeln!(report, "{terminal} {number} {reply}")
+}
+
+/// Adds that a terminal still waits.
+pub fn push_waiting(
+    report: &mut String,
+    terminal: Terminal,
+    number: Number,
+) -> Result<(), AllocError>
+    ensures { OnOk result (string_bytes report.new ≡ string_bytes report.old ++ waiting_text terminal number) }
+{
+    let number = number.get();
+    writeln!(report, "{terminal} {number} WAITING")
+}
+
+/// Adds what a turn took and accepted.
+pub fn push_turn(report: &mut String, taken: usize, accepted: usize) -> Result<(), AllocError>
+    ensures { OnOk result (string_bytes report.new ≡ string_bytes report.old ++ turn_text taken accepted) }
+{
+    writeln!(report, "turn {taken} {accepted}")
+}
+
+/// Adds what a call would cost a car to the line of costs.
+pub fn push_cost(report: &mut String, car: Letter, cost: u64) -> Result<(), AllocError>
+    ensures { OnOk result (string_bytes report.new ≡ string_bytes report.old ++ cost_text car cost) }
+{
+    write!(report, " {car}={cost}")
+}
+
+/// Adds that a line is malformed.
+pub fn push_bad(report: &mut String, line: usize) -> Result<(), AllocError>
+    ensures { OnOk result (string_bytes report.new ≡ string_bytes report.old ++ bad_text line) }
+{
+    writeln!(report, "BAD {line}")
+}

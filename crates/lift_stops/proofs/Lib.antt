@@ -1,0 +1,5 @@
+pub mod Insertion
+pub mod Halts
+pub mod Listed
+pub mod Tallies
+pub mod Passing

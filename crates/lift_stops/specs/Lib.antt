@@ -1,0 +1,5 @@
+pub mod StopList
+pub mod Parts
+pub mod Insertion
+pub mod Tally
+pub mod Schedule

@@ -1,0 +1,176 @@
+//! The stop list of a car, kept while its position and its calls change.
+
+ghost use Rattle.std.specs.Prelude.{◌≡◌, ◌+◌, ◌<◌, ◌≤◌, List, [], ◌∷◌, ◌++◌, length};
+ghost use Rattle.std.specs.List.{flat_map};
+ghost use Rattle.lift_base.specs.History.{row_after};
+ghost use Rattle.lift_stops.specs.StopList.{stop_list, next_stop};
+ghost use Rattle.lift_stops.specs.Tally.{IsTally, legs_at};
+ghost use Rattle.lift_stops.specs.Schedule.{position_after};
+
+use crate::stops::{insert_row, stop_of};
+use crate::tally::{Tally, add_row, move_on, pass_stop, tally_of};
+use arrayvec::ArrayVec;
+use lift_base::{Halt, Position, Row, Stop};
+use std::marker::Model;
+
+fn copy_of(halts: &[Halt]) -> ArrayVec<Halt, 66>
+    requires { length halts.now ≤ 66 }
+    ensures { result.items ≡ halts.now }
+{
+    let mut copy = ArrayVec::new();
+    let _fits = copy.try_extend_from_slice(halts);
+    copy
+}
+
+/// The calls that are open after a stop of their car.
+fn rows_after(rows: &[Row], stop: &Stop) -> ArrayVec<Row, 33>
+    requires { length rows.now ≤ 33 }
+    ensures { result.items ≡ flat_map (row_after stop.now) rows.now }
+{
+    let mut left = ArrayVec::new();
+    for row in rows {
+        match row.after(*stop) {
+            None => {}
+            Some(next) => left.push(next),
+        }
+    }
+    left
+}
+
+/// The tally after a stop. A car that turns passes its calls in another order, so that its tally is made anew.
+fn tally_served(tally: &mut Tally, here: &Position, rows: &[Row], stop: &Stop, left: &[Row])
+    requires few { length rows.now ≤ 33 }
+    requires left { left.now ≡ flat_map (row_after stop.now) rows.now }
+    requires tally { IsTally here.now.dir (legs_at here.now rows.now) tally.old.halts.items tally.old.counts.items }
+    ensures { IsTally stop.now.dir (legs_at (position_after stop.now) left.now)
+        tally.new.halts.items tally.new.counts.items }
+{
+    let there = Position {
+        floor: stop.floor,
+        dir: stop.dir,
+    };
+    if stop.dir == here.dir {
+        pass_stop(tally, here, &there, rows, stop);
+    } else {
+        *tally = tally_of(&there, left);
+    }
+}
+
+/// The tally at another position.
+fn tally_moved(tally: &mut Tally, here: &Position, there: &Position, rows: &[Row])
+    requires few { length rows.now ≤ 33 }
+    requires tally { IsTally here.now.dir (legs_at here.now rows.now) tally.old.halts.items tally.old.counts.items }
+    ensures { IsTally there.now.dir (legs_at there.now rows.now) tally.new.halts.items tally.new.counts.items }
+{
+    if there.dir == here.dir {
+        move_on(tally, here, there, rows);
+    } else {
+        *tally = tally_of(there, rows);
+    }
+}
+
+/// Where a car is, its open calls, and the halts that it still has to make for them. After any changes these are the
+/// halts of the stop list that is made from nothing.
+#[derive(Drop)]
+pub struct Schedule {
+    position: Position,
+    rows: ArrayVec<Row, 33>,
+    tally: Tally,
+}
+
+impl Model for Schedule {
+    ghost use Rattle.lift_stops.specs.Schedule.{ScheduleState, IsPlanned};
+
+    ghost Value = { ScheduleState };
+
+    ghost view = { λ s. record { position = s.position; rows = s.rows.items } };
+
+    ghost invariant = { λ s. IsPlanned s.position s.rows.items s.tally.halts.items s.tally.counts.items };
+}
+
+impl Schedule {
+    /// The schedule of a car without open calls.
+    pub fn new(position: Position) -> Self
+        ensures { result ≡ record { position = position; rows = [] } }
+    {
+        Schedule {
+            position,
+            rows: ArrayVec::new(),
+            tally: Tally::new(),
+        }
+    }
+
+    /// A call is allotted to the car.
+    pub fn insert(&mut self, row: Row)
+        requires { length self.old.rows ≤ 32 }
+        ensures { self.new ≡ record self.old { rows = self.old.rows ++ row ∷ [] } }
+    {
+        add_row(&mut self.tally, &self.position, &row);
+        self.rows.push(row);
+    }
+
+    /// The car made a stop: its position is there, the passengers for this floor have left, and those who waited there
+    /// for its direction have boarded.
+    pub fn serve(&mut self, stop: Stop)
+        ensures { self.new ≡ record { position = position_after stop; rows = flat_map (row_after stop) self.old.rows } }
+    {
+        let stop = &stop;
+        let left = rows_after(&self.rows, stop);
+        tally_served(&mut self.tally, &self.position, &self.rows, stop, &left);
+        self.position = Position {
+            floor: stop.floor,
+            dir: stop.dir,
+        };
+        self.rows = left;
+    }
+
+    /// The car told where it is. Its calls stay as they are.
+    pub fn replace_position(&mut self, position: Position)
+        ensures { self.new ≡ record self.old { position = position } }
+    {
+        let position = &position;
+        tally_moved(&mut self.tally, &self.position, position, &self.rows);
+        self.position = *position;
+    }
+
+    /// The halts that the car still has to make, in the order in which it makes them.
+    pub fn halts(&self) -> &[Halt]
+        ensures halts { result.now ≡ stop_list self.now.rows self.now.position }
+        ensures limit { length result.now ≤ 66 }
+    {
+        self.tally.halts()
+    }
+
+    /// The halts with one call more.
+    pub fn halts_with(&self, row: &Row) -> ArrayVec<Halt, 66>
+        requires { length self.now.rows ≤ 32 }
+        ensures { result.items ≡ stop_list (self.now.rows ++ row.now ∷ []) self.now.position }
+    {
+        let mut halts = copy_of(&self.tally.halts);
+        insert_row(&mut halts, &self.position, row);
+        halts
+    }
+
+    /// The stop that the car makes next.
+    pub fn next_stop(&self) -> Option<Stop>
+        ensures { result ≡ next_stop self.now.rows self.now.position }
+    {
+        let first = self.halts().first()?;
+        Some(stop_of(*first, self.position))
+    }
+
+    /// Where the car is.
+    pub fn position(&self) -> Position
+        ensures { result ≡ self.now.position }
+    {
+        self.position
+    }
+
+    /// The open calls, in order of allotment.
+    pub fn rows(&self) -> &[Row]
+        ensures rows { result.now ≡ self.now.rows }
+        ensures limit { length result.now ≤ 33 }
+    {
+        &self.rows
+    }
+}

@@ -1,0 +1,145 @@
+//! The stops that a car still has to make, in the order in which it makes them.
+
+ghost use Rattle.std.specs.Prelude.{◌≡◌, ◌≢◌, ℕ, ◌+◌, ◌<◌, ◌≤◌, nat_lt, List, [], ◌∷◌, ◌++◌, IfOk, IfErr, Contains, insert, length, slice_index_or};
+ghost use Rattle.arrayvec.specs.ArrayVec.{array_vec_len};
+ghost use Rattle.lift_base.specs.declared.history.Row.{Row as RowValue};
+ghost use Rattle.lift_stops.specs.Insertion.{put, rank_of};
+ghost use Rattle.lift_stops.specs.StopList.{HasFloors, StopsInOrder, is_ahead, pass_of, dir_in, stop_list, stop_of, next_stop};
+
+use arrayvec::ArrayVec;
+use lift_base::{Dir, Floor, Halt, Pass, Position, Row, Stop};
+
+fn is_ahead(dir: Dir, floor: Floor, other: Floor) -> bool
+    ensures { result ≡ is_ahead dir floor other }
+{
+    match dir {
+        Dir::Up => other <= floor,
+        Dir::Down => floor <= other,
+    }
+}
+
+/// The pass in which a car at this position makes a call: the first where the call goes the car's way and its next
+/// leg is at the car or ahead of it, the second where it goes the other way, the third where that leg is behind.
+pub fn pass_of(row: &Row, position: Position) -> Pass
+    ensures { result ≡ pass_of position row.now }
+{
+    let first_leg = if row.aboard { row.to } else { row.from };
+    if row.dir() != position.dir {
+        Pass::Second
+    } else if is_ahead(position.dir, first_leg, position.floor) {
+        Pass::First
+    } else {
+        Pass::Third
+    }
+}
+
+/// The direction in which a car of this direction makes a pass.
+fn dir_in(dir: Dir, pass: Pass) -> Dir
+    ensures { result ≡ dir_in dir pass }
+{
+    match pass {
+        Pass::First | Pass::Third => dir,
+        Pass::Second => dir.reverse(),
+    }
+}
+
+/// The stop that a car at this position makes at a halt.
+pub fn stop_of(halt: Halt, position: Position) -> Stop
+    ensures { result ≡ stop_of halt position }
+{
+    Stop {
+        floor: halt.floor,
+        dir: dir_in(position.dir, halt.pass),
+    }
+}
+
+/// Whether a car of this direction makes one halt before another.
+fn comes_before(dir: Dir, halt: &Halt, other: &Halt) -> bool
+    ensures order { result ≡ nat_lt (rank_of dir halt.now) (rank_of dir other.now) }
+    ensures floors { halt.now.floor < 64 × other.now.floor < 64 }
+{
+    let (here, there) = (halt.floor.get(), other.floor.get());
+    if halt.pass != other.pass {
+        return halt.pass.number() < other.pass.number();
+    }
+    match dir_in(dir, halt.pass) {
+        Dir::Up => here < there,
+        Dir::Down => there < here,
+    }
+}
+
+/// Where this halt stands among sorted ones, or else the place to put it at.
+pub fn find_halt(halts: &[Halt], dir: Dir, halt: &Halt) -> Result<usize, usize>
+    ensures found { IfOk result (λ at. at < length halts.now × slice_index_or halts.now at halt.now ≡ halt.now
+        × put (rank_of dir) halt.now halts.now ≡ halts.now) }
+    ensures missing { IfErr result
+        (λ at. at ≤ length halts.now
+        × put (rank_of dir) halt.now halts.now ≡ insert halts.now at halt.now) }
+{
+    for (i, other) in halts.iter().enumerate() {
+        if comes_before(dir, halt, other) {
+            return Err(i);
+        }
+        if !comes_before(dir, other, halt) {
+            return Ok(i);
+        }
+    }
+    Err(halts.len())
+}
+
+/// Puts a halt at its place, unless it is there already.
+fn insert_halt(halts: &mut ArrayVec<Halt, 66>, dir: Dir, halt: &Halt)
+    requires { array_vec_len halts.old < 66 }
+    ensures halts { halts.new.items ≡ put (rank_of dir) halt.now halts.old.items }
+    ensures count { array_vec_len halts.new ≤ array_vec_len halts.old + 1 }
+    ensures floor { halt.now.floor < 64 }
+{
+    let _floor = halt.floor.get();
+    if let Err(at) = find_halt(halts, dir, halt) {
+        halts.insert(at, *halt);
+    }
+}
+
+/// Puts the halts of a call at their places.
+pub fn insert_row(halts: &mut ArrayVec<Halt, 66>, position: &Position, row: &Row)
+    requires { array_vec_len halts.old < 65 }
+    ensures halts { (rows : List RowValue) → halts.old.items ≡ stop_list rows position.now
+        → halts.new.items ≡ stop_list (rows ++ row.now ∷ []) position.now }
+    ensures count { array_vec_len halts.new ≤ array_vec_len halts.old + 2 }
+    ensures floors { HasFloors row.now }
+{
+    let pass = pass_of(row, *position);
+    let (from, to) = (row.from, row.to);
+    if row.aboard {
+        insert_halt(halts, position.dir, &Halt { pass, floor: to });
+    } else {
+        insert_halt(halts, position.dir, &Halt { pass, floor: from });
+        insert_halt(halts, position.dir, &Halt { pass, floor: to });
+    }
+}
+
+/// The halts that a car at this position still has to make for these calls, in the order in which it makes them.
+pub fn stop_list(rows: &[Row], position: Position) -> ArrayVec<Halt, 66>
+    requires { length rows.now ≤ 33 }
+    ensures halts { result.items ≡ stop_list rows.now position }
+
+    // Wherever the car is, the halts of an open call stand in the list in the order in which its passengers need them.
+    ensures in_order { (row : RowValue) → Contains rows.now row → row.from ≢ row.to → StopsInOrder rows.now row }
+{
+    let mut halts = ArrayVec::new();
+    for row in rows {
+        insert_row(&mut halts, &position, row);
+    }
+    halts
+}
+
+/// The stop that a car at this position makes next for these calls.
+pub fn next_stop(rows: &[Row], position: Position) -> Option<Stop>
+    requires { length rows.now ≤ 33 }
+    ensures { result ≡ next_stop rows.now position }
+{
+    let position = &position;
+    let halts = stop_list(rows, *position);
+    let first = halts.first()?;
+    Some(stop_of(*first, *position))
+}

@@ -1,0 +1,13 @@
+pub mod Moves
+pub mod Heard
+pub mod Entries
+pub mod Decisions
+pub mod Consistent
+pub mod Letters
+pub mod Possibilities
+pub mod Steps
+pub mod Scans
+pub mod Turns
+pub mod Cars
+pub mod Replayed
+pub mod Carried

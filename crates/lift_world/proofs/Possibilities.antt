@@ -1,0 +1,145 @@
+-- Which events are possible where, by computation.
+use Rattle.std.proofs.Common.{◌≡◌, ◌≢◌, ◌⊎◌, Bool, true, false, not, ◌&&◌, cond, List, [], ◌∷◌, ◌++◌, ◌||◌, length, Option, Some, None, refl, ap, subst, ◌∙◌, inl, inr, replicate}
+use Rattle.std.specs.Prelude.{unwrap_or, option_map, option_and_then, find}
+use Rattle.lift_world.specs.declared.event.Kept.{Kept}
+use Rattle.lift_world.specs.declared.event.Kept.TheVariants.{Safe, WithBatch}
+use Rattle.lift_world.specs.declared.event.Phase.{Phase}
+use Rattle.lift_world.specs.declared.event.Phase.TheVariants.{Idle, Writing, Synced, GateWritten}
+use Rattle.lift_world.specs.declared.event.Power.{Power}
+use Rattle.lift_world.specs.declared.event.Power.TheVariants.{Broken, Off}
+use Rattle.lift_world.specs.declared.event.Event.{Event}
+use Rattle.lift_world.specs.declared.event.Event.TheVariants.{Ask, Take, Seal, Pull, Fold, Body as BodyWrite, FirstSync, Gate, SecondSync, Answer as Answering, Hear, Fault, Cut, Reopen}
+use Rattle.lift_world.specs.Decided.{when}
+use Rattle.lift_world.specs.World.{World, Batch, may_keep, is_gate_written, is_broken, is_off, is_running, is_idle, written, same_kept, is_taken_of}
+use Rattle.lift_world.specs.Next.{next, run, cutting, reopened, answering, pulled, may_reopen, is_empty}
+use Rattle.lift_world.specs.Possible.{CutsToSafe, CutsWithBatch, ReopensAfterCut, OnlyReopensAfterCut, ReopensAfterFault, KeepsRunning, AnswersDue}
+
+pub cuts_to_safe : (w : World) → CutsToSafe w
+cuts_to_safe w = refl
+
+gate_written : (phase : Phase) → phase ≡ GateWritten → is_gate_written phase ≡ true
+gate_written phase h = ap is_gate_written h
+
+gate_unwritten : (phase : Phase) → phase ≢ GateWritten → is_gate_written phase ≡ false
+gate_unwritten Idle h = refl
+gate_unwritten (Writing n) h = refl
+gate_unwritten Synced h = refl
+gate_unwritten GateWritten h = absurd (h refl)
+
+pub cuts_with_batch : (w : World) → CutsWithBatch w
+cuts_with_batch w = record {
+  written = λ h. ap (λ (b : Bool). when b (cutting w WithBatch)) (gate_written w.phase h);
+  unwritten = λ h. ap (λ (b : Bool). when b (cutting w WithBatch)) (gate_unwritten w.phase h);
+}
+
+same_itself : (kept : Kept) → same_kept kept kept ≡ true
+same_itself Safe = refl
+same_itself WithBatch = refl
+
+when_some : {A : Type 0} (b : Bool) (x y : A) → when b x ≡ Some y → (b ≡ true) × (x ≡ y)
+when_some true x y h = (refl, cc)
+when_some false x y h = cc
+
+still_keeps : (w : World) (kept last : Kept) → may_keep (cutting w last) kept ≡ may_keep w kept
+still_keeps w Safe last = refl
+still_keeps w WithBatch last = refl
+
+same_outcome : (w : World) (kept : Kept) → (reopened (cutting w kept) kept).accepted ≡ Rattle.lift_world.specs.World.outcome w kept
+same_outcome w Safe = refl
+same_outcome w WithBatch = refl
+
+opens_after : (w : World) (kept : Kept) → may_keep w kept ≡ true → next (cutting w kept) (Reopen kept) ≡ Some (reopened (cutting w kept) kept)
+opens_after w kept may =
+    ap (λ (b : Bool). when (b && may_keep (cutting w kept) kept) (reopened (cutting w kept) kept)) (same_itself kept)
+    ∙ ap (λ (b : Bool). when b (reopened (cutting w kept) kept)) (still_keeps w kept kept ∙ may)
+
+pub reopens_after_cut : (w : World) → ReopensAfterCut w
+reopens_after_cut w = record {
+  opens = λ kept after h. let s = when_some (may_keep w kept) (cutting w kept) after h in
+      subst (λ (x : World). next x (Reopen kept) ≡ Some (reopened x kept)) s.1 (opens_after w kept s.0);
+  gives = λ kept after h. let s = when_some (may_keep w kept) (cutting w kept) after h in
+      subst (λ (x : World). (reopened x kept).accepted ≡ Rattle.lift_world.specs.World.outcome w kept) s.1 (same_outcome w kept);
+}
+
+same_both : (a b : Kept) → same_kept a b ≡ true → b ≡ a
+same_both Safe Safe h = refl
+same_both Safe WithBatch h = cc
+same_both WithBatch Safe h = cc
+same_both WithBatch WithBatch h = refl
+
+first_true : (a b : Bool) → (a && b) ≡ true → a ≡ true
+first_true true b h = refl
+first_true false b h = cc
+
+none_then : {A B : Type 0} (f : A → Option B) (o : Option A) (y : B) → ((x : A) → f x ≡ None) → option_and_then f o ≡ Some y → ⊥
+none_then f None y none h = cc
+none_then f (Some x) y none h = let n = none x in cc
+
+-- while the power is off
+off_at : (w : World) (last : Kept) (event : Event) (after : World) → next (record w { power = Off last }) event ≡ Some after → ((kept : Kept) × (event ≡ Cut kept)) ⊎ (event ≡ Reopen last)
+off_at w last (Ask terminal number body) after h = cc
+off_at w last (Take terminal letter) after h = cc
+off_at w last Seal after h = cc
+off_at w last Pull after h = cc
+off_at w last Fold after h = absurd (none_then _ (written w.phase) after (λ n. refl) h)
+off_at w last BodyWrite after h = absurd (none_then _ (written w.phase) after (λ n. refl) h)
+off_at w last FirstSync after h = absurd (none_then _ (written w.phase) after (λ n. refl) h)
+off_at w last Gate after h = cc
+off_at w last SecondSync after h = cc
+off_at w last (Answering terminal) after h = cc
+off_at w last (Hear terminal) after h = cc
+off_at w last Fault after h = cc
+off_at w last (Cut kept) after h = inl (kept, refl)
+off_at w last (Reopen kept) after h =
+    inr (ap (λ (k : Kept). Reopen k) (same_both last kept (first_true (same_kept last kept) _ (when_some (same_kept last kept && may_keep (record w { power = Off last }) kept) (reopened (record w { power = Off last }) kept) after h).0)))
+
+pub only_reopens_after_cut : (w : World) → OnlyReopensAfterCut w
+only_reopens_after_cut w last event after off h = off_at w last event after (subst (λ (p : Power). next (record w { power = p }) event ≡ Some after) off h)
+
+-- after a fault
+broken_opens : (w : World) (kept : Kept) → w.power ≡ Broken → w.queue ≡ [] → may_keep w kept ≡ true → next w (Reopen kept) ≡ Some (reopened w kept)
+broken_opens w kept broken empty may =
+    ap (λ (p : Power). when (may_reopen w p kept) (reopened w kept)) broken
+    ∙ ap (λ (q : List Batch). when (is_empty q && may_keep w kept) (reopened w kept)) empty
+    ∙ ap (λ (b : Bool). when b (reopened w kept)) may
+
+both_false : (a b : Bool) → b ≡ false → (a && b) ≡ false
+both_false true b h = h
+both_false false b h = refl
+
+not_empty : (queue : List Batch) → queue ≢ [] → is_empty queue ≡ false
+not_empty [] h = absurd (h refl)
+not_empty (b ∷ queue) h = refl
+
+pull_one : (w : World) (batch : Batch) (rest : List Batch) → w.power ≡ Broken → w.queue ≡ batch ∷ rest
+    → unwrap_or (next w Pull) w ≡ record w { queue = rest; due = w.due ++ Rattle.std.specs.Prelude.map Rattle.lift_world.specs.Next.unknown_to batch.commands }
+pull_one w batch rest broken queued =
+    let one : next w Pull ≡ Some (record w { queue = rest; due = w.due ++ Rattle.std.specs.Prelude.map Rattle.lift_world.specs.Next.unknown_to batch.commands }) =
+    ap (λ (p : Power). cond (is_broken p || (is_running p && is_idle w.phase)) (pulled w w.queue) None) broken
+    ∙ ap (λ (q : List Batch). pulled w q) queued
+    ∙ ap (λ (p : Power). Some (cond (is_broken p) (record w { queue = rest; due = w.due ++ Rattle.std.specs.Prelude.map Rattle.lift_world.specs.Next.unknown_to batch.commands }) (cond (Rattle.std.specs.Prelude.nat_lt w.safe batch.upto) (record w { queue = rest; flight = batch; phase = Writing 0 }) (record w { queue = rest; due = w.due ++ batch.commands })))) broken in
+    ap (λ (o : Option World). unwrap_or o w) one
+
+drained : (queue : List Batch) (w : World) → w.power ≡ Broken → w.queue ≡ queue → (run (replicate (length queue) Pull) w).queue ≡ []
+drained [] w broken queued = queued
+drained (batch ∷ rest) w broken queued =
+    let after : World = record w { queue = rest; due = w.due ++ Rattle.std.specs.Prelude.map Rattle.lift_world.specs.Next.unknown_to batch.commands } in
+    ap (λ (x : World). (run (replicate (length rest) Pull) x).queue) (pull_one w batch rest broken queued) ∙ drained rest after broken refl
+
+pub reopens_after_fault : (w : World) → ReopensAfterFault w
+reopens_after_fault w = record {
+  safe = λ broken empty. broken_opens w Safe broken empty refl;
+  with_batch = λ broken empty written. broken_opens w WithBatch broken empty (gate_written w.phase written);
+  unwritten = λ broken unwritten. ap (λ (p : Power). when (may_reopen w p WithBatch) (reopened w WithBatch)) broken
+      ∙ ap (λ (b : Bool). when b (reopened w WithBatch)) (both_false (is_empty w.queue) (is_gate_written w.phase) (gate_unwritten w.phase unwritten));
+  queued = λ kept broken some. ap (λ (p : Power). when (may_reopen w p kept) (reopened w kept)) broken
+      ∙ ap (λ (b : Bool). when (b && may_keep w kept) (reopened w kept)) (not_empty w.queue some);
+  drains = λ broken. drained w.queue w broken refl;
+}
+
+pub keeps_running : (w : World) → KeepsRunning w
+keeps_running w kept on = ap (λ (p : Power). when (may_reopen w p kept) (reopened w kept)) on
+
+pub answers_due : (w : World) → AnswersDue w
+answers_due w terminal command on at =
+    ap (λ (b : Bool). cond (not b) (option_map (answering w terminal) (find (is_taken_of terminal) w.due)) None) on ∙ ap (option_map (answering w terminal)) at

@@ -1,0 +1,19 @@
+use Rattle.lift_world.proofs.Steps.{takes_are_steps, steps_are_takes}
+use Rattle.lift_world.proofs.Scans.{runs_are_takes}
+use Rattle.lift_world.proofs.Turns.{turns_are_runs, failures_are_runs}
+use Rattle.lift_world.proofs.theorem.turns_are_events.Goals as goal
+
+pub returns-clause-steps : goal.returns-clause-steps
+returns-clause-steps c w = takes_are_steps w
+
+pub returns-clause-takes : goal.returns-clause-takes
+returns-clause-takes c w = steps_are_takes w
+
+pub returns-clause-scans : goal.returns-clause-scans
+returns-clause-scans c w = runs_are_takes w
+
+pub returns-clause-turns : goal.returns-clause-turns
+returns-clause-turns c w = turns_are_runs w
+
+pub returns-clause-failures : goal.returns-clause-failures
+returns-clause-failures c w = failures_are_runs w

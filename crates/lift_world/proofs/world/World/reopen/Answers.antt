@@ -1,0 +1,15 @@
+use Rattle.std.proofs.Common.{[], List, ap, ◌∙◌}
+use Rattle.lift_base.specs.declared.history.Entry.{Entry}
+use Rattle.lift_world.specs.World.{register_after}
+use Rattle.lift_world.proofs.Replayed.{fits_front}
+use Rattle.lift_world.proofs.world.World.reopen.Goals as goal
+
+pub replay-self-inside-requires : goal.replay-self-inside-requires
+replay-self-inside-requires c = rw (c.deref.ensures.value, c.truncate.ensures.items) (fits_front c.self.inside.building.now [] c.self.inside.accepted.items c.recovered-count.result c.self.invariant.fits)
+
+pub invariant_of-self : goal.invariant_of-self
+invariant_of-self c = record {
+  fits = rw c.truncate.ensures.items (fits_front c.self.inside.building.now [] c.self.inside.accepted.items c.recovered-count.result c.self.invariant.fits);
+  register_is = c.replay-self-inside.ensures.value ∙ ap (λ (xs : List Entry). register_after xs) c.deref.ensures.value;
+  balanced = c.replay-self-inside.ensures.balanced;
+}

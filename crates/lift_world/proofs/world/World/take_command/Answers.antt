@@ -1,0 +1,34 @@
+use Rattle.std.proofs.Common.{sym, subst}
+use Rattle.lift_register.specs.Register.{RegisterState}
+use Rattle.lift_world.specs.World.{World}
+use Rattle.lift_world.specs.Replays.{view_of, IsTight}
+use Rattle.lift_world.proofs.Carried.{undecided, taken_on}
+use Rattle.lift_world.proofs.world.World.take_command.Goals as goal
+
+pub invariant_of-self-in_default : goal.invariant_of-self-in_default
+invariant_of-self-in_default c =
+    let i = c.self.inside in
+    let w : World = view_of i.building.now i.accepted.items i.safe i.sealed i.flight i.phase i.queue.items i.power i.positions i.taken.items i.due.items i.asked.items i.answered.items i.heard.items i.given.items in
+    rw c.reserve.ensures.items (subst (λ (r : RegisterState). IsTight i.building.now r i.accepted.items)
+    (sym (undecided w i.register c.args.command c.args.letter c.self.invariant c.decide.result c.decide.new.register c.decide.new.positions c.decide.ensures.carries c.in_default.is).1) c.self.invariant)
+
+pub returns-in_default-clause-ok : goal.returns-in_default-clause-ok
+returns-in_default-clause-ok c =
+    let i = c.self.inside in
+    let w : World = view_of i.building.now i.accepted.items i.safe i.sealed i.flight i.phase i.queue.items i.power i.positions i.taken.items i.due.items i.asked.items i.answered.items i.heard.items i.given.items in
+    rw (c.reserve.ensures.items, c.reserve-else-is_err.ensures.items, ← c.self.view_is)
+    (undecided w i.register c.args.command c.args.letter c.self.invariant c.decide.result c.decide.new.register c.decide.new.positions c.decide.ensures.carries c.in_default.is).0
+
+pub invariant_of-self-2 : goal.invariant_of-self-2
+invariant_of-self-2 c =
+    let i = c.self.inside in
+    let w : World = view_of i.building.now i.accepted.items i.safe i.sealed i.flight i.phase i.queue.items i.power i.positions i.taken.items i.due.items i.asked.items i.answered.items i.heard.items i.given.items in
+    let on = taken_on w i.register c.args.command c.args.letter c.self.invariant c.decide.result c.decide.new.register c.decide.new.positions c.decide.ensures.carries c.in-Some.decided c.in-Some.is c.cars.ensures.lawful in
+    rw (c.push_entry.ensures.items, c.reserve.ensures.items) (record { fits = on.1; register_is = on.2; balanced = c.decide.ensures.balanced })
+
+pub returns-clause-ok : goal.returns-clause-ok
+returns-clause-ok c =
+    let i = c.self.inside in
+    let w : World = view_of i.building.now i.accepted.items i.safe i.sealed i.flight i.phase i.queue.items i.power i.positions i.taken.items i.due.items i.asked.items i.answered.items i.heard.items i.given.items in
+    rw (c.in-Ok.ensures.items, c.push_entry.ensures.items, c.reserve.ensures.items, c.reserve-else-is_err.ensures.items, ← c.self.view_is)
+    (taken_on w i.register c.args.command c.args.letter c.self.invariant c.decide.result c.decide.new.register c.decide.new.positions c.decide.ensures.carries c.in-Some.decided c.in-Some.is c.cars.ensures.lawful).0

@@ -1,0 +1,9 @@
+pub mod Decided
+pub mod Carries
+pub mod Replays
+pub mod World
+pub mod Next
+pub mod Headline
+pub mod Possible
+pub mod Tie
+pub mod Turns

@@ -1,0 +1,180 @@
+-- What each event does, and where it is possible.
+use Rattle.std.specs.Prelude.{ℕ, ◌==◌, ◌+◌, Bool, true, false, not, ◌&&◌, ◌||◌, if◌then◌else◌, nat_lt, nat_le, List, [], ◌∷◌, ◌++◌, length, map, take, reverse, filter, find, count_by, slice_get, Option, Some, None, option_map, option_and_then, unwrap_or}
+use Rattle.std.specs.List.{list_any, flat_map}
+use Rattle.lift_base.specs.declared.command.Reply.TheVariants.{Unknown}
+use Rattle.lift_policy.specs.declared.command.Command.{Command}
+use Rattle.lift_world.specs.declared.event.Kept.{Kept}
+use Rattle.lift_world.specs.declared.event.Power.{Power}
+use Rattle.lift_world.specs.declared.event.Power.TheVariants.{Running, Broken, Off}
+use Rattle.lift_world.specs.declared.event.Phase.{Phase}
+use Rattle.lift_world.specs.declared.event.Phase.TheVariants.{Idle, Writing, Synced, GateWritten}
+use Rattle.lift_world.specs.declared.event.Taken.{Taken}
+use Rattle.lift_world.specs.declared.event.Answer.{Answer}
+use Rattle.lift_world.specs.declared.event.Event.{Event}
+use Rattle.lift_world.specs.declared.event.Event.TheVariants.{Ask, Take, Seal, Pull, Fold, Body as BodyWrite, FirstSync, Gate, SecondSync, Answer as Answering, Hear, Fault, Cut, Reopen}
+use Rattle.lift_world.specs.Decided.{Decision, decided, when}
+use Rattle.lift_world.specs.World.{World, Batch, no_batch, unplaced, is_running, is_broken, is_off, is_idle, is_synced, is_gate_written, written, same_kept, asks, is_taken_of, is_answer_to, state_of, batch_of, may_keep, outcome}
+
+abbrev pub is_empty : {A : Type 0} → List A → Bool
+is_empty [] = true
+is_empty (x ∷ xs) = false
+
+-- a terminal asks once it has heard the answers to all its asks
+abbrev pub may_ask : World → ℕ → Bool
+may_ask w terminal = not (is_off w.power) && count_by (asks terminal) w.asked == count_by (is_answer_to terminal) w.heard
+
+abbrev pub asking : World → Command → World
+asking w command = record w { asked = w.asked ++ command ∷ [] }
+
+-- the commands that were taken and aren't answered, from the oldest batch on
+abbrev pub unanswered : World → List Taken
+unanswered w = w.due ++ w.flight.commands ++ flat_map (λ (b : Batch). b.commands) w.queue ++ w.taken
+
+-- the terminal has an ask that isn't taken
+abbrev pub is_waiting : World → ℕ → Bool
+is_waiting w terminal =
+    nat_lt (count_by (is_answer_to terminal) w.answered) (count_by (asks terminal) w.asked) && not (list_any (is_taken_of terminal) (unanswered w))
+
+-- the allocator decides on while four batches are sealed ahead, also after a fault
+abbrev pub may_take : World → ℕ → Bool
+may_take w terminal = not (is_off w.power) && nat_le (length w.queue) 4 && is_waiting w terminal
+
+-- the batch so far ends with what the decision accepted
+abbrev pub deciding : World → Command → Decision → World
+deciding w command decision = record w {
+  accepted = take w.sealed w.accepted ++ decision.next.batch;
+  positions = decision.next.positions;
+  taken = w.taken ++ record { terminal = command.terminal; number = command.number; body = command.body; reply = decision.reply } ∷ [];
+}
+
+abbrev pub taking : World → Option ℕ → Command → Option World
+taking w letter command = option_map (deciding w command) (decided w.building (state_of w) command.terminal command.number command.body letter)
+
+abbrev pub may_seal : World → Bool
+may_seal w = not (is_off w.power) && not (is_empty w.taken)
+
+-- what was taken becomes the last batch of the queue
+abbrev pub sealing : World → World
+sealing w = record w { queue = w.queue ++ record { commands = w.taken; upto = length w.accepted } ∷ []; sealed = length w.accepted; taken = [] }
+
+abbrev pub unknown_to : Taken → Taken
+unknown_to c = record c { reply = Unknown }
+
+abbrev pub may_pull : World → Bool
+may_pull w = is_broken w.power || (is_running w.power && is_idle w.phase)
+
+-- the batch is in flight; one without entries is due at once, and after a fault so is each, answered Unknown
+abbrev pub pulling : World → Batch → List Batch → World
+pulling w batch rest =
+    if is_broken w.power
+    then record w { queue = rest; due = w.due ++ map unknown_to batch.commands }
+    else (if nat_lt w.safe batch.upto
+    then record w { queue = rest; flight = batch; phase = Writing 0 }
+    else record w { queue = rest; due = w.due ++ batch.commands })
+
+abbrev pub pulled : World → List Batch → Option World
+pulled w [] = None
+pulled w (batch ∷ rest) = Some (pulling w batch rest)
+
+abbrev pub in_phase : World → Phase → World
+in_phase w phase = record w { phase = phase }
+
+-- the body of a batch takes one sector up to 31 entries, else two
+abbrev pub bodies : ℕ → ℕ
+bodies count = if nat_le count 31 then 1 else 2
+
+-- the writes before the first sync: the body sectors and the gate after them
+abbrev pub writes_of : World → ℕ
+writes_of w = bodies (length (batch_of w)) + 1
+
+abbrev pub may_write : World → ℕ → Bool
+may_write w n = is_running w.power && nat_lt n (writes_of w)
+
+abbrev pub may_sync : World → ℕ → Bool
+may_sync w n = is_running w.power && n == writes_of w
+
+-- the batch in flight is safe, and its commands are due
+abbrev pub settling : World → World
+settling w = record w { safe = w.flight.upto; flight = no_batch; phase = Idle; due = w.due ++ w.flight.commands }
+
+-- a device call may fail while a batch is written; a failed write of the gate is that write and then the fault
+abbrev pub may_fail : World → Bool
+may_fail w = is_running w.power && not (is_idle w.phase) && not (is_synced w.phase)
+
+-- the batch stays in doubt, and its commands are answered Unknown
+abbrev pub failing : World → World
+failing w = record w { power = Broken; flight = record { commands = []; upto = w.flight.upto }; due = w.due ++ map unknown_to w.flight.commands }
+
+abbrev pub others : ℕ → List Taken → List Taken
+others terminal taken = filter (λ (c : Taken). not (is_taken_of terminal c)) taken
+
+abbrev pub answer_of : Taken → Answer
+answer_of c = record { terminal = c.terminal; number = c.number; reply = c.reply }
+
+abbrev pub answering : World → ℕ → Taken → World
+answering w terminal command =
+    record w { due = others terminal w.due; answered = w.answered ++ answer_of command ∷ []; given = w.given ++ command ∷ [] }
+
+-- the answer after those that the terminal heard
+abbrev pub next_answer : World → ℕ → Option Answer
+next_answer w terminal = slice_get (filter (is_answer_to terminal) w.answered) (count_by (is_answer_to terminal) w.heard)
+
+abbrev pub hearing : World → Answer → World
+hearing w answer = record w { heard = w.heard ++ answer ∷ [] }
+
+-- a cut empties all words and unplaces all cars; the batch in flight stays with its phase
+abbrev pub cutting : World → Kept → World
+cutting w kept = record w {
+  power = Off kept;
+  flight = record { commands = []; upto = w.flight.upto };
+  queue = [];
+  positions = unplaced;
+  taken = [];
+  due = [];
+  asked = [];
+  answered = [];
+  heard = [];
+}
+
+-- a reopening has the outcome of the last cut; after a fault alone any that the phase allows, once the queue is empty
+abbrev pub may_reopen : World → Power → Kept → Bool
+may_reopen w Running kept = false
+may_reopen w Broken kept = is_empty w.queue && may_keep w kept
+may_reopen w (Off last) kept = same_kept last kept && may_keep w kept
+
+abbrev pub reopened : World → Kept → World
+reopened w kept = record w {
+  accepted = outcome w kept;
+  safe = length (outcome w kept);
+  sealed = length (outcome w kept);
+  flight = no_batch;
+  phase = Idle;
+  queue = [];
+  power = Running;
+  positions = unplaced;
+  taken = [];
+}
+
+-- The world after an event, where it is possible. A checkpoint copies what is safe into the other half: in each of its
+-- calls either half stands for the same register, so that no call changes what a recovery gives.
+abbrev pub next : World → Event → Option World
+next w (Ask terminal number body) = when (may_ask w terminal) (asking w (record { terminal = terminal; number = number; body = body }))
+next w (Take terminal letter) =
+    if may_take w terminal then option_and_then (taking w letter) (find (asks terminal) (reverse w.asked)) else None
+next w Seal = when (may_seal w) (sealing w)
+next w Pull = if may_pull w then pulled w w.queue else None
+next w Fold = option_and_then (λ n. when (is_running w.power && n == 0) w) (written w.phase)
+next w BodyWrite = option_and_then (λ n. when (may_write w n) (in_phase w (Writing (n + 1)))) (written w.phase)
+next w FirstSync = option_and_then (λ n. when (may_sync w n) (in_phase w Synced)) (written w.phase)
+next w Gate = when (is_running w.power && is_synced w.phase) (in_phase w GateWritten)
+next w SecondSync = when (is_running w.power && is_gate_written w.phase) (settling w)
+next w (Answering terminal) = if not (is_off w.power) then option_map (answering w terminal) (find (is_taken_of terminal) w.due) else None
+next w (Hear terminal) = if not (is_off w.power) then option_map (hearing w) (next_answer w terminal) else None
+next w Fault = when (may_fail w) (failing w)
+next w (Cut kept) = when (may_keep w kept) (cutting w kept)
+next w (Reopen kept) = when (may_reopen w w.power kept) (reopened w kept)
+
+-- a whole run; an event that isn't possible changes nothing
+abbrev pub run : List Event → World → World
+run [] w = w
+run (event ∷ events) w = run events (unwrap_or (next w event) w)

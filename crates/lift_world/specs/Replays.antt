@@ -1,0 +1,55 @@
+-- What the machine in memory is: its view, and its register as that of its list.
+use Rattle.std.specs.Prelude.{ℕ, ◌≡◌, Bool, List, [], ◌∷◌, ◌++◌, Option, Some, None, true, false}
+use Rattle.lift_base.specs.declared.travel.Position.{Position}
+use Rattle.lift_base.specs.declared.history.Entry.{Entry}
+use Rattle.lift_building.specs.Plan.{Plan}
+use Rattle.lift_register.specs.Register.{RegisterState}
+use Rattle.lift_register.specs.Fits.{Fits}
+use Rattle.lift_register.specs.Balanced.{IsBalanced}
+use Rattle.lift_policy.specs.declared.command.Command.{Command}
+use Rattle.lift_world.specs.declared.event.Phase.{Phase}
+use Rattle.lift_world.specs.declared.event.Power.{Power}
+use Rattle.lift_world.specs.declared.event.Taken.{Taken}
+use Rattle.lift_world.specs.declared.event.Answer.{Answer}
+use Rattle.lift_world.specs.declared.event.Event.{Event}
+use Rattle.lift_world.specs.World.{World, Batch, register_after}
+use Rattle.lift_world.specs.Next.{next}
+
+-- each of these entries fits the register of those before it
+abbrev pub FitAfter : Plan → List Entry → List Entry → Type 0
+FitAfter building before [] = Unit {0}
+FitAfter building before (entry ∷ entries) =
+    Fits building (register_after before) entry × FitAfter building (before ++ entry ∷ []) entries
+
+-- the register is that of the accepted entries, which fit
+pub record IsTight (building : Plan) (register : RegisterState) (accepted : List Entry) : Type 0 where
+  pub fits : FitAfter building [] accepted
+  pub register_is : register ≡ register_after accepted
+  pub balanced : IsBalanced register
+
+abbrev pub view_of : Plan → List Entry → ℕ → ℕ → Batch → Phase → List Batch → Power → List (Option Position) → List Taken → List Taken → List Command → List Answer → List Answer → List Taken → World
+view_of building accepted safe sealed flight phase queue power positions taken due asked answered heard given = record {
+  building = building;
+  accepted = accepted;
+  safe = safe;
+  sealed = sealed;
+  flight = flight;
+  phase = phase;
+  queue = queue;
+  power = power;
+  positions = positions;
+  taken = taken;
+  due = due;
+  asked = asked;
+  answered = answered;
+  heard = heard;
+  given = given;
+}
+
+-- what a step answers and leaves: an event that isn't possible changes nothing
+abbrev pub MovesTo : Option World → World → Bool → World → Type 0
+MovesTo None old possible new = (possible ≡ false) × (new ≡ old)
+MovesTo (Some w) old possible new = (possible ≡ true) × (new ≡ w)
+
+abbrev pub Moves : World → Event → Bool → World → Type 0
+Moves old event possible new = MovesTo (next old event) old possible new

@@ -1,0 +1,124 @@
+-- Whole turns as lists of events.
+use Rattle.std.specs.Prelude.{ℕ, ◌≡◌, ◌≢◌, ◌≤◌, ◌<◌, ◌==◌, ◌+◌, true, if◌then◌else◌, List, [], ◌∷◌, ◌++◌, length, map, take, replicate, Option}
+use Rattle.std.specs.List.{AllByRecursion}
+use Rattle.lift_base.specs.declared.command.Reply.{Reply}
+use Rattle.lift_policy.specs.Eligible.{any_eligible}
+use Rattle.lift_policy.specs.Step.{State}
+use Rattle.lift_policy.specs.Run.{Run}
+use Rattle.lift_policy.specs.declared.command.Command.{Command}
+use Rattle.lift_world.specs.declared.event.Event.{Event}
+use Rattle.lift_world.specs.declared.event.Event.TheVariants.{Take, Seal, Pull, Fold, Body as BodyWrite, FirstSync, Gate, SecondSync, Answer, Fault}
+use Rattle.lift_world.specs.declared.event.Taken.{Taken}
+use Rattle.lift_world.specs.declared.event.Phase.{Phase}
+use Rattle.lift_world.specs.declared.event.Phase.TheVariants.{Idle, Writing, Synced, GateWritten}
+use Rattle.lift_world.specs.declared.event.Power.TheVariants.{Broken}
+use Rattle.lift_world.specs.World.{World, no_batch, is_running, state_of}
+use Rattle.lift_world.specs.Next.{run, bodies, answer_of, unknown_to}
+use Rattle.lift_world.specs.Tie.{Finds}
+
+-- the asks of these commands stand, and no terminal is looked at twice
+abbrev pub AreFound : World → List Command → Type 0
+AreFound w [] = Unit {0}
+AreFound w (c ∷ commands) = Finds w c.terminal c × AllByRecursion (λ (d : Command). d.terminal ≢ c.terminal) commands × AreFound w commands
+
+-- the commands with their replies
+abbrev pub with_replies : List Command → List Reply → List Taken
+with_replies [] replies = []
+with_replies (c ∷ commands) [] = []
+with_replies (c ∷ commands) (reply ∷ replies) = record { terminal = c.terminal; number = c.number; body = c.body; reply = reply } ∷ with_replies commands replies
+
+-- the takes of a scan, with the car that each names
+abbrev pub take_events : List Command → List (Option ℕ) → List Event
+take_events [] letters = []
+take_events (c ∷ commands) [] = []
+take_events (c ∷ commands) (letter ∷ letters) = Take c.terminal letter ∷ take_events commands letters
+
+-- the world after a scan
+abbrev pub scanned : World → List Command → List Reply → State → World
+scanned w commands replies state =
+    record w { accepted = take w.sealed w.accepted ++ state.batch; positions = state.positions; taken = w.taken ++ with_replies commands replies }
+
+-- whatever a scan may answer by the rules, under any policy, its takes leave with some letters
+abbrev pub RunsAreTakes : World → Type 0
+RunsAreTakes w = (commands : List Command) (replies : List Reply) (state : State) → w.sealed ≤ length w.accepted → AreFound w commands
+    → Run w.building any_eligible (state_of w) commands replies state
+    → (letters : List (Option ℕ)) × (run (take_events commands letters) w ≡ scanned w commands replies state)
+
+-- between two turns: nothing is taken or on its way, and all that is accepted is safe
+pub record IsAtRest (w : World) : Type 0 where
+  pub running : is_running w.power ≡ true
+  pub idle : w.phase ≡ Idle
+  pub nothing_flies : w.flight ≡ no_batch
+  pub nothing_queued : w.queue ≡ []
+  pub nothing_taken : w.taken ≡ []
+  pub nothing_due : w.due ≡ []
+  pub all_sealed : w.sealed ≡ length w.accepted
+  pub all_safe : w.safe ≡ length w.accepted
+
+-- the device calls of a batch up to a phase, where it has so many writes before its first sync
+abbrev pub calls_to : ℕ → Phase → List Event
+calls_to writes Idle = []
+calls_to writes (Writing n) = replicate n BodyWrite
+calls_to writes Synced = replicate writes BodyWrite ++ FirstSync ∷ []
+calls_to writes GateWritten = replicate writes BodyWrite ++ FirstSync ∷ Gate ∷ []
+
+-- all device calls of a batch with so many entries, after those of a checkpoint; a batch without entries has none
+abbrev pub device_calls : ℕ → ℕ → List Event
+device_calls folds count = if count == 0 then [] else (replicate folds Fold ++ (calls_to (bodies count + 1) GateWritten ++ SecondSync ∷ []))
+
+abbrev pub answer_events : List Command → List Event
+answer_events commands = map (λ (c : Command). Answer c.terminal) commands
+
+-- a turn: a scan, its batch made safe, its answers
+abbrev pub turn_events : List Command → List (Option ℕ) → ℕ → ℕ → List Event
+turn_events commands letters folds count = take_events commands letters ++ (Seal ∷ Pull ∷ (device_calls folds count ++ answer_events commands))
+
+-- the world after a turn: what was decided is safe, and each command has its reply
+abbrev pub turned : World → List Command → List Reply → State → World
+turned w commands replies state = record w {
+  accepted = w.accepted ++ state.batch;
+  safe = length (w.accepted ++ state.batch);
+  sealed = length (w.accepted ++ state.batch);
+  positions = state.positions;
+  answered = w.answered ++ map answer_of (with_replies commands replies);
+  given = w.given ++ with_replies commands replies;
+}
+
+-- A turn that took something and answers Ok is its list of events, however many calls its checkpoint makes.
+abbrev pub TurnsAreRuns : World → Type 0
+TurnsAreRuns w = (command : Command) (commands : List Command) (reply : Reply) (replies : List Reply) (state : State) → IsAtRest w → AreFound w (command ∷ commands)
+    → Run w.building any_eligible (state_of w) (command ∷ commands) (reply ∷ replies) state
+    → (letters : List (Option ℕ)) × ((folds : ℕ) → run (turn_events (command ∷ commands) letters folds (length state.batch)) w ≡ turned w (command ∷ commands) (reply ∷ replies) state)
+
+-- the phases in which a device call of a batch may fail: one of the checkpoint's, one of the writes or the first sync;
+-- the gate's write or the second sync
+abbrev pub MayFailIn : ℕ → Phase → Type 0
+MayFailIn writes Idle = ⊥
+MayFailIn writes (Writing n) = n ≤ writes
+MayFailIn writes Synced = ⊥
+MayFailIn writes GateWritten = Unit {0}
+
+-- a turn in which a device call fails
+abbrev pub failed_events : List Command → List (Option ℕ) → ℕ → Phase → ℕ → List Event
+failed_events commands letters folds phase count =
+    take_events commands letters ++ (Seal ∷ Pull ∷ (replicate folds Fold ++ (calls_to (bodies count + 1) phase ++ Fault ∷ answer_events commands)))
+
+-- the world after it: each command is answered Unknown, and the batch is in doubt
+abbrev pub failed : World → List Command → List Reply → State → Phase → World
+failed w commands replies state phase = record w {
+  accepted = w.accepted ++ state.batch;
+  sealed = length (w.accepted ++ state.batch);
+  flight = record { commands = []; upto = length (w.accepted ++ state.batch) };
+  phase = phase;
+  power = Broken;
+  positions = state.positions;
+  answered = w.answered ++ map answer_of (map unknown_to (with_replies commands replies));
+  given = w.given ++ map unknown_to (with_replies commands replies);
+}
+
+-- A turn whose batch fails is its list of events, whichever device call it was.
+abbrev pub FailuresAreRuns : World → Type 0
+FailuresAreRuns w = (command : Command) (commands : List Command) (reply : Reply) (replies : List Reply) (state : State) (phase : Phase) → IsAtRest w → AreFound w (command ∷ commands)
+    → Run w.building any_eligible (state_of w) (command ∷ commands) (reply ∷ replies) state
+    → 0 < length state.batch → MayFailIn (bodies (length state.batch) + 1) phase
+    → (letters : List (Option ℕ)) × ((folds : ℕ) → run (failed_events (command ∷ commands) letters folds phase (length state.batch)) w ≡ failed w (command ∷ commands) (reply ∷ replies) state phase)

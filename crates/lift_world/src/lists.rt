@@ -1,0 +1,98 @@
+ghost use Rattle.std.specs.Prelude.{◌≡◌, ◌≤◌, ◌++◌, ◌+◌, ◌-◌, OnOk, OnErr, length, map, drop, count_by, find, reverse, filter, slice_get, vec_len, vec_capacity};
+ghost use Rattle.std.specs.List.{list_any};
+ghost use Rattle.lift_world.specs.World.{asks, is_answer_to, is_taken_of};
+ghost use Rattle.lift_world.specs.Next.{others, unknown_to};
+
+use crate::event::{Answer, Taken};
+use lift_base::{Memory, Terminal};
+use lift_policy::Command;
+
+pub fn count_asks(asked: &[Command], terminal: Terminal) -> usize
+    ensures { result ≡ count_by (asks terminal) asked.now }
+{
+    asked.iter().filter(|c| c.terminal == terminal).count()
+}
+
+pub fn count_answers(answers: &[Answer], terminal: Terminal) -> usize
+    ensures { result ≡ count_by (is_answer_to terminal) answers.now }
+{
+    answers.iter().filter(|a| a.terminal == terminal).count()
+}
+
+pub fn is_taken(taken: &[Taken], terminal: Terminal) -> bool
+    ensures { result ≡ list_any (is_taken_of terminal) taken.now }
+{
+    taken.iter().any(|c| c.terminal == terminal)
+}
+
+pub fn last_ask(asked: &[Command], terminal: Terminal) -> Option<Command>
+    ensures { result ≡ find (asks terminal) (reverse asked.now) }
+{
+    let mut last = None;
+    for command in asked {
+        if command.terminal == terminal {
+            last = Some(*command);
+        }
+    }
+    last
+}
+
+pub fn taken_of(taken: &[Taken], terminal: Terminal) -> Option<Taken>
+    ensures { result ≡ find (is_taken_of terminal) taken.now }
+{
+    for command in taken {
+        if command.terminal == terminal {
+            return Some(*command);
+        }
+    }
+    None
+}
+
+/// The answer to the terminal after this many.
+pub fn answer_after(answers: &[Answer], terminal: Terminal, heard: usize) -> Option<Answer>
+    ensures { result ≡ slice_get (filter (is_answer_to terminal) answers.now) heard }
+{
+    let mut left = heard;
+    for answer in answers {
+        if answer.terminal == terminal {
+            if left == 0 {
+                return Some(*answer);
+            }
+            left -= 1;
+        }
+    }
+    None
+}
+
+pub fn drop_taken(taken: &mut Vec<Taken>, terminal: Terminal)
+    ensures { taken.new.items ≡ others terminal taken.old.items }
+{
+    taken.retain(|c| c.terminal != terminal);
+}
+
+/// The commands become due with their replies.
+pub fn add_due(due: &mut Vec<Taken>, commands: &[Taken]) -> Result<(), Memory>
+    ensures ok { OnOk result (due.new.items ≡ due.old.items ++ commands.now) }
+    ensures err { OnErr result (due.new.items ≡ due.old.items) }
+{
+    match due.extend_from_slice(commands) {
+        Ok(()) => Ok(()),
+        Err(_) => Err(Memory),
+    }
+}
+
+/// The commands become due, each answered Unknown.
+pub fn add_unknown(due: &mut Vec<Taken>, commands: &[Taken]) -> Result<(), Memory>
+    ensures ok { OnOk result (due.new.items ≡ due.old.items ++ map unknown_to commands.now) }
+    ensures err { OnErr result (due.new.items ≡ due.old.items) }
+{
+    if due.reserve(commands.len()).is_err() {
+        return Err(Memory);
+    }
+    for command in commands {
+        let Ok(()) = due.push(command.unknown()) else {
+            unreachable!()
+        };
+    }
+    Ok(())
+}

@@ -1,0 +1,252 @@
+//! Worked runs of the machine.
+
+use lift_base::{Body, Dir, Floor, Letter, Number, Party, Reply, Terminal};
+use lift_building::Building;
+use lift_world::{Event, Kept, Phase, Power, World};
+use std::test::Fail;
+
+/// Ten floors, two cars of eight places, and kiosks at floors 0, 5 and 7.
+const DEMO: &str = "floors = 10
+door_ms = 6000
+kiosks = [0, 5, 7]
+flight = [
+[0,3000,4000,5000,6000,7000,8000,9000,10000,11000],
+[3000,0,3000,4000,5000,6000,7000,8000,9000,10000],
+[4000,3000,0,3000,4000,5000,6000,7000,8000,9000],
+[5000,4000,3000,0,3000,4000,5000,6000,7000,8000],
+[6000,5000,4000,3000,0,3000,4000,5000,6000,7000],
+[7000,6000,5000,4000,3000,0,3000,4000,5000,6000],
+[8000,7000,6000,5000,4000,3000,0,3000,4000,5000],
+[9000,8000,7000,6000,5000,4000,3000,0,3000,4000],
+[10000,9000,8000,7000,6000,5000,4000,3000,0,3000],
+[11000,10000,9000,8000,7000,6000,5000,4000,3000,0]]
+[[cars]]
+places = 8
+[[cars]]
+places = 8
+";
+
+fn terminal(index: u8) -> Terminal {
+    Terminal::new(index).unwrap_or_default()
+}
+
+fn place(car: u8, floor: u8, dir: Dir) -> Event {
+    let floor = Floor::new(floor).unwrap_or_default();
+    Event::Ask(terminal(car), Number::default(), Body::Place(floor, dir))
+}
+
+fn call(index: u8, number: u32, to: u8) -> Event {
+    let to = Floor::new(to).unwrap_or_default();
+    let number = Number::new(number).unwrap_or_default();
+    Event::Ask(terminal(index), number, Body::Call(to, Party::default()))
+}
+
+/// Looks at a terminal, for a command that is no new call.
+fn take(index: u8) -> Event {
+    Event::Take(terminal(index), None)
+}
+
+/// Looks at a kiosk, whose call this car gets.
+fn allot(index: u8, car: u8) -> Event {
+    Event::Take(terminal(index), Letter::new(car))
+}
+
+fn answer(index: u8) -> Event {
+    Event::Answer(terminal(index))
+}
+
+fn hear(index: u8) -> Event {
+    Event::Hear(terminal(index))
+}
+
+/// Each of these events is possible.
+fn goes(world: &mut World, events: &[Event]) -> bool {
+    for event in events {
+        if world.step(event) != Ok(true) {
+            return false;
+        }
+    }
+    true
+}
+
+/// The event isn't possible.
+fn stays(world: &mut World, event: &Event) -> bool {
+    world.step(event) == Ok(false)
+}
+
+/// What was answered last is this.
+fn told(world: &World, reply: Reply) -> bool {
+    match world.answered().last() {
+        Some(answer) => answer.reply == reply,
+        None => false,
+    }
+}
+
+/// Car A tells where it is, and is answered.
+fn placed(world: &mut World) -> bool {
+    let events = [
+        place(0, 0, Dir::Up),
+        take(0),
+        Event::Seal,
+        Event::Pull,
+        answer(0),
+        hear(0),
+    ];
+    goes(world, &events)
+}
+
+/// Kiosk 0 asks for floor 5, gets car A, and its batch is written up to the gate after it.
+fn called(world: &mut World) -> bool {
+    let events = [
+        call(16, 1, 5),
+        allot(16, 0),
+        Event::Seal,
+        Event::Pull,
+        Event::Fold,
+        Event::Body,
+        Event::Body,
+    ];
+    placed(world) && goes(world, &events)
+}
+
+fn letter(index: u8) -> Reply {
+    Reply::Car(Letter::new(index).unwrap_or_default())
+}
+
+/// The second sync fails: nothing is told, the cut keeps the batch, and the repeat gets its letter with no car placed.
+#[test]
+fn keeps_the_batch(rt: HostRuntime) -> Result<(), Fail> {
+    let building = Building::read(rt.alloc(), DEMO).ok().ok_or("refused")?;
+    let mut world = World::new(rt.alloc(), &building, 64).ok().ok_or("memory")?;
+    assert!(rt; called(&mut world));
+    assert!(rt; stays(&mut world, &Event::Cut(Kept::WithBatch)));
+    assert!(rt; goes(&mut world, &[Event::FirstSync, Event::Gate, Event::Fault]));
+    assert!(rt; world.power() == Power::Broken);
+    assert!(rt; goes(&mut world, &[answer(16)]) && told(&world, Reply::Unknown));
+    assert!(rt; goes(&mut world, &[Event::Cut(Kept::WithBatch)]));
+    assert!(rt; world.power() == Power::Off(Kept::WithBatch));
+    assert!(rt; stays(&mut world, &Event::Reopen(Kept::Safe)));
+    assert!(rt; goes(&mut world, &[Event::Reopen(Kept::WithBatch)]));
+    assert!(rt; world.power() == Power::Running);
+    assert!(rt; world.accepted().len() == 1 && world.safe() == 1);
+    let again = [
+        call(16, 1, 5),
+        take(16),
+        Event::Seal,
+        Event::Pull,
+        answer(16),
+        hear(16),
+    ];
+    assert!(rt; goes(&mut world, &again) && told(&world, letter(0)));
+    Ok(())
+}
+
+/// The same cut without the batch: no entry, and the call is new again, with no car that could take it.
+#[test]
+fn loses_the_batch(rt: HostRuntime) -> Result<(), Fail> {
+    let building = Building::read(rt.alloc(), DEMO).ok().ok_or("refused")?;
+    let mut world = World::new(rt.alloc(), &building, 64).ok().ok_or("memory")?;
+    assert!(rt; called(&mut world));
+    assert!(rt;
+        goes(
+            &mut world,
+            &[Event::FirstSync, Event::Gate, Event::Cut(Kept::WithBatch)]
+        )
+    );
+    // A cut within the recovery has an outcome of its own.
+    assert!(rt; goes(&mut world, &[Event::Cut(Kept::Safe)]));
+    assert!(rt; stays(&mut world, &Event::Reopen(Kept::WithBatch)));
+    assert!(rt; stays(&mut world, &call(16, 1, 5)));
+    assert!(rt; goes(&mut world, &[Event::Reopen(Kept::Safe)]));
+    assert!(rt; world.accepted().is_empty() && world.safe() == 0);
+    assert!(rt; world.phase() == Phase::Idle);
+    assert!(rt; goes(&mut world, &[call(16, 1, 5)]) && stays(&mut world, &allot(16, 0)));
+    Ok(())
+}
+
+/// Four batches are queued and one more is in hand; the next ask waits. Each is answered in its turn.
+#[test]
+fn decides_ahead(rt: HostRuntime) -> Result<(), Fail> {
+    let building = Building::read(rt.alloc(), DEMO).ok().ok_or("refused")?;
+    let mut world = World::new(rt.alloc(), &building, 64).ok().ok_or("memory")?;
+    assert!(rt; sealed_ahead(&mut world));
+    assert!(rt; world.queued() == 5 && world.accepted().len() == 3 && world.safe() == 0);
+    assert!(rt;
+        goes(
+            &mut world,
+            &[Event::Pull, answer(0), Event::Pull, answer(1)]
+        )
+    );
+    assert!(rt; goes(&mut world, &[Event::Pull]) && written(&mut world));
+    assert!(rt; goes(&mut world, &[answer(16)]) && told(&world, letter(0)));
+    assert!(rt; goes(&mut world, &[Event::Pull]) && written(&mut world));
+    assert!(rt; goes(&mut world, &[answer(17)]) && told(&world, letter(1)));
+    assert!(rt; goes(&mut world, &[Event::Pull]) && written(&mut world));
+    assert!(rt; goes(&mut world, &[answer(18)]) && told(&world, letter(0)));
+    assert!(rt; world.safe() == 3 && world.queued() == 0);
+    Ok(())
+}
+
+/// The second batch with an entry fails: its command and the next one's are answered Unknown, and one entry is safe.
+#[test]
+fn fails_the_rest(rt: HostRuntime) -> Result<(), Fail> {
+    let building = Building::read(rt.alloc(), DEMO).ok().ok_or("refused")?;
+    let mut world = World::new(rt.alloc(), &building, 64).ok().ok_or("memory")?;
+    assert!(rt; sealed_ahead(&mut world));
+    assert!(rt;
+        goes(
+            &mut world,
+            &[Event::Pull, answer(0), Event::Pull, answer(1)]
+        )
+    );
+    assert!(rt; goes(&mut world, &[Event::Pull]) && written(&mut world));
+    assert!(rt; goes(&mut world, &[Event::Pull, Event::Body, Event::Fault]));
+    // What was safe before the fault is told as it was decided.
+    assert!(rt; goes(&mut world, &[answer(16)]) && told(&world, letter(0)));
+    assert!(rt; goes(&mut world, &[answer(17)]) && told(&world, Reply::Unknown));
+    assert!(rt; stays(&mut world, &Event::Reopen(Kept::Safe)));
+    assert!(rt; goes(&mut world, &[Event::Pull, answer(18)]) && told(&world, Reply::Unknown));
+    assert!(rt; stays(&mut world, &Event::Reopen(Kept::WithBatch)));
+    assert!(rt; goes(&mut world, &[Event::Reopen(Kept::Safe)]));
+    assert!(rt; world.accepted().len() == 1 && world.power() == Power::Running);
+    Ok(())
+}
+
+/// Five batches are sealed before the first is pulled: two positions and three calls.
+fn sealed_ahead(world: &mut World) -> bool {
+    let cars = [
+        place(0, 0, Dir::Up),
+        take(0),
+        Event::Seal,
+        place(1, 9, Dir::Down),
+        take(1),
+        Event::Seal,
+    ];
+    let calls = [
+        call(16, 1, 5),
+        allot(16, 0),
+        Event::Seal,
+        call(17, 1, 2),
+        allot(17, 1),
+        Event::Seal,
+        call(18, 1, 9),
+        allot(18, 0),
+        Event::Seal,
+    ];
+    goes(world, &cars)
+        && goes(world, &calls)
+        && goes(world, &[place(2, 0, Dir::Up)])
+        && stays(world, &take(2))
+}
+
+/// All device calls of the batch in flight.
+fn written(world: &mut World) -> bool {
+    let events = [
+        Event::Body,
+        Event::Body,
+        Event::FirstSync,
+        Event::Gate,
+        Event::SecondSync,
+    ];
+    goes(world, &events)
+}
