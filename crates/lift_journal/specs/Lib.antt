@@ -6,3 +6,4 @@ pub mod Walk
 pub mod Seen
 pub mod Fronts
 pub mod Opening
+pub mod Fault

@@ -1,5 +1,6 @@
 ghost use Rattle.std.specs.Prelude.{◌≡◌, ◌↔◌, IsTrue};
 ghost use Rattle.lift_journal.specs.declared.fault.JournalFault.TheVariants.{Disk};
+ghost use Rattle.lift_journal.specs.Fault.{fault_number};
 
 /// Why a call of the journal was refused.
 #[derive(Clone, Copy, PartialEq, Eq)]
@@ -18,6 +19,19 @@ pub enum JournalFault {
 }
 
 impl JournalFault {
+    /// The number that reports show, 1 to 5.
+    pub fn number(self) -> u8
+        ensures { result ≡ fault_number self }
+    {
+        match self {
+            JournalFault::Disk => 1,
+            JournalFault::NotFormatted => 2,
+            JournalFault::Damaged(_) => 3,
+            JournalFault::Full => 4,
+            JournalFault::Broken => 5,
+        }
+    }
+
     /// Whether a call of the device has failed just now.
     pub fn is_of_disk(self) -> bool
         ensures { IsTrue result ↔ (self ≡ Disk) }

@@ -1,5 +1,5 @@
 -- Which car each of the three policies picks.
-use Rattle.std.specs.Prelude.{ℕ, ◌≡◌, ◌≤◌, List, [], ◌∷◌, All, Contains, nat_lt, if◌then◌else◌, Option, Some, None}
+use Rattle.std.specs.Prelude.{ℕ, ◌≡◌, ◌≤◌, List, [], ◌∷◌, All, Contains, nat_lt, if◌then◌else◌, Option, Some, None, option_map}
 use Rattle.std.specs.Option.{option_map_or}
 use Rattle.lift_base.specs.declared.travel.Position.{Position}
 use Rattle.lift_base.specs.declared.history.Row.{Row}
@@ -20,7 +20,13 @@ pub record IsFirstLeast (measure : ℕ → ℕ) (eligible : List ℕ) (car : ℕ
   pub least : All (λ other. measure car ≤ measure other) eligible
   pub lowest : All (λ other. measure other ≡ measure car → car ≤ other) eligible
 
--- what the call would add to the times of all persons of a car, its own party with them
+-- what the call would add to the times of all persons of a car, its own party with them; none before the car has told
+-- where it is
+abbrev pub cost_at : Plan → ViewState → NewCall → ℕ → Option ℕ
+cost_at plan view call car =
+    option_map (λ (p : Position). total_cost plan p (rows_of view.register car) call) (position_of view.positions car)
+
+-- the same as a number
 abbrev pub total_cost_at : Plan → ViewState → NewCall → ℕ → ℕ
 total_cost_at plan view call car =
     option_map_or (λ (p : Position). total_cost plan p (rows_of view.register car) call) (position_of view.positions car) 0

@@ -2,7 +2,7 @@ ghost use Rattle.std.specs.Prelude.{ℕ, ◌≡◌, ◌<◌, length};
 ghost use Rattle.lift_building.specs.Plan.{Plan};
 ghost use Rattle.lift_cost.specs.declared.call.NewCall.{NewCall as Call};
 ghost use Rattle.lift_policy.specs.View.{ViewState, IsViewIn};
-ghost use Rattle.lift_policy.specs.Choices.{IsFirstLeast, total_cost_at, wait_at, open_at, IsEtdChoice, IsFewestOpen, IsShortestWait};
+ghost use Rattle.lift_policy.specs.Choices.{IsFirstLeast, cost_at, total_cost_at, wait_at, open_at, IsEtdChoice, IsFewestOpen, IsShortestWait};
 ghost use Rattle.lift_policy.specs.Least.{IsFirstLeastAt};
 
 use crate::eligible::{Eligible, persons};
@@ -72,15 +72,28 @@ fn pick<M: Measure>(
     letters[first_least(&measures)]
 }
 
+impl Etd {
+    /// What a call would add to the times in ms of all persons of a car, its own party with them; none before the car has
+    /// told where it is.
+    pub fn cost(building: &Building, view: &View, call: &NewCall, car: Letter) -> Option<u64>
+        requires possible { IsViewIn building.now view.now }
+        requires from { call.now.from < building.now.floors }
+        requires to { call.now.to < building.now.floors }
+        ensures { result ≡ cost_at building.now view.now call.now car }
+    {
+        let _lawful = building.floors();
+        match view.schedule(car) {
+            Some(schedule) => Some(cost_of(building, schedule, *call)),
+            None => None,
+        }
+    }
+}
+
 impl Measure for Etd {
     ghost measures = { λ _. total_cost_at };
 
     fn measure(&self, building: &Building, view: &View, call: &NewCall, car: Letter) -> u64 {
-        let _lawful = building.floors();
-        match view.schedule(car) {
-            Some(schedule) => cost_of(building, schedule, *call),
-            None => 0,
-        }
+        Etd::cost(building, view, call, car).unwrap_or(0)
     }
 }
 

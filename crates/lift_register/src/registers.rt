@@ -259,7 +259,7 @@ impl Register {
     }
 
     /// How many calls are open.
-    fn open_count(&self) -> u32
+    pub fn open_count(&self) -> u32
         ensures count { result ≡ open_count self.now }
         ensures limit { result ≤ 512 }
         ensures lawful { IsWellFormed self.now }

@@ -2,7 +2,7 @@ use Rattle.std.proofs.Common.{List, sym, subst}
 use Rattle.lift_base.specs.declared.history.Row.{Row}
 use Rattle.lift_cost.specs.Calls.{AreWithin}
 use Rattle.lift_policy.proofs.Views.{shown, rows_within}
-use Rattle.lift_policy.proofs.policies.EtdMeasure.measure.Goals as goal
+use Rattle.lift_policy.proofs.policies.Etd.cost.Goals as goal
 
 pub cost_of-requires-clause-calls : goal.cost_of-requires-clause-calls
 cost_of-requires-clause-calls c =
