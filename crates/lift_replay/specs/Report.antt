@@ -6,7 +6,13 @@ use Rattle.lift_base.specs.Travel.{pass_number}
 use Rattle.lift_base.specs.Text.{letter_text, terminal_text, dir_text, reply_text}
 use Rattle.lift_base.specs.declared.history.Row.{Row}
 use Rattle.lift_base.specs.declared.travel.Halt.{Halt}
+use Rattle.lift_base.specs.Command.{reason_number}
 use Rattle.lift_base.specs.declared.command.Reply.{Reply}
+use Rattle.lift_base.specs.declared.command.Reason.{Reason}
+use Rattle.lift_building.specs.Text.{fault_number}
+use Rattle.lift_building.specs.declared.fault.Field.{Field}
+use Rattle.lift_building.specs.declared.fault.BuildingFault.{BuildingFault}
+use Rattle.lift_building.specs.declared.fault.BuildingFault.TheVariants.{NotToml, Missing, WrongType, OutOfRange, TableShape, Detour, Memory}
 
 -- whether a call's passengers wait or ride
 abbrev pub status_text : Bool → List ℕ
@@ -50,3 +56,29 @@ cost_text car cost = 32 ∷ letter_text car ++ 61 ∷ decimal cost
 -- a malformed line ends the run
 abbrev pub bad_text : ℕ → List ℕ
 bad_text line = codes "BAD " ++ decimal line ++ 10 ∷ []
+
+-- the fault in place of what a line shows
+abbrev pub fault_text : List ℕ → ℕ → List ℕ
+fault_text line fault = line ++ codes " FAULT " ++ decimal fault ++ 10 ∷ []
+
+-- why there are no costs
+abbrev pub refused_text : Reason → List ℕ
+refused_text reason = codes " NO " ++ decimal (reason_number reason)
+
+-- the floors of the first flight that a stop would shorten, with that stop between them
+abbrev pub detour_text : (from by to : ℕ) → List ℕ
+detour_text from by to = 32 ∷ decimal from ++ 32 ∷ decimal by ++ 32 ∷ decimal to
+
+-- the floors, of a fault that tells some
+abbrev pub floors_text : BuildingFault → List ℕ
+floors_text NotToml = []
+floors_text (Missing field) = []
+floors_text (WrongType field) = []
+floors_text (OutOfRange field) = []
+floors_text TableShape = []
+floors_text (Detour from by to) = detour_text from by to
+floors_text Memory = []
+
+-- a text is no building
+abbrev pub building_text : BuildingFault → List ℕ
+building_text fault = codes "BUILDING " ++ decimal (fault_number fault) ++ floors_text fault ++ 10 ∷ []

@@ -1,11 +1,17 @@
-//! Scripts for the group controller: what each line asks for, and the lines of their reports.
+//! Scripts for the group controller: what each line asks for, what it does, and the lines of their reports.
 #![tactic(auto)]
 
+mod asks;
 mod input;
 mod line;
+mod lines;
 mod parsing;
 pub mod report;
+mod script;
+mod station;
 
 pub use input::{InputFault, read_all};
 pub use line::{Cut, ScriptLine};
+pub use lines::Verdict;
 pub use parsing::parse;
+pub use script::{ReplayFault, run};

@@ -1,9 +1,10 @@
 //! The lines of a report.
 
 ghost use Rattle.std.specs.Prelude.{◌≡◌, ◌++◌, OnOk, string_bytes};
-ghost use Rattle.lift_replay.specs.Report.{status_text, party_text, row_text, rows_text, halt_text, heard_text, waiting_text, turn_text, cost_text, bad_text};
+ghost use Rattle.lift_replay.specs.Report.{status_text, party_text, row_text, rows_text, halt_text, heard_text, waiting_text, turn_text, cost_text, bad_text, fault_text, refused_text, building_text, detour_text};
 
-use lift_base::{Halt, Letter, Number, Party, Reply, Row, Terminal};
+use lift_base::{Floor, Halt, Letter, Number, Party, Reason, Reply, Row, Terminal};
+use lift_building::BuildingFault;
 use std::alloc::AllocError;
 use std::fmt::Write;
 
@@ -100,4 +101,40 @@ pub fn push_bad(report: &mut String, line: usize) -> Result<(), AllocError>
     ensures { OnOk result (string_bytes report.new ≡ string_bytes report.old ++ bad_text line) }
 {
     writeln!(report, "BAD {line}")
+}
+
+/// Adds the fault in place of what a line shows: of a turn, or of one that would show what isn't safe.
+pub fn push_fault(report: &mut String, line: &str, fault: u8) -> Result<(), AllocError>
+    ensures { OnOk result (string_bytes report.new ≡ string_bytes report.old ++ fault_text line.now fault) }
+{
+    writeln!(report, "{line} FAULT {fault}")
+}
+
+/// Adds to the line of costs why there are none.
+pub fn push_refused(report: &mut String, reason: Reason) -> Result<(), AllocError>
+    ensures { OnOk result (string_bytes report.new ≡ string_bytes report.old ++ refused_text reason) }
+{
+    let reason = reason.number();
+    write!(report, " NO {reason}")
+}
+
+/// Adds why a text is no building.
+pub fn push_building_fault(report: &mut String, fault: &BuildingFault) -> Result<(), AllocError>
+    ensures { OnOk result (string_bytes report.new ≡ string_bytes report.old ++ building_text fault.now) }
+{
+    let number = fault.number();
+    write!(report, "BUILDING {number}")?;
+    if let BuildingFault::Detour(from, by, to) = fault {
+        push_detour(report, *from, *by, *to)?;
+    }
+    report.push('\n')
+}
+
+fn push_detour(report: &mut String, from: Floor, by: Floor, to: Floor) -> Result<(), AllocError>
+    ensures { OnOk result (string_bytes report.new ≡ string_bytes report.old ++ detour_text from by to) }
+{
+    let from = from.get();
+    let by = by.get();
+    let to = to.get();
+    write!(report, " {from} {by} {to}")
 }

@@ -1,0 +1,17 @@
+-- Which lines a building knows.
+use Rattle.std.specs.Prelude.{◌<◌, length}
+use Rattle.lift_building.specs.Plan.{Plan}
+use Rattle.lift_replay.specs.declared.line.ScriptLine.{ScriptLine}
+use Rattle.lift_replay.specs.declared.line.ScriptLine.TheVariants.{Place, Call, Stop, Turn, Stops, Cost, Rows, Fuse, Cut}
+
+-- The building has the car or the kiosk that the line names. Fuses and power cuts are not known.
+abbrev pub IsKnown : Plan → ScriptLine → Type 0
+IsKnown plan (Place car floor dir) = car < length plan.cars
+IsKnown plan (Call kiosk number floor party) = kiosk < length plan.kiosks
+IsKnown plan (Stop car number floor dir) = car < length plan.cars
+IsKnown plan Turn = Unit {0}
+IsKnown plan (Stops car) = car < length plan.cars
+IsKnown plan (Cost kiosk floor party) = kiosk < length plan.kiosks
+IsKnown plan Rows = Unit {0}
+IsKnown plan (Fuse calls) = ⊥
+IsKnown plan (Cut outcome) = ⊥

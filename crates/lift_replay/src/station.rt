@@ -1,0 +1,182 @@
+//! The group that a script runs: its decider, its journal on a device in memory, and what its terminals ask.
+
+ghost use Rattle.std.specs.Prelude.{◌≡◌, ◌≤◌, ◌<◌, ◌+◌, ◌++◌, length, All, map, IfOk};
+ghost use Rattle.std.specs.Option.{option_to_list};
+ghost use Rattle.lift_base.specs.declared.history.Entry.{Entry as EntryValue};
+ghost use Rattle.lift_base.specs.History.{record_of};
+ghost use Rattle.lift_base.specs.Records.{IsRecord, IsLawful};
+ghost use Rattle.lift_journal.specs.Order.{IsEntry};
+
+use crate::asks::{Ask, Asks};
+use arrayvec::ArrayVec;
+use lift_base::{Entry, Memory, Number, Record, Reply, Terminal};
+use lift_building::Building;
+use lift_disk::{Arm, FuseDisk, MemDisk};
+use lift_journal::{Journal, JournalFault, format};
+use lift_keeper::Decider;
+use lift_policy::Etd;
+use std::alloc::Global;
+
+/// The sectors in each half of a script's disk.
+const HALF: u32 = 64;
+
+/// What a terminal is answered.
+#[derive(Clone, Copy, Default)]
+pub struct Answer {
+    pub terminal: Terminal,
+    pub number: Number,
+    pub reply: Reply,
+}
+
+/// A turn: what it took, with the answers by rising terminal, and how many entries it added, or why none are safe.
+#[derive(Drop)]
+pub struct Turn {
+    pub answers: ArrayVec<Answer, 63>,
+    pub outcome: Result<usize, JournalFault>,
+}
+
+#[derive(Drop)]
+pub struct Station<'b> {
+    pub decider: Decider<'b>,
+    pub asks: Asks,
+    journal: Journal<FuseDisk>,
+    /// The fault after which the journal may lack what the decider shows.
+    pub fault: Option<JournalFault>,
+}
+
+/// A formatted device in memory, as a journal.
+fn journal_for(alloc: Global, building: &Building) -> Result<Journal<FuseDisk>, Memory> {
+    let shape = building.shape(HALF);
+    let mut disk = FuseDisk::new(MemDisk::new(alloc, 2 * HALF + 2)?);
+    match format(&mut disk, shape) {
+        Ok(()) => {}
+        Err(_) => return Err(Memory),
+    }
+    match Journal::open(disk) {
+        Ok(journal) => Ok(journal),
+        Err(_) => Err(Memory),
+    }
+}
+
+impl<'b> Station<'b> {
+    /// Nobody has called, no car has told where it is, and the journal is empty.
+    pub fn new(alloc: Global, building: &'b Building) -> Result<Self, Memory>
+        ensures idle { IfOk result (λ station. length station.decider.state.batch ≡ 0) }
+    {
+        let journal = journal_for(alloc, building)?;
+        Ok(Station {
+            decider: Decider::new(building),
+            asks: Asks::new(),
+            journal,
+            fault: None,
+        })
+    }
+
+    /// Whether a growth inside the device was refused.
+    pub fn is_short(&self) -> bool {
+        self.journal.short()
+    }
+
+    /// Makes the batch safe. The answer is how many entries it had.
+    fn commit(&mut self) -> Result<usize, JournalFault>
+        ensures idle { length self.new.decider.state.batch ≡ 0 }
+    {
+        let batch = self.decider.seal();
+        if self.fault.is_some() {
+            return Err(JournalFault::Broken);
+        }
+        if batch.is_empty() {
+            return Ok(0);
+        }
+        let records = records_of(&batch);
+        match self.journal.append(&records) {
+            Ok(()) => Ok(batch.len()),
+            Err(fault) => {
+                self.fault = Some(fault);
+                Err(fault)
+            }
+        }
+    }
+
+    /// One turn: a scan, and one batch.
+    pub fn turn(&mut self) -> Turn
+        requires idle { length self.old.decider.state.batch ≡ 0 }
+        ensures idle { length self.new.decider.state.batch ≡ 0 }
+    {
+        let answers = scan(&mut self.decider, self.fault.is_some(), &self.asks);
+        self.asks = Asks::new();
+        let outcome = self.commit();
+        Turn { answers, outcome }
+    }
+}
+
+/// Adds an item, if there is one.
+fn push_some<T: Copy>(list: &mut ArrayVec<T, 63>, item: Option<T>)
+    requires { length list.old.items < 63 }
+    ensures { list.new.items ≡ list.old.items ++ option_to_list item }
+{
+    if let Some(item) = item {
+        list.push(item);
+    }
+}
+
+/// What a terminal is answered. After a fault it isn't known what becomes of its command.
+fn answer_to(decider: &mut Decider, is_broken: bool, terminal: Terminal, ask: &Ask) -> Answer
+    requires room { length decider.old.state.batch < 63 }
+    ensures grows { length decider.new.state.batch ≤ length decider.old.state.batch + 1 }
+    ensures plan { decider.new.plan ≡ decider.old.plan }
+{
+    let reply = if is_broken {
+        Reply::Unknown
+    } else {
+        decider.decide(terminal, ask.number, &ask.body, &Etd)
+    };
+    Answer {
+        terminal,
+        number: ask.number,
+        reply,
+    }
+}
+
+/// What the terminal with this index is answered, if it asks.
+fn answer_at(
+    decider: &mut Decider,
+    is_broken: bool,
+    asks: &Asks,
+    terminal: Option<Terminal>,
+) -> Option<Answer>
+    requires room { length decider.old.state.batch < 63 }
+    ensures grows { length decider.new.state.batch ≤ length decider.old.state.batch + 1 }
+    ensures plan { decider.new.plan ≡ decider.old.plan }
+{
+    let terminal = terminal?;
+    let ask = asks.get(terminal)?;
+    Some(answer_to(decider, is_broken, terminal, ask))
+}
+
+/// Answers what each terminal asks, by rising terminal.
+fn scan(decider: &mut Decider, is_broken: bool, asks: &Asks) -> ArrayVec<Answer, 63>
+    requires idle { length decider.old.state.batch ≡ 0 }
+    ensures plan { decider.new.plan ≡ decider.old.plan }
+{
+    let mut answers = ArrayVec::new();
+    for index in 0..63u8 {
+        let answer = answer_at(decider, is_broken, asks, Terminal::new(index));
+        push_some(&mut answers, answer);
+    }
+    answers
+}
+
+/// The records that keep these entries.
+fn records_of(batch: &ArrayVec<Entry, 63>) -> ArrayVec<Record, 63>
+    requires written { All (λ (e : EntryValue). IsRecord (record_of e)) batch.now.items }
+    ensures kept { result.items ≡ map record_of batch.now.items }
+    ensures lawful { All IsLawful result.items }
+    ensures entries { All IsEntry result.items }
+{
+    let mut records = ArrayVec::new();
+    for place in 0..batch.len() {
+        push_some(&mut records, Some(Record::of_entry(&batch[place])));
+    }
+    records
+}
