@@ -300,8 +300,9 @@ reopened_keeps w kept k = record {
   fit = outcome_fits w kept k.fit;
   shown_safe = subst (λ (xs : List Entry). All (Contains xs) (acknowledged w)) (sym (take-length (outcome w kept)))
       (All-weaker (Contains (take w.safe w.accepted)) (Contains (outcome w kept)) (outcome_holds w kept) (acknowledged w) k.shown_safe);
-  due_safe = subst (λ (xs : List Entry). All (Tells w.building xs) w.due) (sym (take-length (outcome w kept)))
-      (all_tell_more w.building (take w.safe w.accepted) (outcome w kept) (outcome_holds w kept) w.due k.due_safe);
+  due_safe = subst (λ (xs : List Entry). All (Tells w.building xs) (w.due ++ map unknown_to w.taken)) (sym (take-length (outcome w kept)))
+      (All-append (Tells w.building (outcome w kept)) w.due (map unknown_to w.taken)
+      (all_tell_more w.building (take w.safe w.accepted) (outcome w kept) (outcome_holds w kept) w.due k.due_safe) (unknown_tells w.building (outcome w kept) w.taken));
   flight_sealed = no_batch_sealed w.building (outcome w kept);
   flight_ahead = λ h. absurd (false≢true (sym h));
   queue_sealed = All-nil (IsSealed w.building (outcome w kept));

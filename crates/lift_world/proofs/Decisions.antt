@@ -17,7 +17,7 @@ use Rattle.lift_base.specs.declared.history.Last.{Last}
 use Rattle.lift_base.specs.declared.command.Body.{Body}
 use Rattle.lift_base.specs.declared.command.Body.TheVariants.{Call, Stop, Place}
 use Rattle.lift_base.specs.declared.command.Reason.{Reason}
-use Rattle.lift_base.specs.declared.command.Reason.TheVariants.{NoSuchFloor, SameFloor, OldNumber, GapNumber, OtherBody, WrongKind, NotServed}
+use Rattle.lift_base.specs.declared.command.Reason.TheVariants.{NoSuchFloor, SameFloor, NoCar, OldNumber, GapNumber, OtherBody, WrongKind, NotServed}
 use Rattle.lift_base.specs.declared.command.Reply.TheVariants.{Car, Stopped, Placed, Refused, Unknown}
 use Rattle.lift_base.specs.Travel.{same_dir}
 use Rattle.lift_building.specs.Plan.{Plan, IsBuilding, CarPlan, car_at, places_of, serves_floor}
@@ -34,7 +34,7 @@ use Rattle.lift_world.specs.World.{told_by, state_at, register_after}
 use Rattle.lift_world.specs.Replays.{FitAfter}
 use Rattle.lift_world.proofs.Entries.{kept_entry}
 
-true_of : (b : Bool) → IsTrue b → b ≡ true
+pub true_of : (b : Bool) → IsTrue b → b ≡ true
 true_of true h = refl
 true_of false h = h
 
@@ -63,6 +63,7 @@ pub record NoCause (building : Plan) (state : State) (terminal number : ℕ) (bo
   pub other : has_cause building state terminal number body OtherBody ≡ false
   pub old : has_cause building state terminal number body OldNumber ≡ false
   pub gap : has_cause building state terminal number body GapNumber ≡ false
+  pub car : has_cause building state terminal number body NoCar ≡ false
 
 pub no_cause : (building : Plan) (state : State) (terminal number : ℕ) (body : Body) → first_cause building state terminal number body ≡ None → NoCause building state terminal number body
 no_cause building state terminal number body h =
@@ -73,7 +74,8 @@ no_cause building state terminal number body h =
     let e = none_both (has_cause building state terminal number body OtherBody) _ _ d.1 in
     let f = none_both (has_cause building state terminal number body OldNumber) _ _ e.1 in
     let g = none_both (has_cause building state terminal number body GapNumber) _ _ f.1 in
-    record { kind = a.0; floor = b.0; served = c.0; same = d.0; other = e.0; old = f.0; gap = g.0 }
+    let i = none_both (has_cause building state terminal number body NoCar) _ _ g.1 in
+    record { kind = a.0; floor = b.0; served = c.0; same = d.0; other = e.0; old = f.0; gap = g.0; car = i.0 }
 
 -- a number that is neither old nor beyond the next, nor the next, is the last one
 pub is_last : (n last : ℕ) → (eqb n 0 || ltb n last) ≡ false → ltb (last + 1) n ≡ false → eqb n (last + 1) ≡ false → (n ≡ last) × (1 ≤ n)

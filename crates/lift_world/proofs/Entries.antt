@@ -22,7 +22,7 @@ found_at : {A : Type 0} (p : A → Bool) (y x : A) (b : Bool) (rest : Option A) 
 found_at p y x true rest q h P here there = let e : y ≡ x = cc in here e (subst (λ z. p z ≡ true) e q)
 found_at p y x false rest q h P here there = there h
 
-head_of : {A : Type 0} (x : A) (xs : List A) → Contains (x ∷ xs) x
+pub head_of : {A : Type 0} (x : A) (xs : List A) → Contains (x ∷ xs) x
 head_of x xs = Contains-append_left (x ∷ []) xs x (Contains-push [] x)
 
 pub find_held : {A : Type 0} (p : A → Bool) (xs : List A) (x : A) → find p xs ≡ Some x → Contains xs x × (p x ≡ true)

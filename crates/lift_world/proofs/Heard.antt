@@ -28,7 +28,7 @@ passes_by p y x true zs zero q rest h = let e : y ≡ x = cc in subst (λ z. p z
 passes_by p y x true zs (suc n) q rest h = rest n h
 passes_by p y x false zs n q rest h = rest n h
 
-passes : {A : Type 0} (p : A → Bool) (xs : List A) (x : A) (n : ℕ) → slice_get (filter p xs) n ≡ Some x → p x ≡ true
+pub passes : {A : Type 0} (p : A → Bool) (xs : List A) (x : A) (n : ℕ) → slice_get (filter p xs) n ≡ Some x → p x ≡ true
 passes p [] x n h = cc
 passes p (y ∷ xs) x n h = passes_by p y x (p y) (filter p xs) n refl (λ m g. passes p xs x m g) h
 

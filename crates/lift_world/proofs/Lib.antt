@@ -7,6 +7,14 @@ pub mod Letters
 pub mod Possibilities
 pub mod Steps
 pub mod Scans
+pub mod Looks
+pub mod Asked
+pub mod Standing
+pub mod Resting
+pub mod Sealed
+pub mod Due
+pub mod Failed
+pub mod Calls
 pub mod Turns
 pub mod Cars
 pub mod Replayed

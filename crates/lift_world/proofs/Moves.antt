@@ -4,6 +4,11 @@ use Rattle.std.specs.Prelude.{unwrap_or, option_and_then, option_map}
 use Rattle.lift_world.specs.Decided.{when}
 use Rattle.lift_world.specs.World.{World}
 
+-- what is possible nowhere, whatever the test says
+pub never : {A : Type 0} (b : Bool) → cond b None None ≡ (let none : Option A = None in none)
+never true = refl
+never false = refl
+
 module _ (P : World → Type 0) where
   pub hold_when : (w x : World) (b : Bool) → P w → (b ≡ true → P x) → P (unwrap_or (when b x) w)
   hold_when w x true k h = h refl

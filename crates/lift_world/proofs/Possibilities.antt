@@ -1,18 +1,22 @@
 -- Which events are possible where, by computation.
-use Rattle.std.proofs.Common.{◌≡◌, ◌≢◌, ◌⊎◌, Bool, true, false, not, ◌&&◌, cond, List, [], ◌∷◌, ◌++◌, ◌||◌, length, Option, Some, None, refl, ap, subst, ◌∙◌, inl, inr, replicate}
-use Rattle.std.specs.Prelude.{unwrap_or, option_map, option_and_then, find}
+use Rattle.std.proofs.Common.{sym, map, ◌≡◌, ◌≢◌, ◌⊎◌, Bool, true, false, not, ◌&&◌, cond, List, [], ◌∷◌, ◌++◌, ◌||◌, length, Option, Some, None, refl, ap, subst, ◌∙◌, inl, inr, replicate}
+use Rattle.std.specs.Prelude.{unwrap_or, option_map, option_and_then, find, nat_lt}
+use Rattle.std.proofs.lemmas.Bool.{and_right, eqb-true, lt-ltb, le-ltb}
 use Rattle.lift_world.specs.declared.event.Kept.{Kept}
 use Rattle.lift_world.specs.declared.event.Kept.TheVariants.{Safe, WithBatch}
 use Rattle.lift_world.specs.declared.event.Phase.{Phase}
 use Rattle.lift_world.specs.declared.event.Phase.TheVariants.{Idle, Writing, Synced, GateWritten}
 use Rattle.lift_world.specs.declared.event.Power.{Power}
-use Rattle.lift_world.specs.declared.event.Power.TheVariants.{Broken, Off}
+use Rattle.lift_world.specs.declared.event.Power.TheVariants.{Running, Broken, Off}
 use Rattle.lift_world.specs.declared.event.Event.{Event}
 use Rattle.lift_world.specs.declared.event.Event.TheVariants.{Ask, Take, Seal, Pull, Fold, Body as BodyWrite, FirstSync, Gate, SecondSync, Answer as Answering, Hear, Fault, Cut, Reopen}
 use Rattle.lift_world.specs.Decided.{when}
 use Rattle.lift_world.specs.World.{World, Batch, may_keep, is_gate_written, is_broken, is_off, is_running, is_idle, written, same_kept, is_taken_of}
-use Rattle.lift_world.specs.Next.{next, run, cutting, reopened, answering, pulled, may_reopen, is_empty}
-use Rattle.lift_world.specs.Possible.{CutsToSafe, CutsWithBatch, ReopensAfterCut, OnlyReopensAfterCut, ReopensAfterFault, KeepsRunning, AnswersDue}
+use Rattle.lift_world.specs.Next.{next, run, cutting, reopened, answering, pulled, unknown_to, may_reopen, is_empty}
+use Rattle.lift_world.specs.Possible.{CutsToSafe, CutsWithBatch, ReopensAfterCut, OnlyReopensAfterCut, IsReopened, ReopensAfterFault, ReopeningsGive, KeepsRunning, PullsInTurn, AnswersDue, AnswersOnlyDue}
+use Rattle.lift_world.proofs.Moves.{never}
+use Rattle.lift_world.proofs.Entries.{find_held}
+use Rattle.lift_world.proofs.Steps.{if_from, mapped}
 
 pub cuts_to_safe : (w : World) → CutsToSafe w
 cuts_to_safe w = refl
@@ -36,7 +40,7 @@ same_itself : (kept : Kept) → same_kept kept kept ≡ true
 same_itself Safe = refl
 same_itself WithBatch = refl
 
-when_some : {A : Type 0} (b : Bool) (x y : A) → when b x ≡ Some y → (b ≡ true) × (x ≡ y)
+pub when_some : {A : Type 0} (b : Bool) (x y : A) → when b x ≡ Some y → (b ≡ true) × (x ≡ y)
 when_some true x y h = (refl, cc)
 when_some false x y h = cc
 
@@ -97,45 +101,15 @@ pub only_reopens_after_cut : (w : World) → OnlyReopensAfterCut w
 only_reopens_after_cut w last event after off h = off_at w last event after (subst (λ (p : Power). next (record w { power = p }) event ≡ Some after) off h)
 
 -- after a fault
-broken_opens : (w : World) (kept : Kept) → w.power ≡ Broken → w.queue ≡ [] → may_keep w kept ≡ true → next w (Reopen kept) ≡ Some (reopened w kept)
+pub broken_opens : (w : World) (kept : Kept) → w.power ≡ Broken → w.queue ≡ [] → may_keep w kept ≡ true → next w (Reopen kept) ≡ Some (reopened w kept)
 broken_opens w kept broken empty may =
     ap (λ (p : Power). when (may_reopen w p kept) (reopened w kept)) broken
     ∙ ap (λ (q : List Batch). when (is_empty q && may_keep w kept) (reopened w kept)) empty
     ∙ ap (λ (b : Bool). when b (reopened w kept)) may
 
-both_false : (a b : Bool) → b ≡ false → (a && b) ≡ false
-both_false true b h = h
-both_false false b h = refl
-
 not_empty : (queue : List Batch) → queue ≢ [] → is_empty queue ≡ false
 not_empty [] h = absurd (h refl)
 not_empty (b ∷ queue) h = refl
-
-pull_one : (w : World) (batch : Batch) (rest : List Batch) → w.power ≡ Broken → w.queue ≡ batch ∷ rest
-    → unwrap_or (next w Pull) w ≡ record w { queue = rest; due = w.due ++ Rattle.std.specs.Prelude.map Rattle.lift_world.specs.Next.unknown_to batch.commands }
-pull_one w batch rest broken queued =
-    let one : next w Pull ≡ Some (record w { queue = rest; due = w.due ++ Rattle.std.specs.Prelude.map Rattle.lift_world.specs.Next.unknown_to batch.commands }) =
-    ap (λ (p : Power). cond (is_broken p || (is_running p && is_idle w.phase)) (pulled w w.queue) None) broken
-    ∙ ap (λ (q : List Batch). pulled w q) queued
-    ∙ ap (λ (p : Power). Some (cond (is_broken p) (record w { queue = rest; due = w.due ++ Rattle.std.specs.Prelude.map Rattle.lift_world.specs.Next.unknown_to batch.commands }) (cond (Rattle.std.specs.Prelude.nat_lt w.safe batch.upto) (record w { queue = rest; flight = batch; phase = Writing 0 }) (record w { queue = rest; due = w.due ++ batch.commands })))) broken in
-    ap (λ (o : Option World). unwrap_or o w) one
-
-drained : (queue : List Batch) (w : World) → w.power ≡ Broken → w.queue ≡ queue → (run (replicate (length queue) Pull) w).queue ≡ []
-drained [] w broken queued = queued
-drained (batch ∷ rest) w broken queued =
-    let after : World = record w { queue = rest; due = w.due ++ Rattle.std.specs.Prelude.map Rattle.lift_world.specs.Next.unknown_to batch.commands } in
-    ap (λ (x : World). (run (replicate (length rest) Pull) x).queue) (pull_one w batch rest broken queued) ∙ drained rest after broken refl
-
-pub reopens_after_fault : (w : World) → ReopensAfterFault w
-reopens_after_fault w = record {
-  safe = λ broken empty. broken_opens w Safe broken empty refl;
-  with_batch = λ broken empty written. broken_opens w WithBatch broken empty (gate_written w.phase written);
-  unwritten = λ broken unwritten. ap (λ (p : Power). when (may_reopen w p WithBatch) (reopened w WithBatch)) broken
-      ∙ ap (λ (b : Bool). when b (reopened w WithBatch)) (both_false (is_empty w.queue) (is_gate_written w.phase) (gate_unwritten w.phase unwritten));
-  queued = λ kept broken some. ap (λ (p : Power). when (may_reopen w p kept) (reopened w kept)) broken
-      ∙ ap (λ (b : Bool). when (b && may_keep w kept) (reopened w kept)) (not_empty w.queue some);
-  drains = λ broken. drained w.queue w broken refl;
-}
 
 pub keeps_running : (w : World) → KeepsRunning w
 keeps_running w kept on = ap (λ (p : Power). when (may_reopen w p kept) (reopened w kept)) on
@@ -143,3 +117,95 @@ keeps_running w kept on = ap (λ (p : Power). when (may_reopen w p kept) (reopen
 pub answers_due : (w : World) → AnswersDue w
 answers_due w terminal command on at =
     ap (λ (b : Bool). cond (not b) (option_map (answering w terminal) (find (is_taken_of terminal) w.due)) None) on ∙ ap (option_map (answering w terminal)) at
+
+pub reopenings_give : (w : World) → ReopeningsGive w
+reopenings_give w kept after h =
+    let s = when_some (may_reopen w w.power kept) (reopened w kept) after h in
+    subst (λ (x : World). IsReopened w kept x) s.1 (record {
+      running = refl;
+      accepted = refl;
+      all_safe = refl;
+      all_sealed = refl;
+      idle = refl;
+      nothing_flies = refl;
+      nothing_queued = refl;
+      nothing_taken = refl;
+      no_car_placed = refl;
+      answers_unknown = refl;
+      same_asked = refl;
+      same_answered = refl;
+      same_heard = refl;
+      same_given = refl;
+    })
+
+-- the queue's first batch
+busy : (phase : Phase) → phase ≢ Idle → is_idle phase ≡ false
+busy Idle h = absurd (h refl)
+busy (Writing n) h = refl
+busy Synced h = refl
+busy GateWritten h = refl
+
+module _ (w : World) where
+  abbrev landing : Batch → List Batch → World
+  landing batch rest = record w { queue = rest; due = w.due ++ batch.commands }
+
+  abbrev taking_off : Batch → List Batch → World
+  taking_off batch rest = record w { queue = rest; flight = batch; phase = Writing 0 }
+
+  abbrev failed_one : Batch → List Batch → World
+  failed_one batch rest = record w { queue = rest; due = w.due ++ map unknown_to batch.commands }
+
+  pulls_running : (batch : Batch) (rest : List Batch) → w.power ≡ Running → w.phase ≡ Idle → w.queue ≡ batch ∷ rest
+      → next w Pull ≡ Some (cond (nat_lt w.safe batch.upto) (taking_off batch rest) (landing batch rest))
+  pulls_running batch rest on idle queued =
+      ap (λ (p : Power). cond (is_broken p || (is_running p && is_idle w.phase)) (pulled w w.queue) None) on
+      ∙ ap (λ (p : Phase). cond (is_idle p) (pulled w w.queue) None) idle
+      ∙ ap (λ (q : List Batch). pulled w q) queued
+      ∙ ap (λ (p : Power). Some (cond (is_broken p) (failed_one batch rest) (cond (nat_lt w.safe batch.upto) (taking_off batch rest) (landing batch rest)))) on
+
+  pulls_broken : (batch : Batch) (rest : List Batch) → w.power ≡ Broken → w.queue ≡ batch ∷ rest → next w Pull ≡ Some (failed_one batch rest)
+  pulls_broken batch rest broken queued =
+      ap (λ (p : Power). cond (is_broken p || (is_running p && is_idle w.phase)) (pulled w w.queue) None) broken
+      ∙ ap (λ (q : List Batch). pulled w q) queued
+      ∙ ap (λ (p : Power). Some (cond (is_broken p) (failed_one batch rest) (cond (nat_lt w.safe batch.upto) (taking_off batch rest) (landing batch rest)))) broken
+
+  pub pulls_in_turn : PullsInTurn w
+  pulls_in_turn = record {
+    waits = λ on there.
+        ap (λ (p : Power). cond (is_broken p || (is_running p && is_idle w.phase)) (pulled w w.queue) None) on
+        ∙ ap (λ (b : Bool). cond b (pulled w w.queue) None) (busy w.phase there);
+    nothing = λ empty.
+        ap (λ (q : List Batch). cond (is_broken w.power || (is_running w.power && is_idle w.phase)) (pulled w q) None) empty
+        ∙ never (is_broken w.power || (is_running w.power && is_idle w.phase));
+    flies = λ batch rest on idle queued less.
+        pulls_running batch rest on idle queued
+        ∙ ap (λ (b : Bool). Some (cond b (taking_off batch rest) (landing batch rest))) (lt-ltb w.safe batch.upto less);
+    is_due = λ batch rest on idle queued le.
+        pulls_running batch rest on idle queued
+        ∙ ap (λ (b : Bool). Some (cond b (taking_off batch rest) (landing batch rest))) (le-ltb w.safe batch.upto le);
+    fails = λ batch rest broken queued. pulls_broken batch rest broken queued;
+  }
+
+drained : (queue : List Batch) (w : World) → w.power ≡ Broken → w.queue ≡ queue → (run (replicate (length queue) Pull) w).queue ≡ []
+drained [] w broken queued = queued
+drained (batch ∷ rest) w broken queued =
+    let after : World = record w { queue = rest; due = w.due ++ map unknown_to batch.commands } in
+    ap (λ (x : World). (run (replicate (length rest) Pull) x).queue) (ap (λ (o : Option World). unwrap_or o w) (pulls_broken w batch rest broken queued)) ∙ drained rest after broken refl
+
+pub reopens_after_fault : (w : World) → ReopensAfterFault w
+reopens_after_fault w = record {
+  safe = λ broken empty. broken_opens w Safe broken empty refl;
+  with_batch = λ broken empty written. broken_opens w WithBatch broken empty (gate_written w.phase written);
+  unwritten = λ broken unwritten. ap (λ (p : Power). when (may_reopen w p WithBatch) (reopened w WithBatch)) broken
+      ∙ ap (λ (b : Bool). when b (reopened w WithBatch)) (and_right (is_empty w.queue) (is_gate_written w.phase) (gate_unwritten w.phase unwritten));
+  queued = λ kept broken some. ap (λ (p : Power). when (may_reopen w p kept) (reopened w kept)) broken
+      ∙ ap (λ (b : Bool). when (b && may_keep w kept) (reopened w kept)) (not_empty w.queue some);
+  drains = λ broken. drained w.queue w broken refl;
+}
+
+pub answers_only_due : (w : World) → AnswersOnlyDue w
+answers_only_due w terminal after h =
+    let a = if_from (not (is_off w.power)) (option_map (answering w terminal) (find (is_taken_of terminal) w.due)) after h in
+    let b = mapped (answering w terminal) (find (is_taken_of terminal) w.due) after a.1 in
+    let held = find_held (is_taken_of terminal) w.due b.0 b.1 in
+    record { command = b.0; is_due = held.0; of_terminal = eqb-true b.0.terminal terminal held.1; is = sym b.2 }

@@ -28,19 +28,19 @@ use Rattle.lift_world.specs.Next.{next, taking, deciding, may_take}
 use Rattle.lift_world.specs.Tie.{naming, TakesAreSteps, StepsAreTakes}
 use Rattle.lift_world.proofs.Decisions.{NoCause, no_cause, is_last, kept_at, some_is, among_held, held_among}
 
-mapped : {A B : Type 0} (f : A → B) (o : Option A) (y : B) → option_map f o ≡ Some y → (x : A) × (o ≡ Some x) × (f x ≡ y)
+pub mapped : {A B : Type 0} (f : A → B) (o : Option A) (y : B) → option_map f o ≡ Some y → (x : A) × (o ≡ Some x) × (f x ≡ y)
 mapped f None y h = cc
 mapped f (Some x) y h = (x, refl, some_is (f x) y h)
 
-last_is_made : (l : Last) (number : ℕ) (content : Content) → l.number ≡ number → l.content ≡ content → ◌≡◌ {A = Last} l (record { number = number; content = content })
+pub last_is_made : (l : Last) (number : ℕ) (content : Content) → l.number ≡ number → l.content ≡ content → ◌≡◌ {A = Last} l (record { number = number; content = content })
 last_is_made l number content p q =
     ap (λ (x : ℕ). let made : Last = record { number = x; content = l.content } in made) p ∙ ap (λ (y : Content). let made : Last = record { number = number; content = y } in made) q
 
-match_true : (b : Bool) (P Q : Type 0) → b ≡ true → P → MatchBool b P Q
+pub match_true : (b : Bool) (P Q : Type 0) → b ≡ true → P → MatchBool b P Q
 match_true true P Q e p = p
 match_true false P Q e p = absurd (false≢true e)
 
-match_false : (b : Bool) (P Q : Type 0) → b ≡ false → Q → MatchBool b P Q
+pub match_false : (b : Bool) (P Q : Type 0) → b ≡ false → Q → MatchBool b P Q
 match_false false P Q e q = q
 match_false true P Q e q = absurd (false≢true (sym e))
 
@@ -195,11 +195,11 @@ pub state_after : (w : World) (command : Command) (reply : Reply) (s : State) �
 state_after w command reply s le k =
     rw (after_front w.accepted s.batch w.sealed le) (ap (λ r. let made : State = record { register = r; positions = s.positions; batch = s.batch } in made) (sym k))
 
-then_from : {A B : Type 0} (f : A → Option B) (o : Option A) (y : B) → option_and_then f o ≡ Some y → (x : A) × (o ≡ Some x) × (f x ≡ Some y)
+pub then_from : {A B : Type 0} (f : A → Option B) (o : Option A) (y : B) → option_and_then f o ≡ Some y → (x : A) × (o ≡ Some x) × (f x ≡ Some y)
 then_from f None y h = cc
 then_from f (Some x) y h = (x, refl, h)
 
-if_from : {B : Type 0} (b : Bool) (o : Option B) (y : B) → cond b o None ≡ Some y → (b ≡ true) × (o ≡ Some y)
+pub if_from : {B : Type 0} (b : Bool) (o : Option B) (y : B) → cond b o None ≡ Some y → (b ≡ true) × (o ≡ Some y)
 if_from true o y h = (refl, h)
 if_from false o y h = cc
 

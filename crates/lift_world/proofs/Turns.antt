@@ -24,12 +24,12 @@ use Rattle.lift_world.specs.Next.{run, next, in_phase, settling, answering, answ
 use Rattle.lift_world.specs.Turns.{AreFound, IsAtRest, with_replies, take_events, answer_events, calls_to, device_calls, turn_events, turned, TurnsAreRuns, MayFailIn, failed_events, failed, FailuresAreRuns}
 use Rattle.lift_world.proofs.Scans.{runs_are_takes, taken_as}
 
-run-append : (xs ys : List Event) (w : World) → run (xs ++ ys) w ≡ run ys (run xs w)
+pub run-append : (xs ys : List Event) (w : World) → run (xs ++ ys) w ≡ run ys (run xs w)
 run-append [] ys w = refl
 run-append (e ∷ xs) ys w = run-append xs ys (unwrap_or (next w e) w)
 
 -- one event that is possible
-one : (e : Event) (events : List Event) (w x : World) → next w e ≡ Some x → run (e ∷ events) w ≡ run events x
+pub one : (e : Event) (events : List Event) (w x : World) → next w e ≡ Some x → run (e ∷ events) w ≡ run events x
 one e events w x h = ap (λ (o : Option World). run events (unwrap_or o w)) h
 
 may : {A : Type 0} (b c : Bool) (x : A) → b ≡ true → c ≡ true → when (b && c) x ≡ Some x
@@ -73,7 +73,7 @@ module _ (w : World) (on : is_running w.power ≡ true) where
   fails GateWritten h = may (is_running w.power && true) true _ (and_from (is_running w.power) true on refl) refl
 
 -- no terminal twice
-abbrev AreApart : List Taken → Type 0
+abbrev pub AreApart : List Taken → Type 0
 AreApart [] = Unit {0}
 AreApart (c ∷ cs) = AllByRecursion (λ (d : Taken). d.terminal ≢ c.terminal) cs × AreApart cs
 
@@ -93,7 +93,7 @@ others-first : (c : Taken) (cs : List Taken) → AllByRecursion (λ (d : Taken).
 others-first c cs h = drop_one (eqb c.terminal c.terminal) c (others c.terminal cs) (eq-eqb c.terminal c.terminal refl) ∙ others-apart c.terminal cs h
 
 -- the world with these commands left to answer, and those answered
-abbrev answering_on : World → List Taken → List Answer → List Taken → World
+abbrev pub answering_on : World → List Taken → List Answer → List Taken → World
 answering_on w left answered given = record w { due = left; answered = answered; given = given }
 
 -- one answer
@@ -109,7 +109,7 @@ abbrev pub terminals_of : List Taken → List Event
 terminals_of [] = []
 terminals_of (c ∷ cs) = Answering c.terminal ∷ terminals_of cs
 
-answered_all : (w : World) (cs : List Taken) (answered : List Answer) (given : List Taken) → is_off w.power ≡ false → AreApart cs
+pub answered_all : (w : World) (cs : List Taken) (answered : List Answer) (given : List Taken) → is_off w.power ≡ false → AreApart cs
     → run (terminals_of cs) (answering_on w cs answered given) ≡ answering_on w [] (answered ++ map answer_of cs) (given ++ cs)
 answered_all w [] answered given on apart =
     ap (λ (xs : List Answer). answering_on w [] xs given) (sym (append-nil answered)) ∙ ap (λ (xs : List Taken). answering_on w [] (answered ++ []) xs) (sym (append-nil given))
@@ -120,19 +120,19 @@ answered_all w (c ∷ cs) answered given on apart =
     ∙ ap (λ (xs : List Taken). answering_on w [] (answered ++ map answer_of (c ∷ cs)) xs) (append_assoc given (c ∷ []) cs)
 
 -- replies for as many commands
-abbrev SameLength : List Command → List Reply → Type 0
+abbrev pub SameLength : List Command → List Reply → Type 0
 SameLength [] [] = Unit {0}
 SameLength (c ∷ commands) (reply ∷ replies) = SameLength commands replies
 SameLength [] (reply ∷ replies) = ⊥
 SameLength (c ∷ commands) [] = ⊥
 
-answers_of : (commands : List Command) (replies : List Reply) → SameLength commands replies → answer_events commands ≡ terminals_of (with_replies commands replies)
+pub answers_of : (commands : List Command) (replies : List Reply) → SameLength commands replies → answer_events commands ≡ terminals_of (with_replies commands replies)
 answers_of [] [] h = refl
 answers_of [] (reply ∷ replies) h = absurd h
 answers_of (c ∷ commands) [] h = absurd h
 answers_of (c ∷ commands) (reply ∷ replies) h = ap (λ (es : List Event). Answering c.terminal ∷ es) (answers_of commands replies h)
 
-unknown_terminals : (cs : List Taken) → terminals_of (map unknown_to cs) ≡ terminals_of cs
+pub unknown_terminals : (cs : List Taken) → terminals_of (map unknown_to cs) ≡ terminals_of cs
 unknown_terminals [] = refl
 unknown_terminals (c ∷ cs) = ap (λ (es : List Event). Answering c.terminal ∷ es) (unknown_terminals cs)
 
@@ -141,7 +141,7 @@ apart_with terminal [] replies h = tt
 apart_with terminal (c ∷ commands) [] h = tt
 apart_with terminal (c ∷ commands) (reply ∷ replies) h = (h.0, apart_with terminal commands replies h.1)
 
-all_apart : (w : World) (commands : List Command) (replies : List Reply) → AreFound w commands → AreApart (with_replies commands replies)
+pub all_apart : (w : World) (commands : List Command) (replies : List Reply) → AreFound w commands → AreApart (with_replies commands replies)
 all_apart w [] replies h = tt
 all_apart w (c ∷ commands) [] h = tt
 all_apart w (c ∷ commands) (reply ∷ replies) h = (apart_with c.terminal commands replies h.1, all_apart w commands replies h.2)
@@ -150,11 +150,11 @@ unknown_with : (terminal : ℕ) (cs : List Taken) → AllByRecursion (λ (d : Ta
 unknown_with terminal [] h = tt
 unknown_with terminal (c ∷ cs) h = (h.0, unknown_with terminal cs h.1)
 
-unknown_apart : (cs : List Taken) → AreApart cs → AreApart (map unknown_to cs)
+pub unknown_apart : (cs : List Taken) → AreApart cs → AreApart (map unknown_to cs)
 unknown_apart [] h = tt
 unknown_apart (c ∷ cs) h = (unknown_with c.terminal cs h.0, unknown_apart cs h.1)
 
-same_length : (building : Rattle.lift_building.specs.Plan.Plan) (s next : State) (commands : List Command) (replies : List Reply) → Rattle.lift_policy.specs.Run.Run building Rattle.lift_policy.specs.Eligible.any_eligible s commands replies next → SameLength commands replies
+pub same_length : (building : Rattle.lift_building.specs.Plan.Plan) (s next : State) (commands : List Command) (replies : List Reply) → Rattle.lift_policy.specs.Run.Run building Rattle.lift_policy.specs.Eligible.any_eligible s commands replies next → SameLength commands replies
 same_length building s next [] [] r = tt
 same_length building s next [] (reply ∷ replies) r = absurd r
 same_length building s next (c ∷ commands) [] r = absurd r
@@ -164,7 +164,7 @@ same_length building s next (c ∷ commands) (reply ∷ replies) r = same_length
 abbrev at_rest : World → World
 at_rest w = record w { safe = length w.accepted; sealed = length w.accepted; flight = no_batch; phase = Idle; queue = []; power = Running; taken = []; due = [] }
 
-runs : (p : Power) → is_running p ≡ true → p ≡ Running
+pub runs : (p : Power) → is_running p ≡ true → p ≡ Running
 runs Running h = refl
 runs Broken h = absurd (false≢true h)
 runs (Off kept) h = absurd (false≢true h)

@@ -1,5 +1,5 @@
 -- What holds at each point of every run.
-use Rattle.std.specs.Prelude.{ℕ, ◌≡◌, ◌⊎◌, false, List, ◌++◌, filter, All, Contains, IsTrue}
+use Rattle.std.specs.Prelude.{ℕ, ◌≡◌, ◌≤◌, ◌⊎◌, false, List, ◌++◌, length, filter, All, Contains, IsTrue}
 use Rattle.lift_base.specs.declared.history.Entry.{Entry}
 use Rattle.lift_base.specs.declared.history.Entry.TheVariants.{Allot}
 use Rattle.lift_base.specs.declared.history.Row.{Row}
@@ -53,3 +53,7 @@ RecoversFitting w = (kept : Kept) → IsTrue (may_keep w kept) → FitFrom w.bui
 -- what each terminal heard is, in order and each once, the first of what it was answered since the last power cut
 abbrev pub HearsInOrder : World → Type 0
 HearsInOrder w = (terminal : ℕ) → (rest : List Answer) × (filter (is_answer_to terminal) w.heard ++ rest ≡ filter (is_answer_to terminal) w.answered)
+
+-- what is sealed is a front of what is accepted
+abbrev pub SealsAccepted : World → Type 0
+SealsAccepted w = w.sealed ≤ length w.accepted

@@ -7,3 +7,6 @@ pub mod Headline
 pub mod Possible
 pub mod Tie
 pub mod Turns
+pub mod Asking
+pub mod Due
+pub mod Faults

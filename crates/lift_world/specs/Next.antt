@@ -142,6 +142,7 @@ may_reopen w Running kept = false
 may_reopen w Broken kept = is_empty w.queue && may_keep w kept
 may_reopen w (Off last) kept = same_kept last kept && may_keep w kept
 
+-- what was taken and not sealed is dropped, and answered Unknown; a cut has left nothing of it
 abbrev pub reopened : World → Kept → World
 reopened w kept = record w {
   accepted = outcome w kept;
@@ -153,10 +154,12 @@ reopened w kept = record w {
   power = Running;
   positions = unplaced;
   taken = [];
+  due = w.due ++ map unknown_to w.taken;
 }
 
--- The world after an event, where it is possible. A checkpoint copies what is safe into the other half: in each of its
--- calls either half stands for the same register, so that no call changes what a recovery gives.
+-- The world after an event, where it is possible. A checkpoint's call changes nothing: it copies what is safe into the
+-- other half, and at each of its calls either half that may be picked reads as the register of the safe list. So
+-- whatever a cut or a fault leaves of it, the outcomes are those of the batch behind it, of which nothing is written.
 abbrev pub next : World → Event → Option World
 next w (Ask terminal number body) = when (may_ask w terminal) (asking w (record { terminal = terminal; number = number; body = body }))
 next w (Take terminal letter) =

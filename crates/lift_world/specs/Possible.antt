@@ -1,14 +1,17 @@
 -- Which events are possible where.
-use Rattle.std.specs.Prelude.{ℕ, ◌≡◌, ◌≢◌, ◌⊎◌, false, [], length, replicate, Some, None, find}
+use Rattle.std.specs.Prelude.{ℕ, ◌≡◌, ◌≢◌, ◌⊎◌, ◌<◌, ◌≤◌, ◌+◌, Bool, true, false, List, [], ◌∷◌, ◌++◌, length, map, filter, replicate, count_by, Contains, Option, Some, None, find, IsTrue}
+use Rattle.std.specs.List.{AllByRecursion}
+use Rattle.lift_base.specs.declared.command.Body.{Body}
 use Rattle.lift_world.specs.declared.event.Kept.{Kept}
 use Rattle.lift_world.specs.declared.event.Kept.TheVariants.{Safe, WithBatch}
-use Rattle.lift_world.specs.declared.event.Phase.TheVariants.{GateWritten}
+use Rattle.lift_world.specs.declared.event.Phase.TheVariants.{Idle, Writing, Synced, GateWritten}
 use Rattle.lift_world.specs.declared.event.Power.TheVariants.{Running, Broken, Off}
 use Rattle.lift_world.specs.declared.event.Taken.{Taken}
+use Rattle.lift_world.specs.declared.event.Answer.{Answer}
 use Rattle.lift_world.specs.declared.event.Event.{Event}
-use Rattle.lift_world.specs.declared.event.Event.TheVariants.{Pull, Answer, Cut, Reopen}
-use Rattle.lift_world.specs.World.{World, is_off, is_taken_of, outcome}
-use Rattle.lift_world.specs.Next.{next, run, cutting, reopened, answering}
+use Rattle.lift_world.specs.declared.event.Event.TheVariants.{Ask, Take, Pull, Fold, Body as BodyWrite, FirstSync, Gate, SecondSync, Answer as Answering, Hear, Cut, Reopen}
+use Rattle.lift_world.specs.World.{World, Batch, no_batch, unplaced, is_off, is_taken_of, is_answer_to, asks, outcome}
+use Rattle.lift_world.specs.Next.{next, run, asking, unanswered, unknown_to, writes_of, in_phase, settling, hearing, cutting, reopened, answering}
 
 -- the power may fail at any moment and leave the safe list
 abbrev pub CutsToSafe : World → Type 0
@@ -29,6 +32,24 @@ abbrev pub OnlyReopensAfterCut : World → Type 0
 OnlyReopensAfterCut w = (last : Kept) (event : Event) (after : World) → w.power ≡ Off last → next w event ≡ Some after
     → ((kept : Kept) × (event ≡ Cut kept)) ⊎ (event ≡ Reopen last)
 
+-- what a reopening leaves: the recovered list, all of it safe, no batch and no car placed. Each command that was taken
+-- and not sealed gets Unknown, as those do that a fault made due; what terminals asked and heard stays.
+pub record IsReopened (w : World) (kept : Kept) (after : World) : Type 0 where
+  pub running : after.power ≡ Running
+  pub accepted : after.accepted ≡ outcome w kept
+  pub all_safe : after.safe ≡ length (outcome w kept)
+  pub all_sealed : after.sealed ≡ length (outcome w kept)
+  pub idle : after.phase ≡ Idle
+  pub nothing_flies : after.flight ≡ no_batch
+  pub nothing_queued : after.queue ≡ []
+  pub nothing_taken : after.taken ≡ []
+  pub no_car_placed : after.positions ≡ unplaced
+  pub answers_unknown : after.due ≡ w.due ++ map unknown_to w.taken
+  pub same_asked : after.asked ≡ w.asked
+  pub same_answered : after.answered ≡ w.answered
+  pub same_heard : after.heard ≡ w.heard
+  pub same_given : after.given ≡ w.given
+
 -- after a fault a reopening is possible once no batch is queued, by the same rule as a cut
 pub record ReopensAfterFault (w : World) : Type 0 where
   pub safe : w.power ≡ Broken → w.queue ≡ [] → next w (Reopen Safe) ≡ Some (reopened w Safe)
@@ -37,11 +58,82 @@ pub record ReopensAfterFault (w : World) : Type 0 where
   pub queued : (kept : Kept) → w.power ≡ Broken → w.queue ≢ [] → next w (Reopen kept) ≡ None
   pub drains : w.power ≡ Broken → (run (replicate (length w.queue) Pull) w).queue ≡ []
 
+-- whatever reopening is possible, after a cut or after a fault, leaves this
+abbrev pub ReopeningsGive : World → Type 0
+ReopeningsGive w = (kept : Kept) (after : World) → next w (Reopen kept) ≡ Some after → IsReopened w kept after
+
 -- no recovery without a cut or a fault
 abbrev pub KeepsRunning : World → Type 0
 KeepsRunning w = (kept : Kept) → w.power ≡ Running → next w (Reopen kept) ≡ None
 
+-- a terminal may ask exactly where it has heard an answer to each of its asks
+pub record AsksOnceHeard (w : World) : Type 0 where
+  pub heard_all : (terminal number : ℕ) (body : Body) → is_off w.power ≡ false → count_by (asks terminal) w.asked ≡ count_by (is_answer_to terminal) w.heard
+      → next w (Ask terminal number body) ≡ Some (asking w (record { terminal = terminal; number = number; body = body }))
+  pub waits : (terminal number : ℕ) (body : Body) → count_by (asks terminal) w.asked ≢ count_by (is_answer_to terminal) w.heard → next w (Ask terminal number body) ≡ None
+
+-- a terminal hears the first of the answers that it hasn't heard, exactly where there is one
+pub record HearsTheNext (w : World) : Type 0 where
+  pub hears : (terminal : ℕ) (answer : Answer) (later : List Answer) → is_off w.power ≡ false
+      → filter (is_answer_to terminal) w.answered ≡ filter (is_answer_to terminal) w.heard ++ answer ∷ later → next w (Hear terminal) ≡ Some (hearing w answer)
+  pub waits : (terminal : ℕ) → filter (is_answer_to terminal) w.answered ≡ filter (is_answer_to terminal) w.heard → next w (Hear terminal) ≡ None
+
+-- the terminal can be looked at: no power failed, at most four batches are queued, and it has an ask that isn't answered
+-- and wasn't taken
+pub record CanBeLookedAt (w : World) (terminal : ℕ) : Type 0 where
+  pub powered : is_off w.power ≡ false
+  pub few_queued : length w.queue ≤ 4
+  pub asks_more : count_by (is_answer_to terminal) w.answered < count_by (asks terminal) w.asked
+  pub not_taken : AllByRecursion (λ (c : Taken). c.terminal ≢ terminal) (unanswered w)
+
+-- a take is possible only then
+abbrev pub TakesNeedLooks : World → Type 0
+TakesNeedLooks w = (terminal : ℕ) (letter : Option ℕ) (after : World) → next w (Take terminal letter) ≡ Some after → CanBeLookedAt w terminal
+
+-- the first batch of the queue waits until none is in flight. One with entries is in flight then, one without is due at
+-- once; after a fault each is due, and answered Unknown.
+pub record PullsInTurn (w : World) : Type 0 where
+  pub waits : w.power ≡ Running → w.phase ≢ Idle → next w Pull ≡ None
+  pub nothing : w.queue ≡ [] → next w Pull ≡ None
+  pub flies : (batch : Batch) (rest : List Batch) → w.power ≡ Running → w.phase ≡ Idle → w.queue ≡ batch ∷ rest → w.safe < batch.upto
+      → next w Pull ≡ Some (record w { queue = rest; flight = batch; phase = Writing 0 })
+  pub is_due : (batch : Batch) (rest : List Batch) → w.power ≡ Running → w.phase ≡ Idle → w.queue ≡ batch ∷ rest → batch.upto ≤ w.safe
+      → next w Pull ≡ Some (record w { queue = rest; due = w.due ++ batch.commands })
+  pub fails : (batch : Batch) (rest : List Batch) → w.power ≡ Broken → w.queue ≡ batch ∷ rest
+      → next w Pull ≡ Some (record w { queue = rest; due = w.due ++ map unknown_to batch.commands })
+
+-- a device call: one of a checkpoint or of a batch
+abbrev pub is_device_call : Event → Bool
+is_device_call Fold = true
+is_device_call BodyWrite = true
+is_device_call FirstSync = true
+is_device_call Gate = true
+is_device_call SecondSync = true
+is_device_call event = false
+
+-- Each device call has its phase, and only a running controller makes one. A checkpoint's calls come before the batch is
+-- written; then the writes of its body and of the gate after it, one after another; the first sync once all of these are
+-- made; the write of its gate; and the second sync, which alone makes it safe.
+pub record CallsInOrder (w : World) : Type 0 where
+  pub only_running : (call : Event) (after : World) → IsTrue (is_device_call call) → next w call ≡ Some after → w.power ≡ Running
+  pub checkpoint : (after : World) → next w Fold ≡ Some after → (w.phase ≡ Writing 0) × (after ≡ w)
+  pub body : (after : World) → next w BodyWrite ≡ Some after → (n : ℕ) × (w.phase ≡ Writing n) × (n < writes_of w) × (after ≡ in_phase w (Writing (n + 1)))
+  pub first_sync : (after : World) → next w FirstSync ≡ Some after → (w.phase ≡ Writing (writes_of w)) × (after ≡ in_phase w Synced)
+  pub gate : (after : World) → next w Gate ≡ Some after → (w.phase ≡ Synced) × (after ≡ in_phase w GateWritten)
+  pub second_sync : (after : World) → next w SecondSync ≡ Some after → (w.phase ≡ GateWritten) × (after ≡ settling w)
+
 -- a command that is due can be answered
 abbrev pub AnswersDue : World → Type 0
 AnswersDue w = (terminal : ℕ) (command : Taken) → is_off w.power ≡ false → find (is_taken_of terminal) w.due ≡ Some command
-    → next w (Answer terminal) ≡ Some (answering w terminal command)
+    → next w (Answering terminal) ≡ Some (answering w terminal command)
+
+-- a command of that terminal which is due, answered with the reply that it gets
+pub record IsAnswerDue (w : World) (terminal : ℕ) (after : World) : Type 0 where
+  pub command : Taken
+  pub is_due : Contains w.due command
+  pub of_terminal : command.terminal ≡ terminal
+  pub is : after ≡ answering w terminal command
+
+-- nothing else is ever answered
+abbrev pub AnswersOnlyDue : World → Type 0
+AnswersOnlyDue w = (terminal : ℕ) (after : World) → next w (Answering terminal) ≡ Some after → IsAnswerDue w terminal after

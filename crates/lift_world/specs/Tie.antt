@@ -7,6 +7,7 @@ use Rattle.lift_policy.specs.declared.command.Command.{Command}
 use Rattle.lift_world.specs.declared.event.Event.TheVariants.{Take}
 use Rattle.lift_world.specs.World.{World, asks, state_of}
 use Rattle.lift_world.specs.Next.{next, may_take, deciding}
+use Rattle.lift_world.specs.Possible.{CanBeLookedAt}
 
 -- the policy that names this letter
 abbrev pub naming : Option ℕ → Choice
@@ -34,3 +35,16 @@ abbrev pub StepsAreTakes : World → Type 0
 StepsAreTakes w = (terminal : ℕ) (command : Command) (reply : Reply) (state : State) → Finds w terminal command
     → Step w.building any_eligible (state_of w) command.terminal command.number command.body reply state
     → (letter : Option ℕ) × (next w (Take terminal letter) ≡ Some (deciding w command (record { reply = reply; next = state })))
+
+-- the ask that a look finds, and a decision of the rules on it that some take makes
+pub record HasTake (w : World) (terminal : ℕ) : Type 0 where
+  pub command : Command
+  pub letter : Option ℕ
+  pub reply : Reply
+  pub state : State
+  pub finds : Finds w terminal command
+  pub takes : next w (Take terminal letter) ≡ Some (deciding w command (record { reply = reply; next = state }))
+
+-- wherever a terminal can be looked at, a take is possible: the rules decide on every ask
+abbrev pub LooksAreTakes : World → Type 0
+LooksAreTakes w = (terminal : ℕ) → CanBeLookedAt w terminal → HasTake w terminal

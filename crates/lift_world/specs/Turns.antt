@@ -1,19 +1,21 @@
 -- Whole turns as lists of events.
-use Rattle.std.specs.Prelude.{ℕ, ◌≡◌, ◌≢◌, ◌≤◌, ◌<◌, ◌==◌, ◌+◌, true, if◌then◌else◌, List, [], ◌∷◌, ◌++◌, length, map, take, replicate, Option}
+use Rattle.std.specs.Prelude.{ℕ, ◌≡◌, ◌≢◌, ◌≤◌, ◌<◌, ◌==◌, ◌+◌, true, if◌then◌else◌, List, [], ◌∷◌, ◌++◌, length, map, take, replicate, Option, Some, IsTrue}
 use Rattle.std.specs.List.{AllByRecursion}
 use Rattle.lift_base.specs.declared.command.Reply.{Reply}
+use Rattle.lift_building.specs.Plan.{Plan}
 use Rattle.lift_policy.specs.Eligible.{any_eligible}
 use Rattle.lift_policy.specs.Step.{State}
-use Rattle.lift_policy.specs.Run.{Run}
+use Rattle.lift_policy.specs.Run.{Run, unknowns}
 use Rattle.lift_policy.specs.declared.command.Command.{Command}
 use Rattle.lift_world.specs.declared.event.Event.{Event}
-use Rattle.lift_world.specs.declared.event.Event.TheVariants.{Take, Seal, Pull, Fold, Body as BodyWrite, FirstSync, Gate, SecondSync, Answer, Fault}
+use Rattle.lift_world.specs.declared.event.Event.TheVariants.{Take, Seal, Pull, Fold, Body as BodyWrite, FirstSync, Gate, SecondSync, Answer, Fault, Cut, Reopen}
+use Rattle.lift_world.specs.declared.event.Kept.{Kept}
 use Rattle.lift_world.specs.declared.event.Taken.{Taken}
 use Rattle.lift_world.specs.declared.event.Phase.{Phase}
 use Rattle.lift_world.specs.declared.event.Phase.TheVariants.{Idle, Writing, Synced, GateWritten}
 use Rattle.lift_world.specs.declared.event.Power.TheVariants.{Broken}
-use Rattle.lift_world.specs.World.{World, no_batch, is_running, state_of}
-use Rattle.lift_world.specs.Next.{run, bodies, answer_of, unknown_to}
+use Rattle.lift_world.specs.World.{World, no_batch, is_running, state_of, may_keep, outcome}
+use Rattle.lift_world.specs.Next.{next, run, bodies, answer_of, unknown_to, reopened}
 use Rattle.lift_world.specs.Tie.{Finds}
 
 -- the asks of these commands stand, and no terminal is looked at twice
@@ -122,3 +124,73 @@ FailuresAreRuns w = (command : Command) (commands : List Command) (reply : Reply
     → Run w.building any_eligible (state_of w) (command ∷ commands) (reply ∷ replies) state
     → 0 < length state.batch → MayFailIn (bodies (length state.batch) + 1) phase
     → (letters : List (Option ℕ)) × ((folds : ℕ) → run (failed_events (command ∷ commands) letters folds phase (length state.batch)) w ≡ failed w (command ∷ commands) (reply ∷ replies) state phase)
+
+-- between two turns after a fault: nothing is taken or on its way, and the batch in doubt stays with its phase
+pub record IsBrokenAtRest (w : World) : Type 0 where
+  pub broken : w.power ≡ Broken
+  pub nothing_flies : w.flight.commands ≡ []
+  pub nothing_queued : w.queue ≡ []
+  pub nothing_taken : w.taken ≡ []
+  pub nothing_due : w.due ≡ []
+  pub all_sealed : w.sealed ≡ length w.accepted
+  pub safe_in_range : w.safe ≤ length w.accepted
+  pub doubt_in_range : w.flight.upto ≤ length w.accepted
+
+-- a turn while broken: a scan, its batch that no device call is made for, its answers
+abbrev pub broken_events : List Command → List (Option ℕ) → List Event
+broken_events commands letters = take_events commands letters ++ (Seal ∷ Pull ∷ answer_events commands)
+
+-- each command answered Unknown
+abbrev pub with_unknown : List Command → List Taken
+with_unknown commands = with_replies commands (unknowns commands)
+
+-- the world after it: each command is answered Unknown, and what was decided stands behind the batch in doubt, where it
+-- never gets to the disk
+abbrev pub turned_broken : World → List Command → State → World
+turned_broken w commands state = record w {
+  accepted = w.accepted ++ state.batch;
+  sealed = length (w.accepted ++ state.batch);
+  positions = state.positions;
+  answered = w.answered ++ map answer_of (with_unknown commands);
+  given = w.given ++ with_unknown commands;
+}
+
+-- A turn while broken that took something is its list of events, whatever was decided in it.
+abbrev pub BrokenTurnsAreRuns : World → Type 0
+BrokenTurnsAreRuns w = (command : Command) (commands : List Command) (reply : Reply) (replies : List Reply) (state : State) → IsBrokenAtRest w → AreFound w (command ∷ commands)
+    → Run w.building any_eligible (state_of w) (command ∷ commands) (reply ∷ replies) state
+    → (letters : List (Option ℕ)) × (run (broken_events (command ∷ commands) letters) w ≡ turned_broken w (command ∷ commands) state)
+
+-- Such a turn changes the answers alone: a cut or a reopening may leave what it might have left before, and a reopening
+-- leaves the world that it would have left before, with those answers.
+pub record ChangesAnswersAlone (w : World) (commands : List Command) (after : World) : Type 0 where
+  pub same_choice : (kept : Kept) → may_keep after kept ≡ may_keep w kept
+  pub same_outcome : (kept : Kept) → outcome after kept ≡ outcome w kept
+  pub same_reopened : (kept : Kept) → reopened after kept
+      ≡ record (reopened w kept) { answered = w.answered ++ map answer_of (with_unknown commands); given = w.given ++ with_unknown commands }
+
+abbrev pub BrokenTurnsChangeNothing : World → Type 0
+BrokenTurnsChangeNothing w = (commands : List Command) (state : State) → IsBrokenAtRest w → ChangesAnswersAlone w commands (turned_broken w commands state)
+
+-- The rules decide on every list of commands, so that each scan has its run.
+abbrev pub HasRun : Plan → State → List Command → Type 0
+HasRun building state commands = (replies : List Reply) × (next : State) × Run building any_eligible state commands replies next
+
+-- After a turn that answers Ok the world is at rest again.
+abbrev pub TurnsEndAtRest : World → Type 0
+TurnsEndAtRest w = (commands : List Command) (replies : List Reply) (state : State) → IsAtRest w → IsAtRest (turned w commands replies state)
+
+-- After one whose batch failed all of it is answered, and after each turn while broken too.
+abbrev pub FailuresEndAtRest : World → Type 0
+FailuresEndAtRest w = (commands : List Command) (replies : List Reply) (state : State) (phase : Phase) → IsAtRest w → IsBrokenAtRest (failed w commands replies state phase)
+
+abbrev pub BrokenTurnsEndAtRest : World → Type 0
+BrokenTurnsEndAtRest w = (commands : List Command) (state : State) → IsBrokenAtRest w → IsBrokenAtRest (turned_broken w commands state)
+
+-- From there each reopening that the phase allows is possible, and leaves a world at rest.
+abbrev pub ReopeningsEndAtRest : World → Type 0
+ReopeningsEndAtRest w = (kept : Kept) → IsBrokenAtRest w → IsTrue (may_keep w kept) → (next w (Reopen kept) ≡ Some (reopened w kept)) × IsAtRest (reopened w kept)
+
+-- The recovery after a cut leaves one too, wherever the cut came.
+abbrev pub CutsEndAtRest : World → Type 0
+CutsEndAtRest w = (kept : Kept) (after : World) → next w (Cut kept) ≡ Some after → IsAtRest (reopened after kept)

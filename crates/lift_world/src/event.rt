@@ -20,7 +20,8 @@ pub enum Event {
     Seal,
     /// The first batch of the queue becomes the one in flight.
     Pull,
-    /// One device call of a checkpoint, before the batch in flight is written.
+    /// One device call of a checkpoint, before the batch in flight is written. Either half that may be picked reads as the
+    /// register of what is safe, so nothing changes that a recovery could see.
     Fold,
     /// One write of a body sector of the batch, or of the gate after it.
     Body,
@@ -36,7 +37,7 @@ pub enum Event {
     Fault,
     /// The power fails.
     Cut(Kept),
-    /// A whole recovery.
+    /// A whole recovery. What was taken and not sealed is dropped, and answered Unknown.
     Reopen(Kept),
 }
 

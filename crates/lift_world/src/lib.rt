@@ -9,5 +9,7 @@ mod theorem;
 mod world;
 
 pub use event::{Answer, Event, Kept, Phase, Power, Taken};
-pub use theorem::{events_are_possible, every_run, turns_are_events};
+pub use theorem::{
+    events_are_possible, every_run, replies_are_safe, turns_are_events, turns_end_at_rest,
+};
 pub use world::World;

@@ -1,17 +1,25 @@
 ghost use Rattle.std.specs.Prelude.{ℕ, List};
 ghost use Rattle.lift_building.specs.Plan.{Plan, IsBuilding};
+ghost use Rattle.lift_policy.specs.Step.{State};
+ghost use Rattle.lift_policy.specs.declared.command.Command.{Command};
 ghost use Rattle.lift_world.specs.Next.{run};
-ghost use Rattle.lift_world.specs.Headline.{RecoversPrefix, RecoversAcknowledged, RecoversLetters, RecoversFitting, HearsInOrder};
+ghost use Rattle.lift_world.specs.Headline.{RecoversPrefix, RecoversAcknowledged, RecoversLetters, RecoversFitting, HearsInOrder, SealsAccepted};
 ghost use Rattle.lift_world.specs.World.{World, start};
-ghost use Rattle.lift_world.specs.Possible.{CutsToSafe, CutsWithBatch, ReopensAfterCut, OnlyReopensAfterCut, ReopensAfterFault, KeepsRunning, AnswersDue};
-ghost use Rattle.lift_world.specs.Tie.{TakesAreSteps, StepsAreTakes};
-ghost use Rattle.lift_world.specs.Turns.{RunsAreTakes, TurnsAreRuns, FailuresAreRuns};
+ghost use Rattle.lift_world.specs.Possible.{CutsToSafe, CutsWithBatch, ReopensAfterCut, OnlyReopensAfterCut, ReopensAfterFault, ReopeningsGive, KeepsRunning};
+ghost use Rattle.lift_world.specs.Possible.{AsksOnceHeard, HearsTheNext, TakesNeedLooks, PullsInTurn, CallsInOrder, AnswersDue, AnswersOnlyDue};
+ghost use Rattle.lift_world.specs.Asking.{AsksStand};
+ghost use Rattle.lift_world.specs.Due.{DueOnceSafe};
+ghost use Rattle.lift_world.specs.Faults.{FaultsLeaveDoubt, UnknownAfterFault, UnknownOverReopening};
+ghost use Rattle.lift_world.specs.Tie.{TakesAreSteps, StepsAreTakes, LooksAreTakes};
+ghost use Rattle.lift_world.specs.Turns.{HasRun, RunsAreTakes, TurnsAreRuns, FailuresAreRuns, BrokenTurnsAreRuns, BrokenTurnsChangeNothing};
+ghost use Rattle.lift_world.specs.Turns.{IsAtRest, TurnsEndAtRest, FailuresEndAtRest, BrokenTurnsEndAtRest, ReopeningsEndAtRest, CutsEndAtRest};
 
 use crate::event::Event;
 
 /// What holds at each point of every run, whatever comes: each recovery that a power cut or a fault may lead to gives a
 /// prefix of what was accepted, has every acknowledged entry, still names the car of each letter that was shown, and is
-/// refused for no entry; and each terminal hears what it was answered, in order and each once.
+/// refused for no entry; each terminal hears what it was answered, in order and each once; and what is sealed is a front
+/// of what is accepted, which a scan's law asks for.
 pub fn every_run()
     ensures prefix { (building : Plan) (events : List Event) → IsBuilding building
         → RecoversPrefix (run events (start building)) }
@@ -22,25 +30,61 @@ pub fn every_run()
     ensures fitting { (building : Plan) (events : List Event) → IsBuilding building
         → RecoversFitting (run events (start building)) }
     ensures heard { (building : Plan) (events : List Event) → HearsInOrder (run events (start building)) }
+    ensures sealed { (building : Plan) (events : List Event) → SealsAccepted (run events (start building)) }
 {}
 
-/// Which events are possible, in whatever world: so the theorem speaks of cuts, faults and recoveries that happen.
+/// Which events are possible, in whatever world: so the theorem speaks of cuts, faults and recoveries that happen, of asks
+/// that are decided, and of answers that are heard.
 pub fn events_are_possible()
     ensures cut { (w : World) → CutsToSafe w }
     ensures cut_with_batch { (w : World) → CutsWithBatch w }
     ensures reopening { (w : World) → ReopensAfterCut w }
     ensures nothing_else { (w : World) → OnlyReopensAfterCut w }
     ensures reopening_after_fault { (w : World) → ReopensAfterFault w }
+    ensures recovered { (w : World) → ReopeningsGive w }
     ensures no_reopening { (w : World) → KeepsRunning w }
+    ensures asks { (w : World) → AsksOnceHeard w }
+    ensures hears { (w : World) → HearsTheNext w }
+    ensures takes { (w : World) → LooksAreTakes w }
+    ensures looks { (w : World) → TakesNeedLooks w }
+    ensures pulls { (w : World) → PullsInTurn w }
+    ensures calls { (w : World) → CallsInOrder w }
     ensures answers { (w : World) → AnswersDue w }
+    ensures nothing_early { (w : World) → AnswersOnlyDue w }
 {}
 
-/// Each take is one decision of the rules, and whatever the rules allow, under any policy, is a take. A scan is a list of
-/// takes; a turn that answers Ok, and one in which any of its device calls fails, is a list of events.
+/// Each take is one decision of the rules, and whatever the rules allow, under any policy, is a take; they decide on every
+/// command, and whatever terminals may ask comes to stand. A scan is a list of takes. A turn that answers Ok, one in which
+/// any of its device calls fails, and one while broken are lists of events; the last changes the answers alone.
 pub fn turns_are_events()
     ensures steps { (w : World) → TakesAreSteps w }
     ensures takes { (w : World) → StepsAreTakes w }
     ensures scans { (w : World) → RunsAreTakes w }
     ensures turns { (w : World) → TurnsAreRuns w }
     ensures failures { (w : World) → FailuresAreRuns w }
+    ensures broken { (w : World) → BrokenTurnsAreRuns w }
+    ensures broken_changes { (w : World) → BrokenTurnsChangeNothing w }
+    ensures asks { (w : World) → AsksStand w }
+    ensures decided { (building : Plan) (state : State) (commands : List Command) → HasRun building state commands }
+{}
+
+/// Where turns begin: at rest, as the machine starts. A turn that answers Ok ends there, and so does a reopening after a
+/// turn that failed, whatever turns came between, and the recovery after any cut.
+pub fn turns_end_at_rest()
+    ensures start { (building : Plan) → IsAtRest (start building) }
+    ensures turns { (w : World) → TurnsEndAtRest w }
+    ensures failures { (w : World) → FailuresEndAtRest w }
+    ensures broken_turns { (w : World) → BrokenTurnsEndAtRest w }
+    ensures reopenings { (w : World) → ReopeningsEndAtRest w }
+    ensures cuts { (w : World) → CutsEndAtRest w }
+{}
+
+/// When replies are told. A command is due once its batch is safe, or else with Unknown, where a device call failed: then
+/// Unknown alone is told of each command that wasn't due, in flight, queued, in hand or taken later, also by the reopening
+/// that ends it.
+pub fn replies_are_safe()
+    ensures due { (w : World) → DueOnceSafe w }
+    ensures faults { (w : World) → FaultsLeaveDoubt w }
+    ensures unknown { (w : World) → UnknownAfterFault w }
+    ensures reopening { (w : World) → UnknownOverReopening w }
 {}

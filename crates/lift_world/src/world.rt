@@ -370,7 +370,7 @@ impl<'b> World<'b> {
         Ok(true)
     }
 
-    /// A checkpoint leaves all that the machine knows as it is.
+    /// A checkpoint's call leaves all that the machine knows as it is: what is safe is safe in either half.
     fn fold(&mut self) -> bool
         ensures { Moves self.old Event.Fold result self.new }
     {
@@ -549,12 +549,15 @@ impl<'b> World<'b> {
         }
     }
 
-    fn reopen(&mut self, kept: Kept) -> bool
-        ensures { Moves self.old (Event.Reopen kept) result self.new }
+    /// What was taken and not sealed is dropped, and answered Unknown.
+    fn reopen(&mut self, kept: Kept) -> Result<bool, Memory>
+        ensures ok { IfOk result (λ possible. Moves self.old (Event.Reopen kept) possible self.new) }
+        ensures err { OnErr result (self.new ≡ self.old) }
     {
         if !self.may_reopen(&kept) {
-            return false;
+            return Ok(false);
         }
+        add_unknown(&mut self.due, &self.taken)?;
         let count = self.recovered(&kept);
         self.accepted.truncate(count);
         let building = self.building;
@@ -570,7 +573,7 @@ impl<'b> World<'b> {
         self.power = Power::Running;
         self.positions = unplaced();
         self.taken.clear();
-        true
+        Ok(true)
     }
 
     /// One event. False where it isn't possible, and then, as for want of memory, nothing changed.
@@ -592,7 +595,7 @@ impl<'b> World<'b> {
             Event::Hear(terminal) => self.hear(terminal),
             Event::Fault => self.fault(),
             Event::Cut(kept) => Ok(self.cut(kept)),
-            Event::Reopen(kept) => Ok(self.reopen(kept)),
+            Event::Reopen(kept) => self.reopen(kept),
         }
     }
 }

@@ -1,8 +1,9 @@
 //! Worked runs of the machine.
 
-use lift_base::{Body, Dir, Floor, Letter, Number, Party, Reply, Terminal};
+use lift_base::{Body, Dir, Floor, Letter, Number, Party, Reason, Reply, Terminal};
 use lift_building::Building;
 use lift_world::{Event, Kept, Phase, Power, World};
+use std::alloc::Global;
 use std::test::Fail;
 
 /// Ten floors, two cars of eight places, and kiosks at floors 0, 5 and 7.
@@ -95,18 +96,21 @@ fn placed(world: &mut World) -> bool {
     goes(world, &events)
 }
 
-/// Kiosk 0 asks for floor 5, gets car A, and its batch is written up to the gate after it.
-fn called(world: &mut World) -> bool {
+/// Kiosk 0 asks for floor 5, gets car A, and its batch is in flight.
+fn in_flight(world: &mut World) -> bool {
     let events = [
         call(16, 1, 5),
         allot(16, 0),
         Event::Seal,
         Event::Pull,
         Event::Fold,
-        Event::Body,
-        Event::Body,
     ];
     placed(world) && goes(world, &events)
+}
+
+/// The same, and its batch is written up to the gate after it.
+fn called(world: &mut World) -> bool {
+    in_flight(world) && goes(world, &[Event::Body, Event::Body])
 }
 
 fn letter(index: u8) -> Reply {
@@ -161,6 +165,119 @@ fn loses_the_batch(rt: HostRuntime) -> Result<(), Fail> {
     assert!(rt; world.accepted().is_empty() && world.safe() == 0);
     assert!(rt; world.phase() == Phase::Idle);
     assert!(rt; goes(&mut world, &[call(16, 1, 5)]) && stays(&mut world, &allot(16, 0)));
+    Ok(())
+}
+
+/// Whether a cut may keep the batch in flight after these device calls, the last of which may have failed.
+fn may_keep(alloc: Global, building: &Building, calls: &[Event]) -> Option<bool> {
+    let mut world = World::new(alloc, building, 64).ok()?;
+    if !in_flight(&mut world) || !goes(&mut world, calls) {
+        return None;
+    }
+    world.step(&Event::Cut(Kept::WithBatch)).ok()
+}
+
+/// Only once its gate was written, also where the second sync fails.
+#[test]
+fn keeps_only_behind_the_gate(rt: HostRuntime) -> Result<(), Fail> {
+    let building = Building::read(rt.alloc(), DEMO).ok().ok_or("refused")?;
+    let rows: [(&[Event], bool); 6] = [
+        (&[], false),
+        (&[Event::Body, Event::Fault], false),
+        (&[Event::Body, Event::Body, Event::Fault], false),
+        (&[Event::Body, Event::Body, Event::FirstSync], false),
+        (
+            &[Event::Body, Event::Body, Event::FirstSync, Event::Gate],
+            true,
+        ),
+        (
+            &[
+                Event::Body,
+                Event::Body,
+                Event::FirstSync,
+                Event::Gate,
+                Event::Fault,
+            ],
+            true,
+        ),
+    ];
+    for (calls, kept) in rows {
+        assert!(rt; may_keep(rt.alloc(), &building, calls) == Some(kept));
+    }
+    Ok(())
+}
+
+/// A fault, and then a reopening while a call is taken and not sealed: its kiosk hears Unknown, and may ask again.
+#[test]
+fn reopens_with_a_call_in_hand(rt: HostRuntime) -> Result<(), Fail> {
+    let building = Building::read(rt.alloc(), DEMO).ok().ok_or("refused")?;
+    let mut world = World::new(rt.alloc(), &building, 64).ok().ok_or("memory")?;
+    assert!(rt; in_flight(&mut world));
+    assert!(rt; goes(&mut world, &[call(17, 1, 2), allot(17, 0), Event::Fault]));
+    assert!(rt; goes(&mut world, &[answer(16)]) && told(&world, Reply::Unknown));
+    assert!(rt; stays(&mut world, &answer(17)));
+    assert!(rt; goes(&mut world, &[Event::Reopen(Kept::Safe)]) && world.accepted().is_empty());
+    assert!(rt; stays(&mut world, &take(17)) && stays(&mut world, &call(17, 1, 2)));
+    assert!(rt; goes(&mut world, &[answer(17)]) && told(&world, Reply::Unknown));
+    assert!(rt; stays(&mut world, &answer(17)));
+    // No car has told its position since, so the call that is asked again is refused.
+    let again = [
+        hear(17),
+        call(17, 1, 2),
+        take(17),
+        Event::Seal,
+        Event::Pull,
+        answer(17),
+    ];
+    assert!(rt; goes(&mut world, &again) && told(&world, Reply::Refused(Reason::NoCar)));
+    Ok(())
+}
+
+/// A turn while broken: what it decides is answered Unknown, and the recovery gives what it would have given before.
+#[test]
+fn turns_while_broken(rt: HostRuntime) -> Result<(), Fail> {
+    let building = Building::read(rt.alloc(), DEMO).ok().ok_or("refused")?;
+    let mut world = World::new(rt.alloc(), &building, 64).ok().ok_or("memory")?;
+    assert!(rt; in_flight(&mut world) && goes(&mut world, &[Event::Body, Event::Body]));
+    assert!(rt;
+        goes(
+            &mut world,
+            &[Event::FirstSync, Event::Gate, Event::Fault, answer(16)]
+        )
+    );
+    let turn = [
+        place(1, 9, Dir::Down),
+        call(17, 1, 2),
+        take(1),
+        allot(17, 0),
+        Event::Seal,
+        Event::Pull,
+    ];
+    assert!(rt; goes(&mut world, &turn) && world.accepted().len() == 2);
+    assert!(rt; goes(&mut world, &[answer(1)]) && told(&world, Reply::Unknown));
+    assert!(rt; goes(&mut world, &[answer(17)]) && told(&world, Reply::Unknown));
+    assert!(rt; world.power() == Power::Broken && world.phase() == Phase::GateWritten);
+    assert!(rt; goes(&mut world, &[Event::Reopen(Kept::WithBatch)]));
+    assert!(rt; world.accepted().len() == 1 && world.safe() == 1);
+    Ok(())
+}
+
+/// The queue waits for the batch in flight, an answer for its batch, and a terminal for its answer.
+#[test]
+fn waits_in_turn(rt: HostRuntime) -> Result<(), Fail> {
+    let building = Building::read(rt.alloc(), DEMO).ok().ok_or("refused")?;
+    let mut world = World::new(rt.alloc(), &building, 64).ok().ok_or("memory")?;
+    assert!(rt; in_flight(&mut world));
+    assert!(rt; goes(&mut world, &[call(17, 1, 2), allot(17, 0), Event::Seal]));
+    assert!(rt; stays(&mut world, &Event::Pull));
+    assert!(rt; stays(&mut world, &answer(16)) && stays(&mut world, &answer(17)));
+    assert!(rt; stays(&mut world, &hear(16)) && stays(&mut world, &call(16, 1, 5)));
+    assert!(rt; stays(&mut world, &allot(17, 0)) && stays(&mut world, &take(18)));
+    assert!(rt; written(&mut world) && goes(&mut world, &[Event::Pull]));
+    assert!(rt; goes(&mut world, &[answer(16), hear(16)]) && stays(&mut world, &hear(16)));
+    assert!(rt; told(&world, letter(0)) && stays(&mut world, &answer(17)));
+    assert!(rt; written(&mut world) && goes(&mut world, &[answer(17), hear(17)]));
+    assert!(rt; world.heard().len() == 3 && world.safe() == 2);
     Ok(())
 }
 

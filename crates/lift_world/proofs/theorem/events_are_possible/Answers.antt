@@ -1,4 +1,7 @@
-use Rattle.lift_world.proofs.Possibilities.{cuts_to_safe, cuts_with_batch, reopens_after_cut, only_reopens_after_cut, reopens_after_fault, keeps_running, answers_due}
+use Rattle.lift_world.proofs.Possibilities.{cuts_to_safe, cuts_with_batch, reopens_after_cut, only_reopens_after_cut, reopens_after_fault, reopenings_give, keeps_running, pulls_in_turn, answers_due, answers_only_due}
+use Rattle.lift_world.proofs.Calls.{calls_in_order}
+use Rattle.lift_world.proofs.Asked.{asks_once_heard, hears_the_next}
+use Rattle.lift_world.proofs.Looks.{looks_are_takes, takes_need_looks}
 use Rattle.lift_world.proofs.theorem.events_are_possible.Goals as goal
 
 pub returns-clause-cut : goal.returns-clause-cut
@@ -21,3 +24,27 @@ returns-clause-no_reopening c w = keeps_running w
 
 pub returns-clause-answers : goal.returns-clause-answers
 returns-clause-answers c w = answers_due w
+
+pub returns-clause-recovered : goal.returns-clause-recovered
+returns-clause-recovered c w = reopenings_give w
+
+pub returns-clause-asks : goal.returns-clause-asks
+returns-clause-asks c w = asks_once_heard w
+
+pub returns-clause-hears : goal.returns-clause-hears
+returns-clause-hears c w = hears_the_next w
+
+pub returns-clause-takes : goal.returns-clause-takes
+returns-clause-takes c w = looks_are_takes w
+
+pub returns-clause-looks : goal.returns-clause-looks
+returns-clause-looks c w = takes_need_looks w
+
+pub returns-clause-pulls : goal.returns-clause-pulls
+returns-clause-pulls c w = pulls_in_turn w
+
+pub returns-clause-nothing_early : goal.returns-clause-nothing_early
+returns-clause-nothing_early c w = answers_only_due w
+
+pub returns-clause-calls : goal.returns-clause-calls
+returns-clause-calls c w = calls_in_order w

@@ -1,0 +1,191 @@
+-- Where turns begin and end, and turns while broken.
+use Rattle.std.proofs.Common.{ℕ, ◌≡◌, ◌-◌, ◌≤◌, List, [], ◌∷◌, ◌++◌, length, map, take, drop, Option, refl, sym, ap, subst, ◌∙◌, arith}
+use Rattle.std.proofs.Math.Seq.{take-length}
+use Rattle.std.proofs.lemmas.List.{length-append, length-drop, take-append-le, drop-append-le}
+use Rattle.lift_base.specs.declared.history.Entry.{Entry}
+use Rattle.lift_base.specs.declared.command.Reply.{Reply}
+use Rattle.lift_building.specs.Plan.{Plan}
+use Rattle.lift_policy.specs.Eligible.{any_eligible}
+use Rattle.lift_policy.specs.Step.{State}
+use Rattle.lift_policy.specs.Run.{Run}
+use Rattle.lift_policy.specs.declared.command.Command.{Command}
+use Rattle.lift_world.specs.declared.event.Event.{Event}
+use Rattle.lift_world.specs.declared.event.Event.TheVariants.{Seal, Pull}
+use Rattle.lift_world.specs.declared.event.Kept.{Kept}
+use Rattle.lift_world.specs.declared.event.Kept.TheVariants.{Safe, WithBatch}
+use Rattle.lift_world.specs.declared.event.Taken.{Taken}
+use Rattle.lift_world.specs.declared.event.Power.{Power}
+use Rattle.lift_world.specs.declared.event.Power.TheVariants.{Broken}
+use Rattle.lift_world.specs.World.{World, Batch, start, state_of, may_keep, outcome}
+use Rattle.lift_world.specs.Next.{run, cutting, reopened, answer_of, unknown_to}
+use Rattle.lift_world.specs.Turns.{AreFound, IsAtRest, with_replies, take_events, answer_events, IsBrokenAtRest, broken_events, with_unknown, turned_broken, BrokenTurnsAreRuns, ChangesAnswersAlone, BrokenTurnsChangeNothing, TurnsEndAtRest, FailuresEndAtRest, BrokenTurnsEndAtRest, ReopeningsEndAtRest, CutsEndAtRest}
+use Rattle.lift_world.proofs.Scans.{runs_are_takes, taken_as}
+use Rattle.lift_world.proofs.Decisions.{true_of}
+use Rattle.lift_world.proofs.Possibilities.{broken_opens, when_some}
+use Rattle.lift_world.proofs.Turns.{run-append, SameLength, same_length, all_apart, answered_all, answers_of, answering_on, unknown_terminals, unknown_apart}
+
+-- where turns begin
+pub start_rests : (building : Plan) → IsAtRest (start building)
+start_rests building = record {
+  running = refl;
+  idle = refl;
+  nothing_flies = refl;
+  nothing_queued = refl;
+  nothing_taken = refl;
+  nothing_due = refl;
+  all_sealed = refl;
+  all_safe = refl;
+}
+
+pub turns_rest : (w : World) → TurnsEndAtRest w
+turns_rest w commands replies state k = record {
+  running = k.running;
+  idle = k.idle;
+  nothing_flies = k.nothing_flies;
+  nothing_queued = k.nothing_queued;
+  nothing_taken = k.nothing_taken;
+  nothing_due = k.nothing_due;
+  all_sealed = refl;
+  all_safe = refl;
+}
+
+pub failures_rest : (w : World) → FailuresEndAtRest w
+failures_rest w commands replies state phase k = record {
+  broken = refl;
+  nothing_flies = refl;
+  nothing_queued = k.nothing_queued;
+  nothing_taken = k.nothing_taken;
+  nothing_due = k.nothing_due;
+  all_sealed = refl;
+  safe_in_range = let l = length-append w.accepted state.batch in let s = k.all_safe in omega arith;
+  doubt_in_range = omega arith;
+}
+
+-- what a reopening leaves has nothing due, where nothing was due or taken
+reopened_rests : (w : World) (kept : Kept) → w.due ≡ [] → w.taken ≡ [] → IsAtRest (reopened w kept)
+reopened_rests w kept no_due none_taken = record {
+  running = refl;
+  idle = refl;
+  nothing_flies = refl;
+  nothing_queued = refl;
+  nothing_taken = refl;
+  nothing_due = ap (λ (cs : List Taken). cs ++ map unknown_to w.taken) no_due ∙ ap (λ (cs : List Taken). map unknown_to cs) none_taken;
+  all_sealed = refl;
+  all_safe = refl;
+}
+
+pub reopenings_rest : (w : World) → ReopeningsEndAtRest w
+reopenings_rest w kept k may = (broken_opens w kept k.broken k.nothing_queued (true_of (may_keep w kept) may), reopened_rests w kept k.nothing_due k.nothing_taken)
+
+pub cuts_rest : (w : World) → CutsEndAtRest w
+cuts_rest w kept after h =
+    subst (λ (x : World). IsAtRest (reopened x kept)) (when_some (may_keep w kept) (cutting w kept) after h).1 (reopened_rests (cutting w kept) kept refl refl)
+
+-- the commands answered Unknown, whatever was decided
+unknown_is : (commands : List Command) (replies : List Reply) → SameLength commands replies → map unknown_to (with_replies commands replies) ≡ with_unknown commands
+unknown_is [] replies h = refl
+unknown_is (c ∷ commands) [] h = absurd h
+unknown_is (c ∷ commands) (reply ∷ replies) h = ap (λ (cs : List Taken). unknown_to (taken_as c reply) ∷ cs) (unknown_is commands replies h)
+
+-- a broken world at rest, with what that means put in
+abbrev broken_rest : World → World
+broken_rest w = record w { sealed = length w.accepted; flight = record { commands = []; upto = w.flight.upto }; queue = []; power = Broken; taken = []; due = [] }
+
+is_broken_rest : (w : World) → IsBrokenAtRest w → broken_rest w ≡ w
+is_broken_rest w k =
+    ap (λ (n : ℕ). record (broken_rest w) { sealed = n }) (sym k.all_sealed)
+    ∙ ap (λ (cs : List Taken). record (broken_rest w) { sealed = w.sealed; flight = record { commands = cs; upto = w.flight.upto } }) (sym k.nothing_flies)
+    ∙ ap (λ (q : List Batch). record w { queue = q; power = Broken; taken = []; due = [] }) (sym k.nothing_queued)
+    ∙ ap (λ (p : Power). record w { power = p; taken = []; due = [] }) (sym k.broken)
+    ∙ ap (λ (xs : List Taken). record w { taken = xs; due = [] }) (sym k.nothing_taken) ∙ ap (λ (xs : List Taken). record w { due = xs }) (sym k.nothing_due)
+
+module _ (w : World) (command : Command) (commands : List Command) (reply : Reply) (replies : List Reply) (state : State) (found : AreFound (broken_rest w) (command ∷ commands))
+    (r : Run w.building any_eligible (state_of (broken_rest w)) (command ∷ commands) (reply ∷ replies) state) where
+  abbrev now : List Entry
+  now = w.accepted ++ state.batch
+
+  abbrev looked : List Taken
+  looked = taken_as command reply ∷ with_replies commands replies
+
+  -- after the scan
+  abbrev scanned_on : World
+  scanned_on = record (broken_rest w) { accepted = now; positions = state.positions; taken = looked }
+
+  -- its batch is due
+  abbrev lost : World
+  lost = record (broken_rest w) { accepted = now; positions = state.positions; sealed = length now; due = map unknown_to looked }
+
+  same : SameLength (command ∷ commands) (reply ∷ replies)
+  same = same_length w.building (state_of (broken_rest w)) state (command ∷ commands) (reply ∷ replies) r
+
+  pub broken_turn : (letters : List (Option ℕ)) × (run (broken_events (command ∷ commands) letters) (broken_rest w) ≡ turned_broken (broken_rest w) (command ∷ commands) state)
+  broken_turn =
+      let v : World = broken_rest w in
+      let s = runs_are_takes v (command ∷ commands) (reply ∷ replies) state (omega arith) found r in
+      let events : List Event = Seal ∷ Pull ∷ answer_events (command ∷ commands) in (
+        s.0,
+        run-append (take_events (command ∷ commands) s.0) events v ∙ ap (run events) s.1
+            ∙ ap (λ (xs : List Entry). run events (record v { accepted = xs ++ state.batch; positions = state.positions; taken = looked })) (take-length w.accepted)
+            ∙ ap (λ (es : List Event). run (Seal ∷ Pull ∷ es) scanned_on) (answers_of (command ∷ commands) (reply ∷ replies) same ∙ sym (unknown_terminals looked))
+            ∙ answered_all lost (map unknown_to looked) w.answered w.given refl (unknown_apart looked (all_apart v (command ∷ commands) (reply ∷ replies) found))
+            ∙ ap (λ (us : List Taken). answering_on lost [] (w.answered ++ map answer_of us) (w.given ++ us)) (unknown_is (command ∷ commands) (reply ∷ replies) same),
+      )
+
+-- nothing else changes
+module _ (w : World) (commands : List Command) (state : State) (k : IsBrokenAtRest w) where
+  same_front : (n : ℕ) → n ≤ length w.accepted → take n (w.accepted ++ state.batch) ≡ take n w.accepted
+  same_front n le = take-append-le n w.accepted state.batch le
+
+  same_batch : take (w.flight.upto - w.safe) (drop w.safe (w.accepted ++ state.batch)) ≡ take (w.flight.upto - w.safe) (drop w.safe w.accepted)
+  same_batch =
+      let l = length-drop w.safe w.accepted in
+      let a = k.safe_in_range in
+      let b = k.doubt_in_range in
+      ap (λ (xs : List Entry). take (w.flight.upto - w.safe) xs) (drop-append-le w.safe w.accepted state.batch k.safe_in_range)
+      ∙ take-append-le (w.flight.upto - w.safe) (drop w.safe w.accepted) state.batch (omega arith)
+
+  outcome_same : (kept : Kept) → outcome (turned_broken w commands state) kept ≡ outcome w kept
+  outcome_same Safe = same_front w.safe k.safe_in_range
+  outcome_same WithBatch =
+      ap (λ (xs : List Entry). xs ++ take (w.flight.upto - w.safe) (drop w.safe (w.accepted ++ state.batch))) (same_front w.safe k.safe_in_range)
+      ∙ ap (λ (xs : List Entry). take w.safe w.accepted ++ xs) same_batch
+
+  choice_same : (kept : Kept) → may_keep (turned_broken w commands state) kept ≡ may_keep w kept
+  choice_same Safe = refl
+  choice_same WithBatch = refl
+
+  pub answers_alone : ChangesAnswersAlone w commands (turned_broken w commands state)
+  answers_alone = record {
+    same_outcome = outcome_same;
+    same_choice = choice_same;
+    same_reopened = λ kept. ap (λ (xs : List Entry). record (reopened w kept) { accepted = xs; safe = length xs; sealed = length xs; answered = w.answered ++ map answer_of (with_unknown commands); given = w.given ++ with_unknown commands }) (outcome_same kept);
+  }
+
+  pub rests_broken : IsBrokenAtRest (turned_broken w commands state)
+  rests_broken =
+      let l = length-append w.accepted state.batch in
+      let a = k.safe_in_range in
+      let b = k.doubt_in_range in
+      record {
+        broken = k.broken;
+        nothing_flies = k.nothing_flies;
+        nothing_queued = k.nothing_queued;
+        nothing_taken = k.nothing_taken;
+        nothing_due = k.nothing_due;
+        all_sealed = refl;
+        safe_in_range = omega arith;
+        doubt_in_range = omega arith;
+      }
+
+pub broken_turns_are_runs : (w : World) → BrokenTurnsAreRuns w
+broken_turns_are_runs w command commands reply replies state k found r =
+    let e = is_broken_rest w k in
+    subst (λ (v : World). (letters : List (Option ℕ)) × (run (broken_events (command ∷ commands) letters) v ≡ turned_broken v (command ∷ commands) state)) e
+    (broken_turn w command commands reply replies state (subst (λ (v : World). AreFound v (command ∷ commands)) (sym e) found)
+    (subst (λ (v : World). Run v.building any_eligible (state_of v) (command ∷ commands) (reply ∷ replies) state) (sym e) r))
+
+pub broken_turns_change_nothing : (w : World) → BrokenTurnsChangeNothing w
+broken_turns_change_nothing w commands state k = answers_alone w commands state k
+
+pub broken_turns_rest : (w : World) → BrokenTurnsEndAtRest w
+broken_turns_rest w commands state k = rests_broken w commands state k

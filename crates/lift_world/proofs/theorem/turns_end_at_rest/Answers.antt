@@ -1,0 +1,20 @@
+use Rattle.lift_world.proofs.Resting.{start_rests, turns_rest, failures_rest, broken_turns_rest, reopenings_rest, cuts_rest}
+use Rattle.lift_world.proofs.theorem.turns_end_at_rest.Goals as goal
+
+pub returns-clause-start : goal.returns-clause-start
+returns-clause-start c building = start_rests building
+
+pub returns-clause-turns : goal.returns-clause-turns
+returns-clause-turns c w = turns_rest w
+
+pub returns-clause-failures : goal.returns-clause-failures
+returns-clause-failures c w = failures_rest w
+
+pub returns-clause-reopenings : goal.returns-clause-reopenings
+returns-clause-reopenings c w = reopenings_rest w
+
+pub returns-clause-cuts : goal.returns-clause-cuts
+returns-clause-cuts c w = cuts_rest w
+
+pub returns-clause-broken_turns : goal.returns-clause-broken_turns
+returns-clause-broken_turns c w = broken_turns_rest w
