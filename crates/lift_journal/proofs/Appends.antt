@@ -10,7 +10,7 @@ use Rattle.lift_base.specs.declared.history.Shape.{Shape}
 use Rattle.lift_journal.proofs.Chains.{holds_behind, start_same, start_high, holds_opened}
 
 -- what was written stands there
-overwritten_there : (image : Image) (first : ℕ) (sectors : Image) → first + length sectors ≤ length image → take (length sectors) (drop first (overwritten image first sectors)) ≡ sectors
+pub overwritten_there : (image : Image) (first : ℕ) (sectors : Image) → first + length sectors ≤ length image → take (length sectors) (drop first (overwritten image first sectors)) ≡ sectors
 overwritten_there image first sectors within =
     let rest = drop (first + length sectors) image in
     ap (λ (l : Image). take (length sectors) (drop first l)) (append_assoc (take first image) sectors rest)

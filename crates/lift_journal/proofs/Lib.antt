@@ -10,5 +10,10 @@ pub mod Looking
 pub mod Seeing
 pub mod Refusing
 pub mod Standing
+pub mod Stopping
 pub mod Formats
 pub mod Cursors
+pub mod Bases
+pub mod Switching
+pub mod Checkpoints
+pub mod Replacing

@@ -1,20 +1,37 @@
 -- Calls that write nothing, one after another.
-use Rattle.std.proofs.Common.{◌≡◌, ◌<◌, refl, ◌∙◌, arith, Result, Ok, Err, OnOk, OnErr}
+use Rattle.std.proofs.Common.{◌≡◌, ◌<◌, inl, inr, ⊎_elim, refl, sym, ◌∙◌, arith, Result, Ok, Err, OnOk, OnErr}
 use Rattle.std.specs.Prelude.{IfErr, true, false}
 use Rattle.std.specs.Result.{is_err}
-use Rattle.lift_disk.specs.Disk.{DiskState, LeavesNoOther}
+use Rattle.lift_disk.specs.Disk.{DiskState, KeepsImage, KeepsSynced, RunsOn, LeavesNoOther}
 use Rattle.lift_disk.proofs.Moments.{runs_none, runs_then, touches_none, touches_nothing_then}
 use Rattle.lift_journal.specs.declared.fault.JournalFault.{JournalFault}
 use Rattle.lift_journal.specs.declared.fault.JournalFault.TheVariants.{Disk, NotFormatted, Damaged, Full, Broken}
-use Rattle.lift_journal.specs.Steps.{ReadsOnly, ReadsWell, Looks, Examines, HasItsCause}
+use Rattle.lift_journal.specs.Steps.{SavesAsRead, ReadsOnly, ReadsWell, Looks, Examines, HasItsCause}
+
+pub keeps_then : (old mid new : DiskState) → RunsOn old mid → KeepsImage old mid → KeepsImage mid new → KeepsImage old new
+keeps_then old mid new runs first second honest inert = second (runs.honest.1 honest) (runs.inert.1 inert) ∙ first honest inert
+
+pub saves_then : (old mid new : DiskState) → RunsOn old mid → KeepsImage mid new → SavesAsRead old mid → SavesAsRead mid new → SavesAsRead old new
+saves_then old mid new runs image first second honest inert =
+    let honest_mid = runs.honest.1 honest in
+    let inert_mid = runs.inert.1 inert in
+    ⊎_elim (λ same. ⊎_elim (λ was. inl (same ∙ was)) (λ read. inr (same ∙ read ∙ sym (image honest_mid inert_mid))) (first honest inert))
+    (λ read. inr read) (second honest_mid inert_mid)
+
+-- a sync, also a failed one
+pub saves_sync : {T E : Type 0} (r : Result T E) (old new : DiskState) → OnOk r (old.is_honest → new.synced ≡ new.image) → OnErr r (KeepsSynced old new) → SavesAsRead old new
+saves_sync (Ok x) old new saved kept honest inert = inr (saved honest)
+saves_sync (Err e) old new saved kept honest inert = inl (kept honest)
 
 pub reads_none : (disk : DiskState) → LeavesNoOther disk → ReadsOnly disk disk
-reads_none disk only_now = record { runs = runs_none disk; writes = refl; touched = touches_none disk.is_loose disk (λ _ i is. is) only_now }
+reads_none disk only_now = record { runs = runs_none disk; writes = refl; image = λ _ _. refl; saved = λ _ _. inl refl; touched = touches_none disk.is_loose disk (λ _ i is. is) only_now }
 
 pub reads_then : (old mid new : DiskState) → ReadsOnly old mid → ReadsOnly mid new → ReadsOnly old new
 reads_then old mid new first second = record {
   runs = runs_then old mid new first.runs second.runs;
   writes = second.writes ∙ first.writes;
+  image = keeps_then old mid new first.runs first.image second.image;
+  saved = saves_then old mid new first.runs second.image first.saved second.saved;
   touched = touches_nothing_then old mid new first.touched second.touched;
 }
 
@@ -74,6 +91,14 @@ open_ok (Err e) P is p = absurd (cc is)
 pub open_err : {T E : Type 0} (r : Result T E) (P : Type 0) → is_err r ≡ true → OnErr r P → P
 open_err (Ok x) P is p = absurd (cc is)
 open_err (Err e) P is p = p
+
+pub err_any : {T E : Type 0} (r : Result T E) (P : Type 0) → P → OnErr r P
+err_any (Ok x) P p = tt
+err_any (Err e) P p = p
+
+pub both_on_err : {T E : Type 0} (r : Result T E) (P Q : Type 0) → OnErr r P → OnErr r Q → OnErr r (P × Q)
+both_on_err (Ok x) P Q p q = tt
+both_on_err (Err e) P Q p q = (p, q)
 
 pub both_on_ok : {T E : Type 0} (r : Result T E) (P Q : Type 0) → OnOk r P → OnOk r Q → OnOk r (P × Q)
 both_on_ok (Ok x) P Q p q = (p, q)

@@ -1,13 +1,13 @@
 -- What a journal that isn't broken stands for.
-use Rattle.std.proofs.Common.{◌≡◌, ◌⊎◌, ◌≤◌, ◌+◌, ◌-◌, inl, inr, ⊎_elim, ℕ, List, [], ◌∷◌, ◌++◌, None, length, take, All, sym, ◌∙◌, ap, subst, arith, append_assoc, length-append, length-take}
+use Rattle.std.proofs.Common.{◌≡◌, ◌⊎◌, ◌↔◌, ◌≤◌, ◌+◌, ◌-◌, inl, inr, ⊎_elim, ℕ, List, [], ◌∷◌, ◌++◌, None, length, take, All, sym, ◌∙◌, ap, subst, arith, append_assoc, length-append, length-take}
 use Rattle.std.proofs.lemmas.List.Elements.{All-append, All-from_recursion}
 use Rattle.lift_base.specs.declared.history.Record.{Record}
 use Rattle.lift_base.specs.declared.history.Shape.{Shape}
 use Rattle.lift_record.specs.declared.version.Version.TheVariants.{Two}
-use Rattle.lift_disk.specs.Disk.{DiskState, Image, LeavesOnly, IsSameDevice, IsSynced}
+use Rattle.lift_disk.specs.Disk.{DiskState, Image, LeavesNow, LeavesOnly, RunsOn, IsSynced}
 use Rattle.lift_disk.proofs.Moments.{leaves_weaker, leaves_if_honest, changes_nothing}
 use Rattle.lift_journal.specs.Order.{IsEntry, IsOfBase}
-use Rattle.lift_journal.specs.Layout.{Batch, records_of, size_of, IsBody, start_of, Holds}
+use Rattle.lift_journal.specs.Layout.{Batch, records_of, size_of, IsBody, start_of, Holds, used}
 use Rattle.lift_journal.specs.Steps.{IsReady, IsSettled, ReadsOnly}
 use Rattle.lift_journal.specs.Journal.{ReadsAs, StandsFor, StandsAt}
 use Rattle.lift_journal.specs.Opening.{Opens}
@@ -35,6 +35,20 @@ stands_synced shape base entries disk synced reads honest left leaves =
     let same : left ≡ disk.image = all_same disk.is_loose disk.image left (synced honest).none_loose leaves in
     subst (ReadsAs shape base entries) (sym same) (reads honest)
 
+-- a settled device leaves what it holds
+pub holds_synced : (shape : Shape) (batches : List Batch) (disk : DiskState) → (disk.is_honest → IsSynced disk) → (disk.is_honest → Holds shape batches disk.image) → LeavesNow disk (Holds shape batches)
+holds_synced shape batches disk synced holds honest left leaves =
+    let same : left ≡ disk.image = all_same disk.is_loose disk.image left (synced honest).none_loose leaves in
+    subst (Holds shape batches) (sym same) (holds honest)
+
+-- batches and what they read as
+pub joined_parts : (shape : Shape) (disk : DiskState) → disk.is_honest → (batches : List Batch) (base entries : List Record) → LeavesNow disk (Holds shape batches)
+    → StandsFor shape base entries disk → records_of batches ≡ base ++ entries
+joined_parts shape disk honest batches base entries holds stands =
+    let here = changes_nothing disk.is_loose disk.image in
+    let found = stands honest disk.image here in
+    ap records_of (holds_unique shape batches found.batches disk.image (holds honest disk.image here) found.holds) ∙ found.joined
+
 -- what an opening has found
 pub opens : (old new : DiskState) (shape : Shape) (start gate number : ℕ) → ReadsOnly old new → new.failures ≡ old.failures → (old.is_honest → IsSynced new)
     → (old.is_honest → StandsAt shape start gate number new) → Opens old new shape (gate - start)
@@ -44,8 +58,11 @@ opens old new shape start gate number only failures synced stands = record {
   writes = only.writes;
   failures = failures;
   synced = synced;
+  image = only.image;
+  saved = only.saved;
   seen = only.touched.within;
-  holds = λ honest. (let at = stands honest in (at.batches, at.holds, omega (arith, at.at, at.starts)));
+  holds = λ honest. (let at = stands honest in (at.batches, holds_synced shape at.batches new (λ _. synced honest) (λ _. at.holds), omega (arith, at.at, at.starts)));
+  joined = λ honest. joined_parts shape new (only.runs.honest.1 honest);
   stands = λ honest.
       (let at = stands honest in
       let parts : Parts (records_of at.batches) = holds_parts shape at.batches new.image at.holds in
@@ -91,7 +108,7 @@ module _ (shape : Shape) (start gate number n : ℕ) (old : DiskState) (items : 
         }
 
   -- a crash at any moment leaves the entries from before, or these and the batch
-  pub append_leaves : (new : DiskState) → IsSameDevice old new → (stands : old.is_honest → StandsAt shape start gate number old) → All IsEntry items
+  pub append_leaves : (new : DiskState) → RunsOn old new → (stands : old.is_honest → StandsAt shape start gate number old) → All IsEntry items
       → ((honest : old.is_honest) → LeavesOnly old new (λ left. Holds shape (stands honest).batches left ⊎ Holds shape ((stands honest).batches ++ (record { version = Two; records = items }) ∷ []) left))
       → (base entries : List Record) → StandsFor shape base entries old → LeavesOnly old new (λ left. ReadsAs shape base entries left ⊎ ReadsAs shape base (entries ++ items) left)
   append_leaves new same stands kinds leaves base entries reads =
@@ -103,7 +120,7 @@ module _ (shape : Shape) (start gate number n : ℕ) (old : DiskState) (items : 
       (leaves honest))
 
   -- at the end each crash leaves the batch too
-  pub append_stands : (new : DiskState) (from : ℕ) → IsSameDevice old new → (stands : old.is_honest → StandsAt shape start gate number old) → All IsEntry items
+  pub append_stands : (new : DiskState) (from : ℕ) → RunsOn old new → (stands : old.is_honest → StandsAt shape start gate number old) → All IsEntry items
       → ((honest : old.is_honest) → IsSettled shape ((stands honest).batches ++ (record { version = Two; records = items }) ∷ []) from new)
       → (base entries : List Record) → StandsFor shape base entries old → StandsFor shape base (entries ++ items) new
   append_stands new from same stands kinds settled base entries reads honest_new left leaves =
@@ -111,6 +128,35 @@ module _ (shape : Shape) (start gate number n : ℕ) (old : DiskState) (items : 
       let now = settled honest in
       let same_image : left ≡ new.image = all_same new.is_loose new.image left now.synced.none_loose leaves in
       subst (ReadsAs shape base (entries ++ items)) (sym same_image) (reads_new base entries (stands honest) honest reads kinds new.image now.holds)
+
+module _ (shape : Shape) (start gate number : ℕ) (old : DiskState) (stands : old.is_honest → StandsAt shape start gate number old) (batches : List Batch) (lists : LeavesNow old (Holds shape batches)) where
+  -- the batches that it stands at are these
+  pub same_batches : (honest : old.is_honest) → (stands honest).batches ≡ batches
+  same_batches honest =
+      let at = stands honest in
+      holds_unique shape at.batches batches old.image at.holds (lists honest old.image (changes_nothing old.is_loose old.image))
+
+  pub same_used : old.is_honest → gate - start ≡ used batches
+  same_used honest =
+      let at = stands honest in
+      omega (arith, at.at, at.starts, ap used (same_batches honest))
+
+  module _ (batch : Batch) (new : DiskState) (same : new.is_honest ↔ old.is_honest) where
+    -- a crash at any moment leaves these, or these and the new one
+    pub lists_leave : ((honest : old.is_honest) → LeavesOnly old new (λ left. Holds shape (stands honest).batches left ⊎ Holds shape ((stands honest).batches ++ batch ∷ []) left))
+        → LeavesOnly old new (λ left. Holds shape batches left ⊎ Holds shape (batches ++ batch ∷ []) left)
+    lists_leave leaves =
+        leaves_if_honest old new (λ left. Holds shape batches left ⊎ Holds shape (batches ++ batch ∷ []) left) same
+        (λ honest. subst (λ (bs : List Batch). LeavesOnly old new (λ left. Holds shape bs left ⊎ Holds shape (bs ++ batch ∷ []) left)) (same_batches honest) (leaves honest))
+
+    -- at the end each crash leaves these and the new one
+    pub lists_stand : (from : ℕ) → ((honest : old.is_honest) → IsSettled shape ((stands honest).batches ++ batch ∷ []) from new) → LeavesNow new (Holds shape (batches ++ batch ∷ []))
+    lists_stand from settled honest_new left leaves =
+        let honest = same.0 honest_new in
+        let now = settled honest in
+        let same_image : left ≡ new.image = all_same new.is_loose new.image left now.synced.none_loose leaves in
+        subst (λ (bs : List Batch). Holds shape (bs ++ batch ∷ []) left) (same_batches honest)
+        (subst (Holds shape ((stands honest).batches ++ batch ∷ [])) (sym same_image) now.holds)
 
 pub stands_then : (shape : Shape) (start gate number n : ℕ) (old new : DiskState) (batch : Batch) → (stands : StandsAt shape start gate number old) → n ≡ size_of batch
     → IsSettled shape (stands.batches ++ batch ∷ []) (start_of shape.half old.image) new → StandsAt shape start (gate + (n + 1)) (number + 1) new

@@ -129,6 +129,7 @@ module _ (image : Image) (start end : ℕ) (front : Front) (at : IsAtFront image
   pub ends_early : IsClosed (sector_at image front.gate) → ¬ MayEnd front.last → IsDamagedAt image start end front.gate
   ends_early closed not = record {
     batches = at.batches;
+    below = below;
     reached = at.reached;
     broken = inr (closed, λ complete. not (subst MayEnd (sym at.last_is) complete));
   }
@@ -137,6 +138,7 @@ module _ (image : Image) (start end : ℕ) (front : Front) (at : IsAtFront image
   pub none_here : IsOpen (sector_at image front.gate) → ((batch : Batch) → ¬ IsBatchAt image front.gate end front.number batch) → IsDamagedAt image start end front.gate
   none_here is_open none = record {
     batches = at.batches;
+    below = below;
     reached = at.reached;
     broken = inl (is_open, λ batch there sound. none batch (subst (λ n. IsBatchAt image front.gate end n batch) (sym at.counts) there));
   }
@@ -145,6 +147,7 @@ module _ (image : Image) (start end : ℕ) (front : Front) (at : IsAtFront image
   pub may_not : (stored : Stored) → IsOpen (sector_at image front.gate) → IsBatchAt image front.gate end front.number (batch_of stored) → ¬ Passes front stored → IsDamagedAt image start end front.gate
   may_not stored is_open there not = record {
     batches = at.batches;
+    below = below;
     reached = at.reached;
     broken = inl (
       is_open,

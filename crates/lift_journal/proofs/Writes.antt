@@ -1,25 +1,27 @@
 -- A run of writes, sector by sector.
-use Rattle.std.proofs.Common.{◌≡◌, ◌↔◌, ◌≤◌, ◌<◌, ◌+◌, ℕ, [], length, take, drop, get_or, slice_set, ◌++◌, refl, ◌∙◌, ap, arith}
+use Rattle.std.proofs.Common.{◌≡◌, ◌≤◌, ◌<◌, ◌+◌, ℕ, [], length, take, drop, get_or, slice_set, ◌++◌, refl, ◌∙◌, ap, arith}
 use Rattle.std.proofs.lemmas.List.{take_all}
 use Rattle.std.proofs.lemmas.List.Edits.{paste_none, paste_more}
 use Rattle.std.proofs.Math.Seq.{paste}
-use Rattle.lift_disk.specs.Disk.{DiskState, Image, GoesOn, Touches, LooseWithin, TouchesOnly, IsSteadyAt, LeavesNoOther, IsWhole}
-use Rattle.lift_disk.proofs.Moments.{touches_write, touches_then, touches_none}
+use Rattle.lift_disk.specs.Disk.{DiskState, Image, GoesOn, RunsOn, Touches, LooseWithin, TouchesOnly, IsSteadyAt, LeavesNoOther, IsWhole}
+use Rattle.lift_disk.proofs.Moments.{runs_none, runs_call, runs_then, touches_write, touches_then, touches_none}
 use Rattle.lift_journal.specs.Steps.{overwritten, IsInRange}
 
 -- so many of the sectors are written
 pub record Written (old now : DiskState) (first : ℕ) (sectors : Image) (count : ℕ) : Type 0 where
-  pub size : now.size ≡ old.size
+  pub runs : RunsOn old now
   pub failures : now.failures ≡ old.failures
-  pub honest : now.is_honest ↔ old.is_honest
+  pub calls : now.calls ≡ old.calls + count
+  pub writes : now.writes ≡ old.writes + count
   pub touched : (low high : ℕ) → low ≤ first → first + length sectors ≤ high → LooseWithin (IsInRange low high) old → TouchesOnly (IsInRange low high) old now
   pub steady : old.is_honest → old.is_steady → IsSteadyAt (paste old.image first sectors count) now
 
 pub written_none : (old : DiskState) (first : ℕ) (sectors : Image) → LeavesNoOther old → Written old old first sectors 0
 written_none old first sectors only_now = record {
-  size = refl;
+  runs = runs_none old;
   failures = refl;
-  honest = (λ h. h, λ h. h);
+  calls = omega arith;
+  writes = omega arith;
   touched = λ low high le ge loose. touches_none (IsInRange low high) old loose only_now;
   steady = λ honest steady. record { steady = steady; same = paste_none old.image first sectors };
 }
@@ -34,18 +36,19 @@ touched_more old now new first sectors count so_far within only_now goes_on touc
     (touches_write (IsInRange low high) now new (first + count) goes_on touched (omega arith, omega arith) before.loose only_now)
 
 pub written_more : (old now new : DiskState) (first : ℕ) (sectors : Image) (count : ℕ) → Written old now first sectors count → count < length sectors → LeavesNoOther now
-    → GoesOn now new → (now.is_honest → Touches (first + count) now new) → new.failures ≡ now.failures
+    → GoesOn now new → (now.is_honest → Touches (first + count) now new) → new.failures ≡ now.failures → new.writes ≡ now.writes + 1
     → first + length sectors ≤ old.size → IsWhole old
     → (now.is_honest → now.is_steady → IsSteadyAt (slice_set now.image (first + count) (get_or sectors count [])) new)
     → Written old new first sectors (count + 1)
-written_more old now new first sectors count so_far within only_now goes_on touched cause room whole steady = record {
-  size = goes_on.size ∙ so_far.size;
+written_more old now new first sectors count so_far within only_now goes_on touched cause wrote room whole steady = record {
+  runs = runs_then old now new so_far.runs (runs_call now new goes_on);
   failures = cause ∙ so_far.failures;
-  honest = (λ h. so_far.honest.0 (goes_on.honest.0 h), λ h. goes_on.honest.1 (so_far.honest.1 h));
+  calls = omega (arith, goes_on.calls, so_far.calls);
+  writes = omega (arith, wrote, so_far.writes);
   touched = touched_more old now new first sectors count so_far within only_now goes_on touched;
   steady = λ honest was_steady.
       let before = so_far.steady honest was_steady in
-      let after = steady (so_far.honest.1 honest) before.steady in
+      let after = steady (so_far.runs.honest.1 honest) before.steady in
       record {
         steady = after.steady;
         same = after.same ∙ ap (λ (l : Image). slice_set l (first + count) (get_or sectors count [])) before.same

@@ -8,7 +8,7 @@ use Rattle.lift_base.specs.History.{IsWithinLimits}
 use Rattle.lift_base.specs.Records.{IsRecord}
 use Rattle.lift_disk.specs.Disk.{Image}
 use Rattle.lift_record.specs.declared.version.Version.{Version}
-use Rattle.lift_record.specs.declared.version.Version.TheVariants.{One}
+use Rattle.lift_record.specs.declared.version.Version.TheVariants.{One, Two}
 use Rattle.lift_record.specs.Version.{version_number}
 use Rattle.lift_record.specs.Record.{IsSayable, spelling_of}
 use Rattle.lift_record.specs.Header.{header_bytes}
@@ -18,6 +18,10 @@ use Rattle.lift_journal.specs.Order.{IsInOrder, IsComplete}
 pub record Batch : Type 0 where
   pub version : Version
   pub records : List Record
+
+-- a batch that is written now: of the second version
+abbrev pub new_batch : List Record → Batch
+new_batch records = record { version = Two; records = records }
 
 -- all records of these batches
 abbrev pub records_of : List Batch → List Record

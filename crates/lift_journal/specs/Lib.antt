@@ -1,9 +1,12 @@
 pub mod Order
 pub mod Layout
 pub mod Steps
+pub mod Stops
 pub mod Journal
 pub mod Walk
 pub mod Seen
 pub mod Fronts
 pub mod Opening
+pub mod Checkpoint
+pub mod Switch
 pub mod Fault

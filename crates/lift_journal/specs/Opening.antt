@@ -1,12 +1,13 @@
 -- What an opening does to a device, whatever it answers: an opening writes nothing.
-use Rattle.std.specs.Prelude.{◌≡◌, ◌<◌, ◌+◌, ℕ, List}
+use Rattle.std.specs.Prelude.{◌≡◌, ◌<◌, ◌+◌, ◌++◌, ℕ, List}
 use Rattle.lift_base.specs.declared.history.Record.{Record}
 use Rattle.lift_base.specs.declared.history.Shape.{Shape}
-use Rattle.lift_disk.specs.Disk.{DiskState, Image, MayLeave, IsSynced, LeavesOnly, RunsOn}
+use Rattle.lift_disk.specs.Disk.{DiskState, MayLeave, IsSynced, KeepsImage, LeavesNow, LeavesOnly, RunsOn}
 use Rattle.lift_journal.specs.declared.fault.JournalFault.{JournalFault}
 use Rattle.lift_journal.specs.declared.fault.JournalFault.TheVariants.{Disk, NotFormatted, Damaged, Full, Broken}
-use Rattle.lift_journal.specs.Layout.{Batch, Holds, IsStamped, start_of, used}
+use Rattle.lift_journal.specs.Layout.{Batch, records_of, Holds, IsStamped, start_of, used}
 use Rattle.lift_journal.specs.Walk.{IsDamagedAt}
+use Rattle.lift_journal.specs.Steps.{SavesAsRead}
 use Rattle.lift_journal.specs.Journal.{StandsFor}
 
 -- It has opened: this is the shape, and so many sectors of the picked half are used.
@@ -18,19 +19,24 @@ pub record Opens (old new : DiskState) (shape : Shape) (taken : ℕ) : Type 0 wh
   pub failures : new.failures ≡ old.failures
   -- at the end every crash leaves one and the same of these images
   pub synced : old.is_honest → IsSynced new
+  pub image : KeepsImage old new
+  pub saved : SavesAsRead old new
   pub seen : old.is_honest → MayLeave old new.image
-  pub holds : old.is_honest → (batches : List Batch) × Holds shape batches new.image × (taken ≡ used batches)
+  pub holds : old.is_honest → (batches : List Batch) × LeavesNow new (Holds shape batches) × (taken ≡ used batches)
   -- these are the checkpoint and the entries that it reads as
   pub stands : old.is_honest → (base entries : List Record) × StandsFor shape base entries new
+  -- which are the records of the batches, one after another
+  pub joined : old.is_honest → (batches : List Batch) (base entries : List Record) → LeavesNow new (Holds shape batches)
+      → StandsFor shape base entries new → records_of batches ≡ base ++ entries
 
--- the cause of a refusal: a call that failed, or what some image holds that a crash might have left
+-- the cause of a refusal: a call that failed, or what is read now, which a crash might have left and which is safe
 abbrev pub RefusedFor : JournalFault → DiskState → DiskState → Type 0
 RefusedFor Disk old new = old.failures < new.failures
 RefusedFor NotFormatted old new = (new.failures ≡ old.failures)
-    × (old.is_honest → (seen : Image) × MayLeave old seen × ((shape : Shape) → ¬ IsStamped shape seen))
+    × (old.is_honest → IsSynced new × MayLeave old new.image × ((shape : Shape) → ¬ IsStamped shape new.image))
 RefusedFor (Damaged sector) old new = (new.failures ≡ old.failures)
-    × (old.is_honest → (seen : Image) × (shape : Shape) × MayLeave old seen × IsStamped shape seen
-    × IsDamagedAt seen (start_of shape.half seen) (start_of shape.half seen + shape.half) sector)
+    × (old.is_honest → IsSynced new × MayLeave old new.image × (shape : Shape) × IsStamped shape new.image
+    × IsDamagedAt new.image (start_of shape.half new.image) (start_of shape.half new.image + shape.half) sector)
 RefusedFor Full old new = ⊥
 RefusedFor Broken old new = ⊥
 
@@ -39,4 +45,6 @@ pub record Refuses (old new : DiskState) (fault : JournalFault) : Type 0 where
   pub moments : LeavesOnly old new (MayLeave old)
   pub runs : RunsOn old new
   pub writes : new.writes ≡ old.writes
+  pub image : KeepsImage old new
+  pub saved : SavesAsRead old new
   pub cause : RefusedFor fault old new

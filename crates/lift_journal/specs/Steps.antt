@@ -1,7 +1,7 @@
--- What the steps of a call leave of an image, by sectors. No public clause names these.
-use Rattle.std.specs.Prelude.{◌≡◌, ◌<◌, ◌≤◌, ◌+◌, ℕ, List, [], ◌∷◌, ◌++◌, length, take, drop, Result, OnOk, OnErr, IfErr}
+-- What the steps of a call do to a device, and what they leave of its image.
+use Rattle.std.specs.Prelude.{◌≡◌, ◌⊎◌, ◌<◌, ◌≤◌, ◌+◌, ℕ, List, [], ◌∷◌, ◌++◌, length, take, drop, Result, OnOk, OnErr, IfErr}
 use Rattle.lift_base.specs.declared.history.Shape.{Shape}
-use Rattle.lift_disk.specs.Disk.{DiskState, Image, IsSynced, RunsOn, TouchesOnly}
+use Rattle.lift_disk.specs.Disk.{DiskState, Image, IsSynced, KeepsImage, RunsOn, TouchesOnly}
 use Rattle.lift_journal.specs.declared.fault.JournalFault.{JournalFault}
 use Rattle.lift_journal.specs.declared.fault.JournalFault.TheVariants.{Disk, NotFormatted, Damaged, Full, Broken}
 use Rattle.lift_journal.specs.Layout.{Batch, filled, Holds, IsBody, size_of, used, start_of, IsSound}
@@ -26,10 +26,23 @@ pub record IsSyncedAt (image : Image) (disk : DiskState) : Type 0 where
   pub synced : IsSynced disk
   pub same : disk.image ≡ image
 
+-- A run of so many calls, so many of them writes, that stops at the first that fails.
+pub record Makes {T E : Type 0} (result : Result T E) (made written : ℕ) (old new : DiskState) : Type 0 where
+  pub calls : OnOk result (new.calls ≡ old.calls + made)
+  pub writes : OnOk result (new.writes ≡ old.writes + written)
+  pub most_calls : new.calls ≤ old.calls + made
+  pub most_writes : new.writes ≤ old.writes + written
+
+-- What a cut that loses would leave of an inert device: what it would have left before, or what is read.
+abbrev pub SavesAsRead : DiskState → DiskState → Type 0
+SavesAsRead old new = old.is_honest → old.is_inert → (new.synced ≡ old.synced) ⊎ (new.synced ≡ new.image)
+
 -- calls that wrote nothing
 pub record ReadsOnly (old new : DiskState) : Type 0 where
   pub runs : RunsOn old new
   pub writes : new.writes ≡ old.writes
+  pub image : KeepsImage old new
+  pub saved : SavesAsRead old new
   pub touched : TouchesOnly old.is_loose old new
 
 -- and none of them failed, so that what was safe is read as it was

@@ -34,10 +34,11 @@ pub record Reaches (image : Image) (start end gate : ℕ) (batches : List Batch)
   pub sound : IsSoundFront batches
   pub at : gate ≡ start + used batches
 
--- A gate that batches reach is damaged: it is open, and no batch that may stand behind them is there, or it is closed,
--- and they end within a checkpoint.
+-- A gate below the end that batches reach is damaged: it is open, and no batch that may stand behind them is there, or
+-- it is closed, and they end within a checkpoint.
 pub record IsDamagedAt (image : Image) (start end gate : ℕ) : Type 0 where
   pub batches : List Batch
+  pub below : gate < end
   pub reached : Reaches image start end gate batches
   pub broken : (IsOpen (sector_at image gate) × ((batch : Batch) → IsBatchAt image gate end (1 + length batches) batch → ¬ IsSoundFront (batches ++ batch ∷ [])))
       ⊎ (IsClosed (sector_at image gate) × ¬ IsComplete (records_of batches))

@@ -1,18 +1,24 @@
 //! The journal's writes, in steps of a few device calls each.
-ghost use Rattle.std.specs.Prelude.{◌≡◌, ◌≤◌, ◌<◌, ◌+◌, ◌^◌, ◌++◌, [], ◌∷◌, ◌⊎◌, ℕ, List, length, OnOk, slice_set};
-ghost use Rattle.lift_disk.specs.Disk.{HasCause, LooseWithin, TouchesOnly, IsSteadyAt, IsSameDevice};
+ghost use Rattle.std.specs.Prelude.{◌≡◌, ◌≤◌, ◌<◌, ◌+◌, ◌^◌, ◌++◌, [], ◌∷◌, ◌⊎◌, ℕ, List, length, OnOk, OnErr, slice_set};
+ghost use Rattle.lift_disk.specs.Disk.{HasCause, LooseWithin, TouchesOnly, IsSteadyAt, RunsOn};
 ghost use Rattle.lift_disk.specs.Disk.{LeavesOnly};
 ghost use Rattle.lift_journal.specs.Layout.{Batch, Holds, start_of};
-ghost use Rattle.lift_journal.specs.Steps.{overwritten, IsInRange, marked, unmarked, IsReady, IsSettled, IsSyncedAt};
+ghost use Rattle.lift_journal.specs.Steps.{Makes, overwritten, IsInRange, marked, unmarked, IsReady, IsSettled, IsSyncedAt};
+ghost use Rattle.lift_journal.specs.Stops.{MissesGate, StopsShort};
 ghost use Rattle.lift_base.specs.declared.history.Shape.{Shape};
 
 use lift_disk::{Disk, DiskFault};
 
 /// Writes these sectors in a row.
-fn write_sectors<D: Disk>(disk: &mut D, first: u32, sectors: &[[u8; 512]]) -> Result<(), DiskFault>
+pub fn write_sectors<D: Disk>(
+    disk: &mut D,
+    first: u32,
+    sectors: &[[u8; 512]],
+) -> Result<(), DiskFault>
     requires there { first + length sectors.now ≤ (D.state disk.old).size }
     requires fits { first + length sectors.now < 2 ^ 32 }
-    ensures same { IsSameDevice (D.state disk.old) (D.state disk.new) }
+    ensures runs { RunsOn (D.state disk.old) (D.state disk.new) }
+    ensures made { Makes result (length sectors.now) (length sectors.now) (D.state disk.old) (D.state disk.new) }
     ensures cause { HasCause result (D.state disk.old) (D.state disk.new) }
     ensures touched { (low high : ℕ) → low ≤ first → first + length sectors.now ≤ high
         → LooseWithin (IsInRange low high) (D.state disk.old)
@@ -41,7 +47,8 @@ pub fn mark() -> [u8; 512]
 fn store_behind<D: Disk>(disk: &mut D, gate: u32, body: &[[u8; 512]]) -> Result<(), DiskFault>
     requires there { gate + 1 + length body.now < (D.state disk.old).size }
     requires fits { gate + 1 + length body.now < 2 ^ 32 }
-    ensures same { IsSameDevice (D.state disk.old) (D.state disk.new) }
+    ensures runs { RunsOn (D.state disk.old) (D.state disk.new) }
+    ensures made { Makes result (length body.now + 2) (length body.now + 1) (D.state disk.old) (D.state disk.new) }
     ensures cause { HasCause result (D.state disk.old) (D.state disk.new) }
     ensures touched { LooseWithin (IsInRange (gate + 1) (gate + length body.now + 2)) (D.state disk.old)
         → TouchesOnly (IsInRange (gate + 1) (gate + length body.now + 2)) (D.state disk.old) (D.state disk.new) }
@@ -56,12 +63,14 @@ fn store_behind<D: Disk>(disk: &mut D, gate: u32, body: &[[u8; 512]]) -> Result<
 /// Opens a gate, so that the batch behind it counts.
 fn open_gate<D: Disk>(disk: &mut D, gate: u32) -> Result<(), DiskFault>
     requires { gate < (D.state disk.old).size }
-    ensures same { IsSameDevice (D.state disk.old) (D.state disk.new) }
+    ensures runs { RunsOn (D.state disk.old) (D.state disk.new) }
+    ensures made { Makes result 2 1 (D.state disk.old) (D.state disk.new) }
     ensures cause { HasCause result (D.state disk.old) (D.state disk.new) }
     ensures touched { LooseWithin (IsInRange gate (gate + 1)) (D.state disk.old)
         → TouchesOnly (IsInRange gate (gate + 1)) (D.state disk.old) (D.state disk.new) }
     ensures opened { OnOk result ((D.state disk.old).is_honest → (D.state disk.old).is_steady
         → IsSyncedAt (slice_set (D.state disk.old).image gate marked) (D.state disk.new)) }
+    ensures misses { OnErr result ((D.state disk.old).is_honest → (D.state disk.old).is_inert → MissesGate gate (D.state disk.old) (D.state disk.new)) }
 {
     disk.write(gate, &mark())?;
     disk.sync()
@@ -71,7 +80,8 @@ fn open_gate<D: Disk>(disk: &mut D, gate: u32) -> Result<(), DiskFault>
 pub fn write_batch<D: Disk>(disk: &mut D, gate: u32, body: &[[u8; 512]]) -> Result<(), DiskFault>
     requires there { gate + 1 + length body.now < (D.state disk.old).size }
     requires fits { gate + 1 + length body.now < 2 ^ 32 }
-    ensures same { IsSameDevice (D.state disk.old) (D.state disk.new) }
+    ensures runs { RunsOn (D.state disk.old) (D.state disk.new) }
+    ensures made { Makes result (length body.now + 4) (length body.now + 2) (D.state disk.old) (D.state disk.new) }
     ensures cause { HasCause result (D.state disk.old) (D.state disk.new) }
     ensures any_moment { (shape : Shape) (batches : List Batch) (batch : Batch)
         → ((D.state disk.old).is_honest → IsReady shape batches batch gate body.now (D.state disk.old))
@@ -79,6 +89,9 @@ pub fn write_batch<D: Disk>(disk: &mut D, gate: u32, body: &[[u8; 512]]) -> Resu
     ensures written { OnOk result ((shape : Shape) (batches : List Batch) (batch : Batch) → (D.state disk.old).is_honest
         → IsReady shape batches batch gate body.now (D.state disk.old)
         → IsSettled shape (batches ++ batch ∷ []) (start_of shape.half (D.state disk.old).image) (D.state disk.new)) }
+    ensures stops { OnErr result ((shape : Shape) (batches : List Batch) (batch : Batch) → (D.state disk.old).is_honest → (D.state disk.old).is_inert
+        → IsReady shape batches batch gate body.now (D.state disk.old)
+        → StopsShort shape batches batch (length body.now) (D.state disk.old) (D.state disk.new)) }
 {
     store_behind(disk, gate, body)?;
     open_gate(disk, gate)

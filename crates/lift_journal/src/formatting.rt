@@ -1,5 +1,5 @@
 //! The making of an empty journal.
-ghost use Rattle.std.specs.Prelude.{◌≡◌, ◌≤◌, ◌<◌, ◌+◌, ◌*◌, [], OnOk, slice_set};
+ghost use Rattle.std.specs.Prelude.{◌≡◌, ◌⊎◌, ◌≤◌, ◌<◌, ◌+◌, ◌*◌, [], OnOk, slice_set};
 ghost use Rattle.lift_base.specs.History.{IsWithinLimits};
 ghost use Rattle.lift_disk.specs.Disk.{HasCause, RunsOn, IsSynced};
 ghost use Rattle.lift_journal.specs.Layout.{filled, stamp_bytes};
@@ -16,7 +16,8 @@ fn empty_half<D: Disk>(disk: &mut D) -> Result<(), DiskFault>
     ensures runs { RunsOn (D.state disk.old) (D.state disk.new) }
     ensures cause { HasCause result (D.state disk.old) (D.state disk.new) }
     ensures calls { OnOk result ((D.state disk.new).calls ≡ (D.state disk.old).calls + 3) }
-    ensures stored { OnOk result ((D.state disk.old).is_honest → (D.state disk.old).is_steady
+    ensures writes { OnOk result ((D.state disk.new).writes ≡ (D.state disk.old).writes + 2) }
+    ensures stored { OnOk result ((D.state disk.old).is_honest → (D.state disk.old).is_steady ⊎ (D.state disk.old).is_inert
         → IsSyncedAt (slice_set (slice_set (D.state disk.old).image 0 unmarked) 2 unmarked) (D.state disk.new)) }
 {
     disk.write(0, &[0; 512])?;
@@ -30,7 +31,8 @@ fn put_stamp<D: Disk>(disk: &mut D, shape: &Shape) -> Result<(), DiskFault>
     ensures runs { RunsOn (D.state disk.old) (D.state disk.new) }
     ensures cause { HasCause result (D.state disk.old) (D.state disk.new) }
     ensures calls { OnOk result ((D.state disk.new).calls ≡ (D.state disk.old).calls + 2) }
-    ensures stored { OnOk result ((D.state disk.old).is_honest → (D.state disk.old).is_steady
+    ensures writes { OnOk result ((D.state disk.new).writes ≡ (D.state disk.old).writes + 1) }
+    ensures stored { OnOk result ((D.state disk.old).is_honest → (D.state disk.old).is_steady ⊎ (D.state disk.old).is_inert
         → IsSyncedAt (slice_set (D.state disk.old).image 1 (filled 1 (stamp_bytes shape.now))) (D.state disk.new)) }
     ensures synced { OnOk result ((D.state disk.old).is_honest → IsSynced (D.state disk.new)) }
 {
@@ -46,8 +48,9 @@ pub fn format<D: Disk>(disk: &mut D, shape: Shape) -> Result<(), DiskFault>
     ensures runs { RunsOn (D.state disk.old) (D.state disk.new) }
     ensures cause { HasCause result (D.state disk.old) (D.state disk.new) }
     ensures calls { OnOk result ((D.state disk.new).calls ≡ (D.state disk.old).calls + 5) }
+    ensures writes { OnOk result ((D.state disk.new).writes ≡ (D.state disk.old).writes + 3) }
     ensures synced { OnOk result ((D.state disk.old).is_honest → IsSynced (D.state disk.new)) }
-    ensures empty { OnOk result ((D.state disk.old).is_honest → (D.state disk.old).is_steady
+    ensures empty { OnOk result ((D.state disk.old).is_honest → (D.state disk.old).is_steady ⊎ (D.state disk.old).is_inert
         → ReadsAs shape [] [] (D.state disk.new).image) }
 {
     empty_half(disk)?;

@@ -1,15 +1,19 @@
 //! Batches of records, each in the journal whole or not at all.
-ghost use Rattle.std.specs.Prelude.{◌≡◌, ◌≤◌, ◌<◌, ◌+◌, ◌-◌, ◌++◌, ◌⊎◌, ◌↔◌, List, IsTrue, length, OnOk, true, false, All, Ok, Err, IsErrOf, IfOk, IfErr, OnErr};
+ghost use Rattle.std.specs.Prelude.{◌≡◌, ◌≤◌, ◌<◌, ◌+◌, ◌-◌, ◌++◌, ◌⊎◌, ◌↔◌, List, [], ◌∷◌, IsTrue, length, OnOk, true, false, All, Ok, Err, IsErrOf, IfOk, IfErr, OnErr};
 ghost use Rattle.lift_base.specs.declared.history.Record.{Record as RecordValue};
 ghost use Rattle.lift_base.specs.Records.{IsLawful};
-ghost use Rattle.lift_disk.specs.Disk.{LeavesOnly, MayLeave, IsSynced, Image, RunsOn};
-ghost use Rattle.lift_journal.specs.Layout.{bodies, Batch, Holds, used};
+ghost use Rattle.lift_disk.specs.Disk.{LeavesNow, LeavesOnly, MayLeave, IsSynced, Image, RunsOn};
+ghost use Rattle.lift_register.specs.Base.{base_records};
+ghost use Rattle.lift_journal.specs.Checkpoint.{checkpoint_of, sectors_for};
+ghost use Rattle.lift_journal.specs.Layout.{bodies, Batch, new_batch, Holds, used};
 ghost use Rattle.std.specs.Option.{option_map};
 ghost use Rattle.lift_journal.specs.Order.{IsEntry};
-ghost use Rattle.lift_journal.specs.Steps.{ReadsOnly, IsSyncedAt};
+ghost use Rattle.lift_journal.specs.Steps.{Makes, ReadsOnly, IsSyncedAt};
+ghost use Rattle.lift_journal.specs.Stops.{StopsShort};
 ghost use Rattle.lift_journal.specs.Fronts.{IsOfCursor};
 
 use crate::body::{body_count, body_of};
+use crate::checkpoint::{batches_for, other_half, write_checkpoint};
 use crate::device::write_batch;
 use crate::fault::JournalFault;
 use crate::place::find_place;
@@ -17,6 +21,7 @@ use crate::reads::{AtGate, look};
 use arrayvec::ArrayVec;
 use lift_base::{Record, Shape};
 use lift_disk::{Arm, Disk, DiskFault};
+use lift_register::Register;
 use std::marker::Model;
 use std::snapshot::Snapshot;
 
@@ -68,7 +73,7 @@ impl Model for Cursor {
 }
 
 impl<D: Disk> Journal<D> {
-    ghost use Rattle.lift_journal.specs.Journal.{ReadsAs, StandsFor, IsCursorIn, IsNext};
+    ghost use Rattle.lift_journal.specs.Journal.{CursorView, ReadsAs, StandsFor, IsCursorIn, IsNext};
     ghost use Rattle.lift_journal.specs.Opening.{Opens, Refuses};
 
     /// The installation that the device was formatted for.
@@ -80,7 +85,9 @@ impl<D: Disk> Journal<D> {
 
     /// Whether a batch of so many records (1 to 63) has room.
     pub fn room(&self, count: usize) -> bool
-        ensures { IsTrue result ↔ (self.now.used + bodies count + 2 ≤ self.now.shape.half) }
+        ensures room { IsTrue result ↔ (self.now.used + bodies count + 2 ≤ self.now.shape.half) }
+        ensures used { self.now.is_broken ≡ false → (D.state self.now.device).is_honest → (batches : List Batch)
+            → LeavesNow (D.state self.now.device) (Holds self.now.shape batches) → self.now.used ≡ used batches }
     {
         (self.gate - self.start) as usize + body_count(count) + 2 <= self.shape.half as usize
     }
@@ -133,11 +140,24 @@ impl<D: Disk> Journal<D> {
             → LeavesOnly (D.state self.old.device) (D.state self.new.device)
             (λ left. ReadsAs self.old.shape base entries left ⊎ ReadsAs self.old.shape base (entries ++ batch.now.items) left) }
 
+        // The same by batches: the new one is the last of them.
+        ensures listed { OnOk result ((batches : List Batch) → LeavesNow (D.state self.old.device) (Holds self.old.shape batches)
+            → LeavesNow (D.state self.new.device) (Holds self.new.shape (batches ++ new_batch batch.now.items ∷ []))) }
+        ensures any_moment_listed { (batches : List Batch) → LeavesNow (D.state self.old.device) (Holds self.old.shape batches)
+            → LeavesOnly (D.state self.old.device) (D.state self.new.device)
+            (λ left. Holds self.old.shape batches left ⊎ Holds self.old.shape (batches ++ new_batch batch.now.items ∷ []) left) }
+        ensures cursors { (batches : List Batch) (cursor : CursorView) → IsCursorIn batches cursor → IsCursorIn (batches ++ new_batch batch.now.items ∷ []) cursor }
+
+        ensures runs { RunsOn (D.state self.old.device) (D.state self.new.device) }
+        ensures made { Makes result (bodies (length batch.now.items) + 4) (bodies (length batch.now.items) + 2) (D.state self.old.device) (D.state self.new.device) }
+        ensures stops { IsErrOf result JournalFault.Disk → (D.state self.old.device).is_honest → (D.state self.old.device).is_inert → (batches : List Batch)
+            → LeavesNow (D.state self.old.device) (Holds self.old.shape batches)
+            → StopsShort self.old.shape batches (new_batch batch.now.items) (bodies (length batch.now.items)) (D.state self.old.device) (D.state self.new.device) }
         ensures failed { IsErrOf result JournalFault.Disk → (D.state self.old.device).failures < (D.state self.new.device).failures }
         ensures breaks { IsErrOf result JournalFault.Disk → self.new.is_broken ≡ true }
         ensures whole { OnOk result ((D.state self.new.device).failures ≡ (D.state self.old.device).failures) }
         ensures stays { OnOk result (self.new.is_broken ≡ false) }
-        ensures full { IsErrOf result JournalFault.Full → (self.old.is_broken ≡ false) × (self.old.shape.half < self.old.used + bodies (length batch.now.items) + 2) }
+        ensures full { IsErrOf result JournalFault.Full ↔ (self.old.is_broken ≡ false) × (self.old.shape.half < self.old.used + bodies (length batch.now.items) + 2) }
         ensures broken { IsErrOf result JournalFault.Broken ↔ (self.old.is_broken ≡ true) }
         ensures refused { IsErrOf result JournalFault.Full ⊎ IsErrOf result JournalFault.Broken → self.new ≡ self.old }
         ensures causes { IfErr result (λ fault. (fault ≡ JournalFault.Disk) ⊎ (fault ≡ JournalFault.Full) ⊎ (fault ≡ JournalFault.Broken)) }
@@ -160,6 +180,50 @@ impl<D: Disk> Journal<D> {
         self.gate += bodies as u32 + 1;
         self.number += 1;
         Ok(())
+    }
+
+    /// Puts a checkpoint of this register in the place of all batches, in the half that isn't picked. At `Ok` it is safe.
+    pub fn replace(&mut self, register: &Register) -> Result<(), JournalFault>
+        // A crash at any moment of the call leaves the records from before it, or the checkpoint alone.
+        ensures any_moment { (base entries : List RecordValue)
+            → StandsFor self.old.shape base entries (D.state self.old.device)
+            → LeavesOnly (D.state self.old.device) (D.state self.new.device)
+            (λ left. ReadsAs self.old.shape base entries left ⊎ ReadsAs self.old.shape (base_records register.now) [] left) }
+
+        ensures replaced { OnOk result (StandsFor self.new.shape (base_records register.now) [] (D.state self.new.device)) }
+        ensures synced { OnOk result ((D.state self.new.device).is_honest → IsSynced (D.state self.new.device)) }
+        ensures batches { OnOk result (LeavesNow (D.state self.new.device) (Holds self.new.shape (checkpoint_of (base_records register.now)))) }
+        ensures runs { RunsOn (D.state self.old.device) (D.state self.new.device) }
+        ensures made { Makes result (sectors_for (length (base_records register.now)) + 4) (sectors_for (length (base_records register.now)) + 2)
+            (D.state self.old.device) (D.state self.new.device) }
+        ensures used { OnOk result (self.new.used ≡ sectors_for (length (base_records register.now))) }
+        ensures failed { IsErrOf result JournalFault.Disk → (D.state self.old.device).failures < (D.state self.new.device).failures }
+        ensures breaks { IsErrOf result JournalFault.Disk → self.new.is_broken ≡ true }
+        ensures whole { OnOk result ((D.state self.new.device).failures ≡ (D.state self.old.device).failures) }
+        ensures stays { OnOk result (self.new.is_broken ≡ false) }
+        ensures broken { IsErrOf result JournalFault.Broken ↔ (self.old.is_broken ≡ true) }
+        ensures refused { IsErrOf result JournalFault.Broken → self.new ≡ self.old }
+        ensures causes { IfErr result (λ fault. (fault ≡ JournalFault.Disk) ⊎ (fault ≡ JournalFault.Broken)) }
+        ensures shape { self.new.shape ≡ self.old.shape }
+        ensures opened { self.new.opened ≡ self.old.opened }
+    {
+        if self.is_broken {
+            return Err(JournalFault::Broken);
+        }
+        let (start, pick) = other_half(self.start, self.shape.half);
+        let batches = batches_for(register.base_len());
+        match write_checkpoint(&mut self.device, register, start, &pick) {
+            Ok(gate) => {
+                self.start = start;
+                self.gate = gate;
+                self.number = batches as u32 + 1;
+                Ok(())
+            }
+            Err(DiskFault) => {
+                self.is_broken = true;
+                Err(JournalFault::Disk)
+            }
+        }
     }
 
     /// The place of the first batch. [`Journal::next`] takes it until the next reopening or checkpoint.
@@ -186,6 +250,8 @@ impl<D: Disk> Journal<D> {
         ensures stays { OnOk result (self.new.is_broken ≡ false) }
         ensures failed { IsErrOf result JournalFault.Disk → (D.state self.old.device).failures < (D.state self.new.device).failures }
         ensures breaks { IsErrOf result JournalFault.Disk → self.new.is_broken ≡ true }
+        ensures cursor_stays { OnErr result (cursor.new ≡ cursor.old) }
+        ensures damaged_stays { (s : _) → IsErrOf result (JournalFault.Damaged s) → ((D.state self.new.device).failures ≡ (D.state self.old.device).failures) × (self.new.is_broken ≡ false) }
         ensures damaged { (s : _) → IsErrOf result (JournalFault.Damaged s) → (D.state self.old.device).is_honest → (batches : List Batch)
             → Holds self.old.shape batches (D.state self.old.device).image → IsCursorIn batches cursor.old → ⊥ }
         ensures broken { IsErrOf result JournalFault.Broken ↔ (self.old.is_broken ≡ true) }

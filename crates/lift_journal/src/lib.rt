@@ -4,6 +4,7 @@
 mod batch;
 mod body;
 mod bytes;
+mod checkpoint;
 mod device;
 mod fault;
 mod formatting;

@@ -44,6 +44,8 @@ fn read_some<R: Read + Drop>(
     ensures ended { IfOk result (λ came. came ≡ true → input.new.ended ≡ input.old.ended) }
     ensures ok { OnOk result (input.new.failed ≡ input.old.failed) }
     ensures failed { result ≡ Err InputFault.Read → input.new.failed ≡ true }
+    ensures refused { result ≡ Err InputFault.Memory → input.new.failed ≡ input.old.failed }
+    ensures bound { OnOk result (vec_len bytes.new ≤ most + 1) }
 {
     let mut buffer = [0u8; CHUNK];
     let room = CHUNK.min(most - bytes.len() + 1);
@@ -72,10 +74,12 @@ pub fn read_all<R: Read + Drop>(
         → IfSome (R.remaining input.old.reader) (λ all. bytes.items ≡ all)) }
     ensures front { IfOk result (λ bytes.
         Consumes (R.remaining input.old.reader) (R.remaining input.new.reader) bytes.items) }
+    ensures bound { IfOk result (λ bytes. vec_len bytes ≤ most + 1) }
     ensures few_calls { input.new.calls ≤ calls }
     ensures unfailed { OnOk result (input.new.failed ≡ false) }
     ensures cause { result ≡ Err InputFault.Read
         → (input.new.failed ≡ true) ⊎ ((input.new.calls ≡ calls) × (input.new.ended ≡ false)) }
+    ensures refused { result ≡ Err InputFault.Memory → input.new.failed ≡ false }
 {
     let mut bytes = Vec::new(alloc);
     for _ in 0..calls {

@@ -17,6 +17,9 @@ use lift_keeper::Decider;
 use lift_policy::Etd;
 use std::alloc::Global;
 
+/// No turn takes more commands than this.
+const MOST_COMMANDS: usize = 63;
+
 /// The sectors in each half of a script's disk.
 const HALF: u32 = 64;
 
@@ -98,14 +101,35 @@ impl<'b> Station<'b> {
         }
     }
 
+    /// Puts a checkpoint in the place of all batches, where the largest batch might lack room behind them.
+    fn make_room(&mut self) -> Result<(), JournalFault>
+        ensures kept { self.new.decider ≡ self.old.decider }
+    {
+        if self.fault.is_some() || self.journal.room(MOST_COMMANDS) {
+            return Ok(());
+        }
+        match self.journal.replace(self.decider.register()) {
+            Ok(()) => Ok(()),
+            Err(fault) => {
+                self.fault = Some(fault);
+                Err(fault)
+            }
+        }
+    }
+
     /// One turn: a scan, and one batch.
     pub fn turn(&mut self) -> Turn
         requires idle { length self.old.decider.state.batch ≡ 0 }
         ensures idle { length self.new.decider.state.batch ≡ 0 }
     {
+        let room = self.make_room();
         let answers = scan(&mut self.decider, self.fault.is_some(), &self.asks);
         self.asks = Asks::new();
-        let outcome = self.commit();
+        let committed = self.commit();
+        let outcome = match room {
+            Ok(()) => committed,
+            Err(fault) => Err(fault),
+        };
         Turn { answers, outcome }
     }
 }

@@ -90,7 +90,9 @@ fn call_is_read_back(rt: HostRuntime) -> Result<(), Fail> {
         0x4Cu8, 0x42, 2, 0, 0, 1, 0, 0, 0, 0, 0, 1, 0, 0, 0, 0, // the header
         1, 0x10, 0, 5, 0, 1, 0, 0, 0, 0, 0, 1, 0, 0, 0, 0, // the call
     ];
-    assert!(rt; &sector[..32] == spelled.as_slice() && &sector[32..] == [0u8; 480].as_slice());
+    let mut wanted = [0u8; 512];
+    wanted[..32].copy_from_slice(&spelled);
+    assert!(rt; sector == wanted);
     let mut journal = Journal::open(disk).ok().ok_or("refused")?;
     let mut cursor = journal.first();
     let found = journal.next(&mut cursor);

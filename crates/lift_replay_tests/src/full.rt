@@ -51,10 +51,10 @@ fn script(alloc: Global) -> Result<String, AllocError> {
 
 /// How many lines of the report end so.
 fn count(report: &str, end: &str) -> usize {
-    let mut lines = 0;
+    let mut lines = 0usize;
     for line in report.split('\n') {
         if line.ends_with(end) {
-            lines += 1;
+            lines = lines.saturating_add(1);
         }
     }
     lines

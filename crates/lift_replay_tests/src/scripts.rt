@@ -2,6 +2,7 @@
 use lift_base::text::Counted;
 use lift_replay::{Verdict, run};
 use std::alloc::Global;
+use std::fmt::Write;
 use std::test::Fail;
 
 /// Ten floors, two cars, a kiosk at floor 0 and one at floor 5. Each flight takes 2 s and 1 s a floor, each stop 6 s.
@@ -186,5 +187,21 @@ fn journeys(rt: HostRuntime) -> Result<(), Fail> {
         let report = replay(rt.alloc(), "8", lines)?;
         assert!(rt; report.as_str() == wanted, "{lines}{report}");
     }
+    Ok(())
+}
+
+/// Every stop is journaled, however many they are: a half that is full gives way to a checkpoint in the other one.
+#[test]
+fn more_stops_than_a_half_holds(rt: HostRuntime) -> Result<(), Fail> {
+    let mut lines = String::new(rt.alloc());
+    let mut wanted = String::new(rt.alloc());
+    for number in 1..101 {
+        writeln!(lines, "stop A {number} 0 up\nturn")?;
+        writeln!(wanted, "turn 1 1\nA {number} IDLE")?;
+    }
+    lines.push_str("stop A 100 0 up\nturn\nstop A 99 0 up\nturn\nrows\n")?;
+    wanted.push_str("turn 1 0\nA 100 IDLE\nturn 1 0\nA 99 NO 4\nrows 0 0\n")?;
+    let report = replay(rt.alloc(), "8", &lines)?;
+    assert!(rt; report.as_str() == wanted.as_str(), "{report}");
     Ok(())
 }

@@ -1,7 +1,8 @@
-use Rattle.std.proofs.Common.{◌+◌, ap, ◌∙◌, arith, slice_set, Result, OnOk, Ok, Err}
+use Rattle.std.proofs.Common.{◌+◌, inl, inr, refl, ap, ◌∙◌, arith, slice_set, Result, OnOk, Ok, Err}
 use Rattle.std.proofs.lemmas.Result.{on_ok_weaker}
 use Rattle.lift_disk.proofs.Moments.{touches_none, touches_then_write, touches_then_rest}
 use Rattle.lift_journal.specs.Steps.{IsInRange}
+use Rattle.lift_journal.proofs.Looking.{err_any, err_weaker, both_on_err}
 use Rattle.lift_journal.proofs.device.open_gate.Goals as goal
 
 pub returns-clause-touched : goal.returns-clause-touched
@@ -25,3 +26,26 @@ returns-clause-opened g c =
     both_on_ok : {T E : Type 0} (r : Result T E) (P Q : Type 0) → OnOk r P → OnOk r Q → OnOk r (P × Q)
     both_on_ok (Ok x) P Q p q = (p, q)
     both_on_ok (Err e) P Q p q = tt
+
+pub returns-in_err-write-clause-misses : goal.returns-in_err-write-clause-misses
+returns-in_err-write-clause-misses g c =
+    err_any c.from_residual.result _ (λ honest inert. record {
+      made = inl (c.write.ensures.goes_on.calls, c.in_err-write.ensures.image_err honest inert);
+      synced = c.write.ensures.kept honest;
+      loose = ((c.write.ensures.touched honest).loose c.args.gate).1 (inr refl);
+    })
+
+pub returns-clause-misses : goal.returns-clause-misses
+returns-clause-misses g c =
+    let old = g.D.Disk.state c.args.disk.now in
+    err_weaker c.sync.result _ _ (λ sync honest inert.
+    let honest_then = c.write.ensures.goes_on.honest.1 honest in
+    let inert_then = c.write.ensures.goes_on.inert.1 inert in
+    record {
+      made = inr (
+        omega (arith, c.write.ensures.goes_on.calls, c.sync.ensures.goes_on.calls),
+        c.sync.ensures.image honest_then inert_then ∙ c.in_ok-write.ensures.image honest inert ∙ ap (λ s. slice_set old.image c.args.gate s) c.mark.ensures,
+      );
+      synced = sync.0 honest_then ∙ c.write.ensures.kept honest;
+      loose = sync.1 honest_then c.args.gate (((c.write.ensures.touched honest).loose c.args.gate).1 (inr refl));
+    }) (both_on_err c.sync.result _ _ c.sync.ensures.kept c.sync.ensures.loose)

@@ -28,7 +28,7 @@ pub returns-clause-stored : goal.returns-clause-stored
 returns-clause-stored g c =
     on_ok_weaker c.sync.result (λ sync honest steady.
     let body = c.in_ok-write_sectors.ensures.written honest steady in
-    let honest_body = c.write_sectors.ensures.same.honest.1 honest in
+    let honest_body = c.write_sectors.ensures.runs.honest.1 honest in
     let next = c.in_ok-write.ensures.steady honest_body body.steady in
     let honest_then = c.write.ensures.goes_on.honest.1 honest_body in
     let after = sync.0 honest_then next.steady in

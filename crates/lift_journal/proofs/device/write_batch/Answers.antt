@@ -1,11 +1,13 @@
-use Rattle.std.proofs.Common.{◌≡◌, ◌⊎◌, ◌+◌, ◌++◌, [], ◌∷◌, inl, ℕ, length, ◌∙◌, arith, ◌<◌}
+use Rattle.std.proofs.Common.{◌≡◌, ◌⊎◌, ◌+◌, ◌++◌, [], ◌∷◌, inl, ⊎_elim, ℕ, length, ◌∙◌, arith, ◌<◌}
 use Rattle.std.proofs.lemmas.Result.{on_ok_weaker}
 use Rattle.lift_disk.specs.Disk.{Image, ChangesWithin}
-use Rattle.lift_disk.proofs.Moments.{leaves_weaker, leaves_then, changes_more}
+use Rattle.lift_disk.proofs.Moments.{leaves_weaker, leaves_then, changes_more, changes_twice}
 use Rattle.lift_journal.specs.Layout.{Holds}
 use Rattle.lift_journal.specs.Steps.{IsInRange}
 use Rattle.lift_journal.proofs.Chains.{holds_either}
 use Rattle.lift_journal.proofs.Appends.{body_leaves, body_start, body_prepares, gate_opens, gate_start}
+use Rattle.lift_journal.proofs.Looking.{err_any, err_weaker}
+use Rattle.lift_journal.proofs.Stopping.{synced_image, stops_at_gate}
 use Rattle.lift_journal.proofs.device.write_batch.Goals as goal
 
 -- the sectors of a gate alone
@@ -29,7 +31,7 @@ returns-clause-any_moment g c shape batches batch ready =
     let touched = c.store_behind.ensures.touched (λ honest i is. absurd ((ready honest).synced.none_loose i is)) in
     let first = leaves_weaker old mid (ChangesWithin (IsInRange (c.args.gate + 1) (c.args.gate + length c.args.body.now + 2)) old.image) P
     (λ honest left within. inl (body_leaves shape batches batch c.args.gate c.args.body.now old (ready honest) left within)) touched.moments in
-    let was = c.store_behind.ensures.same.honest.0 in
+    let was = c.store_behind.ensures.runs.honest.0 in
     let opened = c.open_gate.ensures.touched (λ honest i is. absurd ((c.in_ok-store_behind.ensures.stored (was honest) (ready (was honest)).synced.steady).synced.none_loose i is)) in
     let second = leaves_weaker mid new (ChangesWithin (IsInRange c.args.gate (c.args.gate + 1)) mid.image) P
     (λ honest left within.
@@ -48,13 +50,48 @@ returns-clause-written g c =
     let touched = c.store_behind.ensures.touched (λ honest i is. absurd (ready.synced.none_loose i is)) in
     let stored = c.in_ok-store_behind.ensures.stored honest ready.synced.steady in
     let prepared = body_prepares shape batches batch c.args.gate c.args.body.now old ready mid.image (touched.within honest) stored.same in
-    let honest_mid = c.store_behind.ensures.same.honest.1 honest in
+    let honest_mid = c.store_behind.ensures.runs.honest.1 honest in
     let opened = c.open_gate.ensures.touched (λ honest i is. absurd (stored.synced.none_loose i is)) in
     let within = at_gate c.args.gate mid.image new.image (opened.within honest_mid) in
     let after = opened_at honest_mid stored.synced.steady in
-    let inside : c.args.gate < length mid.image = omega (arith, c.requires.there, c.store_behind.ensures.same.size, g.met.D.Disk.whole c.store_behind.new.disk honest_mid) in
+    let inside : c.args.gate < length mid.image = omega (arith, c.requires.there, c.store_behind.ensures.runs.size, g.met.D.Disk.whole c.store_behind.new.disk honest_mid) in
     record {
       synced = after.synced;
       holds = gate_opens shape batches batch c.args.gate mid.image new.image prepared within inside after.same;
       from = gate_start shape batches batch c.args.gate mid.image new.image prepared within ∙ body_start shape batches batch c.args.gate c.args.body.now old ready mid.image (touched.within honest);
     }) c.open_gate.ensures.opened
+
+pub returns-in_err-store_behind-clause-stops : goal.returns-in_err-store_behind-clause-stops
+returns-in_err-store_behind-clause-stops g c =
+    err_any c.from_residual.result _ (λ shape batches batch honest inert ready.
+    let old = g.D.Disk.state c.args.disk.now in
+    let new = g.D.Disk.state c.store_behind.new.disk in
+    let changed = IsInRange (c.args.gate + 1) (c.args.gate + length c.args.body.now + 2) in
+    let touched = c.store_behind.ensures.touched (λ honest i is. absurd (ready.synced.none_loose i is)) in
+    record {
+      early = λ _ honest_new left leaves. body_leaves shape batches batch c.args.gate c.args.body.now old ready left
+          (changes_twice changed old.image new.image left (touched.within honest) (changes_more new.is_loose changed new.image left (touched.loose honest_new) leaves));
+      late = λ more. absurd (omega (arith, more, c.store_behind.ensures.made.most_calls));
+    })
+
+pub returns-clause-stops : goal.returns-clause-stops
+returns-clause-stops g c =
+    let old = g.D.Disk.state c.args.disk.now in
+    let mid = g.D.Disk.state c.store_behind.new.disk in
+    let new = g.D.Disk.state c.open_gate.new.disk in
+    err_weaker c.open_gate.result _ _ (λ misses shape batches batch honest inert ready.
+    let touched = c.store_behind.ensures.touched (λ honest i is. absurd (ready.synced.none_loose i is)) in
+    let stored = c.in_ok-store_behind.ensures.stored honest ready.synced.steady in
+    let prepared = body_prepares shape batches batch c.args.gate c.args.body.now old ready mid.image (touched.within honest) stored.same in
+    let honest_mid = c.store_behind.ensures.runs.honest.1 honest in
+    let missed = misses honest_mid (c.store_behind.ensures.runs.inert.1 inert) in
+    let opened = c.open_gate.ensures.touched (λ honest i is. absurd (stored.synced.none_loose i is)) in
+    let within = at_gate c.args.gate mid.image new.image (opened.within honest_mid) in
+    let honest_new = c.open_gate.ensures.runs.honest.1 honest_mid in
+    let inside : c.args.gate < length mid.image = omega (arith, c.requires.there, c.store_behind.ensures.runs.size, g.met.D.Disk.whole c.store_behind.new.disk honest_mid) in
+    record {
+      early = λ few. absurd (⊎_elim (λ failed. omega (arith, few, failed.0, c.in_ok-store_behind.ensures.made.calls)) (λ written. omega (arith, few, written.0, c.in_ok-store_behind.ensures.made.calls)) missed.made);
+      late = λ _. stops_at_gate shape batches batch c.args.gate (length c.args.body.now + 2) old mid new prepared c.in_ok-store_behind.ensures.made.calls
+          (synced_image mid stored.synced (g.met.D.Disk.may_lose c.store_behind.new.disk honest_mid)) missed within
+          (λ i is. (let there = opened.loose honest_new i is in omega (arith, there.0, there.1))) inside;
+    }) c.open_gate.ensures.misses

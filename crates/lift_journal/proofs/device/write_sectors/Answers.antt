@@ -10,7 +10,7 @@ loop-sector-init g c = record {
 }
 
 pub write-requires : goal.write-requires
-write-requires g c = omega (arith, c.loop-sector.invariant.written.size)
+write-requires g c = omega (arith, c.loop-sector.invariant.written.runs.size)
 
 pub returns-in_err-write-clause-touched : goal.returns-in_err-write-clause-touched
 returns-in_err-write-clause-touched g c =
@@ -29,7 +29,7 @@ loop-sector-preserved g c =
       written = written_more (g.D.Disk.state c.args.disk.now) now new c.args.first c.args.sectors.now c.loop-sector.sector-index c.loop-sector.invariant.written
           c.loop-sector-test.true (g.met.D.Disk.only_now c.loop-sector.disk) c.write.ensures.goes_on
           (subst (λ n. now.is_honest → Touches n now new) c.loop-sector.invariant.at c.write.ensures.touched)
-          c.in_ok-write.ensures.cause.ok c.requires.there (g.met.D.Disk.whole c.args.disk.now)
+          c.in_ok-write.ensures.cause.ok c.write.ensures.writes c.requires.there (g.met.D.Disk.whole c.args.disk.now)
           (subst (λ n. now.is_honest → now.is_steady → IsSteadyAt (slice_set now.image n (get_or c.args.sectors.now c.loop-sector.sector-index [])) new) c.loop-sector.invariant.at c.in_ok-write.ensures.steady);
     }
 

@@ -1,4 +1,4 @@
-use Rattle.std.proofs.Common.{◌∙◌, [], sym, subst, ap, arith, slice_set}
+use Rattle.std.proofs.Common.{inl, ◌∙◌, [], sym, subst, ap, arith, slice_set}
 use Rattle.std.proofs.lemmas.Result.{on_ok_weaker}
 use Rattle.lift_disk.specs.Disk.{Image}
 use Rattle.lift_journal.specs.Layout.{filled, stamp_bytes}
@@ -12,8 +12,8 @@ returns-clause-synced g c = on_ok_weaker c.put_stamp.result (λ synced honest. s
 pub returns-clause-empty : goal.returns-clause-empty
 returns-clause-empty g c =
     let old = g.D.Disk.state c.args.disk.now in
-    on_ok_weaker c.put_stamp.result (λ stored honest steady.
-    let half = c.in_ok-empty_half.ensures.stored honest steady in
-    let stamp = stored (c.empty_half.ensures.runs.honest.1 honest) half.synced.steady in
+    on_ok_weaker c.put_stamp.result (λ stored honest known.
+    let half = c.in_ok-empty_half.ensures.stored honest known in
+    let stamp = stored (c.empty_half.ensures.runs.honest.1 honest) (inl half.synced.steady) in
     subst (ReadsAs c.args.shape [] []) (sym (stamp.same ∙ ap (λ (l : Image). slice_set l 1 (filled 1 (stamp_bytes c.args.shape))) half.same))
     (formatted c.args.shape old.image c.requires.within (omega (arith, c.requires.room, g.met.D.Disk.whole c.args.disk.now honest)))) c.put_stamp.ensures.stored

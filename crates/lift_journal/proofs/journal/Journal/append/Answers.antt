@@ -1,12 +1,14 @@
-use Rattle.std.proofs.Common.{◌≡◌, ◌⊎◌, ◌++◌, List, length, take, sym, ◌∙◌, ap, subst, arith}
+use Rattle.std.proofs.Common.{◌≡◌, ◌⊎◌, ◌++◌, inl, [], ◌∷◌, List, length, take, sym, ◌∙◌, ap, subst, arith}
 use Rattle.lift_base.specs.declared.history.Record.{Record}
-use Rattle.lift_disk.specs.Disk.{LeavesOnly}
+use Rattle.lift_disk.specs.Disk.{LeavesNow, LeavesOnly}
+use Rattle.lift_disk.proofs.Moments.{leaves_none}
 use Rattle.lift_record.specs.declared.version.Version.TheVariants.{Two}
-use Rattle.lift_journal.specs.Layout.{Batch, bodies, size_of, start_of, IsBody}
+use Rattle.lift_journal.specs.Layout.{Batch, new_batch, bodies, size_of, start_of, IsBody, Holds}
+use Rattle.lift_journal.specs.Stops.{StopsShort}
 use Rattle.lift_journal.specs.Journal.{ReadsAs, StandsFor, JournalView}
-use Rattle.lift_journal.proofs.Looking.{open_ok}
+use Rattle.lift_journal.proofs.Looking.{open_ok, open_err}
 use Rattle.lift_journal.proofs.Seeing.{bodies_few}
-use Rattle.lift_journal.proofs.Standing.{ready, append_leaves, append_stands, stands_then}
+use Rattle.lift_journal.proofs.Standing.{ready, append_leaves, append_stands, lists_leave, lists_stand, same_batches, stands_then}
 use Rattle.lift_journal.proofs.journal.Journal.append.Goals as goal
 
 pub returns-then-is_err-clause-any_moment : goal.returns-then-is_err-clause-any_moment
@@ -19,7 +21,7 @@ returns-then-is_err-clause-any_moment g c =
     let is : c.body_count-bodies.result ≡ size_of batch = c.body_count-bodies.ensures ∙ ap bodies c.len.ensures.value in
     let body = subst (λ (l : List Record). IsBody j.number (record { version = Two; records = l }) (take (bodies (length l)) c.body_of-body.result)) c.deref.ensures.0 c.body_of-body.ensures.body in
     let stands = c.self.invariant.stands c.if-self.false in
-    let leaves = append_leaves j.shape j.start j.gate j.number c.body_count-bodies.result old items new c.write_batch.ensures.same stands c.requires.entries
+    let leaves = append_leaves j.shape j.start j.gate j.number c.body_count-bodies.result old items new c.write_batch.ensures.runs stands c.requires.entries
     (λ honest. c.write_batch.ensures.any_moment j.shape (stands honest).batches batch
     (λ _. ready j.shape j.start j.gate j.number c.body_count-bodies.result old items c.body_of-body.result (stands honest) is c.if-self-bodies.false c.body_of-body.ensures.length body c.requires.entries)) in
     subst (λ (v : JournalView g.row.D.Denot). (base entries : List Record) → StandsFor v.shape base entries (g.D.Disk.state v.device)
@@ -40,7 +42,7 @@ invariant_of-self-2 g c =
     record {
       place = record {
         within = place.within;
-        inside = omega (arith, place.inside, c.write_batch.ensures.same.size);
+        inside = omega (arith, place.inside, c.write_batch.ensures.runs.size);
         halves = place.halves;
         low = omega (arith, place.low);
         below = omega (arith, place.low, c.if-self-bodies.false);
@@ -50,7 +52,7 @@ invariant_of-self-2 g c =
       counted = omega (arith, c.self.invariant.counted, quiet);
       failed = λ broken. absurd (cc (broken, c.if-self.false));
       stands = λ whole honest_new.
-          (let honest = c.write_batch.ensures.same.honest.0 honest_new in
+          (let honest = c.write_batch.ensures.runs.honest.0 honest_new in
           let stands = c.self.invariant.stands c.if-self.false honest in
           stands_then j.shape j.start j.gate j.number c.body_count-bodies.result old new batch stands is
           (open_ok c.write_batch.result _ (sym c.is_err.ensures.value ∙ c.if-is_err.false) c.write_batch.ensures.written j.shape stands.batches batch honest
@@ -67,7 +69,7 @@ returns-clause-acknowledged g c =
     let is : c.body_count-bodies.result ≡ size_of batch = c.body_count-bodies.ensures ∙ ap bodies c.len.ensures.value in
     let body = subst (λ (l : List Record). IsBody j.number (record { version = Two; records = l }) (take (bodies (length l)) c.body_of-body.result)) c.deref.ensures.0 c.body_of-body.ensures.body in
     let stands = c.self.invariant.stands c.if-self.false in
-    let stood = append_stands j.shape j.start j.gate j.number c.body_count-bodies.result old items new (start_of j.shape.half old.image) c.write_batch.ensures.same stands c.requires.entries
+    let stood = append_stands j.shape j.start j.gate j.number c.body_count-bodies.result old items new (start_of j.shape.half old.image) c.write_batch.ensures.runs stands c.requires.entries
     (λ honest. open_ok c.write_batch.result _ (sym c.is_err.ensures.value ∙ c.if-is_err.false) c.write_batch.ensures.written j.shape (stands honest).batches batch honest
     (ready j.shape j.start j.gate j.number c.body_count-bodies.result old items c.body_of-body.result (stands honest) is c.if-self-bodies.false c.body_of-body.ensures.length body c.requires.entries)) in
     subst (λ (v : JournalView g.row.D.Denot). (base entries : List Record) → StandsFor v.shape base entries (g.D.Disk.state v.device) → StandsFor j.shape base (entries ++ items) new) c.self.view_is stood
@@ -82,8 +84,79 @@ returns-clause-any_moment g c =
     let is : c.body_count-bodies.result ≡ size_of batch = c.body_count-bodies.ensures ∙ ap bodies c.len.ensures.value in
     let body = subst (λ (l : List Record). IsBody j.number (record { version = Two; records = l }) (take (bodies (length l)) c.body_of-body.result)) c.deref.ensures.0 c.body_of-body.ensures.body in
     let stands = c.self.invariant.stands c.if-self.false in
-    let leaves = append_leaves j.shape j.start j.gate j.number c.body_count-bodies.result old items new c.write_batch.ensures.same stands c.requires.entries
+    let leaves = append_leaves j.shape j.start j.gate j.number c.body_count-bodies.result old items new c.write_batch.ensures.runs stands c.requires.entries
     (λ honest. c.write_batch.ensures.any_moment j.shape (stands honest).batches batch
     (λ _. ready j.shape j.start j.gate j.number c.body_count-bodies.result old items c.body_of-body.result (stands honest) is c.if-self-bodies.false c.body_of-body.ensures.length body c.requires.entries)) in
     subst (λ (v : JournalView g.row.D.Denot). (base entries : List Record) → StandsFor v.shape base entries (g.D.Disk.state v.device)
     → LeavesOnly (g.D.Disk.state v.device) new (λ left. ReadsAs v.shape base entries left ⊎ ReadsAs v.shape base (entries ++ items) left)) c.self.view_is leaves
+
+pub returns-then-is_err-clause-any_moment_listed : goal.returns-then-is_err-clause-any_moment_listed
+returns-then-is_err-clause-any_moment_listed g c =
+    let j = c.self.inside in
+    let old = g.D.Disk.state j.device in
+    let new = g.D.Disk.state c.write_batch.new.disk in
+    let items = c.args.batch.now.items in
+    let batch : Batch = record { version = Two; records = items } in
+    let is : c.body_count-bodies.result ≡ size_of batch = c.body_count-bodies.ensures ∙ ap bodies c.len.ensures.value in
+    let body = subst (λ (l : List Record). IsBody j.number (record { version = Two; records = l }) (take (bodies (length l)) c.body_of-body.result)) c.deref.ensures.0 c.body_of-body.ensures.body in
+    let stands = c.self.invariant.stands c.if-self.false in
+    let leaves = λ (batches : List Batch) (lists : LeavesNow old (Holds j.shape batches)). lists_leave j.shape j.start j.gate j.number old stands batches lists batch new c.write_batch.ensures.runs.honest
+    (λ honest. c.write_batch.ensures.any_moment j.shape (stands honest).batches batch (λ _. ready j.shape j.start j.gate j.number c.body_count-bodies.result old items c.body_of-body.result (stands honest) is c.if-self-bodies.false c.body_of-body.ensures.length body c.requires.entries)) in
+    subst (λ (v : JournalView g.row.D.Denot). (batches : List Batch) → LeavesNow (g.D.Disk.state v.device) (Holds v.shape batches)
+    → LeavesOnly (g.D.Disk.state v.device) new (λ left. Holds v.shape batches left ⊎ Holds v.shape (batches ++ batch ∷ []) left)) c.self.view_is leaves
+
+pub returns-clause-any_moment_listed : goal.returns-clause-any_moment_listed
+returns-clause-any_moment_listed g c =
+    let j = c.self.inside in
+    let old = g.D.Disk.state j.device in
+    let new = g.D.Disk.state c.write_batch.new.disk in
+    let items = c.args.batch.now.items in
+    let batch : Batch = record { version = Two; records = items } in
+    let is : c.body_count-bodies.result ≡ size_of batch = c.body_count-bodies.ensures ∙ ap bodies c.len.ensures.value in
+    let body = subst (λ (l : List Record). IsBody j.number (record { version = Two; records = l }) (take (bodies (length l)) c.body_of-body.result)) c.deref.ensures.0 c.body_of-body.ensures.body in
+    let stands = c.self.invariant.stands c.if-self.false in
+    let leaves = λ (batches : List Batch) (lists : LeavesNow old (Holds j.shape batches)). lists_leave j.shape j.start j.gate j.number old stands batches lists batch new c.write_batch.ensures.runs.honest
+    (λ honest. c.write_batch.ensures.any_moment j.shape (stands honest).batches batch (λ _. ready j.shape j.start j.gate j.number c.body_count-bodies.result old items c.body_of-body.result (stands honest) is c.if-self-bodies.false c.body_of-body.ensures.length body c.requires.entries)) in
+    subst (λ (v : JournalView g.row.D.Denot). (batches : List Batch) → LeavesNow (g.D.Disk.state v.device) (Holds v.shape batches)
+    → LeavesOnly (g.D.Disk.state v.device) new (λ left. Holds v.shape batches left ⊎ Holds v.shape (batches ++ batch ∷ []) left)) c.self.view_is leaves
+
+pub returns-clause-listed : goal.returns-clause-listed
+returns-clause-listed g c =
+    let j = c.self.inside in
+    let old = g.D.Disk.state j.device in
+    let new = g.D.Disk.state c.write_batch.new.disk in
+    let items = c.args.batch.now.items in
+    let batch : Batch = record { version = Two; records = items } in
+    let is : c.body_count-bodies.result ≡ size_of batch = c.body_count-bodies.ensures ∙ ap bodies c.len.ensures.value in
+    let body = subst (λ (l : List Record). IsBody j.number (record { version = Two; records = l }) (take (bodies (length l)) c.body_of-body.result)) c.deref.ensures.0 c.body_of-body.ensures.body in
+    let stands = c.self.invariant.stands c.if-self.false in
+    let stood = λ (batches : List Batch) (lists : LeavesNow old (Holds j.shape batches)). lists_stand j.shape j.start j.gate j.number old stands batches lists batch new c.write_batch.ensures.runs.honest
+    (start_of j.shape.half old.image)
+    (λ honest. open_ok c.write_batch.result _ (sym c.is_err.ensures.value ∙ c.if-is_err.false) c.write_batch.ensures.written j.shape (stands honest).batches batch honest
+    (ready j.shape j.start j.gate j.number c.body_count-bodies.result old items c.body_of-body.result (stands honest) is c.if-self-bodies.false c.body_of-body.ensures.length body c.requires.entries)) in
+    subst (λ (v : JournalView g.row.D.Denot). (batches : List Batch) → LeavesNow (g.D.Disk.state v.device) (Holds v.shape batches) → LeavesNow new (Holds j.shape (batches ++ batch ∷ []))) c.self.view_is stood
+
+pub returns-then-self-bodies-clause-any_moment_listed : goal.returns-then-self-bodies-clause-any_moment_listed
+returns-then-self-bodies-clause-any_moment_listed g c batches lists =
+    let view = c.args.self.now in
+    leaves_none (g.D.Disk.state view.device) (λ left. Holds view.shape batches left ⊎ Holds view.shape (batches ++ new_batch c.args.batch.now.items ∷ []) left) (g.met.D.Disk.only_now view.device)
+    (λ honest left leaves. inl (lists honest left leaves))
+
+pub returns-then-is_err-clause-stops : goal.returns-then-is_err-clause-stops
+returns-then-is_err-clause-stops g c _ =
+    let j = c.self.inside in
+    let old = g.D.Disk.state j.device in
+    let new = g.D.Disk.state c.write_batch.new.disk in
+    let items = c.args.batch.now.items in
+    let batch : Batch = record { version = Two; records = items } in
+    let is : c.body_count-bodies.result ≡ size_of batch = c.body_count-bodies.ensures ∙ ap bodies c.len.ensures.value in
+    let body = subst (λ (l : List Record). IsBody j.number (record { version = Two; records = l }) (take (bodies (length l)) c.body_of-body.result)) c.deref.ensures.0 c.body_of-body.ensures.body in
+    let stands = c.self.invariant.stands c.if-self.false in
+    let made = λ (honest : old.is_honest) (inert : old.is_inert) (batches : List Batch) (lists : LeavesNow old (Holds j.shape batches)).
+    (let at = stands honest in
+    let before = ready j.shape j.start j.gate j.number c.body_count-bodies.result old items c.body_of-body.result (stands honest) is c.if-self-bodies.false c.body_of-body.ensures.length body c.requires.entries in
+    let stops = open_err c.write_batch.result _ (sym c.is_err.ensures.value ∙ c.if-is_err.true) c.write_batch.ensures.stops j.shape at.batches batch honest inert before in
+    subst (λ (bs : List Batch). StopsShort j.shape bs batch (bodies (length items)) old new) (same_batches j.shape j.start j.gate j.number old stands batches lists honest)
+    (subst (λ n. StopsShort j.shape at.batches batch n old new) before.size stops)) in
+    subst (λ (v : JournalView g.row.D.Denot). (g.D.Disk.state v.device).is_honest → (g.D.Disk.state v.device).is_inert → (batches : List Batch) → LeavesNow (g.D.Disk.state v.device) (Holds v.shape batches)
+    → StopsShort v.shape batches batch (bodies (length items)) (g.D.Disk.state v.device) new) c.self.view_is made

@@ -12,5 +12,7 @@ returns-in-Err-clause-refused g c = record {
   moments = c.find_place.ensures.only.touched.moments;
   runs = c.find_place.ensures.only.runs;
   writes = c.find_place.ensures.only.writes;
+  image = c.find_place.ensures.only.image;
+  saved = c.find_place.ensures.only.saved;
   cause = c.in-Err.ensures.refused;
 }

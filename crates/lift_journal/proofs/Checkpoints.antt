@@ -1,0 +1,273 @@
+-- The batches of a checkpoint, one after another.
+use Rattle.std.proofs.Common.{◌≡◌, ◌<◌, ◌≤◌, ◌+◌, ◌-◌, ◌*◌, ℕ, zero, suc, List, [], ◌∷◌, ◌++◌, None, length, take, drop, slice_get, slice_set, All, refl, sym, ◌∙◌, ap, subst, arith, append_assoc, length-take, length-drop}
+use Rattle.std.specs.Option.{option_to_list}
+use Rattle.std.specs.List.{AllByRecursion}
+use Rattle.std.proofs.Math.Seq.{take-add}
+use Rattle.std.proofs.lemmas.List.{take-take, take_all, take-append-drop, take-append-le, drop-drop, drop-take, drop-set-lt, take-set-le, length-set, length-take-le}
+use Rattle.std.proofs.lemmas.List.Elements.{recursion_from_All, All-from_recursion, All-take, All-drop}
+use Rattle.lift_base.specs.declared.history.Record.{Record}
+use Rattle.lift_base.specs.Records.{IsRecord, IsLawful}
+use Rattle.lift_register.specs.Register.{RegisterState}
+use Rattle.lift_register.specs.Base.{base_records}
+use Rattle.lift_register.specs.WellFormed.{IsWellFormed}
+use Rattle.lift_record.specs.declared.version.Version.{Version}
+use Rattle.lift_record.specs.declared.version.Version.TheVariants.{One, Two}
+use Rattle.lift_record.specs.Version.{version_number}
+use Rattle.lift_disk.specs.Disk.{DiskState, Image, RunsOn, LooseWithin, TouchesOnly, LeavesNoOther, IsSteadyAt, IsWhole}
+use Rattle.lift_disk.proofs.Moments.{runs_none, runs_then, touches_none, touches_then}
+use Rattle.lift_journal.specs.Order.{IsInOrder, IsComplete}
+use Rattle.lift_journal.specs.Layout.{Batch, records_of, bodies, size_of, used, NeverFall, IsSound, IsBody, is_marked, IsOpen, sector_at}
+use Rattle.lift_journal.specs.Steps.{overwritten, marked, IsInRange}
+use Rattle.lift_journal.specs.Walk.{IsFront, IsSoundFront, Reaches}
+use Rattle.lift_journal.specs.Checkpoint.{in_batches, batch_count, checkpoint_of, sectors_for}
+use Rattle.lift_journal.proofs.Appends.{overwritten_there, length-overwritten, sector_set}
+use Rattle.lift_journal.proofs.Bases.{base_in_order, base_complete}
+use Rattle.lift_journal.proofs.Chains.{used_more}
+use Rattle.lift_journal.proofs.Orders.{order_front}
+use Rattle.lift_journal.proofs.Seeing.{bodies_few}
+use Rattle.lift_journal.proofs.Walks.{front_same, reaches_start, reaches_more}
+
+-- the next record, if there is one
+take_one : {X : Type 0} (xs : List X) (k : ℕ) → take k xs ++ option_to_list (slice_get xs k) ≡ take (suc k) xs
+take_one [] zero = refl
+take_one [] (suc k) = refl
+take_one (x ∷ xs) zero = refl
+take_one (x ∷ xs) (suc k) = ap (λ l. x ∷ l) (take_one xs k)
+
+get_dropped : {X : Type 0} (from k : ℕ) (xs : List X) → slice_get (drop from xs) k ≡ slice_get xs (from + k)
+get_dropped zero k xs = ap (slice_get xs) (let same : k ≡ 0 + k = omega arith in same)
+get_dropped (suc from) k [] = refl
+get_dropped (suc from) k (x ∷ xs) = get_dropped from k xs ∙ ap (slice_get (x ∷ xs)) (let same : suc (from + k) ≡ suc from + k = omega arith in same)
+
+pub take_next : {X : Type 0} (xs : List X) (from k : ℕ) → take k (drop from xs) ++ option_to_list (slice_get xs (from + k)) ≡ take (suc k) (drop from xs)
+take_next xs from k = ap (λ o. take k (drop from xs) ++ option_to_list o) (sym (get_dropped from k xs)) ∙ take_one (drop from xs) k
+
+-- the batch at one place
+abbrev pub batch_at : ℕ → List Record → Batch
+batch_at place records = record { version = Two; records = take 63 (drop (63 * place) records) }
+
+pub batches_more : (count : ℕ) (records : List Record) → in_batches (suc count) records ≡ in_batches count records ++ batch_at count records ∷ []
+batches_more zero records = refl
+batches_more (suc count) records =
+    let first : Batch = record { version = Two; records = take 63 records } in
+    let place : drop (63 * count) (drop 63 records) ≡ drop (63 * suc count) records =
+    drop-drop (63 * count) 63 records ∙ ap (λ n. drop n records) (let sum : 63 + 63 * count ≡ 63 * suc count = omega arith in sum) in
+    ap (λ (l : List Batch). first ∷ l) (batches_more count (drop 63 records))
+    ∙ ap (λ (l : List Record). first ∷ in_batches count (drop 63 records) ++ (record { version = Two; records = take 63 l }) ∷ []) place
+
+pub records_in : (count : ℕ) (records : List Record) → records_of (in_batches count records) ≡ take (63 * count) records
+records_in zero records = refl
+records_in (suc count) records =
+    ap (λ (l : List Record). take 63 records ++ l) (records_in count (drop 63 records)) ∙ sym (take-add 63 (63 * count) records)
+    ∙ ap (λ n. take n records) (let sum : 63 + 63 * count ≡ 63 * suc count = omega arith in sum)
+
+pub length_batches : (count : ℕ) (records : List Record) → length (in_batches count records) ≡ count
+length_batches zero records = refl
+length_batches (suc count) records = ap suc (length_batches count (drop 63 records))
+
+pub used_most : (count : ℕ) (records : List Record) → used (in_batches count records) ≤ 3 * count
+used_most zero records = omega arith
+used_most (suc count) records = omega (arith, bodies_few (length (take 63 records)), used_most count (drop 63 records))
+
+pub used_rises : (early late : ℕ) (records : List Record) → early ≤ late → used (in_batches early records) ≤ used (in_batches late records)
+used_rises zero late records le = omega arith
+used_rises (suc early) zero records le = absurd (omega arith)
+used_rises (suc early) (suc late) records le = omega (arith, used_rises early late (drop 63 records) (omega arith))
+
+-- full batches take three sectors each
+used_full : (count : ℕ) (records : List Record) → 63 * count ≤ length records → used (in_batches count records) ≡ 3 * count
+used_full zero records full = omega arith
+used_full (suc count) records full =
+    let size : bodies (length (take 63 records)) ≡ 2 = ap bodies (length-take-le 63 records (omega arith)) in
+    omega (arith, size, used_full count (drop 63 records) (omega (arith, length-drop 63 records)))
+
+pub used_checkpoint : (records : List Record) → 1 ≤ length records → used (checkpoint_of records) ≡ sectors_for (length records)
+used_checkpoint records some =
+    let n = length records in
+    let full = batch_count n - 1 in
+    let count : batch_count n ≡ suc full = omega arith in
+    let early : 63 * full ≤ n = omega arith in
+    let late : n ≤ 63 * full + 63 = omega arith in
+    let rest : length (take 63 (drop (63 * full) records)) ≡ n - 63 * full =
+    ap length (take_all 63 (drop (63 * full) records) (omega (arith, length-drop (63 * full) records))) ∙ length-drop (63 * full) records in
+    let last : bodies (length (take 63 (drop (63 * full) records))) ≡ bodies (n - 63 * full) = ap bodies rest in
+    ap (λ k. used (in_batches k records)) count
+    ∙ ap used (batches_more full records)
+    ∙ (let sum : used (in_batches full records ++ batch_at full records ∷ []) ≡ 3 * full + 1 + bodies (n - 63 * full) =
+    omega (arith, used_more (in_batches full records) (batch_at full records), used_full full records early, last) in sum)
+
+-- the next batch is one of them
+pub used_within : (count end size : ℕ) (records items : List Record) → count < end → end ≡ batch_count (length records) → 1 ≤ length records → items ≡ take 63 (drop (63 * count) records) → size ≡ bodies (length items)
+    → used (in_batches count records) + (1 + size) ≤ sectors_for (length records)
+used_within count end size records items below all some is sized =
+    let batch : size ≡ size_of (batch_at count records) = sized ∙ ap (λ (l : List Record). bodies (length l)) is in
+    omega (arith, batch, used_more (in_batches count records) (batch_at count records), ap used (batches_more count records), used_rises (suc count) (batch_count (length records)) records (omega (arith, below, all)), used_checkpoint records some)
+
+never_fall : (version : Version) (count : ℕ) (records : List Record) → version_number version ≤ 2 → NeverFall version (in_batches count records)
+never_fall version zero records low = tt
+never_fall version (suc count) records low = (low, never_fall Two count (drop 63 records) (omega arith))
+
+order_take : (count : ℕ) (records : List Record) → IsInOrder records → IsInOrder (take count records)
+order_take count records order = order_front None (take count records) (drop count records) (subst IsInOrder (sym (take-append-drop count records)) order)
+
+pub sound_front : (count : ℕ) (records : List Record) → IsInOrder records → IsSoundFront (in_batches count records)
+sound_front count records order = record {
+  versions = never_fall One count records (omega arith);
+  ordered = subst IsInOrder (sym (records_in count records)) (order_take (63 * count) records order);
+}
+
+pub checkpoint_records : (records : List Record) → records_of (checkpoint_of records) ≡ records
+checkpoint_records records =
+    records_in (batch_count (length records)) records
+    ∙ take_all (63 * batch_count (length records)) records (omega arith)
+
+pub checkpoint_sound : (register : RegisterState) → IsWellFormed register → IsSound (checkpoint_of (base_records register))
+checkpoint_sound register formed =
+    let records = base_records register in
+    record {
+      versions = never_fall One (batch_count (length records)) records (omega arith);
+      ordered = subst IsInOrder (sym (checkpoint_records records)) (base_in_order register formed);
+      complete = subst IsComplete (sym (checkpoint_records records)) (base_complete register);
+    }
+
+pub lawful_part : (from : ℕ) (records : List Record) → All IsRecord records → All IsLawful (take 63 (drop from records))
+lawful_part from records each =
+    let part = take 63 (drop from records) in
+    All-from_recursion IsLawful part (both part (recursion_from_All IsRecord part (All-take IsRecord 63 (drop from records) (All-drop IsRecord from records each))))
+  where
+    both : (part : List Record) → AllByRecursion IsRecord part → AllByRecursion IsLawful part
+    both [] each = tt
+    both (next ∷ part) each = (each.0.1, both part each.1)
+
+-- The batches of a front stand wherever the sectors before its gate do.
+pub reaches_same : (start end gate : ℕ) (batches : List Batch) (old new : Image) → Reaches old start end gate batches → gate < end → take gate new ≡ take gate old → Reaches new start end gate batches
+reaches_same start end gate batches old new reached below same = record { front = front; sound = record { versions = reached.sound.versions; ordered = reached.sound.ordered }; at = reached.at }
+  where
+    window : (image : Image) → take (used batches) (drop start image) ≡ drop start (take gate image)
+    window image = sym (ap (λ n. drop start (take n image)) reached.at ∙ drop-take start (used batches) image)
+
+    front : IsFront batches 1 (take (end - start) (drop start new))
+    front =
+        let u = used batches in
+        let short : u ≤ end - start = omega (arith, reached.at, below) in
+        front_same batches 1 (take (end - start) (drop start old)) (take (end - start) (drop start new)) reached.front
+        (take-take u (end - start) (drop start new) short ∙ window new ∙ ap (drop start) same ∙ sym (window old) ∙ sym (take-take u (end - start) (drop start old) short))
+
+-- One batch more stands in a half that is being written.
+module _ (start end gate : ℕ) (batches : List Batch) (batch : Batch) (body old new : Image) (reached : Reaches old start end gate batches) (whole : end ≤ length old)
+    (room : gate + 1 + length body < end) (size : length body ≡ size_of batch) (spelled : IsBody (1 + length batches) batch body) (sound : IsSoundFront (batches ++ batch ∷ []))
+    (is : new ≡ slice_set (overwritten old (gate + 1) body) gate marked) where
+  base : Image
+  base = overwritten old (gate + 1) body
+
+  long : length base ≡ length old
+  unfolding base
+  long = length-overwritten old (gate + 1) body (omega (arith, room, whole))
+
+  size_same : length new ≡ length old
+  unfolding base
+  size_same = ap length is ∙ length-set base gate marked ∙ long
+
+  below : take gate new ≡ take gate old
+  unfolding base
+  below =
+      let rest = body ++ drop (gate + 1 + length body) old in
+      ap (take gate) is ∙ take-set-le gate base gate marked (omega arith)
+      ∙ ap (take gate) (append_assoc (take (gate + 1) old) body (drop (gate + 1 + length body) old))
+      ∙ take-append-le gate (take (gate + 1) old) rest (omega (arith, length-take (gate + 1) old, room, whole))
+      ∙ take-take gate (gate + 1) old (omega arith)
+
+  opened : IsOpen (sector_at new gate)
+  unfolding base
+  opened = ap (λ (l : Image). is_marked (sector_at l gate)) is ∙ ap is_marked (sector_set base gate marked (omega (arith, long, room, whole)))
+
+  there : take (length body) (drop (gate + 1) new) ≡ body
+  unfolding base
+  there =
+      ap (λ (l : Image). take (length body) (drop (gate + 1) l)) is ∙ ap (take (length body)) (drop-set-lt (gate + 1) base gate marked (omega arith))
+      ∙ overwritten_there old (gate + 1) body (omega (arith, room, whole))
+
+  pub reaches_next : Reaches new start end (gate + (1 + size_of batch)) (batches ++ batch ∷ [])
+  reaches_next =
+      reaches_more new start end gate batches (reaches_same start end gate batches old new reached (omega (arith, room)) below)
+      (omega (arith, room)) (omega (arith, size_same, whole)) batch opened
+      (record {
+        body = subst (λ k. IsBody (1 + length batches) batch (take k (drop (gate + 1) new))) size (subst (IsBody (1 + length batches) batch) (sym there) spelled);
+        next = omega (arith, room, size);
+      }) sound
+
+-- From the start on so many batches of a checkpoint are written.
+pub record Drafted (old now : DiskState) (start gate count : ℕ) (records : List Record) : Type 0 where
+  pub runs : RunsOn old now
+  pub calls : now.calls ≡ old.calls + used (in_batches count records)
+  pub writes : now.writes ≡ old.writes + used (in_batches count records)
+  pub failures : now.failures ≡ old.failures
+  pub touched : LooseWithin (IsInRange start (start + 64)) old → TouchesOnly (IsInRange start (start + 64)) old now
+  pub at : gate ≡ start + used (in_batches count records)
+  pub steady : old.is_honest → old.is_steady → now.is_steady
+  pub reached : old.is_honest → old.is_steady → (end : ℕ) → start + 64 ≤ end → end ≤ old.size → Reaches now.image start end gate (in_batches count records)
+
+pub drafted_none : (disk : DiskState) (start : ℕ) (records : List Record) → LeavesNoOther disk → Drafted disk disk start start 0 records
+drafted_none disk start records only_now = record {
+  runs = runs_none disk;
+  calls = omega arith;
+  writes = omega arith;
+  failures = refl;
+  touched = λ loose. touches_none (IsInRange start (start + 64)) disk loose only_now;
+  at = omega arith;
+  steady = λ honest steady. steady;
+  reached = λ honest steady end room inside. reaches_start disk.image start end;
+}
+
+module _ (old now new : DiskState) (start gate count : ℕ) (records : List Record) (so_far : Drafted old now start gate count records) where
+  -- the next batch touches no sector beyond
+  pub drafted_touched : (size : ℕ) → gate + 1 + size ≤ start + 64
+      → ((low high : ℕ) → low ≤ gate → gate + 1 + size ≤ high → LooseWithin (IsInRange low high) now → TouchesOnly (IsInRange low high) now new)
+      → LooseWithin (IsInRange start (start + 64)) old → TouchesOnly (IsInRange start (start + 64)) old new
+  drafted_touched size room touched loose =
+      let before = so_far.touched loose in
+      touches_then (IsInRange start (start + 64)) old now new before (touched start (start + 64) (omega (arith, so_far.at)) room before.loose)
+
+  pub drafted_more : (body : Image) → gate + 1 + length body < start + 64 → length body ≡ size_of (batch_at count records)
+      → IsBody (count + 1) (batch_at count records) body → IsInOrder records
+      → RunsOn now new → new.calls ≡ now.calls + (1 + length body) → new.writes ≡ now.writes + (1 + length body) → new.failures ≡ now.failures
+      → ((low high : ℕ) → low ≤ gate → gate + 1 + length body ≤ high → LooseWithin (IsInRange low high) now → TouchesOnly (IsInRange low high) now new)
+      → (now.is_honest → now.is_steady → IsSteadyAt (slice_set (overwritten now.image (gate + 1) body) gate marked) new)
+      → IsWhole now
+      → Drafted old new start (gate + (length body + 1)) (count + 1) records
+  drafted_more body room size spelled order runs called wrote quiet touched written whole_now =
+      let batch = batch_at count records in
+      let batches = in_batches count records in
+      let more : in_batches (count + 1) records ≡ batches ++ batch ∷ [] =
+      ap (λ n. in_batches n records) (let next : count + 1 ≡ suc count = omega arith in next) ∙ batches_more count records in
+      record {
+        runs = runs_then old now new so_far.runs runs;
+        calls = omega (arith, called, so_far.calls, ap used more, used_more batches batch, size);
+        writes = omega (arith, wrote, so_far.writes, ap used more, used_more batches batch, size);
+        failures = quiet ∙ so_far.failures;
+        touched = drafted_touched (length body) (omega (arith, room)) touched;
+        at = omega (arith, so_far.at, ap used more, used_more batches batch, size);
+        steady = λ honest steady. (written (so_far.runs.honest.1 honest) (so_far.steady honest steady)).steady;
+        reached = λ honest steady end high inside.
+            (let after = written (so_far.runs.honest.1 honest) (so_far.steady honest steady) in
+            let next = reaches_next start end gate batches batch body now.image new.image (so_far.reached honest steady end high inside)
+            (omega (arith, inside, whole_now (so_far.runs.honest.1 honest), so_far.runs.size)) (omega (arith, room, high)) size
+            (subst (λ n. IsBody n batch body) (let number : count + 1 ≡ 1 + length batches = omega (arith, length_batches count records) in number) spelled)
+            (subst IsSoundFront more (sound_front (count + 1) records order)) after.same in
+            subst (λ g. Reaches new.image start end g (in_batches (count + 1) records)) (let place : gate + (1 + size_of batch) ≡ gate + (length body + 1) = omega (arith, size) in place)
+            (subst (Reaches new.image start end (gate + (1 + size_of batch))) (sym more) next));
+      }
+
+-- the body of the next batch, of as many sectors as it takes
+pub next_size : (size : ℕ) (items : List Record) (sectors : Image) → size ≡ bodies (length items) → length sectors ≡ 2 → length (take size sectors) ≡ size
+next_size size items sectors is two = omega (arith, length-take size sectors, is, two, bodies_few (length items))
+
+pub next_body : (count size : ℕ) (records items : List Record) (sectors : Image) → items ≡ take 63 (drop (63 * count) records) → size ≡ bodies (length items)
+    → IsBody (count + 1) (record { version = Two; records = items }) (take (bodies (length items)) sectors) → IsBody (count + 1) (batch_at count records) (take size sectors)
+next_body count size records items sectors is sized body =
+    subst (λ (l : List Record). IsBody (count + 1) (record { version = Two; records = l }) (take size sectors)) is
+    (subst (λ k. IsBody (count + 1) (record { version = Two; records = items }) (take k sectors)) (sym sized) body)
+
+-- there is room for it
+pub next_room : (start gate count size end : ℕ) (records items : List Record) → gate ≡ start + used (in_batches count records) → count < end → end ≤ 10 → size ≡ bodies (length items) → gate + 1 + size < start + 64
+next_room start gate count size end records items at below few is = omega (arith, at, used_most count records, below, few, is, bodies_few (length items))

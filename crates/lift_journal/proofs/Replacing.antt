@@ -1,0 +1,103 @@
+-- What a journal stands for once a checkpoint is in the place of its batches.
+use Rattle.std.proofs.Common.{◌≡◌, ◌⊎◌, ◌<◌, ◌≤◌, ◌+◌, ◌-◌, ◌*◌, inl, inr, ⊎_elim, ℕ, cond, List, [], length, sym, ◌∙◌, ap, arith}
+use Rattle.std.proofs.lemmas.List.{append-nil}
+use Rattle.std.proofs.lemmas.List.Elements.{All-nil}
+use Rattle.lift_base.specs.declared.history.Record.{Record}
+use Rattle.lift_base.specs.declared.history.Shape.{Shape}
+use Rattle.lift_register.specs.Register.{RegisterState}
+use Rattle.lift_register.specs.Base.{base_records}
+use Rattle.lift_register.specs.WellFormed.{IsWellFormed}
+use Rattle.lift_disk.specs.Disk.{DiskState, Image, ChangesWithin, LeavesOnly, IsSynced, RunsOn}
+use Rattle.lift_disk.proofs.Moments.{leaves_weaker, leaves_if_honest}
+use Rattle.lift_journal.specs.Order.{IsEntry}
+use Rattle.lift_journal.specs.Layout.{is_marked, sector_at, start_of, Holds}
+use Rattle.lift_journal.specs.Steps.{IsInRange}
+use Rattle.lift_journal.specs.Journal.{ReadsAs, StandsFor, HasPlace, StandsAt}
+use Rattle.lift_journal.specs.Checkpoint.{batch_count, checkpoint_of, sectors_for}
+use Rattle.lift_journal.specs.Switch.{IsOtherHalf, HasWritten}
+use Rattle.lift_journal.proofs.Bases.{base_is_base}
+use Rattle.lift_journal.proofs.Checkpoints.{length_batches, used_checkpoint, checkpoint_records, checkpoint_sound}
+use Rattle.lift_journal.proofs.Seeing.{bodies_few}
+use Rattle.lift_journal.proofs.Standing.{reads_old}
+use Rattle.lift_journal.proofs.Switching.{drafting_leaves, switching_leaves, switched}
+
+pub checkpoint_reads : (shape : Shape) (register : RegisterState) (image : Image) → Holds shape (checkpoint_of (base_records register)) image → ReadsAs shape (base_records register) [] image
+checkpoint_reads shape register image holds = record {
+  batches = checkpoint_of (base_records register);
+  holds = holds;
+  joined = checkpoint_records (base_records register) ∙ sym (append-nil (base_records register));
+  is_base = base_is_base register;
+  are_entries = All-nil IsEntry;
+}
+
+-- where the other half begins
+pub other_inside : (size : ℕ) (shape : Shape) (start gate number other : ℕ) (pick : List ℕ) → HasPlace size shape start gate number → IsOtherHalf shape.half start other pick → (2 ≤ other) × (other + shape.half ≤ size) × (other ≤ 1000002)
+other_inside size shape start gate number other pick place is =
+    ⊎_elim (λ a. (omega (arith, a.1), omega (arith, a.1, place.inside), omega (arith, a.1, place.within.half.1)))
+    (λ b. (omega (arith, b.1), omega (arith, b.1, place.inside), omega (arith, b.1))) is
+
+pub other_place : (old_size size : ℕ) (shape : Shape) (start gate number other last count : ℕ) (pick : List ℕ) (records : ℕ) → HasPlace old_size shape start gate number → IsOtherHalf shape.half start other pick
+    → size ≡ old_size → last ≡ other + sectors_for records → last < other + 64 → count ≡ batch_count records → 1 ≤ records → HasPlace size shape other last (count + 1)
+other_place old_size size shape start gate number other last count pick records place is same at below counted some = record {
+  within = place.within;
+  inside = omega (arith, place.inside, same);
+  halves = ⊎_elim (λ a. inr a.1) (λ b. inl b.1) is;
+  low = omega (arith, at);
+  below = omega (arith, below, place.within.half.0);
+  some = omega arith;
+  counts =
+      let low = (other_inside old_size shape start gate number other pick place is).0 in
+      omega (arith, low, at, counted, some, bodies_few (records - 63 * (batch_count records - 1)));
+}
+
+module _ (shape : Shape) (start gate number other : ℕ) (pick : List ℕ) (old : DiskState) (register : RegisterState) (place : HasPlace old.size shape start gate number)
+    (is_other : IsOtherHalf shape.half start other pick) (formed : IsWellFormed register) where
+  halves : (stands : StandsAt shape start gate number old) → ((start_of shape.half old.image ≡ 2) × (other ≡ shape.half + 2)) ⊎ ((start_of shape.half old.image ≡ shape.half + 2) × (other ≡ 2))
+  halves stands =
+      ⊎_elim (λ a. inl (sym stands.starts ∙ a.0, a.1))
+      (λ b. inr (sym stands.starts ∙ ⊎_elim (λ first. absurd (b.0 first)) (λ second. second) place.halves, b.1)) is_other
+
+  -- a crash at any moment leaves the records from before, or the checkpoint
+  pub replace_leaves : (new : DiskState) → RunsOn old new → (stands : old.is_honest → StandsAt shape start gate number old)
+      → ((end : ℕ) → other + 64 ≤ end → end ≤ old.size → (old.is_honest → IsSynced old)
+      → LeavesOnly old new (λ left. ChangesWithin (IsInRange other (other + 64)) old.image left ⊎ HasWritten other end (checkpoint_of (base_records register)) old.image left))
+      → (base entries : List Record) → StandsFor shape base entries old → LeavesOnly old new (λ left. ReadsAs shape base entries left ⊎ ReadsAs shape (base_records register) [] left)
+  replace_leaves new runs stands leaves base entries reads =
+      let records = base_records register in
+      let end = other + shape.half in
+      let P : Image → Type 0 = λ left. ReadsAs shape base entries left ⊎ ReadsAs shape records [] left in
+      let inside = other_inside old.size shape start gate number other pick place is_other in
+      leaves_if_honest old new P runs.honest (λ honest.
+      let at = stands honest in
+      let kept : (left : Image) → Holds shape at.batches left → P left = λ left holds. inl (reads_old shape start gate number 0 old [] base entries at honest reads left holds) in
+      leaves_weaker old new (λ left. ChangesWithin (IsInRange other (other + 64)) old.image left ⊎ HasWritten other end (checkpoint_of records) old.image left) P
+      (λ _ left either. ⊎_elim
+      (λ within. kept left (drafting_leaves shape at.batches (checkpoint_of records) other old.image at.holds (halves at) left within))
+      (λ written. ⊎_elim (kept left) (λ holds. inr (checkpoint_reads shape register left holds))
+      (switching_leaves shape at.batches (checkpoint_of records) other old.image at.holds (halves at) left (checkpoint_sound register formed) written))
+      either)
+      (leaves end (omega (arith, place.within.half.0)) inside.1 (λ honest. (stands honest).synced)))
+
+  module _ (image : Image) (stands : StandsAt shape start gate number old) (written : HasWritten other (other + shape.half) (checkpoint_of (base_records register)) old.image image) (picked : sector_at image 0 ≡ pick) where
+    pub replace_starts : start_of shape.half image ≡ other
+    replace_starts =
+        ⊎_elim (λ a. ap (λ (s : List ℕ). cond (is_marked s) (shape.half + 2) 2) (picked ∙ a.2) ∙ sym a.1)
+        (λ b. ap (λ (s : List ℕ). cond (is_marked s) (shape.half + 2) 2) (picked ∙ b.2) ∙ sym b.1) is_other
+
+    pub replace_holds : Holds shape (checkpoint_of (base_records register)) image
+    replace_holds = switched shape stands.batches (checkpoint_of (base_records register)) other old.image stands.holds (halves stands) image (checkpoint_sound register formed) written replace_starts
+
+  pub replace_stands : (new : DiskState) (last : ℕ) → IsSynced new → (stands : StandsAt shape start gate number old) → HasWritten other (other + shape.half) (checkpoint_of (base_records register)) old.image new.image → sector_at new.image 0 ≡ pick
+      → 1 ≤ length (base_records register) → last ≡ other + sectors_for (length (base_records register))
+      → StandsAt shape other last (batch_count (length (base_records register)) + 1) new
+  replace_stands new last synced stands written picked some at =
+      let records = base_records register in
+      let starts = replace_starts new.image stands written picked in
+      record {
+        batches = checkpoint_of records;
+        synced = synced;
+        holds = replace_holds new.image stands written picked;
+        starts = sym starts;
+        at = omega (arith, at, starts, used_checkpoint records some);
+        counts = omega (arith, length_batches (batch_count (length records)) records);
+      }

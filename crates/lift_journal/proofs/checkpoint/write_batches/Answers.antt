@@ -1,0 +1,118 @@
+use Rattle.std.proofs.Common.{◌≡◌, ◌+◌, ◌*◌, List, length, take, All, sym, ◌∙◌, ap, subst, arith}
+use Rattle.std.proofs.lemmas.Result.{err_from_is_err_and}
+use Rattle.lift_base.specs.declared.history.Record.{Record}
+use Rattle.lift_base.specs.Records.{IsLawful}
+use Rattle.lift_record.specs.declared.version.Version.TheVariants.{Two}
+use Rattle.lift_register.specs.Base.{base_records}
+use Rattle.lift_journal.specs.Layout.{bodies, used, IsBody}
+use Rattle.lift_journal.specs.Walk.{Reaches}
+use Rattle.lift_journal.specs.Checkpoint.{in_batches, batch_count, sectors_for}
+use Rattle.lift_journal.proofs.Bases.{base_in_order}
+use Rattle.lift_journal.proofs.Checkpoints.{Drafted, drafted_touched, drafted_more, lawful_part, next_size, next_body, next_room, used_most, used_within, used_checkpoint}
+use Rattle.lift_journal.proofs.checkpoint.write_batches.Goals as goal
+
+pub body_of-body-requires-clause-lawful : goal.body_of-body-requires-clause-lawful
+body_of-body-requires-clause-lawful g c =
+    subst (All IsLawful) (sym (c.deref.ensures.0 ∙ c.base_batch-batch.ensures)) (lawful_part (63 * c.loop-index.index) (base_records c.args.register.now) c.base_len.ensures.records)
+
+pub write_open_batch-requires-clause-there : goal.write_open_batch-requires-clause-there
+write_open_batch-requires-clause-there g c =
+    let items = c.base_batch-batch.result.items in
+    let is : c.body_count-bodies.result ≡ bodies (length items) = c.body_count-bodies.ensures ∙ ap bodies c.len.ensures.value in
+    let long = next_size c.body_count-bodies.result items c.body_of-body.result is c.body_of-body.ensures.length in
+    let room = next_room c.args.start c.loop-index.gate c.loop-index.index c.body_count-bodies.result c.batches_for-index-end.result (base_records c.args.register.now) items c.loop-index.invariant.at c.loop-index-test.true c.batches_for-index-end.ensures.limit is in
+    omega (arith, long, room, c.requires.there, c.loop-index.invariant.runs.size)
+
+pub write_open_batch-requires-clause-fits : goal.write_open_batch-requires-clause-fits
+write_open_batch-requires-clause-fits g c =
+    let items = c.base_batch-batch.result.items in
+    let is : c.body_count-bodies.result ≡ bodies (length items) = c.body_count-bodies.ensures ∙ ap bodies c.len.ensures.value in
+    let long = next_size c.body_count-bodies.result items c.body_of-body.result is c.body_of-body.ensures.length in
+    let room = next_room c.args.start c.loop-index.gate c.loop-index.index c.body_count-bodies.result c.batches_for-index-end.result (base_records c.args.register.now) items c.loop-index.invariant.at c.loop-index-test.true c.batches_for-index-end.ensures.limit is in
+    omega (arith, long, room, c.requires.fits)
+
+pub returns-in_err-write_open_batch-clause-touched : goal.returns-in_err-write_open_batch-clause-touched
+returns-in_err-write_open_batch-clause-touched g c =
+    let items = c.base_batch-batch.result.items in
+    let records = base_records c.args.register.now in
+    let is : c.body_count-bodies.result ≡ bodies (length items) = c.body_count-bodies.ensures ∙ ap bodies c.len.ensures.value in
+    let long = next_size c.body_count-bodies.result items c.body_of-body.result is c.body_of-body.ensures.length in
+    let room = next_room c.args.start c.loop-index.gate c.loop-index.index c.body_count-bodies.result c.batches_for-index-end.result records items c.loop-index.invariant.at c.loop-index-test.true c.batches_for-index-end.ensures.limit is in
+    drafted_touched (g.D.Disk.state c.args.disk.now) (g.D.Disk.state c.loop-index.disk) (g.D.Disk.state c.write_open_batch.new.disk) c.args.start c.loop-index.gate c.loop-index.index records c.loop-index.invariant
+    (length (take c.body_count-bodies.result c.body_of-body.result)) (omega (arith, long, room)) c.write_open_batch.ensures.touched
+
+pub overflow_add-gate-in-loop-index : goal.overflow_add-gate-in-loop-index
+overflow_add-gate-in-loop-index g c =
+    let items = c.base_batch-batch.result.items in
+    let is : c.body_count-bodies.result ≡ bodies (length items) = c.body_count-bodies.ensures ∙ ap bodies c.len.ensures.value in
+    let room = next_room c.args.start c.loop-index.gate c.loop-index.index c.body_count-bodies.result c.batches_for-index-end.result (base_records c.args.register.now) items c.loop-index.invariant.at c.loop-index-test.true c.batches_for-index-end.ensures.limit is in
+    omega (arith, room, c.requires.fits)
+
+pub loop-index-preserved : goal.loop-index-preserved
+loop-index-preserved g c =
+    let items = c.base_batch-batch.result.items in
+    let records = base_records c.args.register.now in
+    let old = g.D.Disk.state c.args.disk.now in
+    let now = g.D.Disk.state c.loop-index.disk in
+    let new = g.D.Disk.state c.write_open_batch.new.disk in
+    let n = c.body_count-bodies.result in
+    let k = c.loop-index.index in
+    let sectors = take n c.body_of-body.result in
+    let is : n ≡ bodies (length items) = c.body_count-bodies.ensures ∙ ap bodies c.len.ensures.value in
+    let long = next_size n items c.body_of-body.result is c.body_of-body.ensures.length in
+    let room = next_room c.args.start c.loop-index.gate k n c.batches_for-index-end.result records items c.loop-index.invariant.at c.loop-index-test.true c.batches_for-index-end.ensures.limit is in
+    let written = subst (λ (l : List Record). IsBody (k + 1) (record { version = Two; records = l }) (take (bodies (length l)) c.body_of-body.result)) c.deref.ensures.0 c.body_of-body.ensures.body in
+    subst (λ m. Drafted old new c.args.start (c.loop-index.gate + (m + 1)) (k + 1) records) long
+    (drafted_more old now new c.args.start c.loop-index.gate k records c.loop-index.invariant sectors (omega (arith, long, room)) (long ∙ is ∙ ap (λ (l : List Record). bodies (length l)) c.base_batch-batch.ensures)
+    (next_body k n records items c.body_of-body.result c.base_batch-batch.ensures is written) (base_in_order c.args.register.now c.base_len.ensures.lawful)
+    c.write_open_batch.ensures.runs c.in_ok-write_open_batch.ensures.made.calls c.in_ok-write_open_batch.ensures.made.writes c.in_ok-write_open_batch.ensures.cause.ok c.write_open_batch.ensures.touched c.in_ok-write_open_batch.ensures.written (g.met.D.Disk.whole c.loop-index.disk))
+
+pub returns-clause-gate : goal.returns-clause-gate
+returns-clause-gate g c =
+    let records = base_records c.args.register.now in
+    let all : c.loop-index.index ≡ batch_count (length records) =
+    omega (arith, c.loop-index-test.false, c.loop-index.auto.index-end, c.batches_for-index-end.ensures.value, ap batch_count c.base_len.ensures.value) in
+    let taken : used (in_batches c.loop-index.index records) ≡ sectors_for (length records) =
+    ap (λ m. used (in_batches m records)) all ∙ used_checkpoint records (omega (arith, c.base_len.ensures.value, c.base_len.ensures.limit.0)) in
+    let few = used_most c.loop-index.index records in (
+      omega (arith, c.loop-index.invariant.at, taken),
+      omega (arith, c.loop-index.invariant.at, few, c.loop-index.auto.index-end, c.batches_for-index-end.ensures.limit),
+    )
+
+pub returns-clause-reached : goal.returns-clause-reached
+returns-clause-reached g c honest steady end high inside =
+    let records = base_records c.args.register.now in
+    let all : c.loop-index.index ≡ batch_count (length records) =
+    omega (arith, c.loop-index-test.false, c.loop-index.auto.index-end, c.batches_for-index-end.ensures.value, ap batch_count c.base_len.ensures.value) in
+    subst (λ m. Reaches (g.D.Disk.state c.loop-index.disk).image c.args.start end c.loop-index.gate (in_batches m records)) all (c.loop-index.invariant.reached honest steady end high inside)
+
+pub returns-in_err-write_open_batch-clause-made : goal.returns-in_err-write_open_batch-clause-made
+returns-in_err-write_open_batch-clause-made g c =
+    let items = c.base_batch-batch.result.items in
+    let records = base_records c.args.register.now in
+    let fault = err_from_is_err_and c.from_residual.result c.from_residual.ensures.1 in
+    let is : c.body_count-bodies.result ≡ bodies (length items) = c.body_count-bodies.ensures ∙ ap bodies c.len.ensures.value in
+    let long = next_size c.body_count-bodies.result items c.body_of-body.result is c.body_of-body.ensures.length in
+    let all : c.batches_for-index-end.result ≡ batch_count (length records) = c.batches_for-index-end.ensures.value ∙ ap batch_count c.base_len.ensures.value in
+    let within = used_within c.loop-index.index c.batches_for-index-end.result c.body_count-bodies.result records items c.loop-index-test.true all (omega (arith, c.base_len.ensures.value, c.base_len.ensures.limit.0)) c.base_batch-batch.ensures is in
+    let made = c.write_open_batch.ensures.made in
+    record {
+      calls = rw fault.1 tt;
+      writes = rw fault.1 tt;
+      most_calls = omega (arith, made.most_calls, c.loop-index.invariant.calls, within, long);
+      most_writes = omega (arith, made.most_writes, c.loop-index.invariant.writes, within, long);
+    }
+
+pub returns-clause-made : goal.returns-clause-made
+returns-clause-made g c =
+    let records = base_records c.args.register.now in
+    let all : c.loop-index.index ≡ batch_count (length records) =
+    omega (arith, c.loop-index-test.false, c.loop-index.auto.index-end, c.batches_for-index-end.ensures.value, ap batch_count c.base_len.ensures.value) in
+    let taken : used (in_batches c.loop-index.index records) ≡ sectors_for (length records) =
+    ap (λ m. used (in_batches m records)) all ∙ used_checkpoint records (omega (arith, c.base_len.ensures.value, c.base_len.ensures.limit.0)) in
+    record {
+      calls = omega (arith, c.loop-index.invariant.calls, taken);
+      writes = omega (arith, c.loop-index.invariant.writes, taken);
+      most_calls = omega (arith, c.loop-index.invariant.calls, taken);
+      most_writes = omega (arith, c.loop-index.invariant.writes, taken);
+    }

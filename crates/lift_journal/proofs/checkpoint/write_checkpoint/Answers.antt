@@ -1,0 +1,61 @@
+use Rattle.std.proofs.Common.{◌≡◌, ◌+◌, length, slice_set, slice_get, ◌∙◌, ap, arith}
+use Rattle.std.proofs.lemmas.List.{length-set}
+use Rattle.lift_disk.specs.Disk.{Image, ChangesWithin}
+use Rattle.lift_disk.proofs.History.{set_other}
+use Rattle.lift_register.specs.Base.{base_records}
+use Rattle.lift_journal.specs.Layout.{sector_at}
+use Rattle.lift_journal.specs.Steps.{unmarked}
+use Rattle.lift_journal.specs.Checkpoint.{checkpoint_of}
+use Rattle.lift_journal.proofs.Appends.{sector_set}
+use Rattle.lift_journal.proofs.Switching.{checkpoint_leaves, written_left}
+use Rattle.lift_journal.proofs.checkpoint.write_checkpoint.Goals as goal
+
+pub returns-in_err-switch_half-clause-any_moment : goal.returns-in_err-switch_half-clause-any_moment
+returns-in_err-switch_half-clause-any_moment g c end high inside synced =
+    let old = g.D.Disk.state c.args.disk.now in
+    let mid = g.D.Disk.state c.write_batches.new.disk in
+    let touched = c.write_batches.ensures.touched (λ honest i is. absurd ((synced honest).none_loose i is)) in
+    let was = c.write_batches.ensures.runs.honest.0 in
+    checkpoint_leaves old mid (g.D.Disk.state c.switch_half.new.disk) c.args.start end c.in_ok-gate.gate (checkpoint_of (base_records c.args.register.now))
+    c.requires.first high inside (g.met.D.Disk.whole c.write_batches.new.disk) c.in_ok-gate.ensures.gate.1 touched
+    (λ honest. c.in_ok-gate.ensures.reached honest (synced honest).steady end high inside)
+    (c.switch_half.ensures.any_moment c.args.start (c.args.start + 64) (omega (arith, c.in_ok-gate.ensures.gate.0)) c.in_ok-gate.ensures.gate.1 touched.loose
+    (λ honest. c.in_ok-gate.ensures.steady (was honest) (synced (was honest)).steady))
+
+pub returns-clause-any_moment : goal.returns-clause-any_moment
+returns-clause-any_moment g c end high inside synced =
+    let old = g.D.Disk.state c.args.disk.now in
+    let mid = g.D.Disk.state c.write_batches.new.disk in
+    let touched = c.write_batches.ensures.touched (λ honest i is. absurd ((synced honest).none_loose i is)) in
+    let was = c.write_batches.ensures.runs.honest.0 in
+    checkpoint_leaves old mid (g.D.Disk.state c.switch_half.new.disk) c.args.start end c.in_ok-gate.gate (checkpoint_of (base_records c.args.register.now))
+    c.requires.first high inside (g.met.D.Disk.whole c.write_batches.new.disk) c.in_ok-gate.ensures.gate.1 touched
+    (λ honest. c.in_ok-gate.ensures.reached honest (synced honest).steady end high inside)
+    (c.switch_half.ensures.any_moment c.args.start (c.args.start + 64) (omega (arith, c.in_ok-gate.ensures.gate.0)) c.in_ok-gate.ensures.gate.1 touched.loose
+    (λ honest. c.in_ok-gate.ensures.steady (was honest) (synced (was honest)).steady))
+
+pub returns-clause-picked : goal.returns-clause-picked
+returns-clause-picked g c honest synced =
+    let mid = g.D.Disk.state c.write_batches.new.disk in
+    let honest_mid = c.write_batches.ensures.runs.honest.1 honest in
+    let picked = c.in_ok-switch_half.ensures.picked honest_mid (c.in_ok-gate.ensures.steady honest synced.steady) in
+    ap (λ (l : Image). sector_at l 0) picked.same
+    ∙ sector_set (slice_set mid.image c.in_ok-gate.gate unmarked) 0 c.args.pick.now
+    (omega (arith, length-set mid.image c.in_ok-gate.gate unmarked, g.met.D.Disk.whole c.write_batches.new.disk honest_mid, c.write_batches.ensures.runs.size, c.requires.there))
+
+pub returns-clause-written : goal.returns-clause-written
+returns-clause-written g c end high inside honest synced =
+    let old = g.D.Disk.state c.args.disk.now in
+    let mid = g.D.Disk.state c.write_batches.new.disk in
+    let new = g.D.Disk.state c.switch_half.new.disk in
+    let honest_mid = c.write_batches.ensures.runs.honest.1 honest in
+    let touched = c.write_batches.ensures.touched (λ _ i is. absurd (synced.none_loose i is)) in
+    let picked = c.in_ok-switch_half.ensures.picked honest_mid (c.in_ok-gate.ensures.steady honest synced.steady) in
+    let closed = slice_set mid.image c.in_ok-gate.gate unmarked in
+    let after : ChangesWithin (λ i. i ≡ 0) closed new.image = record {
+      size = ap length picked.same ∙ length-set closed 0 c.args.pick.now;
+      others = λ i other. ap (λ (l : Image). slice_get l i) picked.same ∙ set_other closed 0 i c.args.pick.now other;
+    } in
+    written_left c.args.start end c.in_ok-gate.gate (checkpoint_of (base_records c.args.register.now)) old.image mid.image new.image c.requires.first high
+    (omega (arith, inside, c.write_batches.ensures.runs.size, g.met.D.Disk.whole c.write_batches.new.disk honest_mid)) c.in_ok-gate.ensures.gate.1
+    (c.in_ok-gate.ensures.reached honest synced.steady end high inside) (touched.within honest) after

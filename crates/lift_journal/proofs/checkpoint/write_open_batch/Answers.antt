@@ -1,0 +1,28 @@
+use Rattle.std.proofs.Common.{◌+◌, ap, ◌∙◌, arith, slice_set, ℕ, List}
+use Rattle.std.proofs.lemmas.Result.{on_ok_weaker}
+use Rattle.lift_disk.specs.Disk.{Image}
+use Rattle.lift_disk.proofs.Moments.{touches_then_write}
+use Rattle.lift_journal.specs.Steps.{overwritten, IsInRange}
+use Rattle.lift_journal.proofs.checkpoint.write_open_batch.Goals as goal
+
+pub returns-in_err-write_sectors-clause-touched : goal.returns-in_err-write_sectors-clause-touched
+returns-in_err-write_sectors-clause-touched g c low high le ge loose =
+    c.write_sectors.ensures.touched low high (omega (arith, le)) (omega (arith, ge)) loose
+
+pub returns-clause-touched : goal.returns-clause-touched
+returns-clause-touched g c low high le ge loose =
+    touches_then_write (IsInRange low high) (g.D.Disk.state c.args.disk.now) (g.D.Disk.state c.write_sectors.new.disk) (g.D.Disk.state c.write.new.self)
+    (c.write_sectors.ensures.touched low high (omega (arith, le)) (omega (arith, ge)) loose)
+    (g.met.D.Disk.only_now c.write_sectors.new.disk) c.write.ensures.goes_on c.args.gate c.write.ensures.touched (omega (arith, le), omega (arith, ge))
+
+pub returns-clause-written : goal.returns-clause-written
+returns-clause-written g c =
+    let old = g.D.Disk.state c.args.disk.now in
+    on_ok_weaker c.write.result (λ write honest steady.
+    let body = c.in_ok-write_sectors.ensures.written honest steady in
+    let after = write (c.write_sectors.ensures.runs.honest.1 honest) body.steady in
+    record {
+      steady = after.steady;
+      same = after.same ∙ ap (λ (l : Image). slice_set l c.args.gate c.mark.result) body.same
+          ∙ ap (λ (s : List ℕ). slice_set (overwritten old.image (c.args.gate + 1) c.args.body.now) c.args.gate s) c.mark.ensures;
+    }) c.write.ensures.steady

@@ -1,0 +1,82 @@
+use Rattle.std.proofs.Common.{◌≡◌, ◌⊎◌, ◌+◌, [], List, length, ◌∙◌, ap, subst, arith}
+use Rattle.lift_base.specs.declared.history.Record.{Record}
+use Rattle.lift_disk.specs.Disk.{LeavesOnly}
+use Rattle.lift_register.specs.Base.{base_records}
+use Rattle.lift_journal.specs.Checkpoint.{batch_count, checkpoint_of}
+use Rattle.lift_journal.specs.Journal.{ReadsAs, StandsFor, JournalView, StandsAt}
+use Rattle.lift_journal.proofs.Replacing.{other_inside, other_place, checkpoint_reads, replace_leaves, replace_holds, replace_stands}
+use Rattle.lift_journal.proofs.Standing.{holds_synced}
+use Rattle.lift_journal.proofs.journal.Journal.replace.Goals as goal
+
+pub invariant_of-self : goal.invariant_of-self
+invariant_of-self g c =
+    let j = c.self.inside in
+    let old = g.D.Disk.state j.device in
+    let new = g.D.Disk.state c.write_checkpoint.new.disk in
+    let register = c.args.register.now in
+    let records = base_records register in
+    let other = c.other_half-start.result.0 in
+    let pick = c.other_half-start.result.1 in
+    let place = c.self.invariant.place in
+    let half = place.within.half.0 in
+    let inside = other_inside old.size j.shape j.start j.gate j.number other pick place c.other_half-start.ensures in
+    let batches : c.batches_for-batches.result ≡ batch_count (length records) = c.batches_for-batches.ensures.value ∙ ap batch_count c.base_len.ensures.value in
+    let some = c.base_len.ensures.limit.0 in
+    let long = c.base_len.ensures.value in
+    record {
+      place = other_place old.size new.size j.shape j.start j.gate j.number other c.in-Ok.gate c.batches_for-batches.result pick (length records) place c.other_half-start.ensures
+          c.write_checkpoint.ensures.runs.size c.in-Ok.ensures.gate.0 c.in-Ok.ensures.gate.1 batches (omega (arith, some, long));
+      counted = omega (arith, c.self.invariant.counted, c.in-Ok.ensures.cause.ok);
+      failed = λ broken. absurd (cc (broken, c.if-self.false));
+      stands = λ whole honest_new.
+          (let honest = c.write_checkpoint.ensures.runs.honest.0 honest_new in
+          let stands = c.self.invariant.stands c.if-self.false honest in
+          subst (λ n. StandsAt j.shape other c.in-Ok.gate (n + 1) new) (let same : batch_count (length records) ≡ c.batches_for-batches.result = omega (arith, batches) in same)
+          (replace_stands j.shape j.start j.gate j.number other pick old register place c.other_half-start.ensures c.base_len.ensures.lawful new c.in-Ok.gate (c.in-Ok.ensures.synced honest stands.synced) stands
+          (c.in-Ok.ensures.written (other + j.shape.half) (omega (arith, half)) inside.1 honest stands.synced) (c.in-Ok.ensures.picked honest stands.synced) (omega (arith, some, long)) c.in-Ok.ensures.gate.0));
+    }
+
+pub returns-in-Ok-clause-any_moment : goal.returns-in-Ok-clause-any_moment
+returns-in-Ok-clause-any_moment g c =
+    let j = c.self.inside in
+    let old = g.D.Disk.state j.device in
+    let new = g.D.Disk.state c.write_checkpoint.new.disk in
+    let register = c.args.register.now in
+    let leaves = replace_leaves j.shape j.start j.gate j.number c.other_half-start.result.0 c.other_half-start.result.1 old register c.self.invariant.place c.other_half-start.ensures c.base_len.ensures.lawful new
+    c.write_checkpoint.ensures.runs (c.self.invariant.stands c.if-self.false) c.write_checkpoint.ensures.any_moment in
+    subst (λ (v : JournalView g.row.D.Denot). (base entries : List Record) → StandsFor v.shape base entries (g.D.Disk.state v.device)
+    → LeavesOnly (g.D.Disk.state v.device) new (λ left. ReadsAs v.shape base entries left ⊎ ReadsAs v.shape (base_records register) [] left)) c.self.view_is leaves
+
+pub returns-in-Err-clause-any_moment : goal.returns-in-Err-clause-any_moment
+returns-in-Err-clause-any_moment g c =
+    let j = c.self.inside in
+    let old = g.D.Disk.state j.device in
+    let new = g.D.Disk.state c.write_checkpoint.new.disk in
+    let register = c.args.register.now in
+    let leaves = replace_leaves j.shape j.start j.gate j.number c.other_half-start.result.0 c.other_half-start.result.1 old register c.self.invariant.place c.other_half-start.ensures c.base_len.ensures.lawful new
+    c.write_checkpoint.ensures.runs (c.self.invariant.stands c.if-self.false) c.write_checkpoint.ensures.any_moment in
+    subst (λ (v : JournalView g.row.D.Denot). (base entries : List Record) → StandsFor v.shape base entries (g.D.Disk.state v.device)
+    → LeavesOnly (g.D.Disk.state v.device) new (λ left. ReadsAs v.shape base entries left ⊎ ReadsAs v.shape (base_records register) [] left)) c.self.view_is leaves
+
+pub returns-in-Ok-clause-batches : goal.returns-in-Ok-clause-batches
+returns-in-Ok-clause-batches g c =
+    let j = c.self.inside in
+    let old = g.D.Disk.state j.device in
+    let new = g.D.Disk.state c.write_checkpoint.new.disk in
+    let register = c.args.register.now in
+    let other = c.other_half-start.result.0 in
+    let pick = c.other_half-start.result.1 in
+    let place = c.self.invariant.place in
+    let inside = other_inside old.size j.shape j.start j.gate j.number other pick place c.other_half-start.ensures in
+    let was = c.write_checkpoint.ensures.runs.honest.0 in
+    let stands = c.self.invariant.stands c.if-self.false in
+    holds_synced j.shape (checkpoint_of (base_records register)) new
+    (λ honest. c.in-Ok.ensures.synced (was honest) (stands (was honest)).synced)
+    (λ honest_new.
+    let honest = was honest_new in
+    let synced = (stands honest).synced in
+    replace_holds j.shape j.start j.gate j.number other pick old register place c.other_half-start.ensures c.base_len.ensures.lawful new.image (stands honest)
+    (c.in-Ok.ensures.written (other + j.shape.half) (omega (arith, place.within.half.0)) inside.1 honest synced) (c.in-Ok.ensures.picked honest synced))
+
+pub returns-in-Ok-clause-replaced : goal.returns-in-Ok-clause-replaced
+returns-in-Ok-clause-replaced g c honest left leaves = checkpoint_reads c.self.inside.shape c.args.register.now left (returns-in-Ok-clause-batches g c honest left leaves)

@@ -1,0 +1,15 @@
+use Rattle.std.proofs.Common.{◌≡◌, List, subst}
+use Rattle.lift_disk.specs.Disk.{LeavesNow}
+use Rattle.lift_journal.specs.Layout.{Batch, Holds, used}
+use Rattle.lift_journal.specs.Journal.{JournalView}
+use Rattle.std.specs.Prelude.{false}
+use Rattle.lift_journal.proofs.Standing.{same_used}
+use Rattle.lift_journal.proofs.journal.Journal.room.Goals as goal
+
+pub returns-clause-used : goal.returns-clause-used
+returns-clause-used g c =
+    let j = c.self.inside in
+    let made = λ (whole : j.is_broken ≡ false) (honest : (g.D.Disk.state j.device).is_honest) (batches : List Batch) (lists : LeavesNow (g.D.Disk.state j.device) (Holds j.shape batches)).
+    same_used j.shape j.start j.gate j.number (g.D.Disk.state j.device) (c.self.invariant.stands whole) batches lists honest in
+    subst (λ (v : JournalView g.row.D.Denot). v.is_broken ≡ false → (g.D.Disk.state v.device).is_honest → (batches : List Batch)
+    → LeavesNow (g.D.Disk.state v.device) (Holds v.shape batches) → v.used ≡ used batches) c.self.view_is made
