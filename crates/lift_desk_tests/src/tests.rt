@@ -284,6 +284,15 @@ fn a_seat_ahead_takes_and_the_clerk_answers(rt: HostRuntime) -> Result<(), Fail>
     Ok(())
 }
 
+// One of the two answers, whichever growth is refused.
+#[test]
+fn memory_or_the_whole_desk(rt: HostRuntime) {
+    match Desk::open(rt.alloc(), 3) {
+        Ok(parts) => assert!(rt; parts.desk.len() == 3 && parts.seats.len() == 3),
+        Err(Memory) => {}
+    }
+}
+
 const LOOKS: u32 = 10_000_000;
 
 type Visit = (Seat, Answer);
