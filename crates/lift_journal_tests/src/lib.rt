@@ -1,0 +1,21 @@
+//! Tests of `lift_journal`: worked images, none of them made by the program, faults at each call, cuts, and files.
+#![tactic(auto)]
+
+#[cfg(test)]
+mod appending;
+#[cfg(test)]
+mod faults;
+#[cfg(test)]
+mod files;
+#[cfg(test)]
+mod listing;
+#[cfg(test)]
+mod noting;
+#[cfg(test)]
+mod opening;
+#[cfg(test)]
+mod reading;
+#[cfg(test)]
+mod records;
+#[cfg(test)]
+mod sectors;

@@ -1,0 +1,3 @@
+mod Commands
+mod Rows
+mod Lines

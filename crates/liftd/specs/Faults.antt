@@ -1,0 +1,45 @@
+-- What the program says of a fault, and of words that it doesn't know.
+use Rattle.std.specs.Prelude.{ℕ, List, ◌∷◌, ◌++◌, codes, Result, Ok, Err}
+use Rattle.std.specs.Fmt.{decimal}
+use Rattle.lift_building.specs.Text.{fault_number as building_number}
+use Rattle.lift_building.specs.declared.fault.BuildingFault.{BuildingFault}
+use Rattle.lift_building.specs.declared.fault.BuildingFault.TheVariants.{Detour, Memory as NoRoom}
+use Rattle.lift_journal.specs.Fault.{fault_number as journal_number}
+use Rattle.lift_journal.specs.declared.fault.JournalFault.{JournalFault}
+use Rattle.lift_journal.specs.declared.fault.JournalFault.TheVariants.{Damaged}
+use Rattle.lift_replay.specs.declared.lines.Verdict.{Verdict}
+use Rattle.lift_replay.specs.declared.lines.Verdict.TheVariants.{Good, Bad}
+use Rattle.liftd.specs.declared.fault.Fault.{Fault}
+use Rattle.liftd.specs.declared.fault.Fault.TheVariants.{Building, Journal, File, Memory}
+
+-- a building's fault by its number, a detour with its three floors
+abbrev pub building_text : BuildingFault → List ℕ
+building_text (Detour from by to) = codes "liftd: building 6 " ++ decimal from ++ 32 ∷ decimal by ++ 32 ∷ decimal to
+building_text fault = codes "liftd: building " ++ decimal (building_number fault)
+
+-- a journal's fault by its number, damage with its sector
+abbrev pub journal_text : JournalFault → List ℕ
+journal_text (Damaged sector) = codes "liftd: journal 3 " ++ decimal sector
+journal_text fault = codes "liftd: journal " ++ decimal (journal_number fault)
+
+-- the line of a fault, without its end
+abbrev pub fault_text : Fault → List ℕ
+fault_text (Building fault) = building_text fault
+fault_text (Journal fault) = journal_text fault
+fault_text File = codes "liftd: file"
+fault_text Memory = codes "liftd: memory"
+
+-- the line of words that are those of no command
+abbrev pub usage_text : List ℕ
+usage_text = codes "liftd: usage"
+
+-- a building that was refused for want of memory is that
+abbrev pub of_building : BuildingFault → Fault
+of_building NoRoom = Memory
+of_building fault = Building fault
+
+-- 0 where all was done, 1 for a bad report or a fault
+abbrev pub status_of : Result Verdict Fault → ℕ
+status_of (Ok Good) = 0
+status_of (Ok Bad) = 1
+status_of (Err fault) = 1

@@ -1,0 +1,54 @@
+-- What the program's words ask for.
+use Rattle.std.specs.Prelude.{◌≡◌, ◌≤◌, ◌⊎◌, ℕ, true, List, [], Option, Some, None, codes}
+use Rattle.std.specs.Fmt.{decimal}
+use Rattle.clap.specs.Words.{App, Row, Rule, Text, new_app, new_rule, with_rule, with_subcommand, first_of, subcommand_of, fault_of}
+use Rattle.liftd.specs.declared.words.Request.{Request}
+use Rattle.liftd.specs.declared.words.Request.TheVariants.{Replay, Format}
+
+-- a plain word that has to be there
+abbrev pub word_rule : Text → Rule
+word_rule name = record (new_rule name) { required = true }
+
+-- an option, with its value in the next word or behind `=`
+abbrev pub option_rule : Text → Rule
+option_rule name = record (new_rule name) { long = Some name }
+
+-- `format <image> <building> [--half n]`
+abbrev pub format_app : App
+format_app = with_rule (with_rule (with_rule (new_app (codes "format")) (word_rule (codes "image")))
+    (word_rule (codes "building"))) (option_rule (codes "half"))
+
+-- the program by itself, whose first word is not its name
+abbrev pub bare_app : App
+bare_app = record (new_app (codes "liftd")) { top = record (new_app (codes "liftd")).top { no_binary_name = true } }
+
+-- the program with its commands
+abbrev pub liftd_app : App
+liftd_app = with_subcommand (with_subcommand bare_app (new_app (codes "replay")).top) format_app.top
+
+-- the sectors in a half: 64, or what the option's word spells, 64 to 1,000,000
+abbrev pub IsHalf : Option Text → ℕ → Type 0
+IsHalf None half = half ≡ 64
+IsHalf (Some word) half = (word ≡ decimal half) × (64 ≤ half) × (half ≤ 1000000)
+
+-- what the words behind `format` ask for
+abbrev pub IsFormat : List Row → Request → Type 0
+IsFormat rows Replay = ⊥
+IsFormat rows (Format image building half) = (first_of (codes "image") rows ≡ Some image.now)
+    × (first_of (codes "building") rows ≡ Some building.now)
+    × IsHalf (first_of (codes "half") rows) half
+
+-- what a command asks for; without one a script is carried out
+abbrev pub IsFor : Option (Text × List Row) → Request → Type 0
+IsFor None request = request ≡ Replay
+IsFor (Some command) request = ((command.0 ≡ codes "replay") × (request ≡ Replay))
+    ⊎ ((command.0 ≡ codes "format") × IsFormat command.1 request)
+
+-- The grammar of the commands takes the words, and they ask for this.
+abbrev pub Asks : List Text → Request → Type 0
+Asks words request = (fault_of liftd_app words ≡ []) × IsFor (subcommand_of liftd_app words) request
+
+-- 64 to 1,000,000 sectors in a half
+abbrev pub IsInRange : Request → Type 0
+IsInRange Replay = Unit {0}
+IsInRange (Format image building half) = (64 ≤ half) × (half ≤ 1000000)

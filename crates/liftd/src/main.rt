@@ -1,0 +1,45 @@
+//! The program `liftd`: it carries out scripts, and makes journals on files.
+#![tactic(auto)]
+
+#[cfg(test)]
+mod command_lines;
+mod fault;
+mod format;
+#[cfg(test)]
+mod images;
+mod replay;
+mod start;
+mod words;
+
+use crate::fault::Fault;
+use std::process::ExitCode;
+use std::{env, io};
+
+/// The words behind the program's name.
+fn given(rt: &HostRuntime) -> io::Result<Vec<String>> {
+    let words = env::args(rt)?.skip(1).collect(rt.alloc())?;
+    Ok(words)
+}
+
+fn main(rt: HostRuntime) -> ExitCode {
+    let mut errors = rt.stderr();
+    let status = match given(&rt) {
+        Ok(words) => start::start(
+            &rt,
+            rt.alloc(),
+            words.as_slice(),
+            rt.stdin(),
+            &mut rt.stdout(),
+            &mut errors,
+        ),
+        Err(error) => {
+            if error.kind() == io::ErrorKind::OutOfMemory {
+                start::ended(Err(Fault::Memory), &mut errors)
+            } else {
+                // a word that is no text
+                start::other_words(&mut errors)
+            }
+        }
+    };
+    ExitCode::from(status)
+}
