@@ -7,10 +7,10 @@ use Rattle.lift_base.specs.declared.history.Shape.{Shape}
 use Rattle.lift_register.specs.Register.{RegisterState}
 use Rattle.lift_register.specs.Base.{base_records}
 use Rattle.lift_register.specs.WellFormed.{IsWellFormed}
-use Rattle.lift_disk.specs.Disk.{DiskState, Image, ChangesWithin, LeavesOnly, IsSynced, RunsOn}
-use Rattle.lift_disk.proofs.Moments.{leaves_weaker, leaves_if_honest}
+use Rattle.lift_disk.specs.Disk.{DiskState, Image, ChangesWithin, LeavesNow, LeavesOnly, IsSynced, RunsOn}
+use Rattle.lift_disk.proofs.Moments.{changes_nothing, leaves_weaker, leaves_if_honest}
 use Rattle.lift_journal.specs.Order.{IsEntry}
-use Rattle.lift_journal.specs.Layout.{is_marked, sector_at, start_of, Holds}
+use Rattle.lift_journal.specs.Layout.{Batch, is_marked, sector_at, start_of, Holds}
 use Rattle.lift_journal.specs.Steps.{IsInRange}
 use Rattle.lift_journal.specs.Journal.{ReadsAs, StandsFor, HasPlace, StandsAt}
 use Rattle.lift_journal.specs.Checkpoint.{batch_count, checkpoint_of, sectors_for}
@@ -75,6 +75,26 @@ module _ (shape : Shape) (start gate number other : ℕ) (pick : List ℕ) (old 
       (λ within. kept left (drafting_leaves shape at.batches (checkpoint_of records) other old.image at.holds (halves at) left within))
       (λ written. ⊎_elim (kept left) (λ holds. inr (checkpoint_reads shape register left holds))
       (switching_leaves shape at.batches (checkpoint_of records) other old.image at.holds (halves at) left (checkpoint_sound register formed) written))
+      either)
+      (leaves end (omega (arith, place.within.half.0)) inside.1 (λ honest. (stands honest).synced)))
+
+  -- the same by batches
+  pub replace_lists : (new : DiskState) → RunsOn old new → (stands : old.is_honest → StandsAt shape start gate number old)
+      → ((end : ℕ) → other + 64 ≤ end → end ≤ old.size → (old.is_honest → IsSynced old)
+      → LeavesOnly old new (λ left. ChangesWithin (IsInRange other (other + 64)) old.image left ⊎ HasWritten other end (checkpoint_of (base_records register)) old.image left))
+      → (batches : List Batch) → LeavesNow old (Holds shape batches) → LeavesOnly old new (λ left. Holds shape batches left ⊎ Holds shape (checkpoint_of (base_records register)) left)
+  replace_lists new runs stands leaves batches lists =
+      let records = base_records register in
+      let end = other + shape.half in
+      let P : Image → Type 0 = λ left. Holds shape batches left ⊎ Holds shape (checkpoint_of records) left in
+      let inside = other_inside old.size shape start gate number other pick place is_other in
+      leaves_if_honest old new P runs.honest (λ honest.
+      let at = stands honest in
+      let holds = lists honest old.image (changes_nothing old.is_loose old.image) in
+      leaves_weaker old new (λ left. ChangesWithin (IsInRange other (other + 64)) old.image left ⊎ HasWritten other end (checkpoint_of records) old.image left) P
+      (λ _ left either. ⊎_elim
+      (λ within. inl (drafting_leaves shape batches (checkpoint_of records) other old.image holds (halves at) left within))
+      (λ written. switching_leaves shape batches (checkpoint_of records) other old.image holds (halves at) left (checkpoint_sound register formed) written)
       either)
       (leaves end (omega (arith, place.within.half.0)) inside.1 (λ honest. (stands honest).synced)))
 

@@ -190,6 +190,11 @@ impl<D: Disk> Journal<D> {
             → LeavesOnly (D.state self.old.device) (D.state self.new.device)
             (λ left. ReadsAs self.old.shape base entries left ⊎ ReadsAs self.old.shape (base_records register.now) [] left) }
 
+        // The same by batches.
+        ensures any_moment_listed { (batches : List Batch) → LeavesNow (D.state self.old.device) (Holds self.old.shape batches)
+            → LeavesOnly (D.state self.old.device) (D.state self.new.device)
+            (λ left. Holds self.old.shape batches left ⊎ Holds self.old.shape (checkpoint_of (base_records register.now)) left) }
+
         ensures replaced { OnOk result (StandsFor self.new.shape (base_records register.now) [] (D.state self.new.device)) }
         ensures synced { OnOk result ((D.state self.new.device).is_honest → IsSynced (D.state self.new.device)) }
         ensures batches { OnOk result (LeavesNow (D.state self.new.device) (Holds self.new.shape (checkpoint_of (base_records register.now)))) }

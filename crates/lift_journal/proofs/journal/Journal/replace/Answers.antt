@@ -1,10 +1,11 @@
 use Rattle.std.proofs.Common.{◌≡◌, ◌⊎◌, ◌+◌, [], List, length, ◌∙◌, ap, subst, arith}
 use Rattle.lift_base.specs.declared.history.Record.{Record}
-use Rattle.lift_disk.specs.Disk.{LeavesOnly}
+use Rattle.lift_disk.specs.Disk.{LeavesNow, LeavesOnly}
 use Rattle.lift_register.specs.Base.{base_records}
+use Rattle.lift_journal.specs.Layout.{Batch, Holds}
 use Rattle.lift_journal.specs.Checkpoint.{batch_count, checkpoint_of}
 use Rattle.lift_journal.specs.Journal.{ReadsAs, StandsFor, JournalView, StandsAt}
-use Rattle.lift_journal.proofs.Replacing.{other_inside, other_place, checkpoint_reads, replace_leaves, replace_holds, replace_stands}
+use Rattle.lift_journal.proofs.Replacing.{other_inside, other_place, checkpoint_reads, replace_leaves, replace_lists, replace_holds, replace_stands}
 use Rattle.lift_journal.proofs.Standing.{holds_synced}
 use Rattle.lift_journal.proofs.journal.Journal.replace.Goals as goal
 
@@ -80,3 +81,23 @@ returns-in-Ok-clause-batches g c =
 
 pub returns-in-Ok-clause-replaced : goal.returns-in-Ok-clause-replaced
 returns-in-Ok-clause-replaced g c honest left leaves = checkpoint_reads c.self.inside.shape c.args.register.now left (returns-in-Ok-clause-batches g c honest left leaves)
+
+pub returns-in-Ok-clause-any_moment_listed : goal.returns-in-Ok-clause-any_moment_listed
+returns-in-Ok-clause-any_moment_listed g c =
+    let j = c.self.inside in
+    let new = g.D.Disk.state c.write_checkpoint.new.disk in
+    let register = c.args.register.now in
+    let leaves = replace_lists j.shape j.start j.gate j.number c.other_half-start.result.0 c.other_half-start.result.1 (g.D.Disk.state j.device) register c.self.invariant.place c.other_half-start.ensures c.base_len.ensures.lawful new
+    c.write_checkpoint.ensures.runs (c.self.invariant.stands c.if-self.false) c.write_checkpoint.ensures.any_moment in
+    subst (λ (v : JournalView g.row.D.Denot). (batches : List Batch) → LeavesNow (g.D.Disk.state v.device) (Holds v.shape batches)
+    → LeavesOnly (g.D.Disk.state v.device) new (λ left. Holds v.shape batches left ⊎ Holds v.shape (checkpoint_of (base_records register)) left)) c.self.view_is leaves
+
+pub returns-in-Err-clause-any_moment_listed : goal.returns-in-Err-clause-any_moment_listed
+returns-in-Err-clause-any_moment_listed g c =
+    let j = c.self.inside in
+    let new = g.D.Disk.state c.write_checkpoint.new.disk in
+    let register = c.args.register.now in
+    let leaves = replace_lists j.shape j.start j.gate j.number c.other_half-start.result.0 c.other_half-start.result.1 (g.D.Disk.state j.device) register c.self.invariant.place c.other_half-start.ensures c.base_len.ensures.lawful new
+    c.write_checkpoint.ensures.runs (c.self.invariant.stands c.if-self.false) c.write_checkpoint.ensures.any_moment in
+    subst (λ (v : JournalView g.row.D.Denot). (batches : List Batch) → LeavesNow (g.D.Disk.state v.device) (Holds v.shape batches)
+    → LeavesOnly (g.D.Disk.state v.device) new (λ left. Holds v.shape batches left ⊎ Holds v.shape (checkpoint_of (base_records register)) left)) c.self.view_is leaves
