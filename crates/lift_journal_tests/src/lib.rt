@@ -4,6 +4,8 @@
 #[cfg(test)]
 mod appending;
 #[cfg(test)]
+mod checkpoints;
+#[cfg(test)]
 mod faults;
 #[cfg(test)]
 mod files;

@@ -1,10 +1,10 @@
 //! Which images are opened, and why others are refused.
 use crate::listing::{add, lists, lists_stops};
-use crate::records::{allot, demo, stop};
+use crate::records::{allot, demo, last_call, stop};
 use crate::sectors::{
     CLOSED, Front, OPEN, STAMP, ZEROS, header, holds, image, one, put, sector_of, stop_bytes,
 };
-use lift_base::Shape;
+use lift_base::{Record, Shape};
 use lift_disk::{Disk, MemDisk};
 use lift_journal::{Journal, JournalFault};
 use std::test::Fail;
@@ -191,6 +191,7 @@ fn bodies_by_their_bytes(rt: HostRuntime) -> Result<(), Fail> {
 #[test]
 fn records_stand_in_order(rt: HostRuntime) -> Result<(), Fail> {
     let row_a = [4, 0x10, 0, 5, 0, 1, 1, 0, 0, 0, 0, 1, 0, 0, 0, 0];
+    let old_row = [4, 0x10, 0, 5, 0, 0, 1, 0, 0, 0, 0, 1, 0, 0, 0, 0];
     let row_b = [4, 0x10, 0, 5, 1, 1, 0, 0, 0, 0, 0, 2, 0, 0, 0, 0];
     let last_a = [5, 0, 0, 0, 0, 0, 0, 0, 0, 0, 0, 1, 0, 0, 0, 0];
     let last_k = [5, 0x10, 0, 5, 0, 1, 0, 0, 0, 0, 0, 2, 0, 0, 0, 0];
@@ -215,6 +216,7 @@ fn records_stand_in_order(rt: HostRuntime) -> Result<(), Fail> {
         ((2, &[done, done]), (2, none), Some(2)),
         ((2, &[row_a, stop_one]), (2, none), Some(2)),
         ((2, &[row_a]), (2, none), Some(4)),
+        ((1, &[old_row]), (1, none), Some(4)),
         ((2, &[row_a]), (2, &[last_a]), Some(6)),
         ((2, &[stop_one]), (2, &[done]), Some(4)),
         ((2, &[stop_one, row_a]), (2, none), Some(2)),
@@ -316,5 +318,24 @@ fn old_images_go_on(rt: HostRuntime) -> Result<(), Fail> {
     assert!(rt; holds(&mut disk, 5, &sector_of(body(2, 1))));
     let mut journal = Journal::open(disk).ok().ok_or("refused")?;
     assert!(rt; lists(&mut journal, &[&first, &[stop(1)]]));
+    Ok(())
+}
+
+/// A checkpoint of a kiosk whose numbers are used up, in both versions.
+#[test]
+fn the_last_number_is_read(rt: HostRuntime) -> Result<(), Fail> {
+    let done = [6, 0, 0, 0, 0, 0, 0, 0, 0, 0xFF, 0xFF, 0xFF, 0, 0, 0, 0];
+    for (version, party) in [(1, 0), (2, 1)] {
+        let last = [
+            5, 0x10, 0, 5, 0, party, 0, 0, 0, 0xFF, 0xFF, 0xFF, 0, 0, 0, 0,
+        ];
+        let base = [header(version, 2, 1), last, done, ZEROS, ZEROS];
+        let disk = image(rt.alloc(), 130, STAMP, CLOSED, 2, &[OPEN, base, CLOSED])
+            .ok()
+            .ok_or("memory")?;
+        let mut journal = Journal::open(disk).ok().ok_or("refused")?;
+        let records = [last_call(16_777_215), Record::Done { count: 16_777_215 }];
+        assert!(rt; lists(&mut journal, &[&records]), "version {version}");
+    }
     Ok(())
 }

@@ -1,6 +1,7 @@
 //! What each line of a script does, and what it reports.
 
-ghost use Rattle.std.specs.Prelude.{◌≡◌, ◌<◌, ◌↔◌, length, IsTrue};
+ghost use Rattle.std.specs.Prelude.{◌≡◌, ◌<◌, ◌↔◌, length, IsTrue, OnOk, OnErr};
+ghost use Rattle.lift_base.specs.declared.command.Reply.{Reply as ReplyValue};
 ghost use Rattle.lift_replay.specs.Known.{IsKnown};
 ghost use Rattle.lift_policy.specs.View.{IsViewIn};
 
@@ -49,7 +50,10 @@ fn push_ask(
 }
 
 /// What a terminal hears: nothing is known of the commands of a turn that failed.
-fn heard(turn: &Turn, answer: &Answer) -> Reply {
+fn heard(turn: &Turn, answer: &Answer) -> Reply
+    ensures safe { OnOk turn.now.outcome (result ≡ answer.now.reply) }
+    ensures failed { OnErr turn.now.outcome (result ≡ ReplyValue.Unknown) }
+{
     match turn.outcome {
         Ok(_) => answer.reply,
         Err(_) => Reply::Unknown,

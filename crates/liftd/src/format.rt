@@ -10,14 +10,18 @@ use lift_disk::{FileDisk, FileFault};
 use lift_journal::JournalFault;
 use std::alloc::Global;
 use std::fs::{File, Files};
-use std::io;
+use std::{fs, io};
 
-/// The building that a file describes.
+/// The building that a file describes. What isn't a file, as a pipe or a terminal, isn't opened, so that nothing waits
+/// for its other end.
 fn building_in<F: Files<File = File>>(
     rt: &F,
     alloc: Global,
     path: &str,
 ) -> Result<Building, Fault> {
+    if !fs::metadata(rt, path).map_err(Fault::of_file)?.is_file() {
+        return Err(Fault::File);
+    }
     let file = File::open(rt, path).map_err(Fault::of_file)?;
     let text = io::read_to_string(alloc, file).map_err(Fault::of_file)?;
     Ok(Building::read(alloc, text.as_str())?)

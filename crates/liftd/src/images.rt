@@ -140,6 +140,7 @@ fn the_first_cause_is_told(rt: HostRuntime) -> Result<(), Fail> {
         (FOLDER, bad, "64", 1, "liftd: building 4\n"),
         (FOLDER, good, "64", 1, "liftd: file\n"),
         ("/dev/null", good, "64", 1, "liftd: file\n"),
+        (FOLDER, "/dev/zero", "64", 1, "liftd: file\n"),
         ("liftd_folder/no/image", good, "64", 1, "liftd: file\n"),
     ] {
         let words = ["format", image, building, "--half", half];
