@@ -1,8 +1,10 @@
 -- The order of device calls.
 use Rattle.std.proofs.Common.{ℕ, ◌≡◌, ◌+◌, Bool, true, ◌&&◌, eqb, Some, refl, sym, ap, ◌∙◌}
-use Rattle.std.specs.Prelude.{IsTrue}
-use Rattle.std.proofs.lemmas.Bool.{false≢true, and_parts, eqb-true, ltb-true}
+use Rattle.std.specs.Prelude.{IsTrue, nat_lt, option_and_then}
+use Rattle.std.proofs.lemmas.Bool.{false≢true, and_parts, eqb-true, eq-eqb, ltb-true, lt-ltb}
 use Rattle.lift_world.specs.declared.event.Phase.{Phase}
+use Rattle.lift_world.specs.declared.event.Power.{Power}
+use Rattle.lift_world.specs.declared.event.Power.TheVariants.{Running}
 use Rattle.lift_world.specs.declared.event.Phase.TheVariants.{Idle, Writing, Synced, GateWritten}
 use Rattle.lift_world.specs.declared.event.Event.{Event}
 use Rattle.lift_world.specs.declared.event.Event.TheVariants.{Ask, Take, Seal, Pull, Fold, Body as BodyWrite, FirstSync, Gate, SecondSync, Answer as Answering, Hear, Fault, Cut, Reopen}
@@ -52,7 +54,7 @@ pub record Counted (w : World) (test : ℕ → Bool) (made : ℕ → World) (aft
   pub waits : Waited w (test count) (made count) after
 
 counted : (w : World) (test : ℕ → Bool) (made : ℕ → World) (after : World)
-    → Rattle.std.specs.Prelude.option_and_then (λ n. when (is_running w.power && test n) (made n)) (written w.phase) ≡ Some after → Counted w test made after
+    → option_and_then (λ n. when (is_running w.power && test n) (made n)) (written w.phase) ≡ Some after → Counted w test made after
 counted w test made after h =
     let t = then_from (λ n. when (is_running w.power && test n) (made n)) (written w.phase) after h in
     record { count = t.0; here = writing_is w.phase t.0 t.1; waits = waited w (test t.0) (made t.0) after t.2 }
@@ -61,8 +63,8 @@ module _ (w : World) where
   folds : (after : World) → next w Fold ≡ Some after → Counted w (λ n. eqb n 0) (λ n. w) after
   folds after h = counted w (λ n. eqb n 0) (λ n. w) after h
 
-  writes : (after : World) → next w BodyWrite ≡ Some after → Counted w (λ n. Rattle.std.specs.Prelude.nat_lt n (writes_of w)) (λ n. in_phase w (Writing (n + 1))) after
-  writes after h = counted w (λ n. Rattle.std.specs.Prelude.nat_lt n (writes_of w)) (λ n. in_phase w (Writing (n + 1))) after h
+  writes : (after : World) → next w BodyWrite ≡ Some after → Counted w (λ n. nat_lt n (writes_of w)) (λ n. in_phase w (Writing (n + 1))) after
+  writes after h = counted w (λ n. nat_lt n (writes_of w)) (λ n. in_phase w (Writing (n + 1))) after h
 
   syncs : (after : World) → next w FirstSync ≡ Some after → Counted w (λ n. eqb n (writes_of w)) (λ n. in_phase w Synced) after
   syncs after h = counted w (λ n. eqb n (writes_of w)) (λ n. in_phase w Synced) after h
@@ -83,6 +85,14 @@ module _ (w : World) where
   running_at (Cut kept) after is h = absurd (false≢true is)
   running_at (Reopen kept) after is h = absurd (false≢true is)
 
+  -- a call whose test passes while running
+  made : (test : Bool) (x : World) → w.power ≡ Running → test ≡ true → when (is_running w.power && test) x ≡ Some x
+  made test x on passes = ap (λ (p : Power). when (is_running p && test) x) on ∙ ap (λ (b : Bool). when b x) passes
+
+  made_at : (test : ℕ → Bool) (f : ℕ → World) (n : ℕ) → w.power ≡ Running → w.phase ≡ Writing n → test n ≡ true
+      → option_and_then (λ m. when (is_running w.power && test m) (f m)) (written w.phase) ≡ Some (f n)
+  made_at test f n on there passes = ap (λ (p : Phase). option_and_then (λ m. when (is_running w.power && test m) (f m)) (written p)) there ∙ made (test n) (f n) on passes
+
   pub calls_in_order : CallsInOrder w
   calls_in_order = record {
     only_running = λ call after is h. runs w.power (running_at call after is h);
@@ -91,4 +101,9 @@ module _ (w : World) where
     first_sync = λ after h. let c = syncs after h in (c.here ∙ ap (λ (n : ℕ). Writing n) (eqb-true c.count (writes_of w) c.waits.passes), c.waits.is);
     gate = λ after h. let c = waited w (is_synced w.phase) (in_phase w GateWritten) after h in (synced_is w.phase c.passes, c.is);
     second_sync = λ after h. let c = waited w (is_gate_written w.phase) (settling w) after h in (gate_is w.phase c.passes, c.is);
+    folds = λ on there. made_at (λ n. eqb n 0) (λ n. w) 0 on there refl;
+    writes = λ n on there less. made_at (λ m. nat_lt m (writes_of w)) (λ m. in_phase w (Writing (m + 1))) n on there (lt-ltb n (writes_of w) less);
+    syncs = λ on there. made_at (λ n. eqb n (writes_of w)) (λ n. in_phase w Synced) (writes_of w) on there (eq-eqb (writes_of w) (writes_of w) refl);
+    writes_gate = λ on there. made (is_synced w.phase) (in_phase w GateWritten) on (ap is_synced there);
+    settles = λ on there. made (is_gate_written w.phase) (settling w) on (ap is_gate_written there);
   }

@@ -1,7 +1,7 @@
 -- A command is due once its batch is safe, or with Unknown.
-use Rattle.std.proofs.Common.{◌≡◌, ◌+◌, ◌≤◌, ◌⊎◌, Bool, true, false, not, ◌&&◌, cond, eqb, ltb, List, [], ◌∷◌, ◌++◌, map, All, refl, sym, ap, subst, inl, inr, arith}
+use Rattle.std.proofs.Common.{◌≡◌, ◌+◌, ◌≤◌, ◌⊎◌, Bool, true, false, not, ◌&&◌, ◌||◌, cond, eqb, ltb, List, [], ◌∷◌, ◌++◌, map, All, refl, sym, ap, subst, inl, inr, arith}
 use Rattle.std.specs.Prelude.{Contains, unwrap_or, find, reverse, option_and_then, option_map}
-use Rattle.std.proofs.lemmas.Bool.{false≢true, and_left, and_right, ltb-false}
+use Rattle.std.proofs.lemmas.Bool.{false≢true, ltb-false}
 use Rattle.std.proofs.lemmas.List.Elements.{Contains-append_right, All-nil, All-append, All-weaker, All-filter, All-map, All-contains_itself}
 use Rattle.lift_policy.specs.declared.command.Command.{Command}
 use Rattle.lift_world.specs.declared.event.Kept.{Kept}
@@ -14,19 +14,18 @@ use Rattle.lift_world.specs.declared.event.Event.TheVariants.{Ask, Take, Seal, P
 use Rattle.lift_world.specs.Decided.{decided, when}
 use Rattle.lift_world.specs.World.{World, Batch, is_running, is_broken, is_off, is_synced, is_gate_written, written, asks, is_taken_of, state_of, may_keep}
 use Rattle.lift_world.specs.Next.{next, unknown_to, asking, taking, deciding, sealing, pulled, in_phase, settling, failing, answering, hearing, next_answer, cutting, reopened, may_ask, may_take, may_seal, may_pull, may_write, may_sync, may_fail, may_reopen}
+use Rattle.lift_world.specs.Headline.{HoldsNothingWhileOff}
 use Rattle.lift_world.specs.Due.{IsOfSafeBatch, GetsUnknown, DueOnceSafe}
 use Rattle.lift_world.proofs.Moves.{hold_when, hold_if, hold_then, hold_map}
 use Rattle.lift_world.proofs.Entries.{head_of}
 
-broken_stops : (p : Power) → is_broken p ≡ true → is_running p ≡ false
-broken_stops Running h = absurd (false≢true h)
-broken_stops Broken h = refl
-broken_stops (Off kept) h = refl
+left_true : (a b : Bool) → a ≡ true → (a || b) ≡ true
+left_true true b h = refl
+left_true false b h = absurd (false≢true h)
 
-reopening_stops : (w : World) (p : Power) (kept : Kept) → may_reopen w p kept ≡ true → is_running p ≡ false
-reopening_stops w Running kept h = absurd (false≢true h)
-reopening_stops w Broken kept h = refl
-reopening_stops w (Off last) kept h = refl
+right_true : (a : Bool) → (a || true) ≡ true
+right_true true = refl
+right_true false = refl
 
 module _ (w : World) where
   abbrev Became : World → Taken → Type 0
@@ -38,7 +37,7 @@ module _ (w : World) where
   due_before : (x : World) → All (Became x) w.due
   due_before x = All-weaker (Contains w.due) (Became x) (λ c h. inl h) w.due (All-contains_itself w.due)
 
-  due_unknown : (x : World) (cs : List Taken) → (is_running w.power && is_running x.power) ≡ false → All (Became x) (map unknown_to cs)
+  due_unknown : (x : World) (cs : List Taken) → (is_broken w.power || is_broken x.power) ≡ true → All (Became x) (map unknown_to cs)
   due_unknown x cs stops = All-map (Became x) unknown_to cs (λ k d lt. inr (inr (record { reply = refl; fails = stops })))
 
   due_safe : (x : World) (batch : Batch) → Contains (w.flight ∷ w.queue) batch → batch.upto ≤ x.safe → All (Became x) batch.commands
@@ -64,7 +63,7 @@ module _ (w : World) where
       → AllBecame (cond broken (failed_one batch rest) (cond (ltb w.safe batch.upto) (flying_one batch rest) (landed_one batch rest)))
   pulls batch rest true at broken =
       All-append (Became (failed_one batch rest)) w.due (map unknown_to batch.commands) (due_before (failed_one batch rest))
-      (due_unknown (failed_one batch rest) batch.commands (and_left (is_running w.power) (is_running w.power) (broken_stops w.power broken)))
+      (due_unknown (failed_one batch rest) batch.commands (left_true (is_broken w.power) (is_broken w.power) broken))
   pulls batch rest false at broken = pulls_running batch rest (ltb w.safe batch.upto) at refl
 
   pulls_first : (queue : List Batch) → w.queue ≡ queue → AllBecame (unwrap_or (pulled w queue) w)
@@ -75,37 +74,42 @@ module _ (w : World) where
   settles = All-append (Became (settling w)) w.due w.flight.commands (due_before (settling w)) (due_safe (settling w) w.flight (head_of w.flight w.queue) (omega arith))
 
   fails : AllBecame (failing w)
-  fails = All-append (Became (failing w)) w.due (map unknown_to w.flight.commands) (due_before (failing w)) (due_unknown (failing w) w.flight.commands (and_right (is_running w.power) false refl))
+  fails = All-append (Became (failing w)) w.due (map unknown_to w.flight.commands) (due_before (failing w)) (due_unknown (failing w) w.flight.commands (right_true (is_broken w.power)))
 
-  reopens : (kept : Kept) → may_reopen w w.power kept ≡ true → AllBecame (reopened w kept)
-  reopens kept may =
+  reopens_from : (power : Power) (kept : Kept) → w.power ≡ power → HoldsNothingWhileOff w → may_reopen w power kept ≡ true → AllBecame (reopened w kept)
+  reopens_from Running kept at off may = absurd (false≢true may)
+  reopens_from Broken kept at off may =
       All-append (Became (reopened w kept)) w.due (map unknown_to w.taken) (due_before (reopened w kept))
-      (due_unknown (reopened w kept) w.taken (and_left (is_running w.power) true (reopening_stops w w.power kept may)))
+      (due_unknown (reopened w kept) w.taken (left_true (is_broken w.power) false (ap is_broken at)))
+  reopens_from (Off last) kept at off may =
+      let none : w.taken ≡ [] = (off (ap is_off at)).nothing_taken in
+      All-append (Became (reopened w kept)) w.due (map unknown_to w.taken) (due_before (reopened w kept))
+      (subst (λ (cs : List Taken). All (Became (reopened w kept)) (map unknown_to cs)) (sym none) (All-nil (Became (reopened w kept))))
 
-  became : (event : Event) → AllBecame (unwrap_or (next w event) w)
-  became (Ask terminal number body) =
+  became : (event : Event) → HoldsNothingWhileOff w → AllBecame (unwrap_or (next w event) w)
+  became (Ask terminal number body) off =
       let command : Command = record { terminal = terminal; number = number; body = body } in
       hold_when AllBecame w (asking w command) (may_ask w terminal) (due_before w) (λ _. due_before (asking w command))
-  became (Take terminal letter) = hold_if AllBecame w (option_and_then (taking w letter) (find (asks terminal) (reverse w.asked))) (may_take w terminal) (due_before w)
+  became (Take terminal letter) off = hold_if AllBecame w (option_and_then (taking w letter) (find (asks terminal) (reverse w.asked))) (may_take w terminal) (due_before w)
       (λ _. hold_then AllBecame w (taking w letter) (find (asks terminal) (reverse w.asked)) (due_before w) (λ command _.
       hold_map AllBecame w (deciding w command) (decided w.building (state_of w) command.terminal command.number command.body letter) (due_before w) (λ d _. due_before (deciding w command d))))
-  became Seal = hold_when AllBecame w (sealing w) (may_seal w) (due_before w) (λ _. due_before (sealing w))
-  became Pull = hold_if AllBecame w (pulled w w.queue) (may_pull w) (due_before w) (λ _. pulls_first w.queue refl)
-  became Fold = hold_then AllBecame w (λ n. when (is_running w.power && eqb n 0) w) (written w.phase) (due_before w) (λ n _. hold_when AllBecame w w (is_running w.power && eqb n 0) (due_before w) (λ _. due_before w))
-  became BodyWrite = hold_then AllBecame w (λ n. when (may_write w n) (in_phase w (Writing (n + 1)))) (written w.phase) (due_before w)
+  became Seal off = hold_when AllBecame w (sealing w) (may_seal w) (due_before w) (λ _. due_before (sealing w))
+  became Pull off = hold_if AllBecame w (pulled w w.queue) (may_pull w) (due_before w) (λ _. pulls_first w.queue refl)
+  became Fold off = hold_then AllBecame w (λ n. when (is_running w.power && eqb n 0) w) (written w.phase) (due_before w) (λ n _. hold_when AllBecame w w (is_running w.power && eqb n 0) (due_before w) (λ _. due_before w))
+  became BodyWrite off = hold_then AllBecame w (λ n. when (may_write w n) (in_phase w (Writing (n + 1)))) (written w.phase) (due_before w)
       (λ n _. hold_when AllBecame w (in_phase w (Writing (n + 1))) (may_write w n) (due_before w) (λ _. due_before (in_phase w (Writing (n + 1)))))
-  became FirstSync = hold_then AllBecame w (λ n. when (may_sync w n) (in_phase w Synced)) (written w.phase) (due_before w)
+  became FirstSync off = hold_then AllBecame w (λ n. when (may_sync w n) (in_phase w Synced)) (written w.phase) (due_before w)
       (λ n _. hold_when AllBecame w (in_phase w Synced) (may_sync w n) (due_before w) (λ _. due_before (in_phase w Synced)))
-  became Gate = hold_when AllBecame w (in_phase w GateWritten) (is_running w.power && is_synced w.phase) (due_before w) (λ _. due_before (in_phase w GateWritten))
-  became SecondSync = hold_when AllBecame w (settling w) (is_running w.power && is_gate_written w.phase) (due_before w) (λ _. settles)
-  became (Answering terminal) = hold_if AllBecame w (option_map (answering w terminal) (find (is_taken_of terminal) w.due)) (not (is_off w.power)) (due_before w)
+  became Gate off = hold_when AllBecame w (in_phase w GateWritten) (is_running w.power && is_synced w.phase) (due_before w) (λ _. due_before (in_phase w GateWritten))
+  became SecondSync off = hold_when AllBecame w (settling w) (is_running w.power && is_gate_written w.phase) (due_before w) (λ _. settles)
+  became (Answering terminal) off = hold_if AllBecame w (option_map (answering w terminal) (find (is_taken_of terminal) w.due)) (not (is_off w.power)) (due_before w)
       (λ _. hold_map AllBecame w (answering w terminal) (find (is_taken_of terminal) w.due) (due_before w)
       (λ c _. All-filter _ (Became (answering w terminal c)) w.due (due_before (answering w terminal c))))
-  became (Hear terminal) = hold_if AllBecame w (option_map (hearing w) (next_answer w terminal)) (not (is_off w.power)) (due_before w)
+  became (Hear terminal) off = hold_if AllBecame w (option_map (hearing w) (next_answer w terminal)) (not (is_off w.power)) (due_before w)
       (λ _. hold_map AllBecame w (hearing w) (next_answer w terminal) (due_before w) (λ a _. due_before (hearing w a)))
-  became Fault = hold_when AllBecame w (failing w) (may_fail w) (due_before w) (λ _. fails)
-  became (Cut kept) = hold_when AllBecame w (cutting w kept) (may_keep w kept) (due_before w) (λ _. All-nil (Became (cutting w kept)))
-  became (Reopen kept) = hold_when AllBecame w (reopened w kept) (may_reopen w w.power kept) (due_before w) (λ may. reopens kept may)
+  became Fault off = hold_when AllBecame w (failing w) (may_fail w) (due_before w) (λ _. fails)
+  became (Cut kept) off = hold_when AllBecame w (cutting w kept) (may_keep w kept) (due_before w) (λ _. All-nil (Became (cutting w kept)))
+  became (Reopen kept) off = hold_when AllBecame w (reopened w kept) (may_reopen w w.power kept) (due_before w) (λ may. reopens_from w.power kept refl off may)
 
   pub due_once_safe : DueOnceSafe w
-  due_once_safe event after h = subst (λ (x : World). AllBecame x) (ap (λ (o : Rattle.std.specs.Prelude.Option World). unwrap_or o w) h) (became event)
+  due_once_safe off event after h = subst (λ (x : World). AllBecame x) (ap (λ (o : Rattle.std.specs.Prelude.Option World). unwrap_or o w) h) (became event off)

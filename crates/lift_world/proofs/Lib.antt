@@ -1,4 +1,9 @@
 pub mod Moves
+pub mod Leads
+pub mod Given
+pub mod Queued
+pub mod Counted
+pub mod Few
 pub mod Heard
 pub mod Entries
 pub mod Decisions

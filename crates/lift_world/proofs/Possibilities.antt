@@ -10,10 +10,11 @@ use Rattle.lift_world.specs.declared.event.Power.{Power}
 use Rattle.lift_world.specs.declared.event.Power.TheVariants.{Running, Broken, Off}
 use Rattle.lift_world.specs.declared.event.Event.{Event}
 use Rattle.lift_world.specs.declared.event.Event.TheVariants.{Ask, Take, Seal, Pull, Fold, Body as BodyWrite, FirstSync, Gate, SecondSync, Answer as Answering, Hear, Fault, Cut, Reopen}
+use Rattle.lift_world.specs.declared.event.Taken.{Taken}
 use Rattle.lift_world.specs.Decided.{when}
 use Rattle.lift_world.specs.World.{World, Batch, may_keep, is_gate_written, is_broken, is_off, is_running, is_idle, written, same_kept, is_taken_of}
-use Rattle.lift_world.specs.Next.{next, run, cutting, reopened, answering, pulled, unknown_to, may_reopen, is_empty}
-use Rattle.lift_world.specs.Possible.{CutsToSafe, CutsWithBatch, ReopensAfterCut, OnlyReopensAfterCut, IsReopened, ReopensAfterFault, ReopeningsGive, KeepsRunning, PullsInTurn, AnswersDue, AnswersOnlyDue}
+use Rattle.lift_world.specs.Next.{next, run, sealing, cutting, reopened, answering, pulled, unknown_to, may_reopen, is_empty}
+use Rattle.lift_world.specs.Possible.{CutsToSafe, CutsWithBatch, IsCut, CutsGive, Seals, ReopensAfterCut, OnlyReopensAfterCut, IsReopened, ReopensAfterFault, ReopeningsGive, KeepsRunning, PullsInTurn, AnswersDue, AnswersOnlyDue}
 use Rattle.lift_world.proofs.Moves.{never}
 use Rattle.lift_world.proofs.Entries.{find_held}
 use Rattle.lift_world.proofs.Steps.{if_from, mapped}
@@ -137,6 +138,37 @@ reopenings_give w kept after h =
       same_heard = refl;
       same_given = refl;
     })
+
+pub cuts_give : (w : World) → CutsGive w
+cuts_give w kept after h =
+    let s = when_some (may_keep w kept) (cutting w kept) after h in
+    subst (λ (x : World). IsCut w kept x) s.1 (record {
+      off = refl;
+      same_accepted = refl;
+      same_safe = refl;
+      same_sealed = refl;
+      same_phase = refl;
+      in_doubt = refl;
+      same_given = refl;
+      nothing_asked = refl;
+      nothing_answered = refl;
+      nothing_heard = refl;
+      nothing_queued = refl;
+      nothing_taken = refl;
+      nothing_due = refl;
+      no_car_placed = refl;
+    })
+
+some_taken : (cs : List Taken) → cs ≢ [] → is_empty cs ≡ false
+some_taken [] h = absurd (h refl)
+some_taken (c ∷ cs) h = refl
+
+pub seals : (w : World) → Seals w
+seals w = record {
+  seals = λ on some. ap (λ (b : Bool). when (not b && not (is_empty w.taken)) (sealing w)) on ∙ ap (λ (b : Bool). when (not b) (sealing w)) (some_taken w.taken some);
+  nothing = λ empty. ap (λ (b : Bool). when b (sealing w)) (and_right (not (is_off w.power)) (not (is_empty w.taken)) (ap (λ (cs : List Taken). not (is_empty cs)) empty));
+  unpowered = λ off. ap (λ (b : Bool). when (not b && not (is_empty w.taken)) (sealing w)) off;
+}
 
 -- the queue's first batch
 busy : (phase : Phase) → phase ≢ Idle → is_idle phase ≡ false

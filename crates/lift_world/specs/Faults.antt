@@ -30,6 +30,10 @@ pub record FaultsLeaveDoubt (w : World) : Type 0 where
   pub only_running : (after : World) → next w Fault ≡ Some after → w.power ≡ Running
   pub gives : (after : World) → next w Fault ≡ Some after → IsFailed w after
 
+-- nothing but a fault breaks the controller
+abbrev pub OnlyFaultsBreak : World → Type 0
+OnlyFaultsBreak w = (event : Event) (after : World) → next w event ≡ Some after → after.power ≡ Broken → (w.power ≡ Broken) ⊎ (event ≡ Fault)
+
 -- neither a cut nor a recovery
 abbrev pub goes_on : Event → Bool
 goes_on (Cut kept) = false

@@ -1,5 +1,5 @@
 -- What holds at each point of every run.
-use Rattle.std.specs.Prelude.{ℕ, ◌≡◌, ◌≤◌, ◌⊎◌, false, List, ◌++◌, length, filter, All, Contains, IsTrue}
+use Rattle.std.specs.Prelude.{ℕ, ◌≡◌, ◌≢◌, ◌<◌, ◌≤◌, ◌+◌, ◌⊎◌, true, false, List, [], ◌∷◌, ◌++◌, length, map, filter, count_by, All, Contains, IsTrue}
 use Rattle.lift_base.specs.declared.history.Entry.{Entry}
 use Rattle.lift_base.specs.declared.history.Entry.TheVariants.{Allot}
 use Rattle.lift_base.specs.declared.history.Row.{Row}
@@ -9,7 +9,11 @@ use Rattle.lift_register.specs.Fits.{FitFrom}
 use Rattle.lift_stops.specs.StopList.{StopsInOrder}
 use Rattle.lift_world.specs.declared.event.Kept.{Kept}
 use Rattle.lift_world.specs.declared.event.Answer.{Answer}
-use Rattle.lift_world.specs.World.{World, register_after, outcome, may_keep, acknowledged, is_answer_to}
+use Rattle.lift_world.specs.declared.event.Taken.{Taken}
+use Rattle.lift_world.specs.declared.event.Event.{Event}
+use Rattle.lift_world.specs.declared.event.Event.TheVariants.{Ask}
+use Rattle.lift_world.specs.World.{World, Batch, register_after, outcome, may_keep, acknowledged, is_off, asks, is_taken_of, is_answer_to}
+use Rattle.lift_world.specs.Next.{answer_of, unanswered}
 
 abbrev pub IsPrefixOf : List Entry → List Entry → Type 0
 IsPrefixOf xs ys = (rest : List Entry) × (xs ++ rest ≡ ys)
@@ -57,3 +61,45 @@ HearsInOrder w = (terminal : ℕ) → (rest : List Answer) × (filter (is_answer
 -- what is sealed is a front of what is accepted
 abbrev pub SealsAccepted : World → Type 0
 SealsAccepted w = w.sealed ≤ length w.accepted
+
+-- what was stored since the last power cut is, one for one and in order, the answers of the last commands given
+pub record StoresGiven (w : World) : Type 0 where
+  pub before : List Taken
+  pub since : List Taken
+  pub given : w.given ≡ before ++ since
+  pub answered : w.answered ≡ map answer_of since
+
+-- at most five batches are queued, and at most four while something is taken
+pub record QueuesFew (w : World) : Type 0 where
+  pub queued : length w.queue ≤ 5
+  pub in_hand : w.taken ≢ [] → length w.queue ≤ 4
+
+-- no command is on its way
+pub record HoldsNothing (w : World) : Type 0 where
+  pub nothing_flies : w.flight.commands ≡ []
+  pub nothing_queued : w.queue ≡ []
+  pub nothing_taken : w.taken ≡ []
+  pub nothing_due : w.due ≡ []
+
+abbrev pub HoldsNothingWhileOff : World → Type 0
+HoldsNothingWhileOff w = is_off w.power ≡ true → HoldsNothing w
+
+-- a terminal was answered at most what it asked, those on their way counted too, of which there is at most one; and it
+-- asked at most one more than it heard
+pub record AsksOneByOne (w : World) (terminal : ℕ) : Type 0 where
+  pub answered : count_by (is_answer_to terminal) w.answered + count_by (is_taken_of terminal) (unanswered w) ≤ count_by (asks terminal) w.asked
+  pub one_on_its_way : count_by (is_taken_of terminal) (unanswered w) ≤ 1
+  pub asked : count_by (asks terminal) w.asked ≤ count_by (is_answer_to terminal) w.heard + 1
+
+abbrev pub AllAskOneByOne : World → Type 0
+AllAskOneByOne w = (terminal : ℕ) → AsksOneByOne w terminal
+
+-- an ask is of one of the 63 terminals
+abbrev pub IsOfTerminal : Event → Type 0
+IsOfTerminal (Ask terminal number body) = terminal < 63
+IsOfTerminal event = Unit {0}
+
+-- no more commands are on their way than there are terminals, and so no batch holds more
+pub record HoldsFew (w : World) : Type 0 where
+  pub on_their_way : length (unanswered w) ≤ 63
+  pub batches : All (λ (b : Batch). length b.commands ≤ 63) (w.flight ∷ w.queue)

@@ -9,7 +9,7 @@ use Rattle.lift_world.specs.declared.event.Power.TheVariants.{Running, Broken, O
 use Rattle.lift_world.specs.declared.event.Taken.{Taken}
 use Rattle.lift_world.specs.declared.event.Answer.{Answer}
 use Rattle.lift_world.specs.declared.event.Event.{Event}
-use Rattle.lift_world.specs.declared.event.Event.TheVariants.{Ask, Take, Pull, Fold, Body as BodyWrite, FirstSync, Gate, SecondSync, Answer as Answering, Hear, Cut, Reopen}
+use Rattle.lift_world.specs.declared.event.Event.TheVariants.{Ask, Take, Seal, Pull, Fold, Body as BodyWrite, FirstSync, Gate, SecondSync, Answer as Answering, Hear, Cut, Reopen}
 use Rattle.lift_world.specs.World.{World, Batch, no_batch, unplaced, is_off, is_taken_of, is_answer_to, asks, outcome}
 use Rattle.lift_world.specs.Next.{next, run, asking, unanswered, unknown_to, writes_of, in_phase, settling, hearing, cutting, reopened, answering}
 
@@ -21,6 +21,28 @@ CutsToSafe w = next w (Cut Safe) ≡ Some (cutting w Safe)
 pub record CutsWithBatch (w : World) : Type 0 where
   pub written : w.phase ≡ GateWritten → next w (Cut WithBatch) ≡ Some (cutting w WithBatch)
   pub unwritten : w.phase ≢ GateWritten → next w (Cut WithBatch) ≡ None
+
+-- what a cut leaves: what was accepted, what of it is safe, the batch in doubt with its phase, and what was given. All else
+-- is gone: the words, the queue, what was taken or due, and where the cars are.
+pub record IsCut (w : World) (kept : Kept) (after : World) : Type 0 where
+  pub off : after.power ≡ Off kept
+  pub same_accepted : after.accepted ≡ w.accepted
+  pub same_safe : after.safe ≡ w.safe
+  pub same_sealed : after.sealed ≡ w.sealed
+  pub same_phase : after.phase ≡ w.phase
+  pub in_doubt : after.flight ≡ record { commands = []; upto = w.flight.upto }
+  pub same_given : after.given ≡ w.given
+  pub nothing_asked : after.asked ≡ []
+  pub nothing_answered : after.answered ≡ []
+  pub nothing_heard : after.heard ≡ []
+  pub nothing_queued : after.queue ≡ []
+  pub nothing_taken : after.taken ≡ []
+  pub nothing_due : after.due ≡ []
+  pub no_car_placed : after.positions ≡ unplaced
+
+-- whatever cut is possible leaves this
+abbrev pub CutsGive : World → Type 0
+CutsGive w = (kept : Kept) (after : World) → next w (Cut kept) ≡ Some after → IsCut w kept after
 
 -- after a cut its own recovery is possible, which gives just what that cut left
 pub record ReopensAfterCut (w : World) : Type 0 where
@@ -90,6 +112,13 @@ pub record CanBeLookedAt (w : World) (terminal : ℕ) : Type 0 where
 abbrev pub TakesNeedLooks : World → Type 0
 TakesNeedLooks w = (terminal : ℕ) (letter : Option ℕ) (after : World) → next w (Take terminal letter) ≡ Some after → CanBeLookedAt w terminal
 
+-- what was taken becomes the last batch of the queue, exactly where something was and the power is on
+pub record Seals (w : World) : Type 0 where
+  pub seals : is_off w.power ≡ false → w.taken ≢ []
+      → next w Seal ≡ Some (record w { queue = w.queue ++ record { commands = w.taken; upto = length w.accepted } ∷ []; sealed = length w.accepted; taken = [] })
+  pub nothing : w.taken ≡ [] → next w Seal ≡ None
+  pub unpowered : is_off w.power ≡ true → next w Seal ≡ None
+
 -- the first batch of the queue waits until none is in flight. One with entries is in flight then, one without is due at
 -- once; after a fault each is due, and answered Unknown.
 pub record PullsInTurn (w : World) : Type 0 where
@@ -113,7 +142,7 @@ is_device_call event = false
 
 -- Each device call has its phase, and only a running controller makes one. A checkpoint's calls come before the batch is
 -- written; then the writes of its body and of the gate after it, one after another; the first sync once all of these are
--- made; the write of its gate; and the second sync, which alone makes it safe.
+-- made; the write of its gate; and the second sync, which alone makes it safe. In its phase each can be made.
 pub record CallsInOrder (w : World) : Type 0 where
   pub only_running : (call : Event) (after : World) → IsTrue (is_device_call call) → next w call ≡ Some after → w.power ≡ Running
   pub checkpoint : (after : World) → next w Fold ≡ Some after → (w.phase ≡ Writing 0) × (after ≡ w)
@@ -121,6 +150,11 @@ pub record CallsInOrder (w : World) : Type 0 where
   pub first_sync : (after : World) → next w FirstSync ≡ Some after → (w.phase ≡ Writing (writes_of w)) × (after ≡ in_phase w Synced)
   pub gate : (after : World) → next w Gate ≡ Some after → (w.phase ≡ Synced) × (after ≡ in_phase w GateWritten)
   pub second_sync : (after : World) → next w SecondSync ≡ Some after → (w.phase ≡ GateWritten) × (after ≡ settling w)
+  pub folds : w.power ≡ Running → w.phase ≡ Writing 0 → next w Fold ≡ Some w
+  pub writes : (n : ℕ) → w.power ≡ Running → w.phase ≡ Writing n → n < writes_of w → next w BodyWrite ≡ Some (in_phase w (Writing (n + 1)))
+  pub syncs : w.power ≡ Running → w.phase ≡ Writing (writes_of w) → next w FirstSync ≡ Some (in_phase w Synced)
+  pub writes_gate : w.power ≡ Running → w.phase ≡ Synced → next w Gate ≡ Some (in_phase w GateWritten)
+  pub settles : w.power ≡ Running → w.phase ≡ GateWritten → next w SecondSync ≡ Some (settling w)
 
 -- a command that is due can be answered
 abbrev pub AnswersDue : World → Type 0
@@ -137,3 +171,7 @@ pub record IsAnswerDue (w : World) (terminal : ℕ) (after : World) : Type 0 whe
 -- nothing else is ever answered
 abbrev pub AnswersOnlyDue : World → Type 0
 AnswersOnlyDue w = (terminal : ℕ) (after : World) → next w (Answering terminal) ≡ Some after → IsAnswerDue w terminal after
+
+-- what was given stays given, whatever comes, power cuts too
+abbrev pub GivenStays : World → Type 0
+GivenStays w = (event : Event) (after : World) → next w event ≡ Some after → (later : List Taken) × (after.given ≡ w.given ++ later)

@@ -18,9 +18,8 @@ use crate::causes::{
 };
 use lift_base::{Body, Content, Dir, Entry, Floor, Letter, Party, Position, Reason, Reply};
 use lift_building::Building;
-use lift_policy::Command;
+use lift_policy::{Command, schedule_of};
 use lift_register::Register;
-use lift_stops::next_stop;
 
 /// What a decision gives: the reply, and the entry that was accepted with it.
 #[derive(Clone, Copy)]
@@ -207,7 +206,8 @@ fn stop(
 {
     let entry = join(building, register, positions, command, car, floor, dir);
     positions[usize::from(car.get())] = Some(Position { floor, dir });
-    let reply = Reply::Stopped(next_stop(register.open_rows(car), Position { floor, dir }));
+    let schedule = schedule_of(register, car, Position { floor, dir });
+    let reply = Reply::Stopped(schedule.next_stop());
     Some(Decided { reply, entry })
 }
 
@@ -223,7 +223,8 @@ fn place(
     ensures reply { result ≡ ReplyValue.Placed (next_stop (rows_of register.now car) (record { floor = floor; dir = dir })) }
 {
     positions[usize::from(car.get())] = Some(Position { floor, dir });
-    Reply::Placed(next_stop(register.open_rows(car), Position { floor, dir }))
+    let schedule = schedule_of(register, car, Position { floor, dir });
+    Reply::Placed(schedule.next_stop())
 }
 
 /// A command without a cause of refusal, with this car for a new call and no car for any other.

@@ -1,15 +1,16 @@
 ghost use Rattle.std.specs.Prelude.{ℕ, List};
+ghost use Rattle.std.specs.List.{AllByRecursion};
 ghost use Rattle.lift_building.specs.Plan.{Plan, IsBuilding};
 ghost use Rattle.lift_policy.specs.Step.{State};
 ghost use Rattle.lift_policy.specs.declared.command.Command.{Command};
 ghost use Rattle.lift_world.specs.Next.{run};
-ghost use Rattle.lift_world.specs.Headline.{RecoversPrefix, RecoversAcknowledged, RecoversLetters, RecoversFitting, HearsInOrder, SealsAccepted};
+ghost use Rattle.lift_world.specs.Headline.{RecoversPrefix, RecoversAcknowledged, RecoversLetters, RecoversFitting, HearsInOrder, SealsAccepted, StoresGiven, QueuesFew, HoldsNothingWhileOff, AllAskOneByOne, IsOfTerminal, HoldsFew};
 ghost use Rattle.lift_world.specs.World.{World, start};
-ghost use Rattle.lift_world.specs.Possible.{CutsToSafe, CutsWithBatch, ReopensAfterCut, OnlyReopensAfterCut, ReopensAfterFault, ReopeningsGive, KeepsRunning};
-ghost use Rattle.lift_world.specs.Possible.{AsksOnceHeard, HearsTheNext, TakesNeedLooks, PullsInTurn, CallsInOrder, AnswersDue, AnswersOnlyDue};
+ghost use Rattle.lift_world.specs.Possible.{CutsToSafe, CutsWithBatch, CutsGive, ReopensAfterCut, OnlyReopensAfterCut, ReopensAfterFault, ReopeningsGive, KeepsRunning};
+ghost use Rattle.lift_world.specs.Possible.{AsksOnceHeard, HearsTheNext, TakesNeedLooks, Seals, PullsInTurn, CallsInOrder, AnswersDue, AnswersOnlyDue, GivenStays};
 ghost use Rattle.lift_world.specs.Asking.{AsksStand};
 ghost use Rattle.lift_world.specs.Due.{DueOnceSafe};
-ghost use Rattle.lift_world.specs.Faults.{FaultsLeaveDoubt, UnknownAfterFault, UnknownOverReopening};
+ghost use Rattle.lift_world.specs.Faults.{FaultsLeaveDoubt, OnlyFaultsBreak, UnknownAfterFault, UnknownOverReopening};
 ghost use Rattle.lift_world.specs.Tie.{TakesAreSteps, StepsAreTakes, LooksAreTakes};
 ghost use Rattle.lift_world.specs.Turns.{HasRun, RunsAreTakes, TurnsAreRuns, FailuresAreRuns, BrokenTurnsAreRuns, BrokenTurnsChangeNothing};
 ghost use Rattle.lift_world.specs.Turns.{IsAtRest, TurnsEndAtRest, FailuresEndAtRest, BrokenTurnsEndAtRest, ReopeningsEndAtRest, CutsEndAtRest};
@@ -18,8 +19,10 @@ use crate::event::Event;
 
 /// What holds at each point of every run, whatever comes: each recovery that a power cut or a fault may lead to gives a
 /// prefix of what was accepted, has every acknowledged entry, still names the car of each letter that was shown, and is
-/// refused for no entry; each terminal hears what it was answered, in order and each once; and what is sealed is a front
-/// of what is accepted, which a scan's law asks for.
+/// refused for no entry. What is acknowledged or shown is read from what was given, and each stored answer is that of a
+/// command given. Each terminal asks one by one, and hears what it was answered, in order and each once. At most five
+/// batches are queued, none of more commands than there are terminals; a cut leaves no command on its way; and what is
+/// sealed is a front of what is accepted, which a scan's law asks for.
 pub fn every_run()
     ensures prefix { (building : Plan) (events : List Event) → IsBuilding building
         → RecoversPrefix (run events (start building)) }
@@ -31,13 +34,20 @@ pub fn every_run()
         → RecoversFitting (run events (start building)) }
     ensures heard { (building : Plan) (events : List Event) → HearsInOrder (run events (start building)) }
     ensures sealed { (building : Plan) (events : List Event) → SealsAccepted (run events (start building)) }
+    ensures shown { (building : Plan) (events : List Event) → StoresGiven (run events (start building)) }
+    ensures queued { (building : Plan) (events : List Event) → QueuesFew (run events (start building)) }
+    ensures off { (building : Plan) (events : List Event) → HoldsNothingWhileOff (run events (start building)) }
+    ensures asked { (building : Plan) (events : List Event) → AllAskOneByOne (run events (start building)) }
+    ensures few { (building : Plan) (events : List Event) → AllByRecursion IsOfTerminal events → HoldsFew (run events (start building)) }
 {}
 
-/// Which events are possible, in whatever world: so the theorem speaks of cuts, faults and recoveries that happen, of asks
-/// that are decided, and of answers that are heard.
+/// Which events are possible, in whatever world, and what they leave: so the theorem speaks of cuts, faults and recoveries
+/// that happen, of asks that are decided, of batches that are sealed and written, and of answers that are heard. What was
+/// given stays given over all of them.
 pub fn events_are_possible()
     ensures cut { (w : World) → CutsToSafe w }
     ensures cut_with_batch { (w : World) → CutsWithBatch w }
+    ensures cut_leaves { (w : World) → CutsGive w }
     ensures reopening { (w : World) → ReopensAfterCut w }
     ensures nothing_else { (w : World) → OnlyReopensAfterCut w }
     ensures reopening_after_fault { (w : World) → ReopensAfterFault w }
@@ -47,10 +57,12 @@ pub fn events_are_possible()
     ensures hears { (w : World) → HearsTheNext w }
     ensures takes { (w : World) → LooksAreTakes w }
     ensures looks { (w : World) → TakesNeedLooks w }
+    ensures seals { (w : World) → Seals w }
     ensures pulls { (w : World) → PullsInTurn w }
     ensures calls { (w : World) → CallsInOrder w }
     ensures answers { (w : World) → AnswersDue w }
     ensures nothing_early { (w : World) → AnswersOnlyDue w }
+    ensures given { (w : World) → GivenStays w }
 {}
 
 /// Each take is one decision of the rules, and whatever the rules allow, under any policy, is a take; they decide on every
@@ -85,6 +97,7 @@ pub fn turns_end_at_rest()
 pub fn replies_are_safe()
     ensures due { (w : World) → DueOnceSafe w }
     ensures faults { (w : World) → FaultsLeaveDoubt w }
+    ensures breaks { (w : World) → OnlyFaultsBreak w }
     ensures unknown { (w : World) → UnknownAfterFault w }
     ensures reopening { (w : World) → UnknownOverReopening w }
 {}

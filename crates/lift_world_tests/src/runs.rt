@@ -142,6 +142,7 @@ fn keeps_the_batch(rt: HostRuntime) -> Result<(), Fail> {
         hear(16),
     ];
     assert!(rt; goes(&mut world, &again) && told(&world, letter(0)));
+    assert!(rt; world.accepted().len() == 1 && world.safe() == 1);
     Ok(())
 }
 

@@ -1,5 +1,6 @@
-use Rattle.lift_world.proofs.Possibilities.{cuts_to_safe, cuts_with_batch, reopens_after_cut, only_reopens_after_cut, reopens_after_fault, reopenings_give, keeps_running, pulls_in_turn, answers_due, answers_only_due}
+use Rattle.lift_world.proofs.Possibilities.{cuts_to_safe, cuts_with_batch, cuts_give, seals, reopens_after_cut, only_reopens_after_cut, reopens_after_fault, reopenings_give, keeps_running, pulls_in_turn, answers_due, answers_only_due}
 use Rattle.lift_world.proofs.Calls.{calls_in_order}
+use Rattle.lift_world.proofs.Given.{given_stays}
 use Rattle.lift_world.proofs.Asked.{asks_once_heard, hears_the_next}
 use Rattle.lift_world.proofs.Looks.{looks_are_takes, takes_need_looks}
 use Rattle.lift_world.proofs.theorem.events_are_possible.Goals as goal
@@ -48,3 +49,12 @@ returns-clause-nothing_early c w = answers_only_due w
 
 pub returns-clause-calls : goal.returns-clause-calls
 returns-clause-calls c w = calls_in_order w
+
+pub returns-clause-cut_leaves : goal.returns-clause-cut_leaves
+returns-clause-cut_leaves c w = cuts_give w
+
+pub returns-clause-seals : goal.returns-clause-seals
+returns-clause-seals c w = seals w
+
+pub returns-clause-given : goal.returns-clause-given
+returns-clause-given c w = given_stays w

@@ -1,6 +1,10 @@
 use Rattle.lift_world.specs.World.{start}
 use Rattle.lift_world.specs.Next.{run}
 use Rattle.lift_world.proofs.Heard.{run_hears, start_hears}
+use Rattle.lift_world.proofs.Given.{run_stores, start_stores}
+use Rattle.lift_world.proofs.Queued.{run_queues, start_queues, run_holds, start_holds_nothing}
+use Rattle.lift_world.proofs.Counted.{all_ask_one_by_one}
+use Rattle.lift_world.proofs.Few.{holds_few}
 use Rattle.lift_world.proofs.Sealed.{run_seals, start_seals}
 use Rattle.lift_world.proofs.Consistent.{start_holds, run_keeps, recovers_prefix, recovers_acknowledged, recovers_fitting}
 use Rattle.lift_world.proofs.Letters.{recovers_letters}
@@ -26,3 +30,18 @@ returns-clause-heard c building events = run_hears events (start building) (star
 
 pub returns-clause-sealed : goal.returns-clause-sealed
 returns-clause-sealed c building events = run_seals events (start building) (start_seals building)
+
+pub returns-clause-shown : goal.returns-clause-shown
+returns-clause-shown c building events = run_stores events (start building) (start_stores building)
+
+pub returns-clause-queued : goal.returns-clause-queued
+returns-clause-queued c building events = run_queues events (start building) (start_queues building)
+
+pub returns-clause-off : goal.returns-clause-off
+returns-clause-off c building events = run_holds events (start building) (start_holds_nothing building)
+
+pub returns-clause-asked : goal.returns-clause-asked
+returns-clause-asked c building events = all_ask_one_by_one building events
+
+pub returns-clause-few : goal.returns-clause-few
+returns-clause-few c building events of_terminals = holds_few building events of_terminals

@@ -1,4 +1,5 @@
 use Rattle.lift_world.proofs.Due.{due_once_safe}
+use Rattle.lift_world.proofs.Given.{only_faults_break}
 use Rattle.lift_world.proofs.Failed.{faults_leave_doubt, unknown_after_fault, unknown_over_reopening}
 use Rattle.lift_world.proofs.theorem.replies_are_safe.Goals as goal
 
@@ -13,3 +14,6 @@ returns-clause-reopening c w = unknown_over_reopening w
 
 pub returns-clause-due : goal.returns-clause-due
 returns-clause-due c w = due_once_safe w
+
+pub returns-clause-breaks : goal.returns-clause-breaks
+returns-clause-breaks c w = only_faults_break w

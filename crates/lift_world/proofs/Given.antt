@@ -1,0 +1,101 @@
+-- What was answered is given, and stays so; and what breaks the controller.
+use Rattle.std.proofs.Common.{ℕ, ◌≡◌, ◌⊎◌, List, [], ◌∷◌, ◌++◌, Option, Some, refl, sym, ap, subst, ◌∙◌, inl, inr, append_assoc}
+use Rattle.std.specs.Prelude.{unwrap_or}
+use Rattle.std.proofs.lemmas.List.{append-nil, map-append}
+use Rattle.lift_building.specs.Plan.{Plan}
+use Rattle.lift_world.specs.declared.event.Answer.{Answer}
+use Rattle.lift_world.specs.declared.event.Taken.{Taken}
+use Rattle.lift_world.specs.declared.event.Event.{Event}
+use Rattle.lift_world.specs.declared.event.Event.TheVariants.{Fault}
+use Rattle.lift_world.specs.declared.event.Power.TheVariants.{Broken}
+use Rattle.lift_world.specs.World.{World, start}
+use Rattle.lift_world.specs.Next.{run, next, answering, answer_of}
+use Rattle.lift_world.specs.Headline.{StoresGiven}
+use Rattle.lift_world.specs.Possible.{GivenStays}
+use Rattle.lift_world.specs.Faults.{OnlyFaultsBreak}
+use Rattle.lift_world.proofs.Leads.{Leads, leads}
+
+-- an event that is possible leads to what it leaves
+pub led : (P : World → Type 0) (w : World) (event : Event) (after : World) → Leads P w event → next w event ≡ Some after → P after
+led P w event after k h = subst P (ap (λ (o : Option World). unwrap_or o w) h) (leads P w event k)
+
+abbrev Grows : World → World → Type 0
+Grows w x = (later : List Taken) × (x.given ≡ w.given ++ later)
+
+pub given_stays : (w : World) → GivenStays w
+given_stays w event after h =
+    let same : Grows w w = ([], sym (append-nil w.given)) in
+    led (Grows w) w event after (record {
+      stays = same;
+      asked = λ command on may is. same;
+      taken = λ terminal command d on may at. same;
+      sealed = λ on some. same;
+      fails = λ batch rest on at broken. same;
+      flies = λ batch rest on at. same;
+      lands = λ batch rest on at. same;
+      goes_on = λ phase on. same;
+      settled = λ on. same;
+      answered = λ terminal c on at. (c ∷ [], refl);
+      heard = λ a on. same;
+      failed = λ on is. same;
+      cut = λ kept. same;
+      reopened = λ kept may. same;
+    }) h
+
+abbrev Breaks : World → Event → World → Type 0
+Breaks w event x = x.power ≡ Broken → (w.power ≡ Broken) ⊎ (event ≡ Fault)
+
+pub only_faults_break : (w : World) → OnlyFaultsBreak w
+only_faults_break w event after h =
+    led (Breaks w event) w event after (record {
+      stays = λ b. inl b;
+      asked = λ command on may is b. inl b;
+      taken = λ terminal command d on may at b. inl b;
+      sealed = λ on some b. inl b;
+      fails = λ batch rest on at broken b. inl b;
+      flies = λ batch rest on at b. inl b;
+      lands = λ batch rest on at b. inl b;
+      goes_on = λ phase on b. inl b;
+      settled = λ on b. inl b;
+      answered = λ terminal c on at b. inl b;
+      heard = λ a on b. inl b;
+      failed = λ on is b. inr is;
+      cut = λ kept b. cc;
+      reopened = λ kept may b. cc;
+    }) h
+
+answering_stores : (w : World) (terminal : ℕ) (c : Taken) → StoresGiven w → StoresGiven (answering w terminal c)
+answering_stores w terminal c k = record {
+  before = k.before;
+  since = k.since ++ c ∷ [];
+  given = ap (λ (cs : List Taken). cs ++ c ∷ []) k.given ∙ append_assoc k.before k.since (c ∷ []);
+  answered = ap (λ (xs : List Answer). xs ++ answer_of c ∷ []) k.answered ∙ sym (map-append answer_of k.since (c ∷ []));
+}
+
+same_words : (w x : World) → x.given ≡ w.given → x.answered ≡ w.answered → StoresGiven w → StoresGiven x
+same_words w x g a k = record { before = k.before; since = k.since; given = g ∙ k.given; answered = a ∙ k.answered }
+
+stores : (w : World) (event : Event) → StoresGiven w → StoresGiven (unwrap_or (next w event) w)
+stores w event k = leads StoresGiven w event (record {
+  stays = k;
+  asked = λ command on may is. same_words w _ refl refl k;
+  taken = λ terminal command d on may at. same_words w _ refl refl k;
+  sealed = λ on some. same_words w _ refl refl k;
+  fails = λ batch rest on at broken. same_words w _ refl refl k;
+  flies = λ batch rest on at. same_words w _ refl refl k;
+  lands = λ batch rest on at. same_words w _ refl refl k;
+  goes_on = λ phase on. same_words w _ refl refl k;
+  settled = λ on. same_words w _ refl refl k;
+  answered = λ terminal c on at. answering_stores w terminal c k;
+  heard = λ a on. same_words w _ refl refl k;
+  failed = λ on is. same_words w _ refl refl k;
+  cut = λ kept. record { before = w.given; since = []; given = sym (append-nil w.given); answered = refl };
+  reopened = λ kept may. same_words w _ refl refl k;
+})
+
+pub run_stores : (events : List Event) (w : World) → StoresGiven w → StoresGiven (run events w)
+run_stores [] w k = k
+run_stores (event ∷ events) w k = run_stores events (unwrap_or (next w event) w) (stores w event k)
+
+pub start_stores : (building : Plan) → StoresGiven (start building)
+start_stores building = record { before = []; since = []; given = refl; answered = refl }
