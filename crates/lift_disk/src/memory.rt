@@ -6,7 +6,7 @@ ghost use Rattle.lift_disk.specs.Memory.{IsFlagged, image_after, no_other};
 
 use crate::call::Call;
 use crate::count::ProofCount;
-use crate::record::{clear, copy, leave, no_flags, note_sync, note_write, zeros};
+use crate::record::{clear, copy, copy_flagged, leave, no_flags, note_sync, note_write, zeros};
 use crate::{Disk, DiskFault, Outcome};
 use lift_base::Memory;
 use std::alloc::Global;
@@ -169,7 +169,7 @@ impl Disk for MemDisk {
             return Err(DiskFault);
         }
         self.calls = ProofCount::next(&self.calls);
-        copy(&self.image, &mut self.synced);
+        copy_flagged(&self.image, &self.loose, &mut self.synced);
         clear(&mut self.loose);
         self.is_steady = true;
         Ok(())

@@ -42,6 +42,19 @@ pub(crate) fn clear(flags: &mut Vec<bool>)
     flags.fill(false);
 }
 
+/// Writes the flagged sectors over those of the same places. The others are the same already.
+pub(crate) fn copy_flagged(from: &[[u8; 512]], flags: &[bool], to: &mut Vec<[u8; 512]>)
+    requires sized { length flags.now ≡ length from.now }
+    requires kept { ChangesWithin (IsFlagged flags.now) from.now to.old.items }
+    ensures { to.new.items ≡ from.now }
+{
+    for i in 0..flags.len() {
+        if flags[i] {
+            to[i] = from[i];
+        }
+    }
+}
+
 /// Writes these sectors over as many others.
 pub(crate) fn copy(from: &[[u8; 512]], to: &mut Vec<[u8; 512]>)
     requires { length to.old.items ≡ length from.now }

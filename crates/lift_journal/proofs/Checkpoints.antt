@@ -20,6 +20,8 @@ use Rattle.lift_journal.specs.Layout.{Batch, records_of, bodies, size_of, used, 
 use Rattle.lift_journal.specs.Steps.{overwritten, marked, IsInRange}
 use Rattle.lift_journal.specs.Walk.{IsFront, IsSoundFront, Reaches}
 use Rattle.lift_journal.specs.Checkpoint.{in_batches, batch_count, checkpoint_of, sectors_for}
+use Rattle.lift_journal.specs.Told.{NoneFails}
+use Rattle.lift_journal.proofs.Telling.{none_made, passes_then}
 use Rattle.lift_journal.proofs.Appends.{overwritten_there, length-overwritten, sector_set}
 use Rattle.lift_journal.proofs.Bases.{base_in_order, base_complete}
 use Rattle.lift_journal.proofs.Chains.{used_more}
@@ -202,6 +204,7 @@ pub record Drafted (old now : DiskState) (start gate count : ℕ) (records : Lis
   pub calls : now.calls ≡ old.calls + used (in_batches count records)
   pub writes : now.writes ≡ old.writes + used (in_batches count records)
   pub failures : now.failures ≡ old.failures
+  pub told : NoneFails old now
   pub touched : LooseWithin (IsInRange start (start + 64)) old → TouchesOnly (IsInRange start (start + 64)) old now
   pub at : gate ≡ start + used (in_batches count records)
   pub steady : old.is_honest → old.is_steady → now.is_steady
@@ -213,6 +216,7 @@ drafted_none disk start records only_now = record {
   calls = omega arith;
   writes = omega arith;
   failures = refl;
+  told = none_made disk;
   touched = λ loose. touches_none (IsInRange start (start + 64)) disk loose only_now;
   at = omega arith;
   steady = λ honest steady. steady;
@@ -230,12 +234,12 @@ module _ (old now new : DiskState) (start gate count : ℕ) (records : List Reco
 
   pub drafted_more : (body : Image) → gate + 1 + length body < start + 64 → length body ≡ size_of (batch_at count records)
       → IsBody (count + 1) (batch_at count records) body → IsInOrder records
-      → RunsOn now new → new.calls ≡ now.calls + (1 + length body) → new.writes ≡ now.writes + (1 + length body) → new.failures ≡ now.failures
+      → RunsOn now new → new.calls ≡ now.calls + (1 + length body) → new.writes ≡ now.writes + (1 + length body) → new.failures ≡ now.failures → NoneFails now new
       → ((low high : ℕ) → low ≤ gate → gate + 1 + length body ≤ high → LooseWithin (IsInRange low high) now → TouchesOnly (IsInRange low high) now new)
       → (now.is_honest → now.is_steady → IsSteadyAt (slice_set (overwritten now.image (gate + 1) body) gate marked) new)
       → IsWhole now
       → Drafted old new start (gate + (length body + 1)) (count + 1) records
-  drafted_more body room size spelled order runs called wrote quiet touched written whole_now =
+  drafted_more body room size spelled order runs called wrote quiet told touched written whole_now =
       let batch = batch_at count records in
       let batches = in_batches count records in
       let more : in_batches (count + 1) records ≡ batches ++ batch ∷ [] =
@@ -245,6 +249,7 @@ module _ (old now new : DiskState) (start gate count : ℕ) (records : List Reco
         calls = omega (arith, called, so_far.calls, ap used more, used_more batches batch, size);
         writes = omega (arith, wrote, so_far.writes, ap used more, used_more batches batch, size);
         failures = quiet ∙ so_far.failures;
+        told = passes_then old now new so_far.runs so_far.told told;
         touched = drafted_touched (length body) (omega (arith, room)) touched;
         at = omega (arith, so_far.at, ap used more, used_more batches batch, size);
         steady = λ honest steady. (written (so_far.runs.honest.1 honest) (so_far.steady honest steady)).steady;

@@ -1,3 +1,4 @@
+pub mod Telling
 pub mod Chains
 pub mod Writes
 pub mod Texts
@@ -15,5 +16,6 @@ pub mod Formats
 pub mod Cursors
 pub mod Bases
 pub mod Switching
+pub mod Picking
 pub mod Checkpoints
 pub mod Replacing

@@ -2,11 +2,13 @@
 use Rattle.std.proofs.Common.{◌≡◌, ◌<◌, inl, inr, ⊎_elim, refl, sym, ◌∙◌, arith, Result, Ok, Err, OnOk, OnErr}
 use Rattle.std.specs.Prelude.{IfErr, true, false}
 use Rattle.std.specs.Result.{is_err}
-use Rattle.lift_disk.specs.Disk.{DiskState, KeepsImage, KeepsSynced, RunsOn, LeavesNoOther}
+use Rattle.lift_disk.specs.Disk.{DiskState, HasCause, IsSynced, KeepsImage, KeepsSynced, RunsOn, LeavesNoOther}
 use Rattle.lift_disk.proofs.Moments.{runs_none, runs_then, touches_none, touches_nothing_then}
 use Rattle.lift_journal.specs.declared.fault.JournalFault.{JournalFault}
 use Rattle.lift_journal.specs.declared.fault.JournalFault.TheVariants.{Disk, NotFormatted, Damaged, Full, Broken}
-use Rattle.lift_journal.specs.Steps.{SavesAsRead, ReadsOnly, ReadsWell, Looks, Examines, HasItsCause}
+use Rattle.lift_journal.specs.Steps.{IsSyncedAt, SavesAsRead, ReadsOnly, ReadsWell, HasFailed, Looks, Examines, HasItsCause}
+use Rattle.lift_journal.specs.Told.{StopsAsTold, FailsBy}
+use Rattle.lift_journal.proofs.Telling.{none_made, passes_then, fails_then}
 
 pub keeps_then : (old mid new : DiskState) → RunsOn old mid → KeepsImage old mid → KeepsImage mid new → KeepsImage old new
 keeps_then old mid new runs first second honest inert = second (runs.honest.1 honest) (runs.inert.1 inert) ∙ first honest inert
@@ -36,15 +38,22 @@ reads_then old mid new first second = record {
 }
 
 pub well_none : (disk : DiskState) → ReadsWell disk disk
-well_none disk = record { failures = refl; kept = λ honest synced. record { synced = synced; same = refl } }
+well_none disk = record { failures = refl; told = none_made disk; kept = λ honest synced. record { synced = synced; same = refl } }
 
 pub well_then : (old mid new : DiskState) → ReadsOnly old mid → ReadsWell old mid → ReadsWell mid new → ReadsWell old new
 well_then old mid new only first second = record {
   failures = second.failures ∙ first.failures;
+  told = passes_then old mid new only.runs first.told second.told;
   kept = λ honest synced.
       let before = first.kept honest synced in
       let after = second.kept (only.runs.honest.1 honest) before.synced in
       record { synced = after.synced; same = after.same ∙ before.same };
+}
+
+pub failed_then : (old mid new : DiskState) → ReadsOnly old mid → ReadsWell old mid → HasFailed mid new → HasFailed old new
+failed_then old mid new only well second = record {
+  failures = omega (arith, second.failures, well.failures);
+  told = fails_then old mid new only.runs well.told second.told;
 }
 
 -- a clause of an answer, weakened
@@ -56,19 +65,33 @@ pub err_weaker : {T E : Type 0} (r : Result T E) (P Q : Type 0) → (P → Q) �
 err_weaker (Ok x) P Q f p = tt
 err_weaker (Err e) P Q f p = f p
 
+-- one call, from what it says
+pub looks_by : {T E : Type 0} (r : Result T E) (old new : DiskState) → ReadsOnly old new → HasCause r old new → StopsAsTold r old new
+    → OnOk r (old.is_honest → IsSynced old → IsSyncedAt old.image new) → Looks r old new
+looks_by (Ok x) old new only cause told kept = record { only = only; ok = record { failures = cause.ok; told = told.ok; kept = kept }; err = tt }
+looks_by (Err e) old new only cause told kept = record { only = only; ok = tt; err = record { failures = cause.err; told = told.err } }
+
 pub looks_then : {T E : Type 0} (r : Result T E) (old mid new : DiskState) → ReadsOnly old mid → ReadsWell old mid → Looks r mid new → Looks r old new
 looks_then r old mid new only well looks = record {
   only = reads_then old mid new only looks.only;
   ok = ok_weaker r (ReadsWell mid new) (ReadsWell old new) (λ w. well_then old mid new only well w) looks.ok;
-  err = err_weaker r (mid.failures < new.failures) (old.failures < new.failures) (λ lt. omega (arith, lt, well.failures)) looks.err;
+  err = err_weaker r (HasFailed mid new) (HasFailed old new) (λ failed. failed_then old mid new only well failed) looks.err;
 }
 
 pub cause_then : (fault : JournalFault) (old mid new : DiskState) → ReadsOnly old mid → ReadsWell old mid → HasItsCause fault mid new → HasItsCause fault old new
-cause_then Disk old mid new only well cause = omega (arith, cause, well.failures)
+cause_then Disk old mid new only well cause = failed_then old mid new only well cause
 cause_then NotFormatted old mid new only well cause = well_then old mid new only well cause
 cause_then (Damaged sector) old mid new only well cause = well_then old mid new only well cause
 cause_then Full old mid new only well cause = well_then old mid new only well cause
 cause_then Broken old mid new only well cause = well_then old mid new only well cause
+
+-- what was told has happened
+pub cause_told : (fault : JournalFault) (old new : DiskState) → HasItsCause fault old new → FailsBy fault old new
+cause_told Disk old new cause = cause.told
+cause_told NotFormatted old new cause = cause.told
+cause_told (Damaged sector) old new cause = cause.told
+cause_told Full old new cause = cause.told
+cause_told Broken old new cause = cause.told
 
 pub examines_then : {T : Type 0} (r : Result T JournalFault) (old mid new : DiskState) → ReadsOnly old mid → ReadsWell old mid → Examines r mid new → Examines r old new
 examines_then (Ok x) old mid new only well next = record { only = reads_then old mid new only next.only; ok = well_then old mid new only well next.ok; err = tt }

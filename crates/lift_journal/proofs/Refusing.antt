@@ -23,7 +23,7 @@ module _ (fault : JournalFault) (old mid new : DiskState) (only : ReadsOnly old 
   refused_stamp is none = by_fault fault refl cause is
     where
       by_fault : (f : JournalFault) → fault ≡ f → HasItsCause f mid new → IsOfStamp f → RefusedFor f old new
-      by_fault Disk same cause is = omega (arith, cause, failures)
+      by_fault Disk same cause is = omega (arith, cause.failures, failures)
       by_fault NotFormatted same cause is = (cause.failures ∙ failures, λ honest. ((settled cause honest).synced, seen cause honest, λ shape stamped. none same (only.runs.honest.1 honest) (synced honest) shape (subst (λ (l : Image). IsStamped shape l) (settled cause honest).same stamped)))
       by_fault (Damaged sector) same cause is = absurd is
       by_fault Full same cause is = absurd is
@@ -36,7 +36,7 @@ module _ (fault : JournalFault) (old mid new : DiskState) (only : ReadsOnly old 
   refused_chain shape is stamped damaged = by_fault fault refl cause is
     where
       by_fault : (f : JournalFault) → fault ≡ f → HasItsCause f mid new → IsOfChain f → RefusedFor f old new
-      by_fault Disk same cause is = omega (arith, cause, failures)
+      by_fault Disk same cause is = omega (arith, cause.failures, failures)
       by_fault NotFormatted same cause is = absurd is
       by_fault (Damaged sector) same cause is = (
         cause.failures ∙ failures,

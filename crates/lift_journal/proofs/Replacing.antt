@@ -1,5 +1,5 @@
 -- What a journal stands for once a checkpoint is in the place of its batches.
-use Rattle.std.proofs.Common.{◌≡◌, ◌⊎◌, ◌<◌, ◌≤◌, ◌+◌, ◌-◌, ◌*◌, inl, inr, ⊎_elim, ℕ, cond, List, [], length, sym, ◌∙◌, ap, arith}
+use Rattle.std.proofs.Common.{◌≡◌, ◌⊎◌, ◌<◌, ◌≤◌, ◌+◌, ◌-◌, ◌*◌, inl, inr, ⊎_elim, ℕ, true, not, nat_lt, cond, List, [], length, sym, ◌∙◌, ap, subst, arith}
 use Rattle.std.proofs.lemmas.List.{append-nil}
 use Rattle.std.proofs.lemmas.List.Elements.{All-nil}
 use Rattle.lift_base.specs.declared.history.Record.{Record}
@@ -10,15 +10,18 @@ use Rattle.lift_register.specs.WellFormed.{IsWellFormed}
 use Rattle.lift_disk.specs.Disk.{DiskState, Image, ChangesWithin, LeavesNow, LeavesOnly, IsSynced, RunsOn}
 use Rattle.lift_disk.proofs.Moments.{changes_nothing, leaves_weaker, leaves_if_honest}
 use Rattle.lift_journal.specs.Order.{IsEntry}
-use Rattle.lift_journal.specs.Layout.{Batch, is_marked, sector_at, start_of, Holds}
+use Rattle.lift_journal.specs.Layout.{Batch, is_marked, sector_at, Picks, start_of, Holds}
 use Rattle.lift_journal.specs.Steps.{IsInRange}
 use Rattle.lift_journal.specs.Journal.{ReadsAs, StandsFor, HasPlace, StandsAt}
 use Rattle.lift_journal.specs.Checkpoint.{batch_count, checkpoint_of, sectors_for}
-use Rattle.lift_journal.specs.Switch.{IsOtherHalf, HasWritten}
+use Rattle.lift_journal.specs.Stops.{StopsCheckpoint}
+use Rattle.lift_journal.specs.Switch.{IsOtherHalf, HasWritten, StopsWriting}
 use Rattle.lift_journal.proofs.Bases.{base_is_base}
 use Rattle.lift_journal.proofs.Checkpoints.{length_batches, used_checkpoint, checkpoint_records, checkpoint_sound}
+use Rattle.lift_journal.proofs.Chains.{all_same}
 use Rattle.lift_journal.proofs.Seeing.{bodies_few}
-use Rattle.lift_journal.proofs.Standing.{reads_old}
+use Rattle.lift_journal.proofs.Picking.{checkpoint_stops}
+use Rattle.lift_journal.proofs.Standing.{reads_old, stands_in}
 use Rattle.lift_journal.proofs.Switching.{drafting_leaves, switching_leaves, switched}
 
 pub checkpoint_reads : (shape : Shape) (register : RegisterState) (image : Image) → Holds shape (checkpoint_of (base_records register)) image → ReadsAs shape (base_records register) [] image
@@ -97,6 +100,30 @@ module _ (shape : Shape) (start gate number other : ℕ) (pick : List ℕ) (old 
       (λ written. switching_leaves shape batches (checkpoint_of records) other old.image holds (halves at) left (checkpoint_sound register formed) written)
       either)
       (leaves end (omega (arith, place.within.half.0)) inside.1 (λ honest. (stands honest).synced)))
+
+  -- the half that is picked then
+  pub replace_second : nat_lt 2 other ≡ not (nat_lt 2 start)
+  replace_second =
+      let half = place.within.half.0 in
+      ⊎_elim (λ a. grind (arith, half, a.0, a.1)) (λ b. ⊎_elim (λ first. absurd (b.0 first)) (λ second. grind (arith, half, second, b.1)) place.halves) is_other
+
+  replace_pick : is_marked pick ≡ nat_lt 2 other
+  replace_pick =
+      let half = place.within.half.0 in
+      ⊎_elim (λ a. ap is_marked a.2 ∙ sym (let there : nat_lt 2 other ≡ true = grind (arith, half, a.1) in there)) (λ b. ap is_marked b.2 ∙ sym (ap (nat_lt 2) b.1)) is_other
+
+  pub replace_picks : (new : DiskState) → (new.is_honest → IsSynced new) → (new.is_honest → sector_at new.image 0 ≡ pick) → LeavesNow new (Picks (nat_lt 2 other))
+  replace_picks new synced picked honest left leaves =
+      let same : left ≡ new.image = all_same new.is_loose new.image left (synced honest).none_loose leaves in
+      subst (Picks (nat_lt 2 other)) (sym same) (ap is_marked (picked honest) ∙ replace_pick)
+
+  -- by the number of calls, what a cut then leaves
+  pub replace_stops : (new : DiskState) (stands : StandsAt shape start gate number old)
+      → StopsWriting other (other + shape.half) (checkpoint_of (base_records register)) (sectors_for (length (base_records register))) pick old new
+      → StopsCheckpoint shape (nat_lt 2 start) stands.batches (checkpoint_of (base_records register)) (sectors_for (length (base_records register))) old new
+  replace_stops new stands stops =
+      checkpoint_stops shape (nat_lt 2 start) stands.batches (checkpoint_of (base_records register)) other old stands.holds (halves stands) (checkpoint_sound register formed)
+      (stands_in shape start gate number old stands) new (sectors_for (length (base_records register))) pick (replace_pick ∙ replace_second) stops
 
   module _ (image : Image) (stands : StandsAt shape start gate number old) (written : HasWritten other (other + shape.half) (checkpoint_of (base_records register)) old.image image) (picked : sector_at image 0 ≡ pick) where
     pub replace_starts : start_of shape.half image ≡ other

@@ -1,20 +1,49 @@
 -- What a journal that isn't broken stands for.
-use Rattle.std.proofs.Common.{◌≡◌, ◌⊎◌, ◌↔◌, ◌≤◌, ◌+◌, ◌-◌, inl, inr, ⊎_elim, ℕ, List, [], ◌∷◌, ◌++◌, None, length, take, All, sym, ◌∙◌, ap, subst, arith, append_assoc, length-append, length-take}
+use Rattle.std.proofs.Common.{◌≡◌, ◌⊎◌, ◌↔◌, ◌≤◌, ◌+◌, ◌-◌, inl, inr, ⊎_elim, ℕ, Bool, true, false, cond, nat_lt, List, [], ◌∷◌, ◌++◌, None, unwrap_or, length, take, All, sym, ◌∙◌, ap, subst, arith, append_assoc, length-append, length-take}
 use Rattle.std.proofs.lemmas.List.Elements.{All-append, All-from_recursion}
 use Rattle.lift_base.specs.declared.history.Record.{Record}
 use Rattle.lift_base.specs.declared.history.Shape.{Shape}
 use Rattle.lift_record.specs.declared.version.Version.TheVariants.{Two}
-use Rattle.lift_disk.specs.Disk.{DiskState, Image, LeavesNow, LeavesOnly, RunsOn, IsSynced}
+use Rattle.lift_disk.specs.Disk.{DiskState, Image, ChangesWithin, LeavesNow, LeavesOnly, RunsOn, IsSynced, TouchesOnly}
 use Rattle.lift_disk.proofs.Moments.{leaves_weaker, leaves_if_honest, changes_nothing}
 use Rattle.lift_journal.specs.Order.{IsEntry, IsOfBase}
-use Rattle.lift_journal.specs.Layout.{Batch, records_of, size_of, IsBody, start_of, Holds, used}
-use Rattle.lift_journal.specs.Steps.{IsReady, IsSettled, ReadsOnly}
-use Rattle.lift_journal.specs.Journal.{ReadsAs, StandsFor, StandsAt}
+use Rattle.lift_journal.specs.Layout.{Batch, records_of, size_of, IsBody, is_marked, picks_second, Picks, start_of, Holds, used}
+use Rattle.lift_journal.specs.Steps.{IsInRange, IsReady, IsSettled, ReadsOnly}
+use Rattle.lift_journal.specs.Journal.{ReadsAs, StandsFor, HasPlace, StandsAt}
 use Rattle.lift_journal.specs.Opening.{Opens}
-use Rattle.lift_journal.proofs.Unique.{holds_unique}
+use Rattle.lift_journal.specs.Told.{NoneFails}
+use Rattle.lift_journal.proofs.Unique.{holds_unique, stamp_unique}
 use Rattle.lift_journal.proofs.Chains.{all_same, used_more}
 use Rattle.lift_journal.proofs.Orders.{order_parts, Parts, records_push, sound_push}
 use Rattle.lift_journal.proofs.Seeing.{bodies_few}
+
+-- the half of a journal by its first sector
+second_is : (half start : ℕ) (b : Bool) → 1 ≤ half → start ≡ cond b (half + 2) 2 → nat_lt 2 start ≡ b
+second_is half start true some is = grind (arith, some, is)
+second_is half start false some is = ap (nat_lt 2) is
+
+pub stands_in : (shape : Shape) (start gate number : ℕ) (disk : DiskState) → StandsAt shape start gate number disk → Picks (nat_lt 2 start) disk.image
+stands_in shape start gate number disk at =
+    sym (second_is shape.half start (picks_second disk.image) (omega (arith, at.holds.stamped.within.half.0)) at.starts)
+
+-- a settled device leaves it picked
+pub picks_synced : (shape : Shape) (start gate number : ℕ) (disk : DiskState) → (disk.is_honest → StandsAt shape start gate number disk) → LeavesNow disk (Picks (nat_lt 2 start))
+picks_synced shape start gate number disk stands honest left leaves =
+    let at = stands honest in
+    let same : left ≡ disk.image = all_same disk.is_loose disk.image left at.synced.none_loose leaves in
+    subst (Picks (nat_lt 2 start)) (sym same) (stands_in shape start gate number disk at)
+
+-- the pick stands before every gate
+pub gate_high : (size : ℕ) (shape : Shape) (start gate number : ℕ) → HasPlace size shape start gate number → 2 ≤ gate
+gate_high size shape start gate number place = ⊎_elim (λ first. omega (arith, first, place.low)) (λ second. omega (arith, second, place.low)) place.halves
+
+-- and so do changes behind it
+pub append_picks : (shape : Shape) (start gate number high : ℕ) (old new : DiskState) → 2 ≤ gate → (old.is_honest → StandsAt shape start gate number old)
+    → ((old.is_honest → IsSynced old) → TouchesOnly (IsInRange gate high) old new) → LeavesOnly old new (Picks (nat_lt 2 start))
+append_picks shape start gate number high old new low stands touched =
+    leaves_weaker old new (ChangesWithin (IsInRange gate high) old.image) (Picks (nat_lt 2 start))
+    (λ honest left within. ap (λ o. is_marked (unwrap_or o [])) (within.others 0 (λ is. omega (arith, is.0, low))) ∙ stands_in shape start gate number old (stands honest))
+    (touched (λ honest. (stands honest).synced)).moments
 
 -- what an image that holds batches reads as
 pub holds_parts : (shape : Shape) (batches : List Batch) (image : Image) → Holds shape batches image → Parts (records_of batches)
@@ -50,18 +79,24 @@ joined_parts shape disk honest batches base entries holds stands =
     ap records_of (holds_unique shape batches found.batches disk.image (holds honest disk.image here) found.holds) ∙ found.joined
 
 -- what an opening has found
-pub opens : (old new : DiskState) (shape : Shape) (start gate number : ℕ) → ReadsOnly old new → new.failures ≡ old.failures → (old.is_honest → IsSynced new)
+pub opens : (old new : DiskState) (shape : Shape) (start gate number : ℕ) → ReadsOnly old new → new.failures ≡ old.failures → NoneFails old new → (old.is_honest → IsSynced new)
     → (old.is_honest → StandsAt shape start gate number new) → Opens old new shape (gate - start)
-opens old new shape start gate number only failures synced stands = record {
+opens old new shape start gate number only failures told synced stands = record {
   moments = only.touched.moments;
   runs = only.runs;
   writes = only.writes;
   failures = failures;
+  told = told;
   synced = synced;
   image = only.image;
   saved = only.saved;
   seen = only.touched.within;
   holds = λ honest. (let at = stands honest in (at.batches, holds_synced shape at.batches new (λ _. synced honest) (λ _. at.holds), omega (arith, at.at, at.starts)));
+  found = λ honest other batches holds.
+      (let at = stands honest in
+      let one : other ≡ shape = stamp_unique other shape new.image holds.stamped at.holds.stamped in
+      let same = holds_unique shape at.batches batches new.image at.holds (subst (λ (s : Shape). Holds s batches new.image) one holds) in
+      (one, omega (arith, at.at, at.starts, ap used same)));
   joined = λ honest. joined_parts shape new (only.runs.honest.1 honest);
   stands = λ honest.
       (let at = stands honest in

@@ -4,7 +4,8 @@ use Rattle.lift_base.specs.declared.history.Shape.{Shape}
 use Rattle.lift_disk.specs.Disk.{DiskState, Image, ChangesWithin, IsFilled, MayLeave, IsSynced}
 use Rattle.lift_disk.proofs.Moments.{changes_more, changes_twice}
 use Rattle.lift_journal.specs.Layout.{Batch, Holds, IsPrepared, is_marked, sector_at}
-use Rattle.lift_journal.specs.Stops.{MissesGate, StopsAtGate}
+use Rattle.lift_journal.specs.Steps.{marked}
+use Rattle.lift_journal.specs.Stops.{Misses, StopsAtGate}
 use Rattle.lift_journal.proofs.Chains.{all_same, holds_closed, holds_opened}
 use Rattle.lift_journal.proofs.Appends.{gate_opens}
 
@@ -13,14 +14,14 @@ pub synced_image : (disk : DiskState) → IsSynced disk → MayLeave disk disk.s
 synced_image disk synced lose = all_same disk.is_loose disk.image disk.synced synced.none_loose lose
 
 -- a sector of one byte is marked just where it is the mark
-mark_of : (byte : ℕ) → is_marked (replicate 512 byte) ≡ (byte == 165)
+pub mark_of : (byte : ℕ) → is_marked (replicate 512 byte) ≡ (byte == 165)
 mark_of byte = refl
 
-not_mark : (byte : ℕ) → byte ≢ 165 → (byte == 165) ≡ false
+pub not_mark : (byte : ℕ) → byte ≢ 165 → (byte == 165) ≡ false
 not_mark byte other = grind (arith, other)
 
 module _ (shape : Shape) (batches : List Batch) (batch : Batch) (gate made : ℕ) (old mid new : DiskState) (prepared : IsPrepared shape batches batch gate mid.image)
-    (before : mid.calls ≡ old.calls + made) (safe : mid.synced ≡ mid.image) (misses : MissesGate gate mid new)
+    (before : mid.calls ≡ old.calls + made) (safe : mid.synced ≡ mid.image) (misses : Misses gate marked mid new)
     (within : ChangesWithin (λ i. i ≡ gate) mid.image new.image) (loose : (i : ℕ) → new.is_loose i → i ≡ gate) (inside : gate < length mid.image) where
   filled_within : (byte : ℕ) (left : Image) → IsFilled byte new left → ChangesWithin (λ i. i ≡ gate) mid.image left
   filled_within byte left filled =

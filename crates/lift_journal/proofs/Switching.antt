@@ -1,5 +1,5 @@
 -- The half that isn't picked is written, and then picked.
-use Rattle.std.proofs.Common.{◌≡◌, ◌⊎◌, ◌<◌, ◌≤◌, ◌+◌, ◌-◌, inl, inr, ⊎_elim, ℕ, List, length, take, drop, slice_set, sym, ap, subst, arith}
+use Rattle.std.proofs.Common.{◌≡◌, ◌⊎◌, ◌<◌, ◌≤◌, ◌+◌, ◌-◌, inl, inr, ⊎_elim, ℕ, List, length, take, drop, slice_set, sym, ◌∙◌, ap, subst, arith}
 use Rattle.std.proofs.lemmas.List.{take-set-le, length-set}
 use Rattle.lift_base.specs.declared.history.Shape.{Shape}
 use Rattle.lift_disk.specs.Disk.{DiskState, Image, ChangesWithin, LeavesOnly, TouchesOnly, IsWhole}
@@ -8,7 +8,7 @@ use Rattle.lift_disk.proofs.History.{set_other}
 use Rattle.lift_journal.specs.Layout.{Batch, is_marked, IsClosed, IsChain, sector_at, start_of, IsStamped, IsSound, Holds}
 use Rattle.lift_journal.specs.Steps.{IsInRange, unmarked}
 use Rattle.lift_journal.specs.Walk.{Reaches}
-use Rattle.lift_journal.specs.Switch.{HasWritten}
+use Rattle.lift_journal.specs.Switch.{HasWritten, StopsSwitch, StopsWriting}
 use Rattle.lift_journal.proofs.Appends.{sector_set}
 use Rattle.lift_journal.proofs.Checkpoints.{reaches_same}
 use Rattle.lift_journal.proofs.Halves.{HalfHolds, half_same, stamped_else, holds_elsewhere, holds_picked}
@@ -62,6 +62,35 @@ checkpoint_leaves old mid new start end gate batches low high inside whole below
     (λ picked. inr (written_left start end gate batches old.image mid.image left low high (omega (arith, inside, touched.size, whole honest_mid)) below (reached honest) before picked))
     either) switched)
 
+-- Another pick changes nothing else.
+pub written_pick : (start end : ℕ) (batches : List Batch) (old mid left : Image) → 2 ≤ start → HasWritten start end batches old mid → ChangesWithin (λ i. i ≡ 0) mid left → HasWritten start end batches old left
+written_pick start end batches old mid left low written change = record {
+  within = changes_twice (IsWritten start) old mid left written.within (changes_more (λ i. i ≡ 0) (IsWritten start) mid left (λ i is. inr is) change);
+  chain = half_same (end - start) start batches (λ i. i ≡ 0) mid left (λ i is range. omega (arith, is, range.0, low)) change written.chain;
+}
+
+-- a switch that failed behind the batches
+pub writing_stops : (old mid new : DiskState) (start end gate sectors : ℕ) (batches : List Batch) (pick : List ℕ) → 2 ≤ start → start + 64 ≤ end → end ≤ length mid.image → gate < start + 64
+    → ChangesWithin (IsInRange start (start + 64)) old.image mid.image → Reaches mid.image start end gate batches → mid.calls ≡ old.calls + sectors
+    → StopsSwitch start (start + 64) gate pick mid new → StopsWriting start end batches sectors pick old new
+writing_stops old mid new start end gate sectors batches pick low high whole below before reached calls stops = record {
+  early = λ few honest left leaves.
+      changes_twice (IsInRange start (start + 64)) old.image mid.image left before (stops.early (omega (arith, few, calls)) honest left leaves);
+  late = λ more.
+      (let missed = stops.late (omega (arith, more, calls)) in
+      let safe = slice_set mid.image gate unmarked in (
+        safe,
+        written_left start end gate batches old.image mid.image safe low high whole below reached before (changes_nothing (λ i. i ≡ 0) safe),
+        set_other mid.image gate 0 unmarked (λ is. omega (arith, is, reached.at, low)) ∙ before.others 0 (λ is. omega (arith, is.0, low)),
+        record {
+          made = ⊎_elim (λ failed. inl (omega (arith, failed.0, calls), failed.1)) (λ written. inr (omega (arith, written.0, calls), written.1)) missed.made;
+          synced = missed.synced;
+          loose = missed.loose;
+          others = missed.others;
+        },
+      ));
+}
+
 -- The image holds the first batches, and the other half begins at start.
 module _ (shape : Shape) (first second : List Batch) (start : ℕ) (old : Image) (holds : Holds shape first old)
     (halves : ((start_of shape.half old ≡ 2) × (start ≡ shape.half + 2)) ⊎ ((start_of shape.half old ≡ shape.half + 2) × (start ≡ 2))) where
@@ -98,6 +127,14 @@ module _ (shape : Shape) (first second : List Batch) (start : ℕ) (old : Image)
         (λ a. holds_picked shape first second left left holds.sound sound stamped_left (subst (λ s. HalfHolds shape.half s first left) a.0 first_left) (subst (λ s. HalfHolds shape.half s second left) a.1 second_left) same)
         (λ b. ⊎_elim (λ one. inr one) (λ two. inl two) (holds_picked shape second first left left sound holds.sound stamped_left (subst (λ s. HalfHolds shape.half s second left) b.1 second_left) (subst (λ s. HalfHolds shape.half s first left) b.0 first_left) same))
         halves
+
+    -- and the one from before is still picked
+    pub unswitched : start_of shape.half left ≡ start_of shape.half old → Holds shape first left
+    unswitched same = record {
+      stamped = stamped_left;
+      chain = subst (λ s. HalfHolds shape.half s first left) (sym same) first_left;
+      sound = holds.sound;
+    }
 
     -- and the other one is picked
     pub switched : start_of shape.half left ≡ start → Holds shape second left

@@ -1,8 +1,10 @@
 -- An image reads in one way at most.
-use Rattle.std.proofs.Common.{◌≡◌, ◌≤◌, ◌+◌, ◌*◌, ◌-◌, ℕ, Bool, true, false, cond, nat_lt, List, [], ◌∷◌, ◌++◌, length, take, drop, replicate, All, refl, sym, ◌∙◌, ap, subst, arith, append_assoc, length-append}
+use Rattle.std.proofs.Common.{◌≡◌, ◌≤◌, ◌<◌, ◌^◌, ◌+◌, ◌*◌, ◌-◌, ℕ, get_or, Bool, true, false, cond, nat_lt, List, [], ◌∷◌, ◌++◌, length, take, drop, replicate, All, refl, sym, ◌∙◌, ap, subst, arith, append_assoc, length-append}
 use Rattle.std.specs.List.{concat, flat_map, AllByRecursion}
 use Rattle.std.proofs.lemmas.List.{take_at, drop_at, take-append-le, append-nil}
 use Rattle.std.proofs.lemmas.List.Elements.{recursion_from_All}
+use Rattle.std.proofs.lemmas.Nat.{from_be_bytes-to_be_bytes_4}
+use Rattle.std.specs.Int.{w32, to_be_bytes, from_be_bytes}
 use Rattle.lift_base.specs.declared.history.Record.{Record}
 use Rattle.lift_base.specs.declared.history.Shape.{Shape}
 use Rattle.lift_disk.specs.Disk.{Image}
@@ -10,7 +12,7 @@ use Rattle.lift_record.specs.declared.version.Version.{Version}
 use Rattle.lift_record.specs.Record.{spelling_of}
 use Rattle.lift_record.specs.Header.{header_bytes}
 use Rattle.lift_record.proofs.Spellings.{spelling_of_unique, header_versions, header_counts, length-spelling_of, length-header_bytes}
-use Rattle.lift_journal.specs.Layout.{Batch, bodies, size_of, filled, IsRecordIn, IsBody, IsChain, start_of, Holds}
+use Rattle.lift_journal.specs.Layout.{Batch, bodies, size_of, filled, IsRecordIn, IsBody, IsChain, start_of, stamp_bytes, IsStamped, Holds}
 use Rattle.lift_journal.proofs.Texts.{length-spellings}
 
 records_unique : (version : Version) (first second : List Record) → AllByRecursion (IsRecordIn version) first → AllByRecursion (IsRecordIn version) second → length first ≡ length second
@@ -120,3 +122,23 @@ chain_unique (batch ∷ batches) (other ∷ others) number (gate ∷ rest) a b =
 
 pub holds_unique : (shape : Shape) (batches others : List Batch) (image : Image) → Holds shape batches image → Holds shape others image → batches ≡ others
 holds_unique shape batches others image first second = chain_unique batches others 1 (take shape.half (drop (start_of shape.half image) image)) first.chain second.chain
+
+abbrev shape_with : ℕ → ℕ → ℕ → ℕ → Shape
+shape_with floors cars kiosks half = record { floors = floors; cars = cars; kiosks = kiosks; half = half }
+
+shape_same : (one two : Shape) → one.floors ≡ two.floors → one.cars ≡ two.cars → one.kiosks ≡ two.kiosks → one.half ≡ two.half → one ≡ two
+shape_same one two a b c d =
+    ap (λ n. shape_with n one.cars one.kiosks one.half) a ∙ ap (λ n. shape_with two.floors n one.kiosks one.half) b
+    ∙ ap (λ n. shape_with two.floors two.cars n one.half) c ∙ ap (λ n. shape_with two.floors two.cars two.kiosks n) d
+
+-- the sectors of a half, as its stamp spells them
+half_spelled : (shape : Shape) → shape.half < 2 ^ 32 → from_be_bytes w32 (take 4 (drop 12 (filled 1 (stamp_bytes shape)))) ≡ shape.half
+half_spelled shape fits =
+    ap (from_be_bytes w32) (take_at (to_be_bytes w32 shape.half) (replicate (512 * 1 - length (stamp_bytes shape)) 0) 4 refl) ∙ from_be_bytes-to_be_bytes_4 shape.half fits
+
+pub stamp_unique : (one two : Shape) (image : Image) → IsStamped one image → IsStamped two image → one ≡ two
+stamp_unique one two image first second =
+    let same : filled 1 (stamp_bytes one) ≡ filled 1 (stamp_bytes two) = sym first.stamp ∙ second.stamp in
+    shape_same one two (ap (λ (l : List ℕ). get_or l 8 0) same) (ap (λ (l : List ℕ). get_or l 9 0) same) (ap (λ (l : List ℕ). get_or l 10 0) same)
+    (sym (half_spelled one (omega (arith, first.within.half))) ∙ ap (λ (l : List ℕ). from_be_bytes w32 (take 4 (drop 12 l))) same
+    ∙ half_spelled two (omega (arith, second.within.half)))

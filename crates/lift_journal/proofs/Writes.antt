@@ -6,6 +6,8 @@ use Rattle.std.proofs.Math.Seq.{paste}
 use Rattle.lift_disk.specs.Disk.{DiskState, Image, GoesOn, RunsOn, Touches, LooseWithin, TouchesOnly, IsSteadyAt, LeavesNoOther, IsWhole}
 use Rattle.lift_disk.proofs.Moments.{runs_none, runs_call, runs_then, touches_write, touches_then, touches_none}
 use Rattle.lift_journal.specs.Steps.{overwritten, IsInRange}
+use Rattle.lift_journal.specs.Told.{NoneFails}
+use Rattle.lift_journal.proofs.Telling.{none_made, passes_then}
 
 -- so many of the sectors are written
 pub record Written (old now : DiskState) (first : ℕ) (sectors : Image) (count : ℕ) : Type 0 where
@@ -13,6 +15,7 @@ pub record Written (old now : DiskState) (first : ℕ) (sectors : Image) (count 
   pub failures : now.failures ≡ old.failures
   pub calls : now.calls ≡ old.calls + count
   pub writes : now.writes ≡ old.writes + count
+  pub told : NoneFails old now
   pub touched : (low high : ℕ) → low ≤ first → first + length sectors ≤ high → LooseWithin (IsInRange low high) old → TouchesOnly (IsInRange low high) old now
   pub steady : old.is_honest → old.is_steady → IsSteadyAt (paste old.image first sectors count) now
 
@@ -22,6 +25,7 @@ written_none old first sectors only_now = record {
   failures = refl;
   calls = omega arith;
   writes = omega arith;
+  told = none_made old;
   touched = λ low high le ge loose. touches_none (IsInRange low high) old loose only_now;
   steady = λ honest steady. record { steady = steady; same = paste_none old.image first sectors };
 }
@@ -36,15 +40,16 @@ touched_more old now new first sectors count so_far within only_now goes_on touc
     (touches_write (IsInRange low high) now new (first + count) goes_on touched (omega arith, omega arith) before.loose only_now)
 
 pub written_more : (old now new : DiskState) (first : ℕ) (sectors : Image) (count : ℕ) → Written old now first sectors count → count < length sectors → LeavesNoOther now
-    → GoesOn now new → (now.is_honest → Touches (first + count) now new) → new.failures ≡ now.failures → new.writes ≡ now.writes + 1
+    → GoesOn now new → (now.is_honest → Touches (first + count) now new) → new.failures ≡ now.failures → new.writes ≡ now.writes + 1 → NoneFails now new
     → first + length sectors ≤ old.size → IsWhole old
     → (now.is_honest → now.is_steady → IsSteadyAt (slice_set now.image (first + count) (get_or sectors count [])) new)
     → Written old new first sectors (count + 1)
-written_more old now new first sectors count so_far within only_now goes_on touched cause wrote room whole steady = record {
+written_more old now new first sectors count so_far within only_now goes_on touched cause wrote told room whole steady = record {
   runs = runs_then old now new so_far.runs (runs_call now new goes_on);
   failures = cause ∙ so_far.failures;
   calls = omega (arith, goes_on.calls, so_far.calls);
   writes = omega (arith, wrote, so_far.writes);
+  told = passes_then old now new so_far.runs so_far.told told;
   touched = touched_more old now new first sectors count so_far within only_now goes_on touched;
   steady = λ honest was_steady.
       let before = so_far.steady honest was_steady in

@@ -24,6 +24,8 @@ StandsFor shape base entries disk = LeavesNow disk (ReadsAs shape base entries)
 pub record JournalView (D : Type 0) : Type 0 where
   pub device : D
   pub shape : Shape
+  -- the second half is picked
+  pub is_second : Bool
   -- the sectors of the picked half before its closing gate
   pub used : ℕ
   -- how many calls of the device had failed when it was last opened

@@ -89,9 +89,17 @@ abbrev pub used : List Batch → ℕ
 used [] = 0
 used (batch ∷ batches) = suc (size_of batch + used batches)
 
--- the first sector of the half that the mark in sector 0 picks
+-- the mark in sector 0 picks the second half, and any other byte the first
+abbrev pub picks_second : Image → Bool
+picks_second image = is_marked (sector_at image 0)
+
+-- this half is picked
+abbrev pub Picks : Bool → Image → Type 0
+Picks is_second image = picks_second image ≡ is_second
+
+-- the first sector of the half that is picked
 abbrev pub start_of : ℕ → Image → ℕ
-start_of half image = if is_marked (sector_at image 0) then half + 2 else 2
+start_of half image = if picks_second image then half + 2 else 2
 
 -- the name of the format, the numbers of floors, cars and kiosks, and the sectors of a half
 abbrev pub stamp_bytes : Shape → List ℕ
@@ -115,6 +123,11 @@ pub record Holds (shape : Shape) (batches : List Batch) (image : Image) : Type 0
   pub stamped : IsStamped shape image
   pub chain : IsChain batches 1 (take shape.half (drop (start_of shape.half image) image))
   pub sound : IsSound batches
+
+-- the image holds these batches, in this half
+pub record HoldsIn (shape : Shape) (is_second : Bool) (batches : List Batch) (image : Image) : Type 0 where
+  pub holds : Holds shape batches image
+  pub picks : Picks is_second image
 
 -- behind this gate
 abbrev pub IsBehind : ℕ → ℕ → Type 0

@@ -1,5 +1,6 @@
 pub mod Order
 pub mod Layout
+pub mod Told
 pub mod Steps
 pub mod Stops
 pub mod Journal

@@ -8,6 +8,7 @@ use Rattle.lift_journal.specs.declared.fault.JournalFault.TheVariants.{Disk, Not
 use Rattle.lift_journal.specs.Layout.{Batch, records_of, Holds, IsStamped, start_of, used}
 use Rattle.lift_journal.specs.Walk.{IsDamagedAt}
 use Rattle.lift_journal.specs.Steps.{SavesAsRead}
+use Rattle.lift_journal.specs.Told.{NoneFails, FailsBy}
 use Rattle.lift_journal.specs.Journal.{StandsFor}
 
 -- It has opened: this is the shape, and so many sectors of the picked half are used.
@@ -17,12 +18,15 @@ pub record Opens (old new : DiskState) (shape : Shape) (taken : ℕ) : Type 0 wh
   pub runs : RunsOn old new
   pub writes : new.writes ≡ old.writes
   pub failures : new.failures ≡ old.failures
+  pub told : NoneFails old new
   -- at the end every crash leaves one and the same of these images
   pub synced : old.is_honest → IsSynced new
   pub image : KeepsImage old new
   pub saved : SavesAsRead old new
   pub seen : old.is_honest → MayLeave old new.image
   pub holds : old.is_honest → (batches : List Batch) × LeavesNow new (Holds shape batches) × (taken ≡ used batches)
+  -- what the image is known to hold is what was found
+  pub found : old.is_honest → (other : Shape) (batches : List Batch) → Holds other batches new.image → (other ≡ shape) × (taken ≡ used batches)
   -- these are the checkpoint and the entries that it reads as
   pub stands : old.is_honest → (base entries : List Record) × StandsFor shape base entries new
   -- which are the records of the batches, one after another
@@ -48,3 +52,4 @@ pub record Refuses (old new : DiskState) (fault : JournalFault) : Type 0 where
   pub image : KeepsImage old new
   pub saved : SavesAsRead old new
   pub cause : RefusedFor fault old new
+  pub told : FailsBy fault old new

@@ -5,6 +5,7 @@ use Rattle.lift_disk.specs.Disk.{DiskState, Image, IsSynced, KeepsImage, RunsOn,
 use Rattle.lift_journal.specs.declared.fault.JournalFault.{JournalFault}
 use Rattle.lift_journal.specs.declared.fault.JournalFault.TheVariants.{Disk, NotFormatted, Damaged, Full, Broken}
 use Rattle.lift_journal.specs.Layout.{Batch, filled, Holds, IsBody, size_of, used, start_of, IsSound}
+use Rattle.lift_journal.specs.Told.{NoneFails, LastFails}
 
 -- these sectors stand in a row from the first one on, and the others are as they were
 abbrev pub overwritten : Image → ℕ → Image → Image
@@ -12,6 +13,10 @@ overwritten image first sectors = take first image ++ sectors ++ drop (first + l
 
 abbrev pub IsInRange : ℕ → ℕ → ℕ → Type 0
 IsInRange low high i = (low ≤ i) × (i < high)
+
+-- the pick, the stamp and the first gate, and what was in doubt before
+abbrev pub IsFormatted : DiskState → ℕ → Type 0
+IsFormatted disk i = (i < 3) ⊎ disk.is_loose i
 
 -- an open gate, or the pick of the second half
 abbrev pub marked : List ℕ
@@ -48,17 +53,23 @@ pub record ReadsOnly (old new : DiskState) : Type 0 where
 -- and none of them failed, so that what was safe is read as it was
 pub record ReadsWell (old new : DiskState) : Type 0 where
   pub failures : new.failures ≡ old.failures
+  pub told : NoneFails old new
   pub kept : old.is_honest → IsSynced old → IsSyncedAt old.image new
+
+-- the last of the calls failed
+pub record HasFailed (old new : DiskState) : Type 0 where
+  pub failures : old.failures < new.failures
+  pub told : LastFails old new
 
 -- calls that write nothing and stop at the first that fails
 pub record Looks {T E : Type 0} (result : Result T E) (old new : DiskState) : Type 0 where
   pub only : ReadsOnly old new
   pub ok : OnOk result (ReadsWell old new)
-  pub err : OnErr result (old.failures < new.failures)
+  pub err : OnErr result (HasFailed old new)
 
 -- the cause of a fault: a call that failed, and without one nothing has changed
 abbrev pub HasItsCause : JournalFault → DiskState → DiskState → Type 0
-HasItsCause Disk old new = old.failures < new.failures
+HasItsCause Disk old new = HasFailed old new
 HasItsCause NotFormatted old new = ReadsWell old new
 HasItsCause (Damaged sector) old new = ReadsWell old new
 HasItsCause Full old new = ReadsWell old new

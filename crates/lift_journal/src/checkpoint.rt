@@ -1,5 +1,5 @@
 //! The steps of a checkpoint: a register's records are written into the half that isn't picked, which is then picked.
-ghost use Rattle.std.specs.Prelude.{◌≡◌, ◌≤◌, ◌<◌, ◌+◌, ◌^◌, ◌⊎◌, ℕ, length, take, drop, slice_get, ◌++◌, slice_set, OnOk, IfOk};
+ghost use Rattle.std.specs.Prelude.{◌≡◌, ◌≤◌, ◌<◌, ◌+◌, ◌^◌, ◌⊎◌, ℕ, length, take, drop, slice_get, ◌++◌, slice_set, OnOk, OnErr, IfOk};
 ghost use Rattle.std.specs.Option.{option_to_list};
 ghost use Rattle.lift_disk.specs.Disk.{HasCause, LooseWithin, TouchesOnly, LeavesOnly, ChangesWithin, IsSteadyAt, IsSynced, RunsOn};
 ghost use Rattle.lift_register.specs.Base.{base_records};
@@ -7,7 +7,9 @@ ghost use Rattle.lift_journal.specs.Layout.{sector_at};
 ghost use Rattle.lift_journal.specs.Steps.{Makes, overwritten, IsInRange, IsSyncedAt, marked, unmarked};
 ghost use Rattle.lift_journal.specs.Walk.{Reaches};
 ghost use Rattle.lift_journal.specs.Checkpoint.{batch_count, checkpoint_of, sectors_for};
-ghost use Rattle.lift_journal.specs.Switch.{IsOtherHalf, HasWritten};
+ghost use Rattle.lift_journal.specs.Switch.{IsOtherHalf, HasWritten, StopsSwitch, StopsWriting};
+ghost use Rattle.lift_journal.specs.Stops.{Misses};
+ghost use Rattle.lift_journal.specs.Told.{StopsAsTold};
 
 use crate::body::{body_count, body_of};
 use crate::device::{mark, write_sectors};
@@ -79,6 +81,7 @@ fn write_open_batch<D: Disk>(disk: &mut D, gate: u32, body: &[[u8; 512]]) -> Res
     ensures runs { RunsOn (D.state disk.old) (D.state disk.new) }
     ensures made { Makes result (1 + length body.now) (1 + length body.now) (D.state disk.old) (D.state disk.new) }
     ensures cause { HasCause result (D.state disk.old) (D.state disk.new) }
+    ensures told { StopsAsTold result (D.state disk.old) (D.state disk.new) }
     ensures touched { (low high : ℕ) → low ≤ gate → gate + 1 + length body.now ≤ high
         → LooseWithin (IsInRange low high) (D.state disk.old)
         → TouchesOnly (IsInRange low high) (D.state disk.old) (D.state disk.new) }
@@ -96,6 +99,7 @@ fn write_batches<D: Disk>(disk: &mut D, register: &Register, start: u32) -> Resu
     ensures runs { RunsOn (D.state disk.old) (D.state disk.new) }
     ensures made { Makes result (sectors_for (length (base_records register.now))) (sectors_for (length (base_records register.now))) (D.state disk.old) (D.state disk.new) }
     ensures cause { HasCause result (D.state disk.old) (D.state disk.new) }
+    ensures told { StopsAsTold result (D.state disk.old) (D.state disk.new) }
     ensures touched { LooseWithin (IsInRange start (start + 64)) (D.state disk.old)
         → TouchesOnly (IsInRange start (start + 64)) (D.state disk.old) (D.state disk.new) }
     ensures gate { IfOk result (λ gate. (gate ≡ start + sectors_for (length (base_records register.now))) × (gate < start + 64)) }
@@ -121,10 +125,12 @@ fn put_sector<D: Disk>(disk: &mut D, sector: u32, bytes: &[u8; 512]) -> Result<(
     ensures runs { RunsOn (D.state disk.old) (D.state disk.new) }
     ensures made { Makes result 2 1 (D.state disk.old) (D.state disk.new) }
     ensures cause { HasCause result (D.state disk.old) (D.state disk.new) }
+    ensures told { StopsAsTold result (D.state disk.old) (D.state disk.new) }
     ensures touched { (low high : ℕ) → low ≤ sector → sector < high → LooseWithin (IsInRange low high) (D.state disk.old)
         → TouchesOnly (IsInRange low high) (D.state disk.old) (D.state disk.new) }
     ensures stored { OnOk result ((D.state disk.old).is_honest → (D.state disk.old).is_steady
         → IsSyncedAt (slice_set (D.state disk.old).image sector bytes.now) (D.state disk.new)) }
+    ensures misses { OnErr result ((D.state disk.old).is_honest → (D.state disk.old).is_inert → Misses sector bytes.now (D.state disk.old) (D.state disk.new)) }
 {
     disk.write(sector, bytes)?;
     disk.sync()
@@ -136,6 +142,7 @@ fn switch_half<D: Disk>(disk: &mut D, gate: u32, pick: &[u8; 512]) -> Result<(),
     ensures runs { RunsOn (D.state disk.old) (D.state disk.new) }
     ensures made { Makes result 4 2 (D.state disk.old) (D.state disk.new) }
     ensures cause { HasCause result (D.state disk.old) (D.state disk.new) }
+    ensures told { StopsAsTold result (D.state disk.old) (D.state disk.new) }
     // Until the chain is closed and safe, a crash leaves the pick; after it, just the pick is in doubt.
     ensures any_moment { (low high : ℕ) → low ≤ gate → gate < high → LooseWithin (IsInRange low high) (D.state disk.old)
         → ((D.state disk.old).is_honest → (D.state disk.old).is_steady)
@@ -143,6 +150,9 @@ fn switch_half<D: Disk>(disk: &mut D, gate: u32, pick: &[u8; 512]) -> Result<(),
         ⊎ ChangesWithin (λ i. i ≡ 0) (slice_set (D.state disk.old).image gate unmarked) left) }
     ensures picked { OnOk result ((D.state disk.old).is_honest → (D.state disk.old).is_steady
         → IsSyncedAt (slice_set (slice_set (D.state disk.old).image gate unmarked) 0 pick.now) (D.state disk.new)) }
+    ensures stops { OnErr result ((low high : ℕ) → low ≤ gate → gate < high → LooseWithin (IsInRange low high) (D.state disk.old)
+        → (D.state disk.old).is_honest → (D.state disk.old).is_inert → (D.state disk.old).is_steady
+        → StopsSwitch low high gate pick.now (D.state disk.old) (D.state disk.new)) }
 {
     put_sector(disk, gate, &[0; 512])?;
     put_sector(disk, 0, pick)
@@ -162,6 +172,7 @@ pub fn write_checkpoint<D: Disk>(
     ensures runs { RunsOn (D.state disk.old) (D.state disk.new) }
     ensures made { Makes result (sectors_for (length (base_records register.now)) + 4) (sectors_for (length (base_records register.now)) + 2) (D.state disk.old) (D.state disk.new) }
     ensures cause { HasCause result (D.state disk.old) (D.state disk.new) }
+    ensures told { StopsAsTold result (D.state disk.old) (D.state disk.new) }
     ensures gate { IfOk result (λ gate. (gate ≡ start + sectors_for (length (base_records register.now))) × (gate < start + 64)) }
     ensures any_moment { (end : ℕ) → start + 64 ≤ end → end ≤ (D.state disk.old).size
         → ((D.state disk.old).is_honest → IsSynced (D.state disk.old))
@@ -173,6 +184,9 @@ pub fn write_checkpoint<D: Disk>(
     ensures written { OnOk result ((end : ℕ) → start + 64 ≤ end → end ≤ (D.state disk.old).size
         → (D.state disk.old).is_honest → IsSynced (D.state disk.old)
         → HasWritten start end (checkpoint_of (base_records register.now)) (D.state disk.old).image (D.state disk.new).image) }
+    ensures stops { OnErr result ((end : ℕ) → start + 64 ≤ end → end ≤ (D.state disk.old).size
+        → (D.state disk.old).is_honest → (D.state disk.old).is_inert → IsSynced (D.state disk.old)
+        → StopsWriting start end (checkpoint_of (base_records register.now)) (sectors_for (length (base_records register.now))) pick.now (D.state disk.old) (D.state disk.new)) }
 {
     let gate = write_batches(disk, register, start)?;
     switch_half(disk, gate, pick)?;

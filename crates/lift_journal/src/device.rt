@@ -1,10 +1,11 @@
 //! The journal's writes, in steps of a few device calls each.
 ghost use Rattle.std.specs.Prelude.{◌≡◌, ◌≤◌, ◌<◌, ◌+◌, ◌^◌, ◌++◌, [], ◌∷◌, ◌⊎◌, ℕ, List, length, OnOk, OnErr, slice_set};
 ghost use Rattle.lift_disk.specs.Disk.{HasCause, LooseWithin, TouchesOnly, IsSteadyAt, RunsOn};
-ghost use Rattle.lift_disk.specs.Disk.{LeavesOnly};
+ghost use Rattle.lift_disk.specs.Disk.{LeavesOnly, IsSynced};
 ghost use Rattle.lift_journal.specs.Layout.{Batch, Holds, start_of};
 ghost use Rattle.lift_journal.specs.Steps.{Makes, overwritten, IsInRange, marked, unmarked, IsReady, IsSettled, IsSyncedAt};
-ghost use Rattle.lift_journal.specs.Stops.{MissesGate, StopsShort};
+ghost use Rattle.lift_journal.specs.Stops.{Misses, StopsShort};
+ghost use Rattle.lift_journal.specs.Told.{StopsAsTold};
 ghost use Rattle.lift_base.specs.declared.history.Shape.{Shape};
 
 use lift_disk::{Disk, DiskFault};
@@ -20,6 +21,7 @@ pub fn write_sectors<D: Disk>(
     ensures runs { RunsOn (D.state disk.old) (D.state disk.new) }
     ensures made { Makes result (length sectors.now) (length sectors.now) (D.state disk.old) (D.state disk.new) }
     ensures cause { HasCause result (D.state disk.old) (D.state disk.new) }
+    ensures told { StopsAsTold result (D.state disk.old) (D.state disk.new) }
     ensures touched { (low high : ℕ) → low ≤ first → first + length sectors.now ≤ high
         → LooseWithin (IsInRange low high) (D.state disk.old)
         → TouchesOnly (IsInRange low high) (D.state disk.old) (D.state disk.new) }
@@ -50,6 +52,7 @@ fn store_behind<D: Disk>(disk: &mut D, gate: u32, body: &[[u8; 512]]) -> Result<
     ensures runs { RunsOn (D.state disk.old) (D.state disk.new) }
     ensures made { Makes result (length body.now + 2) (length body.now + 1) (D.state disk.old) (D.state disk.new) }
     ensures cause { HasCause result (D.state disk.old) (D.state disk.new) }
+    ensures told { StopsAsTold result (D.state disk.old) (D.state disk.new) }
     ensures touched { LooseWithin (IsInRange (gate + 1) (gate + length body.now + 2)) (D.state disk.old)
         → TouchesOnly (IsInRange (gate + 1) (gate + length body.now + 2)) (D.state disk.old) (D.state disk.new) }
     ensures stored { OnOk result ((D.state disk.old).is_honest → (D.state disk.old).is_steady
@@ -66,11 +69,12 @@ fn open_gate<D: Disk>(disk: &mut D, gate: u32) -> Result<(), DiskFault>
     ensures runs { RunsOn (D.state disk.old) (D.state disk.new) }
     ensures made { Makes result 2 1 (D.state disk.old) (D.state disk.new) }
     ensures cause { HasCause result (D.state disk.old) (D.state disk.new) }
+    ensures told { StopsAsTold result (D.state disk.old) (D.state disk.new) }
     ensures touched { LooseWithin (IsInRange gate (gate + 1)) (D.state disk.old)
         → TouchesOnly (IsInRange gate (gate + 1)) (D.state disk.old) (D.state disk.new) }
     ensures opened { OnOk result ((D.state disk.old).is_honest → (D.state disk.old).is_steady
         → IsSyncedAt (slice_set (D.state disk.old).image gate marked) (D.state disk.new)) }
-    ensures misses { OnErr result ((D.state disk.old).is_honest → (D.state disk.old).is_inert → MissesGate gate (D.state disk.old) (D.state disk.new)) }
+    ensures misses { OnErr result ((D.state disk.old).is_honest → (D.state disk.old).is_inert → Misses gate marked (D.state disk.old) (D.state disk.new)) }
 {
     disk.write(gate, &mark())?;
     disk.sync()
@@ -83,9 +87,12 @@ pub fn write_batch<D: Disk>(disk: &mut D, gate: u32, body: &[[u8; 512]]) -> Resu
     ensures runs { RunsOn (D.state disk.old) (D.state disk.new) }
     ensures made { Makes result (length body.now + 4) (length body.now + 2) (D.state disk.old) (D.state disk.new) }
     ensures cause { HasCause result (D.state disk.old) (D.state disk.new) }
+    ensures told { StopsAsTold result (D.state disk.old) (D.state disk.new) }
     ensures any_moment { (shape : Shape) (batches : List Batch) (batch : Batch)
         → ((D.state disk.old).is_honest → IsReady shape batches batch gate body.now (D.state disk.old))
         → LeavesOnly (D.state disk.old) (D.state disk.new) (λ left. Holds shape batches left ⊎ Holds shape (batches ++ batch ∷ []) left) }
+    ensures touched { ((D.state disk.old).is_honest → IsSynced (D.state disk.old))
+        → TouchesOnly (IsInRange gate (gate + length body.now + 2)) (D.state disk.old) (D.state disk.new) }
     ensures written { OnOk result ((shape : Shape) (batches : List Batch) (batch : Batch) → (D.state disk.old).is_honest
         → IsReady shape batches batch gate body.now (D.state disk.old)
         → IsSettled shape (batches ++ batch ∷ []) (start_of shape.half (D.state disk.old).image) (D.state disk.new)) }

@@ -1,10 +1,11 @@
 //! The making of an empty journal.
-ghost use Rattle.std.specs.Prelude.{◌≡◌, ◌⊎◌, ◌≤◌, ◌<◌, ◌+◌, ◌*◌, [], OnOk, slice_set};
+ghost use Rattle.std.specs.Prelude.{◌≡◌, ◌⊎◌, ◌≤◌, ◌<◌, ◌+◌, ◌*◌, [], false, OnOk, slice_set};
 ghost use Rattle.lift_base.specs.History.{IsWithinLimits};
-ghost use Rattle.lift_disk.specs.Disk.{HasCause, RunsOn, IsSynced};
-ghost use Rattle.lift_journal.specs.Layout.{filled, stamp_bytes};
+ghost use Rattle.lift_disk.specs.Disk.{HasCause, RunsOn, IsSynced, TouchesOnly};
+ghost use Rattle.lift_journal.specs.Layout.{filled, stamp_bytes, Picks};
 ghost use Rattle.lift_journal.specs.Journal.{ReadsAs};
-ghost use Rattle.lift_journal.specs.Steps.{IsSyncedAt, unmarked};
+ghost use Rattle.lift_journal.specs.Steps.{IsSyncedAt, Makes, IsFormatted, unmarked};
+ghost use Rattle.lift_journal.specs.Told.{StopsAsTold};
 
 use crate::stamp::stamp_of;
 use lift_base::Shape;
@@ -15,8 +16,9 @@ fn empty_half<D: Disk>(disk: &mut D) -> Result<(), DiskFault>
     requires { 2 < (D.state disk.old).size }
     ensures runs { RunsOn (D.state disk.old) (D.state disk.new) }
     ensures cause { HasCause result (D.state disk.old) (D.state disk.new) }
-    ensures calls { OnOk result ((D.state disk.new).calls ≡ (D.state disk.old).calls + 3) }
-    ensures writes { OnOk result ((D.state disk.new).writes ≡ (D.state disk.old).writes + 2) }
+    ensures told { StopsAsTold result (D.state disk.old) (D.state disk.new) }
+    ensures made { Makes result 3 2 (D.state disk.old) (D.state disk.new) }
+    ensures touched { TouchesOnly (IsFormatted (D.state disk.old)) (D.state disk.old) (D.state disk.new) }
     ensures stored { OnOk result ((D.state disk.old).is_honest → (D.state disk.old).is_steady ⊎ (D.state disk.old).is_inert
         → IsSyncedAt (slice_set (slice_set (D.state disk.old).image 0 unmarked) 2 unmarked) (D.state disk.new)) }
 {
@@ -30,8 +32,9 @@ fn put_stamp<D: Disk>(disk: &mut D, shape: &Shape) -> Result<(), DiskFault>
     requires { 1 < (D.state disk.old).size }
     ensures runs { RunsOn (D.state disk.old) (D.state disk.new) }
     ensures cause { HasCause result (D.state disk.old) (D.state disk.new) }
-    ensures calls { OnOk result ((D.state disk.new).calls ≡ (D.state disk.old).calls + 2) }
-    ensures writes { OnOk result ((D.state disk.new).writes ≡ (D.state disk.old).writes + 1) }
+    ensures told { StopsAsTold result (D.state disk.old) (D.state disk.new) }
+    ensures made { Makes result 2 1 (D.state disk.old) (D.state disk.new) }
+    ensures touched { TouchesOnly (IsFormatted (D.state disk.old)) (D.state disk.old) (D.state disk.new) }
     ensures stored { OnOk result ((D.state disk.old).is_honest → (D.state disk.old).is_steady ⊎ (D.state disk.old).is_inert
         → IsSyncedAt (slice_set (D.state disk.old).image 1 (filled 1 (stamp_bytes shape.now))) (D.state disk.new)) }
     ensures synced { OnOk result ((D.state disk.old).is_honest → IsSynced (D.state disk.new)) }
@@ -47,11 +50,15 @@ pub fn format<D: Disk>(disk: &mut D, shape: Shape) -> Result<(), DiskFault>
     requires room { 2 * shape.half + 2 ≤ (D.state disk.old).size }
     ensures runs { RunsOn (D.state disk.old) (D.state disk.new) }
     ensures cause { HasCause result (D.state disk.old) (D.state disk.new) }
-    ensures calls { OnOk result ((D.state disk.new).calls ≡ (D.state disk.old).calls + 5) }
-    ensures writes { OnOk result ((D.state disk.new).writes ≡ (D.state disk.old).writes + 3) }
+    ensures told { StopsAsTold result (D.state disk.old) (D.state disk.new) }
+    ensures made { Makes result 5 3 (D.state disk.old) (D.state disk.new) }
+    // Also where it fails, no other sector is touched.
+    ensures touched { TouchesOnly (IsFormatted (D.state disk.old)) (D.state disk.old) (D.state disk.new) }
     ensures synced { OnOk result ((D.state disk.old).is_honest → IsSynced (D.state disk.new)) }
     ensures empty { OnOk result ((D.state disk.old).is_honest → (D.state disk.old).is_steady ⊎ (D.state disk.old).is_inert
         → ReadsAs shape [] [] (D.state disk.new).image) }
+    ensures half { OnOk result ((D.state disk.old).is_honest → (D.state disk.old).is_steady ⊎ (D.state disk.old).is_inert
+        → Picks false (D.state disk.new).image) }
 {
     empty_half(disk)?;
     put_stamp(disk, &shape)

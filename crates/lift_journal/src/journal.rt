@@ -1,15 +1,16 @@
 //! Batches of records, each in the journal whole or not at all.
-ghost use Rattle.std.specs.Prelude.{◌≡◌, ◌≤◌, ◌<◌, ◌+◌, ◌-◌, ◌++◌, ◌⊎◌, ◌↔◌, List, [], ◌∷◌, IsTrue, length, OnOk, true, false, All, Ok, Err, IsErrOf, IfOk, IfErr, OnErr};
+ghost use Rattle.std.specs.Prelude.{◌≡◌, ◌≤◌, ◌<◌, ◌+◌, ◌-◌, ◌++◌, ◌⊎◌, ◌↔◌, List, [], ◌∷◌, IsTrue, length, OnOk, true, false, not, All, Ok, Err, IsErrOf, IfOk, IfErr, OnErr};
 ghost use Rattle.lift_base.specs.declared.history.Record.{Record as RecordValue};
 ghost use Rattle.lift_base.specs.Records.{IsLawful};
 ghost use Rattle.lift_disk.specs.Disk.{LeavesNow, LeavesOnly, MayLeave, IsSynced, Image, RunsOn};
 ghost use Rattle.lift_register.specs.Base.{base_records};
 ghost use Rattle.lift_journal.specs.Checkpoint.{checkpoint_of, sectors_for};
-ghost use Rattle.lift_journal.specs.Layout.{bodies, Batch, new_batch, Holds, used};
+ghost use Rattle.lift_journal.specs.Layout.{bodies, Batch, new_batch, Holds, Picks, used};
 ghost use Rattle.std.specs.Option.{option_map};
 ghost use Rattle.lift_journal.specs.Order.{IsEntry};
 ghost use Rattle.lift_journal.specs.Steps.{Makes, ReadsOnly, IsSyncedAt};
-ghost use Rattle.lift_journal.specs.Stops.{StopsShort};
+ghost use Rattle.lift_journal.specs.Stops.{StopsShort, StopsCheckpoint};
+ghost use Rattle.lift_journal.specs.Told.{AnswersAsTold};
 ghost use Rattle.lift_journal.specs.Fronts.{IsOfCursor};
 
 use crate::body::{body_count, body_of};
@@ -42,12 +43,12 @@ pub struct Journal<D: Disk> {
 }
 
 impl<D: Disk> Model for Journal<D> {
-    ghost use Rattle.std.specs.Prelude.{◌-◌};
+    ghost use Rattle.std.specs.Prelude.{◌-◌, nat_lt};
     ghost use Rattle.lift_journal.specs.Journal.{JournalView, IsJournal};
 
     ghost Value = { JournalView D };
 
-    ghost view = { λ j. record { device = j.device; shape = j.shape; used = j.gate - j.start; opened = (D.state j.opened.value).failures; is_broken = j.is_broken } };
+    ghost view = { λ j. record { device = j.device; shape = j.shape; is_second = nat_lt 2 j.start; used = j.gate - j.start; opened = (D.state j.opened.value).failures; is_broken = j.is_broken } };
 
     ghost invariant = { λ j. IsJournal j.shape j.start j.gate j.number j.is_broken (D.state j.opened.value).failures (D.state j.device) };
 }
@@ -88,6 +89,7 @@ impl<D: Disk> Journal<D> {
         ensures room { IsTrue result ↔ (self.now.used + bodies count + 2 ≤ self.now.shape.half) }
         ensures used { self.now.is_broken ≡ false → (D.state self.now.device).is_honest → (batches : List Batch)
             → LeavesNow (D.state self.now.device) (Holds self.now.shape batches) → self.now.used ≡ used batches }
+        ensures half { self.now.is_broken ≡ false → LeavesNow (D.state self.now.device) (Picks self.now.is_second) }
     {
         (self.gate - self.start) as usize + body_count(count) + 2 <= self.shape.half as usize
     }
@@ -104,6 +106,7 @@ impl<D: Disk> Journal<D> {
         ensures opens { IfOk result (λ journal. Opens (D.state disk) (D.state journal.device) journal.shape journal.used) }
         ensures whole { IfOk result (λ journal. journal.is_broken ≡ false) }
         ensures opened { IfOk result (λ journal. journal.opened ≡ (D.state journal.device).failures) }
+        ensures half { IfOk result (λ journal. LeavesNow (D.state journal.device) (Picks journal.is_second)) }
         ensures refused { IfErr result (λ err. Refuses (D.state disk) (D.state err.0) err.1) }
     {
         let mut device = disk;
@@ -146,10 +149,13 @@ impl<D: Disk> Journal<D> {
         ensures any_moment_listed { (batches : List Batch) → LeavesNow (D.state self.old.device) (Holds self.old.shape batches)
             → LeavesOnly (D.state self.old.device) (D.state self.new.device)
             (λ left. Holds self.old.shape batches left ⊎ Holds self.old.shape (batches ++ new_batch batch.now.items ∷ []) left) }
+        // The half that is picked stays so.
+        ensures half { self.old.is_broken ≡ false → LeavesOnly (D.state self.old.device) (D.state self.new.device) (Picks self.old.is_second) }
         ensures cursors { (batches : List Batch) (cursor : CursorView) → IsCursorIn batches cursor → IsCursorIn (batches ++ new_batch batch.now.items ∷ []) cursor }
 
         ensures runs { RunsOn (D.state self.old.device) (D.state self.new.device) }
         ensures made { Makes result (bodies (length batch.now.items) + 4) (bodies (length batch.now.items) + 2) (D.state self.old.device) (D.state self.new.device) }
+        ensures told { AnswersAsTold result (D.state self.old.device) (D.state self.new.device) }
         ensures stops { IsErrOf result JournalFault.Disk → (D.state self.old.device).is_honest → (D.state self.old.device).is_inert → (batches : List Batch)
             → LeavesNow (D.state self.old.device) (Holds self.old.shape batches)
             → StopsShort self.old.shape batches (new_batch batch.now.items) (bodies (length batch.now.items)) (D.state self.old.device) (D.state self.new.device) }
@@ -162,6 +168,7 @@ impl<D: Disk> Journal<D> {
         ensures refused { IsErrOf result JournalFault.Full ⊎ IsErrOf result JournalFault.Broken → self.new ≡ self.old }
         ensures causes { IfErr result (λ fault. (fault ≡ JournalFault.Disk) ⊎ (fault ≡ JournalFault.Full) ⊎ (fault ≡ JournalFault.Broken)) }
         ensures shape { self.new.shape ≡ self.old.shape }
+        ensures second { self.new.is_second ≡ self.old.is_second }
         ensures opened { self.new.opened ≡ self.old.opened }
         ensures used { OnOk result (self.new.used ≡ self.old.used + bodies (length batch.now.items) + 1) }
     {
@@ -201,6 +208,16 @@ impl<D: Disk> Journal<D> {
         ensures runs { RunsOn (D.state self.old.device) (D.state self.new.device) }
         ensures made { Makes result (sectors_for (length (base_records register.now)) + 4) (sectors_for (length (base_records register.now)) + 2)
             (D.state self.old.device) (D.state self.new.device) }
+        ensures told { AnswersAsTold result (D.state self.old.device) (D.state self.new.device) }
+
+        // Where it stopped says which half a cut leaves picked.
+        ensures stops { IsErrOf result JournalFault.Disk → (D.state self.old.device).is_honest → (D.state self.old.device).is_inert → (batches : List Batch)
+            → LeavesNow (D.state self.old.device) (Holds self.old.shape batches)
+            → StopsCheckpoint self.old.shape self.old.is_second batches (checkpoint_of (base_records register.now)) (sectors_for (length (base_records register.now)))
+            (D.state self.old.device) (D.state self.new.device) }
+        ensures half { OnOk result (LeavesNow (D.state self.new.device) (Picks self.new.is_second)) }
+        ensures switched { OnOk result (self.new.is_second ≡ not self.old.is_second) }
+        ensures kept { OnErr result ((self.new.is_second ≡ self.old.is_second) × (self.new.used ≡ self.old.used)) }
         ensures used { OnOk result (self.new.used ≡ sectors_for (length (base_records register.now))) }
         ensures failed { IsErrOf result JournalFault.Disk → (D.state self.old.device).failures < (D.state self.new.device).failures }
         ensures breaks { IsErrOf result JournalFault.Disk → self.new.is_broken ≡ true }
@@ -261,8 +278,10 @@ impl<D: Disk> Journal<D> {
             → Holds self.old.shape batches (D.state self.old.device).image → IsCursorIn batches cursor.old → ⊥ }
         ensures broken { IsErrOf result JournalFault.Broken ↔ (self.old.is_broken ≡ true) }
         ensures refused { IsErrOf result JournalFault.Broken → self.new ≡ self.old }
+        ensures told { AnswersAsTold result (D.state self.old.device) (D.state self.new.device) }
         ensures causes { IfErr result (λ fault. IsOfCursor fault) }
         ensures same { (self.new.shape ≡ self.old.shape) × (self.new.used ≡ self.old.used) × (self.new.opened ≡ self.old.opened) }
+        ensures second { self.new.is_second ≡ self.old.is_second }
     {
         if self.is_broken {
             return Err(JournalFault::Broken);
@@ -297,10 +316,12 @@ impl<D: Disk> Journal<D> {
         ensures opens { OnOk result (Opens (D.state self.old.device) (D.state self.new.device) self.new.shape self.new.used) }
         ensures whole { OnOk result (self.new.is_broken ≡ false) }
         ensures opened { OnOk result (self.new.opened ≡ (D.state self.new.device).failures) }
+        ensures half { OnOk result (LeavesNow (D.state self.new.device) (Picks self.new.is_second)) }
         ensures refused { IfErr result (λ fault. Refuses (D.state self.old.device) (D.state self.new.device) fault) }
         ensures breaks { IsErrOf result JournalFault.Disk → self.new.is_broken ≡ true }
         ensures stays { IfErr result (λ fault. (fault ≡ JournalFault.Disk) ⊎ (self.new.is_broken ≡ self.old.is_broken)) }
         ensures same { OnErr result ((self.new.shape ≡ self.old.shape) × (self.new.used ≡ self.old.used) × (self.new.opened ≡ self.old.opened)) }
+        ensures second { OnErr result (self.new.is_second ≡ self.old.is_second) }
     {
         match find_place(&mut self.device) {
             Ok(place) => {
@@ -330,6 +351,7 @@ impl<D: Arm> Journal<D> {
         ensures same { IsUnchanged (D.state self.old.device) (D.state self.new.device) }
         ensures told { IsTold (D.fails_by calls (D.state self.old.device).calls) (D.state self.new.device) }
         ensures rest { (self.new.shape ≡ self.old.shape) × (self.new.used ≡ self.old.used) × (self.new.opened ≡ self.old.opened) × (self.new.is_broken ≡ self.old.is_broken) }
+        ensures second { self.new.is_second ≡ self.old.is_second }
     {
         self.device.arm(calls);
     }

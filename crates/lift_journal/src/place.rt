@@ -9,6 +9,7 @@ ghost use Rattle.lift_journal.specs.Steps.{Examines, ReadsOnly, HasItsCause};
 ghost use Rattle.lift_journal.specs.Walk.{IsDamagedAt};
 ghost use Rattle.lift_journal.specs.Opening.{RefusedFor};
 ghost use Rattle.lift_journal.specs.Fronts.{IsOfChain, IsOfStamp};
+ghost use Rattle.lift_journal.specs.Told.{NoneFails};
 
 use crate::fault::JournalFault;
 use crate::reads::{read_mark, read_sector, settle};
@@ -82,6 +83,7 @@ fn place_of<D: Disk>(disk: &mut D, shape: Shape) -> Result<Place, JournalFault>
 pub fn find_place<D: Disk>(disk: &mut D) -> Result<Place, JournalFault>
     ensures only { ReadsOnly (D.state disk.old) (D.state disk.new) }
     ensures failures { OnOk result ((D.state disk.new).failures ≡ (D.state disk.old).failures) }
+    ensures told { OnOk result (NoneFails (D.state disk.old) (D.state disk.new)) }
     ensures settled { OnOk result ((D.state disk.old).is_honest → IsSynced (D.state disk.new)) }
     ensures place { IfOk result (λ place. HasPlace (D.state disk.new).size place.shape place.start place.gate place.number) }
     ensures stands { IfOk result (λ place. (D.state disk.old).is_honest → StandsAt place.shape place.start place.gate place.number (D.state disk.new)) }

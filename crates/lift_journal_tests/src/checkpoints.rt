@@ -1,103 +1,13 @@
 //! Checkpoints: what they write, at each call of the device, and what a power cut leaves.
+use crate::cuts::OUTCOMES;
 use crate::listing::{add_stops, lists_stops};
 use crate::noting::{Call, NotingDisk};
-use crate::records::demo;
+use crate::registers::{is_checkpoint, largest, small};
 use crate::sectors::{CLOSED, OPEN, STAMP, ZEROS, header, holds, image, sector_of, stop_bytes};
-use lift_base::{Content, Dir, Floor, Last, Letter, Number, Party, Record, Row, Terminal};
-use lift_building::Building;
-use lift_disk::{Arm, Disk, FlakyDisk, MemDisk, Outcome};
+use lift_disk::{FlakyDisk, MemDisk, Outcome};
 use lift_journal::{Journal, JournalFault};
-use lift_register::Register;
 use std::process::Abort;
 use std::test::Fail;
-
-/// Sixteen cars of 32 places and 47 kiosks, all on the upper one of two floors.
-const LARGEST: &str = "floors = 2
-door_ms = 6000
-kiosks = [1,1,1,1,1,1,1,1,1,1,1,1,1,1,1,1,1,1,1,1,1,1,1,1,1,1,1,1,1,1,1,1,1,1,1,1,1,1,1,1,1,1,1,1,1,1,1]
-flight = [[0,3000],[3000,0]]
-cars = [{places=32},{places=32},{places=32},{places=32},{places=32},{places=32},{places=32},{places=32},{places=32},{places=32},{places=32},{places=32},{places=32},{places=32},{places=32},{places=32}]
-";
-
-const OUTCOMES: [Outcome; 5] = [
-    Outcome::Keep,
-    Outcome::Lose,
-    Outcome::Fill(0),
-    Outcome::Fill(165),
-    Outcome::Fill(255),
-];
-
-/// The last command of a car, a stop at floor 0, up; or of a kiosk, a call by car A.
-fn last(index: u8, number: u32) -> Record {
-    let terminal = Terminal::new(index).unwrap_or_default();
-    let content = match terminal.car() {
-        Some(_) => Content::Stopped {
-            floor: Floor::default(),
-            dir: Dir::Up,
-        },
-        None => Content::Letter {
-            from: Floor::new(1).unwrap_or_default(),
-            to: Floor::default(),
-            car: Letter::default(),
-            party: Party::default(),
-        },
-    };
-    let number = Number::new(number).unwrap_or_default();
-    Record::Last {
-        terminal,
-        last: Last { number, content },
-    }
-}
-
-/// An open call of a kiosk for this car.
-fn row(index: u8, car: u8) -> Record {
-    Record::Row(Row {
-        kiosk: Terminal::of_kiosk(index).unwrap_or_default(),
-        number: Number::new(1).unwrap_or_default(),
-        from: Floor::new(1).unwrap_or_default(),
-        to: Floor::default(),
-        car: Letter::new(car).unwrap_or_default(),
-        party: Party::default(),
-        aboard: false,
-    })
-}
-
-fn take(register: &mut Register, building: &Building, record: &Record) -> bool {
-    if register.base_fits(building, record) {
-        register.apply_base(building, record);
-        true
-    } else {
-        false
-    }
-}
-
-/// A register of two records: the last command of car A, with this number, and no call done.
-fn small<R: AllocGlobal + Abort>(rt: &R, number: u32) -> Register {
-    let building = Building::read(rt.alloc(), LARGEST)
-        .ok()
-        .expect(rt, "a building");
-    let mut register = Register::empty(demo());
-    assert!(rt; take(&mut register, &building, &last(0, number)));
-    register
-}
-
-/// The register with the most records: 32 open calls for each of 16 cars, and 63 last commands.
-fn largest<R: AllocGlobal + Abort>(rt: &R) -> Register {
-    let building = Building::read(rt.alloc(), LARGEST)
-        .ok()
-        .expect(rt, "a building");
-    let mut register = Register::empty(demo());
-    for car in 0..16 {
-        for kiosk in 0..32 {
-            assert!(rt; take(&mut register, &building, &row(kiosk, car)));
-        }
-    }
-    for index in 0..63 {
-        assert!(rt; take(&mut register, &building, &last(index, 11)));
-    }
-    assert!(rt; take(&mut register, &building, &Record::Done { count: 5 }));
-    register
-}
 
 /// A formatted disk with one batch of one stop, in this version.
 fn disk_with_a_stop<R: AllocGlobal + Abort>(rt: &R, version: u8) -> MemDisk {
@@ -105,37 +15,6 @@ fn disk_with_a_stop<R: AllocGlobal + Abort>(rt: &R, version: u8) -> MemDisk {
     image(rt.alloc(), 130, STAMP, CLOSED, 2, &[OPEN, body, CLOSED])
         .ok()
         .expect(rt, "memory")
-}
-
-/// The place behind these records, where they are the register's from this place on.
-fn place_behind(register: &Register, place: usize, records: &[Record]) -> Option<usize> {
-    let mut next = place;
-    for record in records {
-        if next >= register.base_len() || register.base_record(next) != *record {
-            return None;
-        }
-        next += 1;
-    }
-    Some(next)
-}
-
-/// Whether the journal holds just the register's records, in batches of 63; the last one may be shorter.
-fn is_checkpoint<D: Disk>(journal: &mut Journal<D>, register: &Register) -> bool {
-    let mut cursor = journal.first();
-    let mut place = 0;
-    for _ in 0..11 {
-        let Ok(Some(found)) = journal.next(&mut cursor) else {
-            return place == register.base_len();
-        };
-        let Some(behind) = place_behind(register, place, found.as_slice()) else {
-            return false;
-        };
-        if found.len() != 63 && behind != register.base_len() {
-            return false;
-        }
-        place = behind;
-    }
-    false
 }
 
 /// The batch, its gate, the closing gate; the pick once they are safe. The next checkpoint goes into the first half.

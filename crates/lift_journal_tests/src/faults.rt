@@ -1,4 +1,5 @@
 //! Faults at each call of the device, and what a power cut leaves behind them.
+use crate::cuts::OUTCOMES;
 use crate::listing::{add_stops, lists_stops, make};
 use crate::records::demo;
 use lift_disk::{Arm, FlakyDisk, FuseDisk, MemDisk, Outcome};
@@ -6,22 +7,18 @@ use lift_journal::{Journal, JournalFault};
 use std::process::Abort;
 use std::test::Fail;
 
-const OUTCOMES: [Outcome; 5] = [
-    Outcome::Keep,
-    Outcome::Lose,
-    Outcome::Fill(0),
-    Outcome::Fill(165),
-    Outcome::Fill(255),
-];
-
-/// A journal with two batches of one stop each.
-fn two<R: AllocGlobal + Abort>(rt: &R) -> MemDisk {
-    let mut disk = MemDisk::new(rt.alloc(), 130).ok().expect(rt, "memory");
+/// The device, formatted, with two batches of one stop each.
+pub(crate) fn with_two(rt: &impl Abort, mut disk: MemDisk) -> MemDisk {
     assert!(rt; make(&mut disk, demo()) == Some(Ok(())));
     let mut journal = Journal::open(disk).ok().expect(rt, "a journal");
     assert!(rt; add_stops(&mut journal, 1, 1) == Some(Ok(())));
     assert!(rt; add_stops(&mut journal, 2, 1) == Some(Ok(())));
     journal.into_disk()
+}
+
+/// A journal with two batches of one stop each.
+fn two<R: AllocGlobal + Abort>(rt: &R) -> MemDisk {
+    with_two(rt, MemDisk::new(rt.alloc(), 130).ok().expect(rt, "memory"))
 }
 
 /// Whether the batch is in the journal, for an append of five calls of which this one failed, by what the cut leaves:

@@ -4,7 +4,11 @@
 #[cfg(test)]
 mod appending;
 #[cfg(test)]
+mod arbitrary;
+#[cfg(test)]
 mod checkpoints;
+#[cfg(test)]
+mod cuts;
 #[cfg(test)]
 mod faults;
 #[cfg(test)]
@@ -14,10 +18,16 @@ mod listing;
 #[cfg(test)]
 mod noting;
 #[cfg(test)]
+mod numbers;
+#[cfg(test)]
 mod opening;
 #[cfg(test)]
 mod reading;
 #[cfg(test)]
 mod records;
+#[cfg(test)]
+mod recovery;
+#[cfg(test)]
+mod registers;
 #[cfg(test)]
 mod sectors;

@@ -12,16 +12,15 @@ use Rattle.lift_base.specs.declared.travel.Dir.{Dir}
 use Rattle.lift_base.specs.declared.travel.Position.{Position}
 use Rattle.lift_base.specs.declared.history.Entry.{Entry}
 use Rattle.lift_building.specs.Plan.{Plan}
-use Rattle.lift_register.specs.Register.{RegisterState, register_of, empty}
+use Rattle.lift_register.specs.Register.{RegisterState, register_of}
 use Rattle.lift_register.specs.WellFormed.{IsWellFormed}
 use Rattle.lift_register.specs.Belongs.{BelongsTo}
 use Rattle.lift_register.specs.Balanced.{IsBalanced}
-use Rattle.lift_register.proofs.Laws.{IsWellFormed-empty, BelongsTo-empty, IsBalanced-empty}
 use Rattle.lift_stops.specs.Schedule.{ScheduleState}
 use Rattle.lift_policy.specs.View.{positions_of, position_of, AreSchedulesOf}
 use Rattle.lift_policy.specs.Step.{State, accepting, standing}
 use Rattle.lift_policy.specs.Laws.{IsStateIn}
-use Rattle.lift_keeper.specs.Decider.{IsBatch, nothing, state_of}
+use Rattle.lift_keeper.specs.Decider.{IsBatch, starting, state_of}
 use Rattle.lift_keeper.proofs.Changes.{set_here, positions_at, positions_kept, with_row}
 
 pub standing_inside : (plan : Plan) (state : State) (car floor : ℕ) (dir : Dir) → floor < plan.floors → IsStateIn plan state → IsStateIn plan (standing state car floor dir)
@@ -48,10 +47,10 @@ nobody_here zero k q h = cc
 nobody_here (suc n) zero q h = cc
 nobody_here (suc n) (suc k) q h = nobody_here n k q h
 
-pub nothing_inside : (plan : Plan) → IsStateIn plan nothing
-nothing_inside plan = record {
-  possible = record { register = IsWellFormed-empty; belongs = BelongsTo-empty plan; here = λ k q h. absurd (nobody_here 16 k q h) };
-  balanced = IsBalanced-empty;
+pub starting_inside : (plan : Plan) (register : RegisterState) → IsWellFormed register → BelongsTo plan register → IsBalanced register → IsStateIn plan (starting register)
+starting_inside plan register lawful belongs balanced = record {
+  possible = record { register = lawful; belongs = belongs; here = λ k q h. absurd (nobody_here 16 k q h) };
+  balanced = balanced;
   cars = refl;
 }
 
@@ -102,3 +101,13 @@ pub room_at : (s : State) (r : RegisterState) (schedules : List (Option Schedule
 room_at s r schedules b i is cars lt =
     let count : length (positions_of schedules) ≡ 16 = subst (λ (x : State). length x.positions ≡ 16) (sym is) cars in
     omega (arith, count, length-map schedules (option_map (λ (x : ScheduleState). x.position)))
+
+-- no car has a schedule
+pub all_none : (schedules : List (Option ScheduleState)) (n : ℕ) → length schedules ≡ n → ((i : ℕ) (d : Option ScheduleState) → i < n → get_or schedules i d ≡ None)
+    → schedules ≡ replicate n None
+all_none [] zero long each = refl
+all_none [] (suc n) long each = absurd (omega arith)
+all_none (o ∷ schedules) zero long each = absurd (omega arith)
+all_none (o ∷ schedules) (suc n) long each =
+    ap (λ (p : Option ScheduleState). p ∷ schedules) (each 0 None (omega arith))
+    ∙ ap (λ (l : List (Option ScheduleState)). None ∷ l) (all_none schedules n (omega arith) (λ i d lt. each (suc i) d (omega arith)))

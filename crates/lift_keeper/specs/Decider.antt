@@ -22,9 +22,13 @@ state_of register schedules batch = record { register = register; positions = po
 abbrev pub state_seen : ViewState → State
 state_seen view = record { register = view.register; positions = view.positions; batch = [] }
 
+-- these calls; no car has told where it is
+abbrev pub starting : RegisterState → State
+starting register = record { register = register; positions = replicate 16 None; batch = [] }
+
 -- no calls, and no car has told where it is
 abbrev pub nothing : State
-nothing = record { register = empty; positions = replicate 16 None; batch = [] }
+nothing = starting empty
 
 -- entries that the journal may hold, as many as one batch may have
 pub record IsBatch (entries : List Entry) : Type 0 where

@@ -1,1 +1,4 @@
 pub mod Decider
+pub mod Fault
+pub mod Recovery
+pub mod Opening

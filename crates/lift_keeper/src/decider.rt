@@ -12,7 +12,7 @@ ghost use Rattle.lift_register.specs.Balanced.{IsBalanced};
 ghost use Rattle.lift_policy.specs.View.{positions_of, AreSchedulesOf, IsViewIn};
 ghost use Rattle.lift_policy.specs.Eligible.{eligible_cars};
 ghost use Rattle.lift_policy.specs.Step.{Step, Proceeds, first_cause, view_of, standing, stopping, next_from};
-ghost use Rattle.lift_keeper.specs.Decider.{IsPossible, nothing};
+ghost use Rattle.lift_keeper.specs.Decider.{IsPossible, nothing, starting};
 
 use crate::causes::{call_at, first_cause, is_next};
 use crate::group::Group;
@@ -49,7 +49,18 @@ impl<'b> Decider<'b> {
     pub fn new(building: &'b Building) -> Self
         ensures { result ≡ record { plan = building.now; state = nothing } }
     {
-        let group = Group::new(building.shape(64));
+        Decider::of(building, Register::empty(building.shape(64)))
+    }
+
+    /// A decider that goes on from these calls, in which no car has told where it is.
+    pub fn of(building: &'b Building, register: Register) -> Self
+        requires belongs { BelongsTo building.now register }
+        requires balanced { IsBalanced register }
+        ensures { result ≡ record { plan = building.now; state = starting register } }
+    {
+        let _floors = building.floors();
+        let _done = register.done();
+        let group = Group::of(register);
         Decider { building, group }
     }
 

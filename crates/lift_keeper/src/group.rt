@@ -12,11 +12,11 @@ ghost use Rattle.lift_register.specs.WellFormed.{IsWellFormed};
 ghost use Rattle.lift_register.specs.Fits.{Fits};
 ghost use Rattle.lift_policy.specs.Step.{view_of, accepting, standing, next_from};
 ghost use Rattle.lift_policy.specs.Laws.{IsStateIn};
-ghost use Rattle.lift_keeper.specs.Decider.{IsBatch, nothing};
+ghost use Rattle.lift_keeper.specs.Decider.{IsBatch, starting};
 
 use crate::schedules::{inserted, moved, served};
 use arrayvec::ArrayVec;
-use lift_base::{Content, Entry, Letter, Number, Position, Row, Shape, Stop, Terminal};
+use lift_base::{Content, Entry, Letter, Number, Position, Row, Stop, Terminal};
 use lift_building::Building;
 use lift_cost::NewCall;
 use lift_policy::{Command, View};
@@ -70,12 +70,12 @@ impl Model for Group {
 }
 
 impl Group {
-    /// No calls, and no car has told where it is.
-    pub fn new(shape: Shape) -> Self
-        ensures { result ≡ nothing }
+    /// These calls; no car has told where it is.
+    pub fn of(register: Register) -> Self
+        ensures { result ≡ starting register }
     {
         Group {
-            register: Register::empty(shape),
+            register,
             schedules: Default::default(),
             batch: ArrayVec::new(),
         }

@@ -18,12 +18,14 @@ use Rattle.lift_world.specs.declared.event.Taken.{Taken}
 use Rattle.lift_world.specs.declared.event.Event.{Event}
 use Rattle.lift_world.specs.declared.event.Event.TheVariants.{Ask, Take, Seal, Pull, Fold, Body as BodyWrite, FirstSync, Gate, SecondSync, Answer as Answering, Hear, Fault, Cut, Reopen}
 use Rattle.lift_world.specs.declared.event.Phase.{Phase}
-use Rattle.lift_world.specs.declared.event.Phase.TheVariants.{Idle, Writing, Synced, GateWritten}
+use Rattle.lift_world.specs.declared.event.Phase.TheVariants.{Writing, Synced, GateWritten}
 use Rattle.lift_world.specs.Decided.{Decision, when, decided}
 use Rattle.lift_world.specs.World.{World, Batch, no_batch, start, register_after, outcome, batch_of, state_of, acknowledged, told_in, is_running, is_broken, is_off, asks, is_taken_of, may_keep, written, is_idle, is_synced, is_gate_written}
 use Rattle.lift_world.specs.Next.{run, next, unknown_to, deciding, taking, asking, sealing, pulled, in_phase, settling, failing, answering, hearing, cutting, reopened, may_ask, may_take, may_seal, may_pull, may_write, may_sync, may_fail, may_reopen, next_answer}
 use Rattle.lift_world.specs.Headline.{RecoversPrefix, RecoversAcknowledged, RecoversFitting}
 use Rattle.lift_world.specs.Replays.{FitAfter}
+use Rattle.lift_world.specs.Lawful.{AcceptsFitting}
+use Rattle.lift_world.proofs.Phases.{not_idle, not_idle_synced, writing_busy}
 use Rattle.lift_world.proofs.Moves.{hold_when, hold_if, hold_then, hold_map}
 use Rattle.lift_world.proofs.Entries.{find_held}
 use Rattle.lift_world.proofs.Decisions.{IsAllotted, DecidesWell, decides_well, fits_allotted, told-unknown}
@@ -309,24 +311,6 @@ reopened_keeps w kept k = record {
   taken_told = All-nil (Tells w.building (outcome w kept));
 }
 
-not_idle : (phase : Phase) → is_gate_written phase ≡ true → is_idle phase ≡ false
-not_idle Idle h = absurd (false≢true h)
-not_idle (Writing n) h = absurd (false≢true h)
-not_idle Synced h = absurd (false≢true h)
-not_idle GateWritten h = refl
-
-not_idle_synced : (phase : Phase) → is_synced phase ≡ true → is_idle phase ≡ false
-not_idle_synced Idle h = absurd (false≢true h)
-not_idle_synced (Writing n) h = absurd (false≢true h)
-not_idle_synced Synced h = refl
-not_idle_synced GateWritten h = absurd (false≢true h)
-
-writing_busy : (phase : Phase) (n : ℕ) → written phase ≡ Some n → is_idle phase ≡ false
-writing_busy Idle n h = cc
-writing_busy (Writing m) n h = refl
-writing_busy Synced n h = refl
-writing_busy GateWritten n h = refl
-
 pub keeps : (w : World) (event : Event) → IsConsistent w → IsConsistent (unwrap_or (next w event) w)
 keeps w (Ask terminal number body) k = hold_when IsConsistent w (asking w (record { terminal = terminal; number = number; body = body })) (may_ask w terminal) k (λ _. k)
 keeps w (Take terminal letter) k = hold_if IsConsistent w (option_and_then (taking w letter) (find (asks terminal) (reverse w.asked))) (may_take w terminal) k (λ may.
@@ -369,6 +353,9 @@ recovers_prefix w kept may = (rest_of w kept, rest_is w kept)
 
 pub recovers_acknowledged : (w : World) → IsConsistent w → RecoversAcknowledged w
 recovers_acknowledged w k kept may = All-weaker (Contains (take w.safe w.accepted)) (Contains (outcome w kept)) (outcome_holds w kept) (acknowledged w) k.shown_safe
+
+pub accepts_fitting : (w : World) → IsConsistent w → AcceptsFitting w
+accepts_fitting w k = fits_from w.building w.accepted k.fit
 
 pub recovers_fitting : (w : World) → IsConsistent w → RecoversFitting w
 recovers_fitting w k kept may = fits_from w.building (outcome w kept) (outcome_fits w kept k.fit)

@@ -43,14 +43,14 @@ module _ (terminal : ℕ) where
   abbrev pub owed : List Taken → ℕ
   owed cs = count_by (is_taken_of terminal) cs
 
-  owed_unknown : (cs : List Taken) → owed (map unknown_to cs) ≡ owed cs
+  pub owed_unknown : (cs : List Taken) → owed (map unknown_to cs) ≡ owed cs
   owed_unknown [] = refl
   owed_unknown (c ∷ cs) =
       let a = count_cons (is_taken_of terminal) c (eqb c.terminal terminal) refl cs in
       let b = count_cons (is_taken_of terminal) (unknown_to c) (eqb c.terminal terminal) refl (map unknown_to cs) in
       b ∙ ap (λ (n : ℕ). cond (eqb c.terminal terminal) 1 0 + n) (owed_unknown cs) ∙ sym a
 
-  owed_none : (cs : List Taken) → AllByRecursion (λ (c : Taken). c.terminal ≢ terminal) cs → owed cs ≡ 0
+  pub owed_none : (cs : List Taken) → AllByRecursion (λ (c : Taken). c.terminal ≢ terminal) cs → owed cs ≡ 0
   owed_none [] h = refl
   owed_none (c ∷ cs) h =
       let a = count_cons (is_taken_of terminal) c false (ne_eqb c.terminal terminal h.0) cs in
@@ -58,7 +58,7 @@ module _ (terminal : ℕ) where
       omega arith
 
   -- the four lists of those on their way
-  owed_parts : (due flying queued taken : List Taken) → owed (due ++ flying ++ queued ++ taken) ≡ owed due + (owed flying + (owed queued + owed taken))
+  pub owed_parts : (due flying queued taken : List Taken) → owed (due ++ flying ++ queued ++ taken) ≡ owed due + (owed flying + (owed queued + owed taken))
   owed_parts due flying queued taken =
       let a = count_both (is_taken_of terminal) due flying in
       let b = count_both (is_taken_of terminal) (due ++ flying) queued in
@@ -82,7 +82,7 @@ module _ (terminal : ℕ) where
       let b = count_cons (is_taken_of terminal) x (eqb x.terminal terminal) refl (others other xs) in
       omega arith
 
-  owed_others : (other : ℕ) (c : Taken) (xs : List Taken) → find (is_taken_of other) xs ≡ Some c → owed (others other xs) + owed (c ∷ []) ≤ owed xs
+  pub owed_others : (other : ℕ) (c : Taken) (xs : List Taken) → find (is_taken_of other) xs ≡ Some c → owed (others other xs) + owed (c ∷ []) ≤ owed xs
   owed_others other c [] h = cc
   owed_others other c (x ∷ xs) h = owed_drop other c x (is_taken_of other x) xs refl (λ g. owed_others other c xs g) h
 
@@ -96,10 +96,10 @@ asked_by w terminal = count_by (asks terminal) w.asked
 abbrev heard_by : World → ℕ → ℕ
 heard_by w terminal = count_by (is_answer_to terminal) w.heard
 
-abbrev answered_by : World → ℕ → ℕ
+abbrev pub answered_by : World → ℕ → ℕ
 answered_by w terminal = count_by (is_answer_to terminal) w.answered
 
-abbrev owed_to : World → ℕ → ℕ
+abbrev pub owed_to : World → ℕ → ℕ
 owed_to w terminal = owed terminal w.due + (owed terminal w.flight.commands + (owed terminal (in_queue w.queue) + owed terminal w.taken))
 
 pub record Balances (w : World) (terminal : ℕ) : Type 0 where
@@ -160,8 +160,8 @@ balances terminal w event k =
     leads (λ (x : World). Balances x terminal) w event (record {
       stays = k;
       asked = λ command on may is. asked_more w terminal k command (eqb command.terminal terminal) refl (eqb-true _ _ (and_parts (not (is_off w.power)) _ may).1);
-      taken = λ t command d on may at. took w terminal k t command d (eqb command.terminal terminal) refl (eqb-true command.terminal t (find_held (asks t) (reverse w.asked) command at).1) may;
-      sealed = λ on some.
+      taken = λ t letter command d on may at made is_take. took w terminal k t command d (eqb command.terminal terminal) refl (eqb-true command.terminal t (find_held (asks t) (reverse w.asked) command at).1) may;
+      sealed = λ on some is_seal.
           let b : Batch = record { commands = w.taken; upto = length w.accepted } in
           let q : owed terminal (in_queue (w.queue ++ b ∷ [])) ≡ owed terminal (in_queue w.queue) + owed terminal (in_queue (b ∷ [])) =
           ap (owed terminal) (flat_map-append (λ (x : Batch). x.commands) w.queue (b ∷ [])) ∙ count_both (is_taken_of terminal) (in_queue w.queue) (in_queue (b ∷ [])) in
@@ -172,21 +172,21 @@ balances terminal w event k =
           let d = count_both (is_taken_of terminal) w.due (map unknown_to batch.commands) in
           let u = owed_unknown terminal batch.commands in
           owes w terminal k _ refl refl refl (omega arith);
-      flies = λ batch rest on at. let q = queue_is w terminal k batch rest at in owes w terminal k _ refl refl refl (omega arith);
-      lands = λ batch rest on at.
+      flies = λ batch rest on at idle more. let q = queue_is w terminal k batch rest at in owes w terminal k _ refl refl refl (omega arith);
+      lands = λ batch rest on at idle none.
           let q = queue_is w terminal k batch rest at in
           let d = count_both (is_taken_of terminal) w.due batch.commands in
           owes w terminal k _ refl refl refl (omega arith);
-      goes_on = λ phase on. owes w terminal k _ refl refl refl (omega arith);
-      settled = λ on. let d = count_both (is_taken_of terminal) w.due w.flight.commands in owes w terminal k _ refl refl refl (omega arith);
+      goes_on = λ phase on busy still. owes w terminal k _ refl refl refl (omega arith);
+      settled = λ on gate. let d = count_both (is_taken_of terminal) w.due w.flight.commands in owes w terminal k _ refl refl refl (omega arith);
       answered = λ t c on at. answered_one w terminal k t c at;
       heard = λ a on. let more = count_both (is_answer_to terminal) w.heard (a ∷ []) in record { answers = k.answers; hears = (let h = k.hears in omega arith) };
       failed = λ on is.
           let d = count_both (is_taken_of terminal) w.due (map unknown_to w.flight.commands) in
           let u = owed_unknown terminal w.flight.commands in
           owes w terminal k _ refl refl refl (omega arith);
-      cut = λ kept. record { answers = omega arith; hears = omega arith };
-      reopened = λ kept may.
+      cut = λ kept is_cut. record { answers = omega arith; hears = omega arith };
+      reopened = λ kept may is_reopen.
           let d = count_both (is_taken_of terminal) w.due (map unknown_to w.taken) in
           let u = owed_unknown terminal w.taken in
           owes w terminal k _ refl refl refl (omega arith);

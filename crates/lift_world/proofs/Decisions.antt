@@ -174,7 +174,7 @@ served_car building car floor h = elim (cases_lt car (length building.cars)) [
   | inr above ↦ absurd (false≢true (sym (ap (λ (c : CarPlan). get_or c.served floor false) (get_or_past building.cars car (record { places = 0; served = [] }) above) ∙ none_served floor) ∙ h))
 ]
 
-served_floor : (building : Plan) (car floor : ℕ) → IsBuilding building → serves_floor building car floor ≡ true → floor < building.floors
+pub served_floor : (building : Plan) (car floor : ℕ) → IsBuilding building → serves_floor building car floor ≡ true → floor < building.floors
 served_floor building car floor sound h =
     let is_car = sound.limits.cars car (record { places = 0; served = [] }) (served_car building car floor h) in
     elim (cases_lt floor (length (car_at building car).served)) [

@@ -31,7 +31,7 @@ find_held p (y ∷ ys) x h = found_at p y x (p y) (find p ys) refl h _
     (λ e q. (subst (λ z. Contains (y ∷ ys) z) e (head_of y ys), q))
     (λ g. let r = find_held p ys x g in (Contains-append_right (y ∷ []) ys x r.0, r.1))
 
-reverse_held : {A : Type 0} (xs : List A) (x : A) → Contains (reverse xs) x → Contains xs x
+pub reverse_held : {A : Type 0} (xs : List A) (x : A) → Contains (reverse xs) x → Contains xs x
 reverse_held xs x h =
     let below : h.0 < length xs = omega (arith, h.1, length-reverse xs) in
     (length xs - 1 - h.0, omega arith, sym (get_or-reverse xs h.0 x below) ∙ h.2)

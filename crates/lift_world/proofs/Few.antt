@@ -59,18 +59,18 @@ beyond terminal w event above of_terminal k =
     leads (λ (x : World). asked_by x terminal ≡ 0) w event (record {
       stays = k;
       asked = λ command on may is. asked_one command (eqb command.terminal terminal) refl (subst IsOfTerminal is of_terminal);
-      taken = λ t command d on may at. k;
-      sealed = λ on some. k;
+      taken = λ t letter command d on may at made is_take. k;
+      sealed = λ on some is_seal. k;
       fails = λ batch rest on at broken. k;
-      flies = λ batch rest on at. k;
-      lands = λ batch rest on at. k;
-      goes_on = λ phase on. k;
-      settled = λ on. k;
+      flies = λ batch rest on at idle more. k;
+      lands = λ batch rest on at idle none. k;
+      goes_on = λ phase on busy still. k;
+      settled = λ on gate. k;
       answered = λ t c on at. k;
       heard = λ a on. k;
       failed = λ on is. k;
-      cut = λ kept. refl;
-      reopened = λ kept may. k;
+      cut = λ kept is_cut. refl;
+      reopened = λ kept may is_reopen. k;
     })
   where
     asked_one : (command : Command) (b : Bool) → eqb command.terminal terminal ≡ b → command.terminal < 63 → count_by (asks terminal) (w.asked ++ command ∷ []) ≡ 0

@@ -28,18 +28,18 @@ given_stays w event after h =
     led (Grows w) w event after (record {
       stays = same;
       asked = λ command on may is. same;
-      taken = λ terminal command d on may at. same;
-      sealed = λ on some. same;
+      taken = λ terminal letter command d on may at made is_take. same;
+      sealed = λ on some is_seal. same;
       fails = λ batch rest on at broken. same;
-      flies = λ batch rest on at. same;
-      lands = λ batch rest on at. same;
-      goes_on = λ phase on. same;
-      settled = λ on. same;
+      flies = λ batch rest on at idle more. same;
+      lands = λ batch rest on at idle none. same;
+      goes_on = λ phase on busy still. same;
+      settled = λ on gate. same;
       answered = λ terminal c on at. (c ∷ [], refl);
       heard = λ a on. same;
       failed = λ on is. same;
-      cut = λ kept. same;
-      reopened = λ kept may. same;
+      cut = λ kept is_cut. same;
+      reopened = λ kept may is_reopen. same;
     }) h
 
 abbrev Breaks : World → Event → World → Type 0
@@ -50,18 +50,18 @@ only_faults_break w event after h =
     led (Breaks w event) w event after (record {
       stays = λ b. inl b;
       asked = λ command on may is b. inl b;
-      taken = λ terminal command d on may at b. inl b;
-      sealed = λ on some b. inl b;
+      taken = λ terminal letter command d on may at made is_take b. inl b;
+      sealed = λ on some is_seal b. inl b;
       fails = λ batch rest on at broken b. inl b;
-      flies = λ batch rest on at b. inl b;
-      lands = λ batch rest on at b. inl b;
-      goes_on = λ phase on b. inl b;
-      settled = λ on b. inl b;
+      flies = λ batch rest on at idle more b. inl b;
+      lands = λ batch rest on at idle none b. inl b;
+      goes_on = λ phase on busy still b. inl b;
+      settled = λ on gate b. inl b;
       answered = λ terminal c on at b. inl b;
       heard = λ a on b. inl b;
       failed = λ on is b. inr is;
-      cut = λ kept b. cc;
-      reopened = λ kept may b. cc;
+      cut = λ kept is_cut b. cc;
+      reopened = λ kept may is_reopen b. cc;
     }) h
 
 answering_stores : (w : World) (terminal : ℕ) (c : Taken) → StoresGiven w → StoresGiven (answering w terminal c)
@@ -79,18 +79,18 @@ stores : (w : World) (event : Event) → StoresGiven w → StoresGiven (unwrap_o
 stores w event k = leads StoresGiven w event (record {
   stays = k;
   asked = λ command on may is. same_words w _ refl refl k;
-  taken = λ terminal command d on may at. same_words w _ refl refl k;
-  sealed = λ on some. same_words w _ refl refl k;
+  taken = λ terminal letter command d on may at made is_take. same_words w _ refl refl k;
+  sealed = λ on some is_seal. same_words w _ refl refl k;
   fails = λ batch rest on at broken. same_words w _ refl refl k;
-  flies = λ batch rest on at. same_words w _ refl refl k;
-  lands = λ batch rest on at. same_words w _ refl refl k;
-  goes_on = λ phase on. same_words w _ refl refl k;
-  settled = λ on. same_words w _ refl refl k;
+  flies = λ batch rest on at idle more. same_words w _ refl refl k;
+  lands = λ batch rest on at idle none. same_words w _ refl refl k;
+  goes_on = λ phase on busy still. same_words w _ refl refl k;
+  settled = λ on gate. same_words w _ refl refl k;
   answered = λ terminal c on at. answering_stores w terminal c k;
   heard = λ a on. same_words w _ refl refl k;
   failed = λ on is. same_words w _ refl refl k;
-  cut = λ kept. record { before = w.given; since = []; given = sym (append-nil w.given); answered = refl };
-  reopened = λ kept may. same_words w _ refl refl k;
+  cut = λ kept is_cut. record { before = w.given; since = []; given = sym (append-nil w.given); answered = refl };
+  reopened = λ kept may is_reopen. same_words w _ refl refl k;
 })
 
 pub run_stores : (events : List Event) (w : World) → StoresGiven w → StoresGiven (run events w)

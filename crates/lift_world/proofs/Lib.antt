@@ -1,4 +1,5 @@
 pub mod Moves
+pub mod Phases
 pub mod Leads
 pub mod Given
 pub mod Queued
@@ -11,6 +12,7 @@ pub mod Consistent
 pub mod Letters
 pub mod Possibilities
 pub mod Steps
+pub mod Goes
 pub mod Scans
 pub mod Looks
 pub mod Asked
@@ -24,3 +26,9 @@ pub mod Turns
 pub mod Cars
 pub mod Replayed
 pub mod Carried
+pub mod Beside
+pub mod Ordered
+pub mod Relay
+pub mod Ahead
+pub mod Policies
+pub mod Lawful

@@ -35,23 +35,23 @@ queues : (w : World) (event : Event) → QueuesFew w → QueuesFew (unwrap_or (n
 queues w event k = leads QueuesFew w event (record {
   stays = k;
   asked = λ command on may is. queues_same w _ k refl refl;
-  taken = λ terminal command d on may at.
+  taken = λ terminal letter command d on may at made is_take.
       let few = (can_be_looked_at w terminal may).few_queued in
       record { queued = omega arith; in_hand = λ some. few };
-  sealed = λ on some.
+  sealed = λ on some is_seal.
       let few = k.in_hand (not_none w.taken some) in
       let one = length-append w.queue (record { commands = w.taken; upto = length w.accepted } ∷ []) in
       record { queued = omega arith; in_hand = λ more. absurd (more refl) };
   fails = λ batch rest on at broken. queues_rest w _ batch rest k at refl refl;
-  flies = λ batch rest on at. queues_rest w _ batch rest k at refl refl;
-  lands = λ batch rest on at. queues_rest w _ batch rest k at refl refl;
-  goes_on = λ phase on. queues_same w _ k refl refl;
-  settled = λ on. queues_same w _ k refl refl;
+  flies = λ batch rest on at idle more. queues_rest w _ batch rest k at refl refl;
+  lands = λ batch rest on at idle none. queues_rest w _ batch rest k at refl refl;
+  goes_on = λ phase on busy still. queues_same w _ k refl refl;
+  settled = λ on gate. queues_same w _ k refl refl;
   answered = λ terminal c on at. queues_same w _ k refl refl;
   heard = λ a on. queues_same w _ k refl refl;
   failed = λ on is. queues_same w _ k refl refl;
-  cut = λ kept. queues_none _ refl;
-  reopened = λ kept may. queues_none _ refl;
+  cut = λ kept is_cut. queues_none _ refl;
+  reopened = λ kept may is_reopen. queues_none _ refl;
 })
 
 pub run_queues : (events : List Event) (w : World) → QueuesFew w → QueuesFew (run events w)
@@ -69,18 +69,18 @@ holds : (w : World) (event : Event) → HoldsNothingWhileOff w → HoldsNothingW
 holds w event k = leads HoldsNothingWhileOff w event (record {
   stays = k;
   asked = λ command on may is. powered w _ on refl;
-  taken = λ terminal command d on may at. powered w _ on refl;
-  sealed = λ on some. powered w _ on refl;
+  taken = λ terminal letter command d on may at made is_take. powered w _ on refl;
+  sealed = λ on some is_seal. powered w _ on refl;
   fails = λ batch rest on at broken. powered w _ on refl;
-  flies = λ batch rest on at. powered w _ on refl;
-  lands = λ batch rest on at. powered w _ on refl;
-  goes_on = λ phase on. powered w _ on refl;
-  settled = λ on. powered w _ on refl;
+  flies = λ batch rest on at idle more. powered w _ on refl;
+  lands = λ batch rest on at idle none. powered w _ on refl;
+  goes_on = λ phase on busy still. powered w _ on refl;
+  settled = λ on gate. powered w _ on refl;
   answered = λ terminal c on at. powered w _ on refl;
   heard = λ a on. powered w _ on refl;
   failed = λ on is off. absurd (false≢true off);
-  cut = λ kept off. record { nothing_flies = refl; nothing_queued = refl; nothing_taken = refl; nothing_due = refl };
-  reopened = λ kept may off. absurd (false≢true off);
+  cut = λ kept is_cut off. record { nothing_flies = refl; nothing_queued = refl; nothing_taken = refl; nothing_due = refl };
+  reopened = λ kept may is_reopen off. absurd (false≢true off);
 })
 
 pub run_holds : (events : List Event) (w : World) → HoldsNothingWhileOff w → HoldsNothingWhileOff (run events w)

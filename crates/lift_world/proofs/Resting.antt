@@ -1,5 +1,6 @@
 -- Where turns begin and end, and turns while broken.
 use Rattle.std.proofs.Common.{ℕ, ◌≡◌, ◌-◌, ◌≤◌, List, [], ◌∷◌, ◌++◌, length, map, take, drop, Option, refl, sym, ap, subst, ◌∙◌, arith}
+use Rattle.std.specs.Prelude.{Some, option_and_then}
 use Rattle.std.proofs.Math.Seq.{take-length}
 use Rattle.std.proofs.lemmas.List.{length-append, length-drop, take-append-le, drop-append-le}
 use Rattle.lift_base.specs.declared.history.Entry.{Entry}
@@ -17,12 +18,13 @@ use Rattle.lift_world.specs.declared.event.Taken.{Taken}
 use Rattle.lift_world.specs.declared.event.Power.{Power}
 use Rattle.lift_world.specs.declared.event.Power.TheVariants.{Broken}
 use Rattle.lift_world.specs.World.{World, Batch, start, state_of, may_keep, outcome}
-use Rattle.lift_world.specs.Next.{run, cutting, reopened, answer_of, unknown_to}
+use Rattle.lift_world.specs.Next.{goes, cutting, reopened, answer_of, unknown_to}
 use Rattle.lift_world.specs.Turns.{AreFound, IsAtRest, with_replies, take_events, answer_events, IsBrokenAtRest, broken_events, with_unknown, turned_broken, BrokenTurnsAreRuns, ChangesAnswersAlone, BrokenTurnsChangeNothing, TurnsEndAtRest, FailuresEndAtRest, BrokenTurnsEndAtRest, ReopeningsEndAtRest, CutsEndAtRest}
 use Rattle.lift_world.proofs.Scans.{runs_are_takes, taken_as}
 use Rattle.lift_world.proofs.Decisions.{true_of}
 use Rattle.lift_world.proofs.Possibilities.{broken_opens, when_some}
-use Rattle.lift_world.proofs.Turns.{run-append, SameLength, same_length, all_apart, answered_all, answers_of, answering_on, unknown_terminals, unknown_apart}
+use Rattle.lift_world.proofs.Goes.{goes-append}
+use Rattle.lift_world.proofs.Turns.{SameLength, same_length, all_apart, answered_all, answers_of, answering_on, unknown_terminals, unknown_apart}
 
 -- where turns begin
 pub start_rests : (building : Plan) → IsAtRest (start building)
@@ -118,17 +120,17 @@ module _ (w : World) (command : Command) (commands : List Command) (reply : Repl
   same : SameLength (command ∷ commands) (reply ∷ replies)
   same = same_length w.building (state_of (broken_rest w)) state (command ∷ commands) (reply ∷ replies) r
 
-  pub broken_turn : (letters : List (Option ℕ)) × (run (broken_events (command ∷ commands) letters) (broken_rest w) ≡ turned_broken (broken_rest w) (command ∷ commands) state)
+  pub broken_turn : (letters : List (Option ℕ)) × (goes (broken_events (command ∷ commands) letters) (broken_rest w) ≡ Some (turned_broken (broken_rest w) (command ∷ commands) state))
   broken_turn =
       let v : World = broken_rest w in
       let s = runs_are_takes v (command ∷ commands) (reply ∷ replies) state (omega arith) found r in
       let events : List Event = Seal ∷ Pull ∷ answer_events (command ∷ commands) in (
         s.0,
-        run-append (take_events (command ∷ commands) s.0) events v ∙ ap (run events) s.1
-            ∙ ap (λ (xs : List Entry). run events (record v { accepted = xs ++ state.batch; positions = state.positions; taken = looked })) (take-length w.accepted)
-            ∙ ap (λ (es : List Event). run (Seal ∷ Pull ∷ es) scanned_on) (answers_of (command ∷ commands) (reply ∷ replies) same ∙ sym (unknown_terminals looked))
+        goes-append (take_events (command ∷ commands) s.0) events v ∙ ap (option_and_then (goes events)) s.1
+            ∙ ap (λ (xs : List Entry). goes events (record v { accepted = xs ++ state.batch; positions = state.positions; taken = looked })) (take-length w.accepted)
+            ∙ ap (λ (es : List Event). goes (Seal ∷ Pull ∷ es) scanned_on) (answers_of (command ∷ commands) (reply ∷ replies) same ∙ sym (unknown_terminals looked))
             ∙ answered_all lost (map unknown_to looked) w.answered w.given refl (unknown_apart looked (all_apart v (command ∷ commands) (reply ∷ replies) found))
-            ∙ ap (λ (us : List Taken). answering_on lost [] (w.answered ++ map answer_of us) (w.given ++ us)) (unknown_is (command ∷ commands) (reply ∷ replies) same),
+            ∙ ap (λ (us : List Taken). Some (answering_on lost [] (w.answered ++ map answer_of us) (w.given ++ us))) (unknown_is (command ∷ commands) (reply ∷ replies) same),
       )
 
 -- nothing else changes
@@ -180,7 +182,7 @@ module _ (w : World) (commands : List Command) (state : State) (k : IsBrokenAtRe
 pub broken_turns_are_runs : (w : World) → BrokenTurnsAreRuns w
 broken_turns_are_runs w command commands reply replies state k found r =
     let e = is_broken_rest w k in
-    subst (λ (v : World). (letters : List (Option ℕ)) × (run (broken_events (command ∷ commands) letters) v ≡ turned_broken v (command ∷ commands) state)) e
+    subst (λ (v : World). (letters : List (Option ℕ)) × (goes (broken_events (command ∷ commands) letters) v ≡ Some (turned_broken v (command ∷ commands) state))) e
     (broken_turn w command commands reply replies state (subst (λ (v : World). AreFound v (command ∷ commands)) (sym e) found)
     (subst (λ (v : World). Run v.building any_eligible (state_of v) (command ∷ commands) (reply ∷ replies) state) (sym e) r))
 

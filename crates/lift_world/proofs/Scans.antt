@@ -1,6 +1,6 @@
 -- A run of decisions is a list of takes.
-use Rattle.std.proofs.Common.{ℕ, ◌≡◌, ◌≢◌, ◌≤◌, false, not, ◌&&◌, ◌||◌, eqb, List, [], ◌∷◌, ◌++◌, length, take, Option, refl, sym, ap, subst, ◌∙◌, arith, append_assoc}
-use Rattle.std.specs.Prelude.{unwrap_or, nat_lt, nat_le, count_by}
+use Rattle.std.proofs.Common.{ℕ, ◌≡◌, ◌≢◌, ◌≤◌, false, not, ◌&&◌, ◌||◌, eqb, List, [], ◌∷◌, ◌++◌, length, take, refl, sym, ap, subst, ◌∙◌, arith, append_assoc}
+use Rattle.std.specs.Prelude.{Some, nat_lt, nat_le, count_by}
 use Rattle.std.specs.List.{AllByRecursion, list_any, flat_map}
 use Rattle.std.proofs.lemmas.Bool.{and_parts, and_from, ne_eqb, or_from, not-true, not_from_false}
 use Rattle.std.proofs.lemmas.List.{append-nil, length-append, take-append-le, length-take-le}
@@ -15,9 +15,11 @@ use Rattle.lift_policy.specs.Run.{Run}
 use Rattle.lift_world.specs.declared.event.Taken.{Taken}
 use Rattle.lift_world.specs.Decided.{Decision}
 use Rattle.lift_world.specs.World.{World, Batch, is_off, state_of, is_taken_of, is_answer_to, asks}
-use Rattle.lift_world.specs.Next.{run, deciding, is_waiting, unanswered}
+use Rattle.lift_world.specs.Next.{deciding, is_waiting, unanswered}
 use Rattle.lift_world.specs.Tie.{Finds}
 use Rattle.lift_world.specs.Turns.{AreFound, with_replies, take_events, scanned, RunsAreTakes}
+use Rattle.lift_world.specs.declared.event.Event.TheVariants.{Take}
+use Rattle.lift_world.proofs.Goes.{one}
 use Rattle.lift_world.proofs.Steps.{GoesOn, state_goes_on, steps_go_on, state_after, steps_are_takes}
 
 abbrev pub taken_as : Command → Reply → Taken
@@ -67,7 +69,7 @@ scanned_none : (w : World) → scanned w [] [] (state_of w) ≡ w
 scanned_none w = rw (Rattle.std.proofs.lemmas.List.take-append-drop w.sealed w.accepted, append-nil w.taken) refl
 
 pub runs_are_takes : (w : World) → RunsAreTakes w
-runs_are_takes w [] [] state le found r = ([], sym (scanned_none w) ∙ ap (λ (s : State). scanned w [] [] s) (sym r))
+runs_are_takes w [] [] state le found r = ([], ap (λ (x : World). Some x) (sym (scanned_none w) ∙ ap (λ (s : State). scanned w [] [] s) (sym r)))
 runs_are_takes w [] (reply ∷ replies) state le found r = absurd r
 runs_are_takes w (c ∷ commands) [] state le found r = absurd r
 runs_are_takes w (c ∷ commands) (reply ∷ replies) state le found r =
@@ -77,5 +79,5 @@ runs_are_takes w (c ∷ commands) (reply ∷ replies) state le found r =
     let rest = runs_are_takes (deciding w c d) commands replies state (front_long w.accepted r.0.batch w.sealed le) (all_found_still w c d commands found.1 found.2)
     (subst (λ (s : State). Run w.building any_eligible s commands replies state) (sym (state_after w c reply r.0 le goes)) r.2) in (
       taken.0 ∷ rest.0,
-      ap (λ (o : Option World). run (take_events commands rest.0) (unwrap_or o w)) taken.1 ∙ rest.1 ∙ scanned_rest w c d commands replies state le,
+      one (Take c.terminal taken.0) (take_events commands rest.0) w (deciding w c d) taken.1 ∙ rest.1 ∙ ap (λ (x : World). Some x) (scanned_rest w c d commands replies state le),
     )

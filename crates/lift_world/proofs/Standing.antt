@@ -12,14 +12,14 @@ use Rattle.lift_world.specs.declared.event.Taken.{Taken}
 use Rattle.lift_world.specs.declared.event.Event.{Event}
 use Rattle.lift_world.specs.declared.event.Event.TheVariants.{Ask, Hear}
 use Rattle.lift_world.specs.World.{World, is_off, is_answer_to, asks}
-use Rattle.lift_world.specs.Next.{run, hearing, asking, unanswered}
+use Rattle.lift_world.specs.Next.{goes, hearing, asking, unanswered}
 use Rattle.lift_world.specs.Headline.{HearsInOrder}
 use Rattle.lift_world.specs.Turns.{AreFound}
 use Rattle.lift_world.specs.Asking.{AreAnswered, asked_on, AsksStand}
 use Rattle.lift_world.proofs.Heard.{passes, run_hears}
 use Rattle.lift_world.proofs.Asked.{at_front, hears_the_next, asks_once_heard}
 use Rattle.lift_world.proofs.Looks.{may_be_taken}
-use Rattle.lift_world.proofs.Turns.{run-append, one}
+use Rattle.lift_world.proofs.Goes.{one, joined, goes_are_runs}
 
 keep_last : (p : Answer → Bool) (xs : List Answer) (a : Answer) → p a ≡ true → filter p (xs ++ a ∷ []) ≡ filter p xs ++ a ∷ []
 keep_last p xs a e = filter-append p xs (a ∷ []) ∙ ap (λ (b : Bool). filter p xs ++ cond b (a ∷ []) []) e
@@ -41,18 +41,18 @@ module _ (terminal : ℕ) where
 
   -- a terminal hears all that it was answered
   hears_all : (rest : List Answer) (w : World) → is_off w.power ≡ false → filter own w.heard ++ rest ≡ filter own w.answered
-      → run (replicate (length rest) (Hear terminal)) w ≡ record w { heard = w.heard ++ rest }
-  hears_all [] w on e = ap (λ (xs : List Answer). record w { heard = xs }) (sym (append-nil w.heard))
+      → goes (replicate (length rest) (Hear terminal)) w ≡ Some (record w { heard = w.heard ++ rest })
+  hears_all [] w on e = ap (λ (xs : List Answer). Some (record w { heard = xs })) (sym (append-nil w.heard))
   hears_all (a ∷ rest) w on e =
       one (Hear terminal) (replicate (length rest) (Hear terminal)) w (hearing w a) ((hears_the_next w).hears terminal a rest on (sym e))
       ∙ hears_all rest (hearing w a) on (heard_one a rest w.heard w.answered e)
-      ∙ ap (λ (xs : List Answer). record w { heard = xs }) (append_assoc w.heard (a ∷ []) rest)
+      ∙ ap (λ (xs : List Answer). Some (record w { heard = xs })) (append_assoc w.heard (a ∷ []) rest)
 
 -- and then it asks
 pub record Asks (w : World) (command : Command) : Type 0 where
   pub events : List Event
   pub heard : List Answer
-  pub is : run events w ≡ record w { asked = w.asked ++ command ∷ []; heard = heard }
+  pub is : goes events w ≡ Some (record w { asked = w.asked ++ command ∷ []; heard = heard })
 
 asks_next : (w : World) (command : Command) → is_off w.power ≡ false → HearsInOrder w → count_by (asks command.terminal) w.asked ≡ count_by (is_answer_to command.terminal) w.answered → Asks w command
 asks_next w command on hears same =
@@ -66,8 +66,7 @@ asks_next w command on hears same =
     record {
       events = replicate (length rest) (Hear terminal) ++ ask ∷ [];
       heard = w.heard ++ rest;
-      is = run-append (replicate (length rest) (Hear terminal)) (ask ∷ []) w
-          ∙ ap (run (ask ∷ [])) (hears_all terminal rest w on (hears terminal).1)
+      is = joined (replicate (length rest) (Hear terminal)) (ask ∷ []) w w1 (hears_all terminal rest w on (hears terminal).1)
           ∙ one ask [] w1 (asking w1 command) ((asks_once_heard w1).heard_all terminal command.number command.body on counts);
     }
 
@@ -93,20 +92,20 @@ answered_still w c heard (d ∷ commands) apart k = (count_other d.terminal c w.
 pub record AllAsk (w : World) (commands : List Command) : Type 0 where
   pub events : List Event
   pub heard : List Answer
-  pub is : run events w ≡ asked_on w commands heard
+  pub is : goes events w ≡ Some (asked_on w commands heard)
 
 all_ask : (commands : List Command) (w : World) → is_off w.power ≡ false → HearsInOrder w → AreAnswered w commands → AllAsk w commands
-all_ask [] w on hears k = record { events = []; heard = w.heard; is = ap (λ (xs : List Command). record w { asked = xs }) (sym (append-nil w.asked)) }
+all_ask [] w on hears k = record { events = []; heard = w.heard; is = ap (λ (xs : List Command). Some (record w { asked = xs })) (sym (append-nil w.asked)) }
 all_ask (c ∷ commands) w on hears k =
     let first = asks_next w c on hears k.0 in
     let w1 : World = record w { asked = w.asked ++ c ∷ []; heard = first.heard } in
-    let still : HearsInOrder w1 = subst (λ (x : World). HearsInOrder x) first.is (run_hears first.events w hears) in
+    let still : HearsInOrder w1 = subst (λ (x : World). HearsInOrder x) (goes_are_runs w first.events w1 first.is) (run_hears first.events w hears) in
     let rest = all_ask commands w1 on still (answered_still w c first.heard commands k.2 k.3) in
     record {
       events = first.events ++ rest.events;
       heard = rest.heard;
-      is = run-append first.events rest.events w ∙ ap (run rest.events) first.is ∙ rest.is
-          ∙ ap (λ (xs : List Command). record w { asked = xs; heard = rest.heard }) (append_assoc w.asked (c ∷ []) commands);
+      is = joined first.events rest.events w w1 first.is ∙ rest.is
+          ∙ ap (λ (xs : List Command). Some (record w { asked = xs; heard = rest.heard })) (append_assoc w.asked (c ∷ []) commands);
     }
 
 -- the last ask of a terminal

@@ -1,6 +1,6 @@
 -- Whole turns are lists of events.
 use Rattle.std.proofs.Common.{ℕ, zero, suc, ◌≡◌, ◌≢◌, ◌+◌, ◌-◌, ◌<◌, ◌≤◌, Bool, true, false, not, ◌&&◌, cond, eqb, List, [], ◌∷◌, ◌++◌, length, map, take, drop, replicate, Option, Some, None, refl, sym, ap, subst, ◌∙◌, arith, append_assoc}
-use Rattle.std.specs.Prelude.{unwrap_or, find, option_map}
+use Rattle.std.specs.Prelude.{find, option_map, option_and_then}
 use Rattle.std.specs.List.{AllByRecursion}
 use Rattle.std.proofs.Math.Seq.{take-length}
 use Rattle.std.proofs.lemmas.Bool.{false≢true, eq-eqb, ne_eqb, and_from, lt-ltb}
@@ -20,62 +20,51 @@ use Rattle.lift_world.specs.declared.event.Power.{Power}
 use Rattle.lift_world.specs.declared.event.Power.TheVariants.{Running, Broken, Off}
 use Rattle.lift_world.specs.Decided.{when}
 use Rattle.lift_world.specs.World.{World, Batch, no_batch, is_running, is_off, is_taken_of, batch_of, state_of}
-use Rattle.lift_world.specs.Next.{run, next, in_phase, settling, answering, answer_of, unknown_to, failing, others, bodies}
+use Rattle.lift_world.specs.Next.{goes, next, in_phase, settling, answering, answer_of, unknown_to, failing, others, bodies}
 use Rattle.lift_world.specs.Turns.{AreFound, IsAtRest, with_replies, take_events, answer_events, calls_to, device_calls, turn_events, turned, TurnsAreRuns, MayFailIn, failed_events, failed, FailuresAreRuns}
+use Rattle.lift_world.specs.Relay.{AreApart}
+use Rattle.lift_world.proofs.Goes.{one, goes-append}
 use Rattle.lift_world.proofs.Scans.{runs_are_takes, taken_as}
-
-pub run-append : (xs ys : List Event) (w : World) → run (xs ++ ys) w ≡ run ys (run xs w)
-run-append [] ys w = refl
-run-append (e ∷ xs) ys w = run-append xs ys (unwrap_or (next w e) w)
-
--- one event that is possible
-pub one : (e : Event) (events : List Event) (w x : World) → next w e ≡ Some x → run (e ∷ events) w ≡ run events x
-one e events w x h = ap (λ (o : Option World). run events (unwrap_or o w)) h
 
 may : {A : Type 0} (b c : Bool) (x : A) → b ≡ true → c ≡ true → when (b && c) x ≡ Some x
 may b c x p q = ap (λ (y : Bool). when (y && c) x) p ∙ ap (λ (y : Bool). when y x) q
 
 module _ (w : World) (on : is_running w.power ≡ true) where
   -- a checkpoint's calls change nothing
-  folded : (folds : ℕ) (events : List Event) → run (replicate folds Fold ++ events) (in_phase w (Writing 0)) ≡ run events (in_phase w (Writing 0))
+  pub folded : (folds : ℕ) (events : List Event) → goes (replicate folds Fold ++ events) (in_phase w (Writing 0)) ≡ goes events (in_phase w (Writing 0))
   folded zero events = refl
   folded (suc folds) events = one Fold (replicate folds Fold ++ events) (in_phase w (Writing 0)) (in_phase w (Writing 0)) (may (is_running w.power) true _ on refl) ∙ folded folds events
 
   -- so many writes, from some on
-  wrote : (n m : ℕ) (events : List Event) → m + n ≤ bodies (length (batch_of w)) + 1 → run (replicate n BodyWrite ++ events) (in_phase w (Writing m)) ≡ run events (in_phase w (Writing (m + n)))
-  wrote zero m events le = ap (λ (k : ℕ). run events (in_phase w (Writing k))) (omega arith)
+  wrote : (n m : ℕ) (events : List Event) → m + n ≤ bodies (length (batch_of w)) + 1 → goes (replicate n BodyWrite ++ events) (in_phase w (Writing m)) ≡ goes events (in_phase w (Writing (m + n)))
+  wrote zero m events le = ap (λ (k : ℕ). goes events (in_phase w (Writing k))) (omega arith)
   wrote (suc n) m events le =
       one BodyWrite (replicate n BodyWrite ++ events) (in_phase w (Writing m)) (in_phase w (Writing (m + 1))) (may (is_running w.power) _ _ on (lt-ltb m (bodies (length (batch_of w)) + 1) (omega arith)))
-      ∙ wrote n (m + 1) events (omega arith) ∙ ap (λ (k : ℕ). run events (in_phase w (Writing k))) (omega arith)
+      ∙ wrote n (m + 1) events (omega arith) ∙ ap (λ (k : ℕ). goes events (in_phase w (Writing k))) (omega arith)
 
-  synced : (events : List Event) → run (FirstSync ∷ events) (in_phase w (Writing (bodies (length (batch_of w)) + 1))) ≡ run events (in_phase w Synced)
+  synced : (events : List Event) → goes (FirstSync ∷ events) (in_phase w (Writing (bodies (length (batch_of w)) + 1))) ≡ goes events (in_phase w Synced)
   synced events = one FirstSync events (in_phase w (Writing (bodies (length (batch_of w)) + 1))) (in_phase w Synced) (may (is_running w.power) _ _ on (eq-eqb (bodies (length (batch_of w)) + 1) (bodies (length (batch_of w)) + 1) refl))
 
-  gate : (events : List Event) → run (Gate ∷ events) (in_phase w Synced) ≡ run events (in_phase w GateWritten)
+  gate : (events : List Event) → goes (Gate ∷ events) (in_phase w Synced) ≡ goes events (in_phase w GateWritten)
   gate events = one Gate events (in_phase w Synced) (in_phase w GateWritten) (may (is_running w.power) true _ on refl)
 
-  reached : (phase : Phase) (events : List Event) → MayFailIn (bodies (length (batch_of w)) + 1) phase → run (calls_to (bodies (length (batch_of w)) + 1) phase ++ events) (in_phase w (Writing 0)) ≡ run events (in_phase w phase)
+  pub reached : (phase : Phase) (events : List Event) → MayFailIn (bodies (length (batch_of w)) + 1) phase → goes (calls_to (bodies (length (batch_of w)) + 1) phase ++ events) (in_phase w (Writing 0)) ≡ goes events (in_phase w phase)
   reached Idle events h = absurd h
-  reached (Writing n) events h = let le : 0 + n ≤ bodies (length (batch_of w)) + 1 = omega (arith, h) in wrote n 0 events le ∙ ap (λ (k : ℕ). run events (in_phase w (Writing k))) (omega arith)
+  reached (Writing n) events h = let le : 0 + n ≤ bodies (length (batch_of w)) + 1 = omega (arith, h) in wrote n 0 events le ∙ ap (λ (k : ℕ). goes events (in_phase w (Writing k))) (omega arith)
   reached Synced events h = absurd h
   reached GateWritten events h =
-      ap (λ (es : List Event). run es (in_phase w (Writing 0))) (append_assoc (replicate (bodies (length (batch_of w)) + 1) BodyWrite) (FirstSync ∷ Gate ∷ []) events)
+      ap (λ (es : List Event). goes es (in_phase w (Writing 0))) (append_assoc (replicate (bodies (length (batch_of w)) + 1) BodyWrite) (FirstSync ∷ Gate ∷ []) events)
       ∙ wrote (bodies (length (batch_of w)) + 1) 0 (FirstSync ∷ Gate ∷ events) (omega arith)
-      ∙ ap (λ (k : ℕ). run (FirstSync ∷ Gate ∷ events) (in_phase w (Writing k))) (omega arith) ∙ synced (Gate ∷ events) ∙ gate events
+      ∙ ap (λ (k : ℕ). goes (FirstSync ∷ Gate ∷ events) (in_phase w (Writing k))) (omega arith) ∙ synced (Gate ∷ events) ∙ gate events
 
-  made_safe : (events : List Event) → run (SecondSync ∷ events) (in_phase w GateWritten) ≡ run events (settling w)
+  pub made_safe : (events : List Event) → goes (SecondSync ∷ events) (in_phase w GateWritten) ≡ goes events (settling w)
   made_safe events = one SecondSync events (in_phase w GateWritten) (settling w) (may (is_running w.power) true _ on refl)
 
-  fails : (phase : Phase) → MayFailIn (bodies (length (batch_of w)) + 1) phase → next (in_phase w phase) Fault ≡ Some (failing (in_phase w phase))
+  pub fails : (phase : Phase) → MayFailIn (bodies (length (batch_of w)) + 1) phase → next (in_phase w phase) Fault ≡ Some (failing (in_phase w phase))
   fails Idle h = absurd h
   fails (Writing n) h = may (is_running w.power && true) true _ (and_from (is_running w.power) true on refl) refl
   fails Synced h = absurd h
   fails GateWritten h = may (is_running w.power && true) true _ (and_from (is_running w.power) true on refl) refl
-
--- no terminal twice
-abbrev pub AreApart : List Taken → Type 0
-AreApart [] = Unit {0}
-AreApart (c ∷ cs) = AllByRecursion (λ (d : Taken). d.terminal ≢ c.terminal) cs × AreApart cs
 
 keep_one : {A : Type 0} (b : Bool) (x : A) (xs : List A) → b ≡ false → cond (not b) (x ∷ xs) xs ≡ x ∷ xs
 keep_one false x xs e = refl
@@ -110,14 +99,14 @@ terminals_of [] = []
 terminals_of (c ∷ cs) = Answering c.terminal ∷ terminals_of cs
 
 pub answered_all : (w : World) (cs : List Taken) (answered : List Answer) (given : List Taken) → is_off w.power ≡ false → AreApart cs
-    → run (terminals_of cs) (answering_on w cs answered given) ≡ answering_on w [] (answered ++ map answer_of cs) (given ++ cs)
+    → goes (terminals_of cs) (answering_on w cs answered given) ≡ Some (answering_on w [] (answered ++ map answer_of cs) (given ++ cs))
 answered_all w [] answered given on apart =
-    ap (λ (xs : List Answer). answering_on w [] xs given) (sym (append-nil answered)) ∙ ap (λ (xs : List Taken). answering_on w [] (answered ++ []) xs) (sym (append-nil given))
+    ap (λ (xs : List Answer). Some (answering_on w [] xs given)) (sym (append-nil answered)) ∙ ap (λ (xs : List Taken). Some (answering_on w [] (answered ++ []) xs)) (sym (append-nil given))
 answered_all w (c ∷ cs) answered given on apart =
     one (Answering c.terminal) (terminals_of cs) (answering_on w (c ∷ cs) answered given) (answering_on w cs (answered ++ answer_of c ∷ []) (given ++ c ∷ [])) (answered_one w c cs answered given on apart.0)
     ∙ answered_all w cs (answered ++ answer_of c ∷ []) (given ++ c ∷ []) on apart.1
-    ∙ ap (λ (xs : List Answer). answering_on w [] xs ((given ++ c ∷ []) ++ cs)) (append_assoc answered (answer_of c ∷ []) (map answer_of cs))
-    ∙ ap (λ (xs : List Taken). answering_on w [] (answered ++ map answer_of (c ∷ cs)) xs) (append_assoc given (c ∷ []) cs)
+    ∙ ap (λ (xs : List Answer). Some (answering_on w [] xs ((given ++ c ∷ []) ++ cs))) (append_assoc answered (answer_of c ∷ []) (map answer_of cs))
+    ∙ ap (λ (xs : List Taken). Some (answering_on w [] (answered ++ map answer_of (c ∷ cs)) xs)) (append_assoc given (c ∷ []) cs)
 
 -- replies for as many commands
 abbrev pub SameLength : List Command → List Reply → Type 0
@@ -202,40 +191,40 @@ module _ (w : World) (batch : List Entry) (positions : List (Option Position)) (
   abbrev landed : World
   landed = record (at_rest w) { accepted = now; positions = positions; safe = length now; sealed = length now; due = c ∷ cs }
 
-  flies : (events : List Event) → 0 < length batch → run (Seal ∷ Pull ∷ events) looked ≡ run events (in_phase flying (Writing 0))
+  flies : (events : List Event) → 0 < length batch → goes (Seal ∷ Pull ∷ events) looked ≡ goes events (in_phase flying (Writing 0))
   flies events some =
-      ap (λ (b : Bool). run events (cond b (in_phase flying (Writing 0)) (record (at_rest w) { accepted = now; positions = positions; sealed = length now; due = c ∷ cs })))
+      ap (λ (b : Bool). goes events (cond b (in_phase flying (Writing 0)) (record (at_rest w) { accepted = now; positions = positions; sealed = length now; due = c ∷ cs })))
       (lt-ltb (length w.accepted) (length now) (let l = length-append w.accepted batch in omega arith))
 
-  is_due : (events : List Event) → batch ≡ [] → run (Seal ∷ Pull ∷ events) looked ≡ run events landed
+  is_due : (events : List Event) → batch ≡ [] → goes (Seal ∷ Pull ∷ events) looked ≡ goes events landed
   is_due events none =
       let same : length now ≡ length w.accepted = ap (λ (xs : List Entry). length (w.accepted ++ xs)) none ∙ ap length (append-nil w.accepted) in
-      ap (λ (b : Bool). run events (cond b (in_phase flying (Writing 0)) (record (at_rest w) { accepted = now; positions = positions; sealed = length now; due = c ∷ cs })))
+      ap (λ (b : Bool). goes events (cond b (in_phase flying (Writing 0)) (record (at_rest w) { accepted = now; positions = positions; sealed = length now; due = c ∷ cs })))
       (Rattle.std.proofs.lemmas.Bool.le-ltb (length w.accepted) (length now) (omega arith))
-      ∙ ap (λ (n : ℕ). run events (record (at_rest w) { accepted = now; positions = positions; safe = n; sealed = length now; due = c ∷ cs })) (sym same)
+      ∙ ap (λ (n : ℕ). goes events (record (at_rest w) { accepted = now; positions = positions; safe = n; sealed = length now; due = c ∷ cs })) (sym same)
 
   written : (folds : ℕ) (events : List Event) → 0 < length batch
-      → run ((replicate folds Fold ++ (calls_to (bodies (length batch) + 1) GateWritten ++ SecondSync ∷ [])) ++ events) (in_phase flying (Writing 0)) ≡ run events landed
+      → goes ((replicate folds Fold ++ (calls_to (bodies (length batch) + 1) GateWritten ++ SecondSync ∷ [])) ++ events) (in_phase flying (Writing 0)) ≡ goes events landed
   written folds events some =
       let is : batch_of flying ≡ batch = batch_is w.accepted batch in
       let count : bodies (length (batch_of flying)) + 1 ≡ bodies (length batch) + 1 = ap (λ (xs : List Entry). bodies (length xs) + 1) is in
       let calls = calls_to (bodies (length batch) + 1) GateWritten in
-      ap (λ (es : List Event). run es (in_phase flying (Writing 0))) (append_assoc (replicate folds Fold) (calls ++ SecondSync ∷ []) events)
+      ap (λ (es : List Event). goes es (in_phase flying (Writing 0))) (append_assoc (replicate folds Fold) (calls ++ SecondSync ∷ []) events)
       ∙ folded flying refl folds ((calls ++ SecondSync ∷ []) ++ events)
-      ∙ ap (λ (es : List Event). run es (in_phase flying (Writing 0))) (append_assoc calls (SecondSync ∷ []) events)
-      ∙ ap (λ (n : ℕ). run (calls_to n GateWritten ++ SecondSync ∷ events) (in_phase flying (Writing 0))) (sym count)
+      ∙ ap (λ (es : List Event). goes es (in_phase flying (Writing 0))) (append_assoc calls (SecondSync ∷ []) events)
+      ∙ ap (λ (n : ℕ). goes (calls_to n GateWritten ++ SecondSync ∷ events) (in_phase flying (Writing 0))) (sym count)
       ∙ reached flying refl GateWritten (SecondSync ∷ events) tt ∙ made_safe flying refl events
 
-  by_count : (folds : ℕ) (events : List Event) (n : ℕ) → length batch ≡ n → run (Seal ∷ Pull ∷ (device_calls folds n ++ events)) looked ≡ run events landed
+  by_count : (folds : ℕ) (events : List Event) (n : ℕ) → length batch ≡ n → goes (Seal ∷ Pull ∷ (device_calls folds n ++ events)) looked ≡ goes events landed
   by_count folds events zero q = is_due events (nil_from_length batch q)
   by_count folds events (suc n) q =
       flies (device_calls folds (suc n) ++ events) (omega arith)
-      ∙ ap (λ (b : Bool). run (cond b [] (replicate folds Fold ++ (calls_to (bodies (suc n) + 1) GateWritten ++ SecondSync ∷ [])) ++ events) (in_phase flying (Writing 0))) (ne_eqb (suc n) 0 (λ e. absurd (omega arith)))
-      ∙ ap (λ (m : ℕ). run ((replicate folds Fold ++ (calls_to (bodies m + 1) GateWritten ++ SecondSync ∷ [])) ++ events) (in_phase flying (Writing 0))) (sym q)
+      ∙ ap (λ (b : Bool). goes (cond b [] (replicate folds Fold ++ (calls_to (bodies (suc n) + 1) GateWritten ++ SecondSync ∷ [])) ++ events) (in_phase flying (Writing 0))) (ne_eqb (suc n) 0 (λ e. absurd (omega arith)))
+      ∙ ap (λ (m : ℕ). goes ((replicate folds Fold ++ (calls_to (bodies m + 1) GateWritten ++ SecondSync ∷ [])) ++ events) (in_phase flying (Writing 0))) (sym q)
       ∙ written folds events (omega arith)
 
   pub turn_after : (folds : ℕ) → AreApart (c ∷ cs)
-      → run (Seal ∷ Pull ∷ (device_calls folds (length batch) ++ terminals_of (c ∷ cs))) looked ≡ answering_on landed [] (w.answered ++ map answer_of (c ∷ cs)) (w.given ++ c ∷ cs)
+      → goes (Seal ∷ Pull ∷ (device_calls folds (length batch) ++ terminals_of (c ∷ cs))) looked ≡ Some (answering_on landed [] (w.answered ++ map answer_of (c ∷ cs)) (w.given ++ c ∷ cs))
   turn_after folds apart = by_count folds (terminals_of (c ∷ cs)) (length batch) refl ∙ answered_all landed (c ∷ cs) w.answered w.given refl apart
 
   -- and where a device call fails
@@ -243,8 +232,8 @@ module _ (w : World) (batch : List Entry) (positions : List (Option Position)) (
   lost phase = record (at_rest w) { accepted = now; positions = positions; sealed = length now; flight = record { commands = []; upto = length now }; phase = phase; power = Broken; due = map unknown_to (c ∷ cs) }
 
   pub failure_after : (folds : ℕ) (phase : Phase) → 0 < length batch → MayFailIn (bodies (length batch) + 1) phase → AreApart (c ∷ cs)
-      → run (Seal ∷ Pull ∷ (replicate folds Fold ++ (calls_to (bodies (length batch) + 1) phase ++ Fault ∷ terminals_of (map unknown_to (c ∷ cs))))) looked
-      ≡ answering_on (lost phase) [] (w.answered ++ map answer_of (map unknown_to (c ∷ cs))) (w.given ++ map unknown_to (c ∷ cs))
+      → goes (Seal ∷ Pull ∷ (replicate folds Fold ++ (calls_to (bodies (length batch) + 1) phase ++ Fault ∷ terminals_of (map unknown_to (c ∷ cs))))) looked
+      ≡ Some (answering_on (lost phase) [] (w.answered ++ map answer_of (map unknown_to (c ∷ cs))) (w.given ++ map unknown_to (c ∷ cs)))
   failure_after folds phase some fail apart =
       let is : batch_of flying ≡ batch = batch_is w.accepted batch in
       let count : bodies (length (batch_of flying)) + 1 ≡ bodies (length batch) + 1 = ap (λ (xs : List Entry). bodies (length xs) + 1) is in
@@ -252,17 +241,17 @@ module _ (w : World) (batch : List Entry) (positions : List (Option Position)) (
       let there : MayFailIn (bodies (length (batch_of flying)) + 1) phase = subst (λ (n : ℕ). MayFailIn n phase) (sym count) fail in
       flies (replicate folds Fold ++ (calls_to (bodies (length batch) + 1) phase ++ Fault ∷ answers)) some
       ∙ folded flying refl folds (calls_to (bodies (length batch) + 1) phase ++ Fault ∷ answers)
-      ∙ ap (λ (n : ℕ). run (calls_to n phase ++ Fault ∷ answers) (in_phase flying (Writing 0))) (sym count)
+      ∙ ap (λ (n : ℕ). goes (calls_to n phase ++ Fault ∷ answers) (in_phase flying (Writing 0))) (sym count)
       ∙ reached flying refl phase (Fault ∷ answers) there
       ∙ one Fault answers (in_phase flying phase) (failing (in_phase flying phase)) (fails flying refl phase there)
       ∙ answered_all (lost phase) (map unknown_to (c ∷ cs)) w.answered w.given refl (unknown_apart (c ∷ cs) apart)
 
 module _ (w : World) (command : Command) (commands : List Command) (reply : Reply) (replies : List Reply) (state : State) (found : AreFound (at_rest w) (command ∷ commands))
     (r : Rattle.lift_policy.specs.Run.Run w.building Rattle.lift_policy.specs.Eligible.any_eligible (state_of (at_rest w)) (command ∷ commands) (reply ∷ replies) state) where
-  scan : (letters : List (Option ℕ)) × (run (take_events (command ∷ commands) letters) (at_rest w) ≡ looked w state.batch state.positions (taken_as command reply) (with_replies commands replies))
+  scan : (letters : List (Option ℕ)) × (goes (take_events (command ∷ commands) letters) (at_rest w) ≡ Some (looked w state.batch state.positions (taken_as command reply) (with_replies commands replies)))
   scan =
       let s = runs_are_takes (at_rest w) (command ∷ commands) (reply ∷ replies) state (omega arith) found r in
-      (s.0, s.1 ∙ ap (λ (xs : List Entry). record (at_rest w) { accepted = xs ++ state.batch; positions = state.positions; taken = taken_as command reply ∷ with_replies commands replies }) (take-length w.accepted))
+      (s.0, s.1 ∙ ap (λ (xs : List Entry). Some (record (at_rest w) { accepted = xs ++ state.batch; positions = state.positions; taken = taken_as command reply ∷ with_replies commands replies })) (take-length w.accepted))
 
   same_answers : answer_events (command ∷ commands) ≡ terminals_of (taken_as command reply ∷ with_replies commands replies)
   same_answers = answers_of (command ∷ commands) (reply ∷ replies) (same_length w.building (state_of (at_rest w)) state (command ∷ commands) (reply ∷ replies) r)
@@ -270,24 +259,24 @@ module _ (w : World) (command : Command) (commands : List Command) (reply : Repl
   apart : AreApart (taken_as command reply ∷ with_replies commands replies)
   apart = all_apart (at_rest w) (command ∷ commands) (reply ∷ replies) found
 
-  pub turn_at : (letters : List (Option ℕ)) × ((folds : ℕ) → run (turn_events (command ∷ commands) letters folds (length state.batch)) (at_rest w) ≡ turned (at_rest w) (command ∷ commands) (reply ∷ replies) state)
+  pub turn_at : (letters : List (Option ℕ)) × ((folds : ℕ) → goes (turn_events (command ∷ commands) letters folds (length state.batch)) (at_rest w) ≡ Some (turned (at_rest w) (command ∷ commands) (reply ∷ replies) state))
   turn_at = (
     scan.0,
     λ folds.
         let events : List Event = Seal ∷ Pull ∷ (device_calls folds (length state.batch) ++ answer_events (command ∷ commands)) in
-        run-append (take_events (command ∷ commands) scan.0) events (at_rest w) ∙ ap (run events) scan.1
-        ∙ ap (λ (es : List Event). run (Seal ∷ Pull ∷ (device_calls folds (length state.batch) ++ es)) (looked w state.batch state.positions (taken_as command reply) (with_replies commands replies))) same_answers
+        goes-append (take_events (command ∷ commands) scan.0) events (at_rest w) ∙ ap (option_and_then (goes events)) scan.1
+        ∙ ap (λ (es : List Event). goes (Seal ∷ Pull ∷ (device_calls folds (length state.batch) ++ es)) (looked w state.batch state.positions (taken_as command reply) (with_replies commands replies))) same_answers
         ∙ turn_after w state.batch state.positions (taken_as command reply) (with_replies commands replies) folds apart,
   )
 
   pub failure_at : (phase : Phase) → 0 < length state.batch → MayFailIn (bodies (length state.batch) + 1) phase
-      → (letters : List (Option ℕ)) × ((folds : ℕ) → run (failed_events (command ∷ commands) letters folds phase (length state.batch)) (at_rest w) ≡ failed (at_rest w) (command ∷ commands) (reply ∷ replies) state phase)
+      → (letters : List (Option ℕ)) × ((folds : ℕ) → goes (failed_events (command ∷ commands) letters folds phase (length state.batch)) (at_rest w) ≡ Some (failed (at_rest w) (command ∷ commands) (reply ∷ replies) state phase))
   failure_at phase some fail = (
     scan.0,
     λ folds.
         let events : List Event = Seal ∷ Pull ∷ (replicate folds Fold ++ (calls_to (bodies (length state.batch) + 1) phase ++ Fault ∷ answer_events (command ∷ commands))) in
-        run-append (take_events (command ∷ commands) scan.0) events (at_rest w) ∙ ap (run events) scan.1
-        ∙ ap (λ (es : List Event). run (Seal ∷ Pull ∷ (replicate folds Fold ++ (calls_to (bodies (length state.batch) + 1) phase ++ Fault ∷ es))) (looked w state.batch state.positions (taken_as command reply) (with_replies commands replies)))
+        goes-append (take_events (command ∷ commands) scan.0) events (at_rest w) ∙ ap (option_and_then (goes events)) scan.1
+        ∙ ap (λ (es : List Event). goes (Seal ∷ Pull ∷ (replicate folds Fold ++ (calls_to (bodies (length state.batch) + 1) phase ++ Fault ∷ es))) (looked w state.batch state.positions (taken_as command reply) (with_replies commands replies)))
         (same_answers ∙ sym (unknown_terminals (taken_as command reply ∷ with_replies commands replies)))
         ∙ failure_after w state.batch state.positions (taken_as command reply) (with_replies commands replies) folds phase some fail apart,
   )
@@ -295,13 +284,13 @@ module _ (w : World) (command : Command) (commands : List Command) (reply : Repl
 pub turns_are_runs : (w : World) → TurnsAreRuns w
 turns_are_runs w command commands reply replies state rest found r =
     let e = is_at_rest w rest in
-    subst (λ (v : World). (letters : List (Option ℕ)) × ((folds : ℕ) → run (turn_events (command ∷ commands) letters folds (length state.batch)) v ≡ turned v (command ∷ commands) (reply ∷ replies) state)) e
+    subst (λ (v : World). (letters : List (Option ℕ)) × ((folds : ℕ) → goes (turn_events (command ∷ commands) letters folds (length state.batch)) v ≡ Some (turned v (command ∷ commands) (reply ∷ replies) state))) e
     (turn_at w command commands reply replies state (subst (λ (v : World). AreFound v (command ∷ commands)) (sym e) found)
     (subst (λ (v : World). Rattle.lift_policy.specs.Run.Run v.building Rattle.lift_policy.specs.Eligible.any_eligible (state_of v) (command ∷ commands) (reply ∷ replies) state) (sym e) r))
 
 pub failures_are_runs : (w : World) → FailuresAreRuns w
 failures_are_runs w command commands reply replies state phase rest found r some fail =
     let e = is_at_rest w rest in
-    subst (λ (v : World). (letters : List (Option ℕ)) × ((folds : ℕ) → run (failed_events (command ∷ commands) letters folds phase (length state.batch)) v ≡ failed v (command ∷ commands) (reply ∷ replies) state phase)) e
+    subst (λ (v : World). (letters : List (Option ℕ)) × ((folds : ℕ) → goes (failed_events (command ∷ commands) letters folds phase (length state.batch)) v ≡ Some (failed v (command ∷ commands) (reply ∷ replies) state phase))) e
     (failure_at w command commands reply replies state (subst (λ (v : World). AreFound v (command ∷ commands)) (sym e) found)
     (subst (λ (v : World). Rattle.lift_policy.specs.Run.Run v.building Rattle.lift_policy.specs.Eligible.any_eligible (state_of v) (command ∷ commands) (reply ∷ replies) state) (sym e) r) phase some fail)

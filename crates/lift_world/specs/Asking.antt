@@ -1,12 +1,12 @@
 -- How asks come to stand: a turn's commands may be any that terminals can ask.
-use Rattle.std.specs.Prelude.{◌≡◌, ◌≢◌, ◌≤◌, false, List, [], ◌∷◌, ◌++◌, length, count_by}
+use Rattle.std.specs.Prelude.{◌≡◌, ◌≢◌, ◌≤◌, false, Some, List, [], ◌∷◌, ◌++◌, length, count_by}
 use Rattle.std.specs.List.{AllByRecursion}
 use Rattle.lift_policy.specs.declared.command.Command.{Command}
 use Rattle.lift_world.specs.declared.event.Answer.{Answer}
 use Rattle.lift_world.specs.declared.event.Taken.{Taken}
 use Rattle.lift_world.specs.declared.event.Event.{Event}
 use Rattle.lift_world.specs.World.{World, is_off, is_answer_to, asks}
-use Rattle.lift_world.specs.Next.{run, unanswered}
+use Rattle.lift_world.specs.Next.{goes, unanswered}
 use Rattle.lift_world.specs.Headline.{HearsInOrder}
 use Rattle.lift_world.specs.Turns.{AreFound}
 
@@ -24,4 +24,4 @@ asked_on w commands heard = record w { asked = w.asked ++ commands; heard = hear
 -- Whatever these commands are, their terminals can hear their answers and ask them, and then the asks stand.
 abbrev pub AsksStand : World → Type 0
 AsksStand w = (commands : List Command) → is_off w.power ≡ false → length w.queue ≤ 4 → HearsInOrder w → AreAnswered w commands
-    → (events : List Event) × (heard : List Answer) × (run events w ≡ asked_on w commands heard) × AreFound (asked_on w commands heard) commands
+    → (events : List Event) × (heard : List Answer) × (goes events w ≡ Some (asked_on w commands heard)) × AreFound (asked_on w commands heard) commands

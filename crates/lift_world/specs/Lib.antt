@@ -8,5 +8,9 @@ pub mod Possible
 pub mod Tie
 pub mod Turns
 pub mod Asking
+pub mod Beside
+pub mod Relay
+pub mod Policies
+pub mod Lawful
 pub mod Due
 pub mod Faults

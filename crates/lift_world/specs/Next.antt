@@ -181,3 +181,8 @@ next w (Reopen kept) = when (may_reopen w w.power kept) (reopened w kept)
 abbrev pub run : List Event → World → World
 run [] w = w
 run (event ∷ events) w = run events (unwrap_or (next w event) w)
+
+-- the world after all these events, where each is possible in its place
+abbrev pub goes : List Event → World → Option World
+goes [] w = Some w
+goes (event ∷ events) w = option_and_then (goes events) (next w event)

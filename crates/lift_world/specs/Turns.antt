@@ -15,7 +15,7 @@ use Rattle.lift_world.specs.declared.event.Phase.{Phase}
 use Rattle.lift_world.specs.declared.event.Phase.TheVariants.{Idle, Writing, Synced, GateWritten}
 use Rattle.lift_world.specs.declared.event.Power.TheVariants.{Broken}
 use Rattle.lift_world.specs.World.{World, no_batch, is_running, state_of, may_keep, outcome}
-use Rattle.lift_world.specs.Next.{next, run, bodies, answer_of, unknown_to, reopened}
+use Rattle.lift_world.specs.Next.{next, goes, bodies, answer_of, unknown_to, reopened}
 use Rattle.lift_world.specs.Tie.{Finds}
 
 -- the asks of these commands stand, and no terminal is looked at twice
@@ -44,7 +44,7 @@ scanned w commands replies state =
 abbrev pub RunsAreTakes : World → Type 0
 RunsAreTakes w = (commands : List Command) (replies : List Reply) (state : State) → w.sealed ≤ length w.accepted → AreFound w commands
     → Run w.building any_eligible (state_of w) commands replies state
-    → (letters : List (Option ℕ)) × (run (take_events commands letters) w ≡ scanned w commands replies state)
+    → (letters : List (Option ℕ)) × (goes (take_events commands letters) w ≡ Some (scanned w commands replies state))
 
 -- between two turns: nothing is taken or on its way, and all that is accepted is safe
 pub record IsAtRest (w : World) : Type 0 where
@@ -86,11 +86,11 @@ turned w commands replies state = record w {
   given = w.given ++ with_replies commands replies;
 }
 
--- A turn that took something and answers Ok is its list of events, however many calls its checkpoint makes.
+-- A turn that took something and answers Ok is its list of events, each possible in its place, however many calls its checkpoint makes.
 abbrev pub TurnsAreRuns : World → Type 0
 TurnsAreRuns w = (command : Command) (commands : List Command) (reply : Reply) (replies : List Reply) (state : State) → IsAtRest w → AreFound w (command ∷ commands)
     → Run w.building any_eligible (state_of w) (command ∷ commands) (reply ∷ replies) state
-    → (letters : List (Option ℕ)) × ((folds : ℕ) → run (turn_events (command ∷ commands) letters folds (length state.batch)) w ≡ turned w (command ∷ commands) (reply ∷ replies) state)
+    → (letters : List (Option ℕ)) × ((folds : ℕ) → goes (turn_events (command ∷ commands) letters folds (length state.batch)) w ≡ Some (turned w (command ∷ commands) (reply ∷ replies) state))
 
 -- the phases in which a device call of a batch may fail: one of the checkpoint's, one of the writes or the first sync;
 -- the gate's write or the second sync
@@ -123,7 +123,7 @@ abbrev pub FailuresAreRuns : World → Type 0
 FailuresAreRuns w = (command : Command) (commands : List Command) (reply : Reply) (replies : List Reply) (state : State) (phase : Phase) → IsAtRest w → AreFound w (command ∷ commands)
     → Run w.building any_eligible (state_of w) (command ∷ commands) (reply ∷ replies) state
     → 0 < length state.batch → MayFailIn (bodies (length state.batch) + 1) phase
-    → (letters : List (Option ℕ)) × ((folds : ℕ) → run (failed_events (command ∷ commands) letters folds phase (length state.batch)) w ≡ failed w (command ∷ commands) (reply ∷ replies) state phase)
+    → (letters : List (Option ℕ)) × ((folds : ℕ) → goes (failed_events (command ∷ commands) letters folds phase (length state.batch)) w ≡ Some (failed w (command ∷ commands) (reply ∷ replies) state phase))
 
 -- between two turns after a fault: nothing is taken or on its way, and the batch in doubt stays with its phase
 pub record IsBrokenAtRest (w : World) : Type 0 where
@@ -159,7 +159,7 @@ turned_broken w commands state = record w {
 abbrev pub BrokenTurnsAreRuns : World → Type 0
 BrokenTurnsAreRuns w = (command : Command) (commands : List Command) (reply : Reply) (replies : List Reply) (state : State) → IsBrokenAtRest w → AreFound w (command ∷ commands)
     → Run w.building any_eligible (state_of w) (command ∷ commands) (reply ∷ replies) state
-    → (letters : List (Option ℕ)) × (run (broken_events (command ∷ commands) letters) w ≡ turned_broken w (command ∷ commands) state)
+    → (letters : List (Option ℕ)) × (goes (broken_events (command ∷ commands) letters) w ≡ Some (turned_broken w (command ∷ commands) state))
 
 -- Such a turn changes the answers alone: a cut or a reopening may leave what it might have left before, and a reopening
 -- leaves the world that it would have left before, with those answers.

@@ -9,6 +9,10 @@ ghost use Rattle.lift_world.specs.World.{World, start};
 ghost use Rattle.lift_world.specs.Possible.{CutsToSafe, CutsWithBatch, CutsGive, ReopensAfterCut, OnlyReopensAfterCut, ReopensAfterFault, ReopeningsGive, KeepsRunning};
 ghost use Rattle.lift_world.specs.Possible.{AsksOnceHeard, HearsTheNext, TakesNeedLooks, Seals, PullsInTurn, CallsInOrder, AnswersDue, AnswersOnlyDue, GivenStays};
 ghost use Rattle.lift_world.specs.Asking.{AsksStand};
+ghost use Rattle.lift_world.specs.Beside.{GoesAreRuns, RunsJoin, TerminalsPass};
+ghost use Rattle.lift_world.specs.Relay.{IsQueueInOrder, AllocationsAreEvents, FullQueueWaits, FlushesAreEvents, FailedFlushesAreEvents, BrokenFlushesAreEvents, TurnsMeet, PartsMeet, FlusherPassesScans, FlusherComesFirst, FlusherPassesSeals};
+ghost use Rattle.lift_world.specs.Lawful.{IsTypedEvent, RecoversRecords, AcceptsFitting, AcceptsRecords};
+ghost use Rattle.lift_world.specs.Policies.{StepsAreAny, RunsAreAny};
 ghost use Rattle.lift_world.specs.Due.{DueOnceSafe};
 ghost use Rattle.lift_world.specs.Faults.{FaultsLeaveDoubt, OnlyFaultsBreak, UnknownAfterFault, UnknownOverReopening};
 ghost use Rattle.lift_world.specs.Tie.{TakesAreSteps, StepsAreTakes, LooksAreTakes};
@@ -16,11 +20,13 @@ ghost use Rattle.lift_world.specs.Turns.{HasRun, RunsAreTakes, TurnsAreRuns, Fai
 ghost use Rattle.lift_world.specs.Turns.{IsAtRest, TurnsEndAtRest, FailuresEndAtRest, BrokenTurnsEndAtRest, ReopeningsEndAtRest, CutsEndAtRest};
 
 use crate::event::Event;
+use lift_policy::Policy;
 
 /// What holds at each point of every run, whatever comes: each recovery that a power cut or a fault may lead to gives a
 /// prefix of what was accepted, has every acknowledged entry, still names the car of each letter that was shown, and is
-/// refused for no entry. What is acknowledged or shown is read from what was given, and each stored answer is that of a
-/// command given. Each terminal asks one by one, and hears what it was answered, in order and each once. At most five
+/// refused for no entry. All that was accepted fits, one entry after another, and is a record of the journal where asks are
+/// as their types hold them. What is acknowledged or shown is read from what was given, and each stored answer is that of
+/// a command given. Each terminal asks one by one, and hears what it was answered, in order and each once. At most five
 /// batches are queued, none of more commands than there are terminals; a cut leaves no command on its way; and what is
 /// sealed is a front of what is accepted, which a scan's law asks for.
 pub fn every_run()
@@ -32,9 +38,15 @@ pub fn every_run()
         → RecoversLetters (run events (start building)) }
     ensures fitting { (building : Plan) (events : List Event) → IsBuilding building
         → RecoversFitting (run events (start building)) }
+    ensures lawful { (building : Plan) (events : List Event) → IsBuilding building → AllByRecursion IsTypedEvent events
+        → RecoversRecords (run events (start building)) }
+    ensures accepted { (building : Plan) (events : List Event) → IsBuilding building → AcceptsFitting (run events (start building)) }
+    ensures written { (building : Plan) (events : List Event) → IsBuilding building → AllByRecursion IsTypedEvent events
+        → AcceptsRecords (run events (start building)) }
     ensures heard { (building : Plan) (events : List Event) → HearsInOrder (run events (start building)) }
     ensures sealed { (building : Plan) (events : List Event) → SealsAccepted (run events (start building)) }
     ensures shown { (building : Plan) (events : List Event) → StoresGiven (run events (start building)) }
+    ensures in_order { (building : Plan) (events : List Event) → IsQueueInOrder (run events (start building)) }
     ensures queued { (building : Plan) (events : List Event) → QueuesFew (run events (start building)) }
     ensures off { (building : Plan) (events : List Event) → HoldsNothingWhileOff (run events (start building)) }
     ensures asked { (building : Plan) (events : List Event) → AllAskOneByOne (run events (start building)) }
@@ -101,3 +113,39 @@ pub fn replies_are_safe()
     ensures unknown { (w : World) → UnknownAfterFault w }
     ensures reopening { (w : World) → UnknownOverReopening w }
 {}
+
+/// The turns of an allocator and of a flusher, with batches queued between them. An allocator's turn, wherever the flusher
+/// is, and each turn of the flusher, one that answers Ok, one in which any device call fails and one after that, are lists
+/// of events; with the queue full nothing is taken. Each ends where the next one begins; a split of a clerk at rest and a
+/// rejoining with nothing queued keep the world. What the flusher does behind a take it might have done before it, and
+/// behind a seal it leaves what it leaves before it, but for what was sealed.
+pub fn relays_are_events()
+    ensures allocations { (w : World) → AllocationsAreEvents w }
+    ensures full { (w : World) → FullQueueWaits w }
+    ensures flushes { (w : World) → FlushesAreEvents w }
+    ensures failures { (w : World) → FailedFlushesAreEvents w }
+    ensures broken { (w : World) → BrokenFlushesAreEvents w }
+    ensures ends { (w : World) → TurnsMeet w }
+    ensures parts { (w : World) → PartsMeet w }
+    ensures beside { (w : World) → FlusherPassesScans w }
+    ensures first { (w : World) → FlusherComesFirst w }
+    ensures seals { (w : World) → FlusherPassesSeals w }
+{}
+
+/// What terminals do at other moments passes through. Wherever asks and hears come among the events of a turn or of a
+/// reopening, before, between and behind them, all of it is possible, and it leaves what the controller's events leave and
+/// then the terminals'. A list of possible events is a run, of which all of the above holds.
+pub fn terminals_pass()
+    ensures possible { (w : World) → GoesAreRuns w }
+    ensures joined { (w : World) → RunsJoin w }
+    ensures beside { (w : World) → TerminalsPass w }
+{}
+
+/// Every policy is covered: what it may decide, on one command or on many, is a decision under the policy that may name any
+/// eligible car, and so a take, a scan or a turn of the machine.
+pub fn policies_are_covered<P: Policy>(policy: &P)
+    ensures steps { StepsAreAny (P.chooses policy.now) }
+    ensures runs { RunsAreAny (P.chooses policy.now) }
+{
+    let _ = policy;
+}

@@ -368,3 +368,43 @@ fn written(world: &mut World) -> bool {
     ];
     goes(world, &events)
 }
+
+/// Kiosks ask and hear in the midst of a turn: behind its look, between its device calls, behind its answer. The next turn
+/// takes what they asked.
+#[test]
+fn kiosks_go_on_beside_a_turn(rt: HostRuntime) -> Result<(), Fail> {
+    let building = Building::read(rt.alloc(), DEMO).ok().ok_or("refused")?;
+    let mut world = World::new(rt.alloc(), &building, 64).ok().ok_or("memory")?;
+    assert!(rt; in_flight(&mut world));
+    let turn = [
+        Event::Body,
+        call(18, 1, 9),
+        Event::Body,
+        Event::FirstSync,
+        call(17, 1, 2),
+        Event::Gate,
+        Event::SecondSync,
+        answer(16),
+        hear(16),
+        call(16, 2, 8),
+    ];
+    assert!(rt; goes(&mut world, &turn) && told(&world, letter(0)));
+    assert!(rt; world.power() == Power::Running && world.safe() == 1);
+    let looks = [allot(16, 0), allot(17, 0), allot(18, 0)];
+    assert!(rt; goes(&mut world, &looks) && world.accepted().len() == 4);
+    Ok(())
+}
+
+/// The flusher works on in the midst of an allocator's scan.
+#[test]
+fn flushes_in_the_midst_of_a_scan(rt: HostRuntime) -> Result<(), Fail> {
+    let building = Building::read(rt.alloc(), DEMO).ok().ok_or("refused")?;
+    let mut world = World::new(rt.alloc(), &building, 64).ok().ok_or("memory")?;
+    assert!(rt; in_flight(&mut world));
+    assert!(rt; goes(&mut world, &[call(17, 1, 2), call(18, 1, 9), allot(17, 0)]));
+    assert!(rt; written(&mut world) && goes(&mut world, &[answer(16), allot(18, 0)]));
+    assert!(rt; told(&world, letter(0)) && world.safe() == 1);
+    assert!(rt; goes(&mut world, &[Event::Seal, Event::Pull]) && written(&mut world));
+    assert!(rt; goes(&mut world, &[answer(17), answer(18)]) && world.safe() == 3);
+    Ok(())
+}

@@ -1,8 +1,9 @@
-use Rattle.std.proofs.Common.{◌∙◌}
+use Rattle.std.proofs.Common.{◌+◌, inl, inr, refl, ◌∙◌, arith}
 use Rattle.std.proofs.lemmas.Result.{on_ok_weaker}
-use Rattle.lift_disk.proofs.Moments.{touches_write, touches_then_rest}
+use Rattle.lift_disk.proofs.Moments.{runs_call, touches_write, touches_then_rest}
 use Rattle.lift_journal.specs.Steps.{IsInRange}
-use Rattle.lift_journal.proofs.Looking.{both_on_ok}
+use Rattle.lift_journal.proofs.Looking.{both_on_ok, both_on_err, err_any, err_weaker}
+use Rattle.lift_journal.proofs.Telling.{one_passes, one_fails, call_stops, stops_then, err_stops}
 use Rattle.lift_journal.proofs.checkpoint.put_sector.Goals as goal
 
 pub returns-in_err-write-clause-touched : goal.returns-in_err-write-clause-touched
@@ -23,3 +24,38 @@ returns-clause-stored g c =
     let written = c.in_ok-write.ensures.steady honest steady in
     let then_honest = c.write.ensures.goes_on.honest.1 honest in
     record { synced = sync.1 then_honest; same = (sync.0 then_honest written.steady).same ∙ written.same }) (both_on_ok c.sync.result _ _ c.sync.ensures.steady c.sync.ensures.synced)
+
+pub returns-in_err-write-clause-told : goal.returns-in_err-write-clause-told
+returns-in_err-write-clause-told g c =
+    err_stops _ c.from_residual.result (g.D.Disk.state c.args.disk.now) (g.D.Disk.state c.write.new.self) c.from_residual.ensures.1
+    (one_fails (g.D.Disk.state c.args.disk.now) (g.D.Disk.state c.write.new.self) c.write.ensures.goes_on c.in_err-write.ensures.told.err c.in_err-write.ensures.told.short)
+
+pub returns-clause-told : goal.returns-clause-told
+returns-clause-told g c =
+    let old = g.D.Disk.state c.args.disk.now in
+    let mid = g.D.Disk.state c.write.new.self in
+    let new = g.D.Disk.state c.sync.new.self in
+    stops_then old mid new (runs_call old mid c.write.ensures.goes_on) (one_passes old mid c.write.ensures.goes_on c.in_ok-write.ensures.told.ok c.in_ok-write.ensures.told.same)
+    c.sync.result (call_stops c.sync.result mid new c.sync.ensures.goes_on c.sync.ensures.told)
+
+pub returns-in_err-write-clause-misses : goal.returns-in_err-write-clause-misses
+returns-in_err-write-clause-misses g c =
+    err_any c.from_residual.result _ (λ honest inert. record {
+      made = inl (c.write.ensures.goes_on.calls, c.in_err-write.ensures.image_err honest inert);
+      synced = c.write.ensures.kept honest;
+      loose = ((c.write.ensures.touched honest).loose c.args.sector).1 (inr refl);
+    })
+
+pub returns-clause-misses : goal.returns-clause-misses
+returns-clause-misses g c =
+    err_weaker c.sync.result _ _ (λ sync honest inert.
+    let honest_then = c.write.ensures.goes_on.honest.1 honest in
+    let inert_then = c.write.ensures.goes_on.inert.1 inert in
+    record {
+      made = inr (
+        omega (arith, c.write.ensures.goes_on.calls, c.sync.ensures.goes_on.calls),
+        c.sync.ensures.image honest_then inert_then ∙ c.in_ok-write.ensures.image honest inert,
+      );
+      synced = sync.0 honest_then ∙ c.write.ensures.kept honest;
+      loose = sync.1 honest_then c.args.sector (((c.write.ensures.touched honest).loose c.args.sector).1 (inr refl));
+    }) (both_on_err c.sync.result _ _ c.sync.ensures.kept c.sync.ensures.loose)

@@ -1,8 +1,11 @@
-use Rattle.std.proofs.Common.{◌≡◌, ◌⊎◌, inl, inr, slice_set, ◌∙◌, ap, subst, arith}
+use Rattle.std.proofs.Common.{◌≡◌, ◌⊎◌, ◌+◌, inl, inr, ⊎_elim, slice_set, ◌∙◌, ap, subst, arith}
 use Rattle.std.proofs.lemmas.Result.{on_ok_weaker}
 use Rattle.lift_disk.specs.Disk.{Image, ChangesWithin}
-use Rattle.lift_disk.proofs.Moments.{leaves_weaker, leaves_then, leaves_if_honest, changes_more}
+use Rattle.lift_disk.proofs.Moments.{leaves_weaker, leaves_then, leaves_if_honest, changes_more, changes_twice}
 use Rattle.lift_journal.specs.Steps.{IsInRange, unmarked}
+use Rattle.lift_journal.proofs.Looking.{err_any, err_weaker}
+use Rattle.lift_journal.proofs.Stopping.{synced_image}
+use Rattle.lift_journal.proofs.Telling.{stops_then}
 use Rattle.lift_journal.proofs.checkpoint.switch_half.Goals as goal
 
 pub returns-in_err-put_sector-clause-any_moment : goal.returns-in_err-put_sector-clause-any_moment
@@ -37,3 +40,43 @@ returns-clause-picked g c =
       synced = after.synced;
       same = after.same ∙ ap (λ (l : Image). slice_set l 0 c.args.pick.now) stored.same;
     }) c.put_sector-2.ensures.stored
+
+pub returns-clause-told : goal.returns-clause-told
+returns-clause-told g c =
+    stops_then (g.D.Disk.state c.args.disk.now) (g.D.Disk.state c.put_sector.new.disk) (g.D.Disk.state c.put_sector-2.new.disk) c.put_sector.ensures.runs c.in_ok-put_sector.ensures.told.ok
+    c.put_sector-2.result c.put_sector-2.ensures.told
+
+pub returns-in_err-put_sector-clause-stops : goal.returns-in_err-put_sector-clause-stops
+returns-in_err-put_sector-clause-stops g c =
+    err_any c.from_residual.result _ (λ low high le lt loose honest inert steady.
+    let old = g.D.Disk.state c.args.disk.now in
+    let new = g.D.Disk.state c.put_sector.new.disk in
+    let changed = IsInRange low high in
+    let touched = c.put_sector.ensures.touched low high le lt loose in
+    record {
+      early = λ _ honest_new left leaves.
+          changes_twice changed old.image new.image left (touched.within honest) (changes_more new.is_loose changed new.image left (touched.loose honest_new) leaves);
+      late = λ more. absurd (omega (arith, more, c.put_sector.ensures.made.most_calls));
+    })
+
+pub returns-clause-stops : goal.returns-clause-stops
+returns-clause-stops g c =
+    err_weaker c.put_sector-2.result _ _ (λ misses low high le lt loose honest inert steady.
+    let old = g.D.Disk.state c.args.disk.now in
+    let mid = g.D.Disk.state c.put_sector.new.disk in
+    let calls = c.in_ok-put_sector.ensures.made.calls in
+    let stored = c.in_ok-put_sector.ensures.stored honest steady in
+    let honest_mid = c.put_sector.ensures.runs.honest.1 honest in
+    let honest_new = c.put_sector-2.ensures.runs.honest.1 honest_mid in
+    let missed = misses honest_mid (c.put_sector.ensures.runs.inert.1 inert) in
+    let picked = c.put_sector-2.ensures.touched 0 1 (omega arith) (omega arith) (λ _ i is. absurd (stored.synced.none_loose i is)) in
+    record {
+      early = λ few. absurd (⊎_elim (λ failed. omega (arith, few, failed.0, calls)) (λ written. omega (arith, few, written.0, calls)) missed.made);
+      late = λ _. record {
+        made = ⊎_elim (λ failed. inl (omega (arith, failed.0, calls), failed.1 ∙ stored.same))
+            (λ written. inr (omega (arith, written.0, calls), written.1 ∙ ap (λ (l : Image). slice_set l 0 c.args.pick.now) stored.same)) missed.made;
+        synced = missed.synced ∙ synced_image mid stored.synced (g.met.D.Disk.may_lose c.put_sector.new.disk honest_mid) ∙ stored.same;
+        loose = missed.loose;
+        others = λ i is. (let there = picked.loose honest_new i is in omega (arith, there.1));
+      };
+    }) c.put_sector-2.ensures.misses

@@ -9,6 +9,7 @@ use Rattle.lift_journal.specs.Walk.{Reaches}
 use Rattle.lift_journal.specs.Checkpoint.{in_batches, batch_count, sectors_for}
 use Rattle.lift_journal.proofs.Bases.{base_in_order}
 use Rattle.lift_journal.proofs.Checkpoints.{Drafted, drafted_touched, drafted_more, lawful_part, next_size, next_body, next_room, used_most, used_within, used_checkpoint}
+use Rattle.lift_journal.proofs.Telling.{fails_then, err_stops}
 use Rattle.lift_journal.proofs.checkpoint.write_batches.Goals as goal
 
 pub body_of-body-requires-clause-lawful : goal.body_of-body-requires-clause-lawful
@@ -65,7 +66,7 @@ loop-index-preserved g c =
     subst (λ m. Drafted old new c.args.start (c.loop-index.gate + (m + 1)) (k + 1) records) long
     (drafted_more old now new c.args.start c.loop-index.gate k records c.loop-index.invariant sectors (omega (arith, long, room)) (long ∙ is ∙ ap (λ (l : List Record). bodies (length l)) c.base_batch-batch.ensures)
     (next_body k n records items c.body_of-body.result c.base_batch-batch.ensures is written) (base_in_order c.args.register.now c.base_len.ensures.lawful)
-    c.write_open_batch.ensures.runs c.in_ok-write_open_batch.ensures.made.calls c.in_ok-write_open_batch.ensures.made.writes c.in_ok-write_open_batch.ensures.cause.ok c.write_open_batch.ensures.touched c.in_ok-write_open_batch.ensures.written (g.met.D.Disk.whole c.loop-index.disk))
+    c.write_open_batch.ensures.runs c.in_ok-write_open_batch.ensures.made.calls c.in_ok-write_open_batch.ensures.made.writes c.in_ok-write_open_batch.ensures.cause.ok c.in_ok-write_open_batch.ensures.told.ok c.write_open_batch.ensures.touched c.in_ok-write_open_batch.ensures.written (g.met.D.Disk.whole c.loop-index.disk))
 
 pub returns-clause-gate : goal.returns-clause-gate
 returns-clause-gate g c =
@@ -116,3 +117,14 @@ returns-clause-made g c =
       most_calls = omega (arith, c.loop-index.invariant.calls, taken);
       most_writes = omega (arith, c.loop-index.invariant.writes, taken);
     }
+
+pub returns-in_err-write_open_batch-clause-told : goal.returns-in_err-write_open_batch-clause-told
+returns-in_err-write_open_batch-clause-told g c =
+    let old = g.D.Disk.state c.args.disk.now in
+    let new = g.D.Disk.state c.write_open_batch.new.disk in
+    let so_far = c.loop-index.invariant in
+    err_stops _ c.from_residual.result old new c.from_residual.ensures.1
+    (fails_then old (g.D.Disk.state c.loop-index.disk) new so_far.runs so_far.told c.in_err-write_open_batch.ensures.told.err)
+
+pub returns-clause-told : goal.returns-clause-told
+returns-clause-told g c = record { ok = c.loop-index.invariant.told; err = tt }

@@ -4,10 +4,14 @@ use Rattle.lift_disk.specs.Disk.{Image, ChangesWithin}
 use Rattle.lift_disk.proofs.History.{set_other}
 use Rattle.lift_register.specs.Base.{base_records}
 use Rattle.lift_journal.specs.Layout.{sector_at}
-use Rattle.lift_journal.specs.Steps.{unmarked}
+use Rattle.lift_journal.specs.Steps.{IsInRange, unmarked}
+use Rattle.lift_journal.specs.Checkpoint.{sectors_for}
+use Rattle.lift_disk.proofs.Moments.{changes_more, changes_twice}
+use Rattle.lift_journal.proofs.Looking.{err_any}
 use Rattle.lift_journal.specs.Checkpoint.{checkpoint_of}
 use Rattle.lift_journal.proofs.Appends.{sector_set}
-use Rattle.lift_journal.proofs.Switching.{checkpoint_leaves, written_left}
+use Rattle.lift_journal.proofs.Switching.{checkpoint_leaves, written_left, writing_stops}
+use Rattle.lift_journal.proofs.Telling.{passes_then, fails_then, err_stops}
 use Rattle.lift_journal.proofs.checkpoint.write_checkpoint.Goals as goal
 
 pub returns-in_err-switch_half-clause-any_moment : goal.returns-in_err-switch_half-clause-any_moment
@@ -59,3 +63,45 @@ returns-clause-written g c end high inside honest synced =
     written_left c.args.start end c.in_ok-gate.gate (checkpoint_of (base_records c.args.register.now)) old.image mid.image new.image c.requires.first high
     (omega (arith, inside, c.write_batches.ensures.runs.size, g.met.D.Disk.whole c.write_batches.new.disk honest_mid)) c.in_ok-gate.ensures.gate.1
     (c.in_ok-gate.ensures.reached honest synced.steady end high inside) (touched.within honest) after
+
+pub returns-in_err-switch_half-clause-told : goal.returns-in_err-switch_half-clause-told
+returns-in_err-switch_half-clause-told g c =
+    let old = g.D.Disk.state c.args.disk.now in
+    let new = g.D.Disk.state c.switch_half.new.disk in
+    err_stops _ c.from_residual-in_err-switch_half.result old new c.from_residual-in_err-switch_half.ensures.1
+    (fails_then old (g.D.Disk.state c.write_batches.new.disk) new c.write_batches.ensures.runs c.in_ok-gate.ensures.told.ok c.in_err-switch_half.ensures.told.err)
+
+pub returns-clause-told : goal.returns-clause-told
+returns-clause-told g c = record {
+  ok = passes_then (g.D.Disk.state c.args.disk.now) (g.D.Disk.state c.write_batches.new.disk) (g.D.Disk.state c.switch_half.new.disk) c.write_batches.ensures.runs c.in_ok-gate.ensures.told.ok
+      c.in_ok-switch_half.ensures.told.ok;
+  err = tt;
+}
+
+pub returns-in_err-gate-clause-stops : goal.returns-in_err-gate-clause-stops
+returns-in_err-gate-clause-stops g c =
+    err_any c.from_residual.result _ (λ end high inside honest inert synced.
+    let old = g.D.Disk.state c.args.disk.now in
+    let new = g.D.Disk.state c.write_batches.new.disk in
+    let changed = IsInRange c.args.start (c.args.start + 64) in
+    let touched = c.write_batches.ensures.touched (λ _ i is. absurd (synced.none_loose i is)) in
+    record {
+      early = λ _ honest_new left leaves.
+          changes_twice changed old.image new.image left (touched.within honest) (changes_more new.is_loose changed new.image left (touched.loose honest_new) leaves);
+      late = λ more. absurd (omega (arith, more, c.write_batches.ensures.made.most_calls));
+    })
+
+pub returns-in_err-switch_half-clause-stops : goal.returns-in_err-switch_half-clause-stops
+returns-in_err-switch_half-clause-stops g c =
+    err_any c.from_residual-in_err-switch_half.result _ (λ end high inside honest inert synced.
+    let old = g.D.Disk.state c.args.disk.now in
+    let mid = g.D.Disk.state c.write_batches.new.disk in
+    let records = base_records c.args.register.now in
+    let touched = c.write_batches.ensures.touched (λ _ i is. absurd (synced.none_loose i is)) in
+    let runs = c.write_batches.ensures.runs in
+    let honest_mid = runs.honest.1 honest in
+    writing_stops old mid (g.D.Disk.state c.switch_half.new.disk) c.args.start end c.in_ok-gate.gate (sectors_for (length records)) (checkpoint_of records) c.args.pick.now
+    c.requires.first high (omega (arith, inside, runs.size, g.met.D.Disk.whole c.write_batches.new.disk honest_mid)) c.in_ok-gate.ensures.gate.1
+    (touched.within honest) (c.in_ok-gate.ensures.reached honest synced.steady end high inside) c.in_ok-gate.ensures.made.calls
+    (c.in_err-switch_half.ensures.stops c.args.start (c.args.start + 64) (omega (arith, c.in_ok-gate.ensures.gate.0)) c.in_ok-gate.ensures.gate.1 touched.loose
+    honest_mid (runs.inert.1 inert) (c.in_ok-gate.ensures.steady honest synced.steady)))

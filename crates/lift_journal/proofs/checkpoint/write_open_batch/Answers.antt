@@ -3,6 +3,7 @@ use Rattle.std.proofs.lemmas.Result.{on_ok_weaker}
 use Rattle.lift_disk.specs.Disk.{Image}
 use Rattle.lift_disk.proofs.Moments.{touches_then_write}
 use Rattle.lift_journal.specs.Steps.{overwritten, IsInRange}
+use Rattle.lift_journal.proofs.Telling.{call_stops, stops_then}
 use Rattle.lift_journal.proofs.checkpoint.write_open_batch.Goals as goal
 
 pub returns-in_err-write_sectors-clause-touched : goal.returns-in_err-write_sectors-clause-touched
@@ -26,3 +27,10 @@ returns-clause-written g c =
       same = after.same ∙ ap (λ (l : Image). slice_set l c.args.gate c.mark.result) body.same
           ∙ ap (λ (s : List ℕ). slice_set (overwritten old.image (c.args.gate + 1) c.args.body.now) c.args.gate s) c.mark.ensures;
     }) c.write.ensures.steady
+
+pub returns-clause-told : goal.returns-clause-told
+returns-clause-told g c =
+    let mid = g.D.Disk.state c.write_sectors.new.disk in
+    let new = g.D.Disk.state c.write.new.self in
+    stops_then (g.D.Disk.state c.args.disk.now) mid new c.write_sectors.ensures.runs c.in_ok-write_sectors.ensures.told.ok
+    c.write.result (call_stops c.write.result mid new c.write.ensures.goes_on c.write.ensures.told)

@@ -1,8 +1,9 @@
 use Rattle.std.proofs.Common.{◌+◌, inl, inr, refl, ap, ◌∙◌, arith, slice_set, Result, OnOk, Ok, Err}
 use Rattle.std.proofs.lemmas.Result.{on_ok_weaker}
-use Rattle.lift_disk.proofs.Moments.{touches_none, touches_then_write, touches_then_rest}
+use Rattle.lift_disk.proofs.Moments.{runs_call, touches_none, touches_then_write, touches_then_rest}
 use Rattle.lift_journal.specs.Steps.{IsInRange}
 use Rattle.lift_journal.proofs.Looking.{err_any, err_weaker, both_on_err}
+use Rattle.lift_journal.proofs.Telling.{one_passes, one_fails, call_stops, stops_then, err_stops}
 use Rattle.lift_journal.proofs.device.open_gate.Goals as goal
 
 pub returns-clause-touched : goal.returns-clause-touched
@@ -49,3 +50,16 @@ returns-clause-misses g c =
       synced = sync.0 honest_then ∙ c.write.ensures.kept honest;
       loose = sync.1 honest_then c.args.gate (((c.write.ensures.touched honest).loose c.args.gate).1 (inr refl));
     }) (both_on_err c.sync.result _ _ c.sync.ensures.kept c.sync.ensures.loose)
+
+pub returns-in_err-write-clause-told : goal.returns-in_err-write-clause-told
+returns-in_err-write-clause-told g c =
+    err_stops _ c.from_residual.result (g.D.Disk.state c.args.disk.now) (g.D.Disk.state c.write.new.self) c.from_residual.ensures.1
+    (one_fails (g.D.Disk.state c.args.disk.now) (g.D.Disk.state c.write.new.self) c.write.ensures.goes_on c.in_err-write.ensures.told.err c.in_err-write.ensures.told.short)
+
+pub returns-clause-told : goal.returns-clause-told
+returns-clause-told g c =
+    let old = g.D.Disk.state c.args.disk.now in
+    let mid = g.D.Disk.state c.write.new.self in
+    let new = g.D.Disk.state c.sync.new.self in
+    stops_then old mid new (runs_call old mid c.write.ensures.goes_on) (one_passes old mid c.write.ensures.goes_on c.in_ok-write.ensures.told.ok c.in_ok-write.ensures.told.same)
+    c.sync.result (call_stops c.sync.result mid new c.sync.ensures.goes_on c.sync.ensures.told)

@@ -1,7 +1,8 @@
 use Rattle.std.proofs.Common.{◌+◌, length, ap, ◌∙◌, arith, slice_set, Result, OnOk, Ok, Err}
 use Rattle.std.proofs.lemmas.Result.{on_ok_weaker}
-use Rattle.lift_disk.proofs.Moments.{touches_then_write, touches_then_rest}
+use Rattle.lift_disk.proofs.Moments.{runs_call, runs_then, touches_then_write, touches_then_rest}
 use Rattle.lift_journal.specs.Steps.{IsInRange, unmarked}
+use Rattle.lift_journal.proofs.Telling.{one_passes, one_fails, call_stops, passes_then, fails_then, stops_then, err_stops}
 use Rattle.lift_journal.proofs.device.store_behind.Goals as goal
 
 pub returns-in_err-write_sectors-clause-touched : goal.returns-in_err-write_sectors-clause-touched
@@ -37,3 +38,21 @@ returns-clause-stored g c =
     both_on_ok : {T E : Type 0} (r : Result T E) (P Q : Type 0) → OnOk r P → OnOk r Q → OnOk r (P × Q)
     both_on_ok (Ok x) P Q p q = (p, q)
     both_on_ok (Err e) P Q p q = tt
+
+pub returns-in_err-write-clause-told : goal.returns-in_err-write-clause-told
+returns-in_err-write-clause-told g c =
+    let old = g.D.Disk.state c.args.disk.now in
+    let mid = g.D.Disk.state c.write_sectors.new.disk in
+    let new = g.D.Disk.state c.write.new.self in
+    err_stops _ c.from_residual-in_err-write.result old new c.from_residual-in_err-write.ensures.1
+    (fails_then old mid new c.write_sectors.ensures.runs c.in_ok-write_sectors.ensures.told.ok (one_fails mid new c.write.ensures.goes_on c.in_err-write.ensures.told.err c.in_err-write.ensures.told.short))
+
+pub returns-clause-told : goal.returns-clause-told
+returns-clause-told g c =
+    let old = g.D.Disk.state c.args.disk.now in
+    let body = g.D.Disk.state c.write_sectors.new.disk in
+    let mid = g.D.Disk.state c.write.new.self in
+    let new = g.D.Disk.state c.sync.new.self in
+    stops_then old mid new (runs_then old body mid c.write_sectors.ensures.runs (runs_call body mid c.write.ensures.goes_on))
+    (passes_then old body mid c.write_sectors.ensures.runs c.in_ok-write_sectors.ensures.told.ok (one_passes body mid c.write.ensures.goes_on c.in_ok-write.ensures.told.ok c.in_ok-write.ensures.told.same))
+    c.sync.result (call_stops c.sync.result mid new c.sync.ensures.goes_on c.sync.ensures.told)

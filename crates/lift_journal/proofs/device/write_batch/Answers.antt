@@ -1,13 +1,14 @@
 use Rattle.std.proofs.Common.{◌≡◌, ◌⊎◌, ◌+◌, ◌++◌, [], ◌∷◌, inl, ⊎_elim, ℕ, length, ◌∙◌, arith, ◌<◌}
 use Rattle.std.proofs.lemmas.Result.{on_ok_weaker}
 use Rattle.lift_disk.specs.Disk.{Image, ChangesWithin}
-use Rattle.lift_disk.proofs.Moments.{leaves_weaker, leaves_then, changes_more, changes_twice}
+use Rattle.lift_disk.proofs.Moments.{leaves_weaker, leaves_then, changes_more, changes_twice, touches_weaker, touches_then}
 use Rattle.lift_journal.specs.Layout.{Holds}
 use Rattle.lift_journal.specs.Steps.{IsInRange}
 use Rattle.lift_journal.proofs.Chains.{holds_either}
 use Rattle.lift_journal.proofs.Appends.{body_leaves, body_start, body_prepares, gate_opens, gate_start}
 use Rattle.lift_journal.proofs.Looking.{err_any, err_weaker}
 use Rattle.lift_journal.proofs.Stopping.{synced_image, stops_at_gate}
+use Rattle.lift_journal.proofs.Telling.{stops_then}
 use Rattle.lift_journal.proofs.device.write_batch.Goals as goal
 
 -- the sectors of a gate alone
@@ -95,3 +96,27 @@ returns-clause-stops g c =
           (synced_image mid stored.synced (g.met.D.Disk.may_lose c.store_behind.new.disk honest_mid)) missed within
           (λ i is. (let there = opened.loose honest_new i is in omega (arith, there.0, there.1))) inside;
     }) c.open_gate.ensures.misses
+
+pub returns-clause-told : goal.returns-clause-told
+returns-clause-told g c =
+    stops_then (g.D.Disk.state c.args.disk.now) (g.D.Disk.state c.store_behind.new.disk) (g.D.Disk.state c.open_gate.new.disk) c.store_behind.ensures.runs c.in_ok-store_behind.ensures.told.ok
+    c.open_gate.result c.open_gate.ensures.told
+
+pub returns-in_err-store_behind-clause-touched : goal.returns-in_err-store_behind-clause-touched
+returns-in_err-store_behind-clause-touched g c synced =
+    touches_weaker (IsInRange (c.args.gate + 1) (c.args.gate + length c.args.body.now + 2)) (IsInRange c.args.gate (c.args.gate + length c.args.body.now + 2))
+    (g.D.Disk.state c.args.disk.now) (g.D.Disk.state c.store_behind.new.disk) (λ i is. (omega (arith, is.0), is.1))
+    (c.store_behind.ensures.touched (λ honest i is. absurd ((synced honest).none_loose i is)))
+
+pub returns-clause-touched : goal.returns-clause-touched
+returns-clause-touched g c synced =
+    let old = g.D.Disk.state c.args.disk.now in
+    let mid = g.D.Disk.state c.store_behind.new.disk in
+    let new = g.D.Disk.state c.open_gate.new.disk in
+    let changed = IsInRange c.args.gate (c.args.gate + length c.args.body.now + 2) in
+    let was = c.store_behind.ensures.runs.honest.0 in
+    touches_then changed old mid new
+    (touches_weaker (IsInRange (c.args.gate + 1) (c.args.gate + length c.args.body.now + 2)) changed old mid (λ i is. (omega (arith, is.0), is.1))
+    (c.store_behind.ensures.touched (λ honest i is. absurd ((synced honest).none_loose i is))))
+    (touches_weaker (IsInRange c.args.gate (c.args.gate + 1)) changed mid new (λ i is. (is.0, omega (arith, is.1)))
+    (c.open_gate.ensures.touched (λ honest i is. absurd ((c.in_ok-store_behind.ensures.stored (was honest) (synced (was honest)).steady).synced.none_loose i is))))

@@ -1,6 +1,7 @@
 use Rattle.std.proofs.Common.{[], slice_set, get_or, subst, arith}
 use Rattle.lift_disk.specs.Disk.{Touches, IsSteadyAt}
 use Rattle.lift_journal.proofs.Writes.{written_none, written_more, written_all, touched_more}
+use Rattle.lift_journal.proofs.Telling.{one_passes, one_fails, fails_then, err_stops}
 use Rattle.lift_journal.proofs.device.write_sectors.Goals as goal
 
 pub loop-sector-init : goal.loop-sector-init
@@ -29,7 +30,7 @@ loop-sector-preserved g c =
       written = written_more (g.D.Disk.state c.args.disk.now) now new c.args.first c.args.sectors.now c.loop-sector.sector-index c.loop-sector.invariant.written
           c.loop-sector-test.true (g.met.D.Disk.only_now c.loop-sector.disk) c.write.ensures.goes_on
           (subst (λ n. now.is_honest → Touches n now new) c.loop-sector.invariant.at c.write.ensures.touched)
-          c.in_ok-write.ensures.cause.ok c.write.ensures.writes c.requires.there (g.met.D.Disk.whole c.args.disk.now)
+          c.in_ok-write.ensures.cause.ok c.write.ensures.writes (one_passes now new c.write.ensures.goes_on c.in_ok-write.ensures.told.ok c.in_ok-write.ensures.told.same) c.requires.there (g.met.D.Disk.whole c.args.disk.now)
           (subst (λ n. now.is_honest → now.is_steady → IsSteadyAt (slice_set now.image n (get_or c.args.sectors.now c.loop-sector.sector-index [])) new) c.loop-sector.invariant.at c.in_ok-write.ensures.steady);
     }
 
@@ -43,3 +44,15 @@ pub returns-clause-written : goal.returns-clause-written
 returns-clause-written g c =
     written_all (g.D.Disk.state c.args.disk.now) (g.D.Disk.state c.loop-sector.disk) c.args.first c.args.sectors.now c.loop-sector.sector-index
     c.loop-sector.invariant.written (omega (arith, c.loop-sector-test.false, c.loop-sector.auto.sector-index-end))
+
+pub returns-in_err-write-clause-told : goal.returns-in_err-write-clause-told
+returns-in_err-write-clause-told g c =
+    let old = g.D.Disk.state c.args.disk.now in
+    let now = g.D.Disk.state c.loop-sector.disk in
+    let new = g.D.Disk.state c.write.new.self in
+    let so_far = c.loop-sector.invariant.written in
+    err_stops _ c.from_residual.result old new c.from_residual.ensures.1
+    (fails_then old now new so_far.runs so_far.told (one_fails now new c.write.ensures.goes_on c.in_err-write.ensures.told.err c.in_err-write.ensures.told.short))
+
+pub returns-clause-told : goal.returns-clause-told
+returns-clause-told g c = record { ok = c.loop-sector.invariant.written.told; err = tt }

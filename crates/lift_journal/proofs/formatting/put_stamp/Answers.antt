@@ -1,6 +1,9 @@
-use Rattle.std.proofs.Common.{⊎_elim, ◌∙◌, ap, slice_set, List, ℕ}
+use Rattle.std.proofs.Common.{inl, inr, arith, ⊎_elim, ◌∙◌, ap, slice_set, List, ℕ}
 use Rattle.std.proofs.lemmas.Result.{on_ok_weaker}
+use Rattle.lift_journal.specs.Steps.{IsFormatted}
 use Rattle.lift_journal.proofs.Looking.{both_on_ok}
+use Rattle.lift_journal.proofs.Telling.{one_passes, one_fails, call_stops, stops_then, err_stops}
+use Rattle.lift_disk.proofs.Moments.{runs_call, touches_write, touches_then_rest}
 use Rattle.lift_journal.proofs.formatting.put_stamp.Goals as goal
 
 pub returns-clause-stored : goal.returns-clause-stored
@@ -20,3 +23,29 @@ returns-clause-stored g c =
 
 pub returns-clause-synced : goal.returns-clause-synced
 returns-clause-synced g c = on_ok_weaker c.sync.result (λ sync honest. sync (c.write.ensures.goes_on.honest.1 honest)) c.sync.ensures.synced
+
+pub returns-in_err-write-clause-told : goal.returns-in_err-write-clause-told
+returns-in_err-write-clause-told g c =
+    err_stops _ c.from_residual.result (g.D.Disk.state c.args.disk.now) (g.D.Disk.state c.write.new.self) c.from_residual.ensures.1
+    (one_fails (g.D.Disk.state c.args.disk.now) (g.D.Disk.state c.write.new.self) c.write.ensures.goes_on c.in_err-write.ensures.told.err c.in_err-write.ensures.told.short)
+
+pub returns-clause-told : goal.returns-clause-told
+returns-clause-told g c =
+    let old = g.D.Disk.state c.args.disk.now in
+    let mid = g.D.Disk.state c.write.new.self in
+    let new = g.D.Disk.state c.sync.new.self in
+    stops_then old mid new (runs_call old mid c.write.ensures.goes_on) (one_passes old mid c.write.ensures.goes_on c.in_ok-write.ensures.told.ok c.in_ok-write.ensures.told.same)
+    c.sync.result (call_stops c.sync.result mid new c.sync.ensures.goes_on c.sync.ensures.told)
+
+pub returns-in_err-write-clause-touched : goal.returns-in_err-write-clause-touched
+returns-in_err-write-clause-touched g c =
+    let old = g.D.Disk.state c.args.disk.now in
+    touches_write (IsFormatted old) old (g.D.Disk.state c.write.new.self) 1 c.write.ensures.goes_on c.write.ensures.touched (inl (omega arith)) (λ _ i is. inr is) (g.met.D.Disk.only_now c.args.disk.now)
+
+pub returns-clause-touched : goal.returns-clause-touched
+returns-clause-touched g c =
+    let old = g.D.Disk.state c.args.disk.now in
+    let mid = g.D.Disk.state c.write.new.self in
+    touches_then_rest (IsFormatted old) old mid (g.D.Disk.state c.sync.new.self)
+    (touches_write (IsFormatted old) old mid 1 c.write.ensures.goes_on c.write.ensures.touched (inl (omega arith)) (λ _ i is. inr is) (g.met.D.Disk.only_now c.args.disk.now))
+    (g.met.D.Disk.only_now c.write.new.self) c.sync.ensures.goes_on c.sync.ensures.touched

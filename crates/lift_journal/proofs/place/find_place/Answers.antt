@@ -5,8 +5,9 @@ use Rattle.lift_journal.specs.Fronts.{IsOfChain}
 use Rattle.lift_journal.specs.Layout.{IsStamped}
 use Rattle.lift_journal.specs.Steps.{ReadsOnly, ReadsWell, HasItsCause}
 use Rattle.lift_journal.specs.Opening.{RefusedFor}
-use Rattle.lift_journal.proofs.Looking.{reads_then, well_then, cause_then, if_err_weaker, if_err_both, open_ok}
+use Rattle.lift_journal.proofs.Looking.{reads_then, well_then, ok_weaker, cause_then, if_err_weaker, if_err_both, open_ok}
 use Rattle.lift_journal.proofs.Refusing.{refused_stamp, refused_chain}
+use Rattle.lift_journal.specs.Told.{NoneFails}
 use Rattle.lift_journal.proofs.place.find_place.Goals as goal
 
 pub returns-in-Err-clause-only : goal.returns-in-Err-clause-only
@@ -67,3 +68,14 @@ returns-clause-cause g c =
     let both : ReadsWell old read = well_then old mid read c.settle.ensures.looks.only well c.in-Ok.ensures.examines.ok in
     if_err_weaker c.place_of.result (λ fault. HasItsCause fault read new) (λ fault. HasItsCause fault old new)
     (λ fault _ cause. cause_then fault old read new only both cause) c.place_of.ensures.examines.err
+
+pub returns-clause-told : goal.returns-clause-told
+returns-clause-told g c =
+    let old = g.D.Disk.state c.args.disk.now in
+    let mid = g.D.Disk.state c.settle.new.disk in
+    let read = g.D.Disk.state c.read_shape.new.disk in
+    let new = g.D.Disk.state c.place_of.new.disk in
+    let well : ReadsWell old mid = open_ok c.settle.result (ReadsWell old mid) (sym c.is_err.ensures.value ∙ c.if-is_err.false) c.settle.ensures.looks.ok in
+    let only : ReadsOnly old read = reads_then old mid read c.settle.ensures.looks.only c.read_shape.ensures.examines.only in
+    let both : ReadsWell old read = well_then old mid read c.settle.ensures.looks.only well c.in-Ok.ensures.examines.ok in
+    ok_weaker c.place_of.result (ReadsWell read new) (NoneFails old new) (λ last. (well_then old read new only both last).told) c.place_of.ensures.examines.ok

@@ -1,5 +1,4 @@
-use Rattle.std.proofs.Common.{arith}
-use Rattle.lift_journal.proofs.Looking.{reads_then, well_then}
+use Rattle.lift_journal.proofs.Looking.{reads_then, well_then, failed_then}
 use Rattle.lift_journal.proofs.reads.look.Goals as goal
 
 pub returns-in-Ok-Some-clause-looks : goal.returns-in-Ok-Some-clause-looks
@@ -32,5 +31,5 @@ returns-in-Err-clause-looks g c =
     record {
       only = reads_then old mid new c.read_mark.ensures.looks.only c.read_body.ensures.looks.only;
       ok = tt;
-      err = omega (arith, c.in-Err.ensures.looks.err, c.in_ok-read_mark.ensures.looks.ok.failures);
+      err = failed_then old mid new c.read_mark.ensures.looks.only c.in_ok-read_mark.ensures.looks.ok c.in-Err.ensures.looks.err;
     }

@@ -1,4 +1,5 @@
 use Rattle.std.proofs.Common.{◌≡◌, length, refl, arith}
+use Rattle.lift_journal.proofs.Looking.{looks_then}
 use Rattle.lift_journal.proofs.Seeing.{no_header}
 use Rattle.lift_journal.proofs.reads.read_body.Goals as goal
 
@@ -12,3 +13,8 @@ returns-in-None-clause-seen g c honest synced =
     no_header image c.args.gate c.args.end c.args.number c.in_ok-first.first (c.in_ok-first.ensures.gives honest synced) c.in_ok-first.ensures.length
     (omega (arith, whole, c.requires.inside)) c.requires.numbered (omega arith)
     (λ header spelled numbered. absurd (cc ((c.in-None.ensures header).1 (spelled, numbered))))
+
+pub returns-in-Some-clause-looks : goal.returns-in-Some-clause-looks
+returns-in-Some-clause-looks g c =
+    looks_then c.read_rest.result (g.D.Disk.state c.args.disk.now) (g.D.Disk.state c.read_sector.new.disk) (g.D.Disk.state c.read_rest.new.disk)
+    c.read_sector.ensures.looks.only c.in_ok-first.ensures.looks.ok c.read_rest.ensures.looks

@@ -3,7 +3,7 @@ use Rattle.lift_journal.specs.Walk.{IsDamagedAt}
 use Rattle.lift_journal.specs.declared.walk.Front.{Front}
 use Rattle.lift_journal.specs.declared.reads.AtGate.TheVariants.{Closed, Batch, Damaged}
 use Rattle.lift_journal.proofs.Walks.{IsAtFront, walk_begins, goes_on, ends, ends_early, none_here, may_not, seen_at}
-use Rattle.lift_journal.proofs.Looking.{reads_then, well_then}
+use Rattle.lift_journal.proofs.Looking.{reads_then, well_then, failed_then}
 use Rattle.lift_journal.proofs.Seeing.{bodies_few}
 use Rattle.lift_journal.proofs.walk.walk.Goals as goal
 
@@ -46,11 +46,14 @@ loop-front-preserved g c =
 
 pub returns-in-Err-clause-examines : goal.returns-in-Err-clause-examines
 returns-in-Err-clause-examines g c =
+    let old = g.D.Disk.state c.args.disk.now in
+    let mid = g.D.Disk.state c.loop-front.disk in
+    let new = g.D.Disk.state c.look.new.disk in
     let inv = c.loop-front.invariant in
     record {
-      only = reads_then (g.D.Disk.state c.args.disk.now) (g.D.Disk.state c.loop-front.disk) (g.D.Disk.state c.look.new.disk) inv.only c.look.ensures.looks.only;
+      only = reads_then old mid new inv.only c.look.ensures.looks.only;
       ok = tt;
-      err = omega (arith, c.in-Err.ensures.looks.err, inv.well.failures);
+      err = failed_then old mid new inv.only inv.well c.in-Err.ensures.looks.err;
     }
 
 pub returns-in-Err-clause-damaged : goal.returns-in-Err-clause-damaged

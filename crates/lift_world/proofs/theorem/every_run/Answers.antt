@@ -2,11 +2,13 @@ use Rattle.lift_world.specs.World.{start}
 use Rattle.lift_world.specs.Next.{run}
 use Rattle.lift_world.proofs.Heard.{run_hears, start_hears}
 use Rattle.lift_world.proofs.Given.{run_stores, start_stores}
+use Rattle.lift_world.proofs.Lawful.{recovers_records, accepts_records}
+use Rattle.lift_world.proofs.Ordered.{queue_in_order}
 use Rattle.lift_world.proofs.Queued.{run_queues, start_queues, run_holds, start_holds_nothing}
 use Rattle.lift_world.proofs.Counted.{all_ask_one_by_one}
 use Rattle.lift_world.proofs.Few.{holds_few}
 use Rattle.lift_world.proofs.Sealed.{run_seals, start_seals}
-use Rattle.lift_world.proofs.Consistent.{start_holds, run_keeps, recovers_prefix, recovers_acknowledged, recovers_fitting}
+use Rattle.lift_world.proofs.Consistent.{start_holds, run_keeps, recovers_prefix, recovers_acknowledged, recovers_fitting, accepts_fitting}
 use Rattle.lift_world.proofs.Letters.{recovers_letters}
 use Rattle.lift_world.proofs.theorem.every_run.Goals as goal
 
@@ -45,3 +47,16 @@ returns-clause-asked c building events = all_ask_one_by_one building events
 
 pub returns-clause-few : goal.returns-clause-few
 returns-clause-few c building events of_terminals = holds_few building events of_terminals
+
+pub returns-clause-lawful : goal.returns-clause-lawful
+returns-clause-lawful c building events sound typed = recovers_records building events sound typed
+
+pub returns-clause-in_order : goal.returns-clause-in_order
+returns-clause-in_order c building events = queue_in_order building events
+
+pub returns-clause-accepted : goal.returns-clause-accepted
+returns-clause-accepted c building events sound =
+    accepts_fitting (run events (start building)) (run_keeps events (start building) (start_holds building sound))
+
+pub returns-clause-written : goal.returns-clause-written
+returns-clause-written c building events sound typed = accepts_records building events sound typed

@@ -22,14 +22,14 @@ invariant_of-self-2-clause-recorded c =
 pub invariant_of-self-2-clause-kept : goal.invariant_of-self-2-clause-kept
 invariant_of-self-2-clause-kept c =
     let m = c.args.self.now in
-    subst (λ (l : Image). ChangesWithin (IsFlagged c.clear.new.flags.items) m.image.items l) (sym (c.copy.ensures ∙ c.deref-2.ensures.value)) (changes_nothing (IsFlagged c.clear.new.flags.items) m.image.items)
+    subst (λ (l : Image). ChangesWithin (IsFlagged c.clear.new.flags.items) m.image.items l) (sym (c.copy_flagged.ensures ∙ c.deref-2.ensures.value)) (changes_nothing (IsFlagged c.clear.new.flags.items) m.image.items)
 
 pub returns-clause-goes_on : goal.returns-clause-goes_on
 returns-clause-goes_on c =
     let m = c.args.self.now in
     let noted = ok_items c.note_sync.result c.is_err.ensures.value c.if-is_err.false c.note_sync.ensures.ok in
     sync_goes_on m.first.items m.history.items m.image.items m.synced.items m.loose.items m.is_steady m.is_short m.failures.count m.calls.count m.writes.count
-    noted.0 c.note_sync.new.calls.items c.copy.new.to.items c.clear.new.flags.items _ _ (noted.1 ∙ c.deref.ensures.value) m.recorded noted.2 c.next-self.ensures
+    noted.0 c.note_sync.new.calls.items c.copy_flagged.new.to.items c.clear.new.flags.items _ _ (noted.1 ∙ c.deref.ensures.value) m.recorded noted.2 c.next-self.ensures
     (λ i. subst (λ (l : List Bool). ¬ IsFlagged l i) (sym c.clear.ensures) (none_flagged (length m.loose.items) i))
 
 pub returns-clause-touched : goal.returns-clause-touched

@@ -1,14 +1,16 @@
-use Rattle.std.proofs.Common.{◌≡◌, ◌⊎◌, ◌++◌, inl, [], ◌∷◌, List, length, take, sym, ◌∙◌, ap, subst, arith}
+use Rattle.std.proofs.Common.{◌≡◌, ◌⊎◌, ◌++◌, ◌+◌, false, nat_lt, inl, [], ◌∷◌, List, length, take, sym, ◌∙◌, ap, subst, arith}
 use Rattle.lift_base.specs.declared.history.Record.{Record}
 use Rattle.lift_disk.specs.Disk.{LeavesNow, LeavesOnly}
 use Rattle.lift_disk.proofs.Moments.{leaves_none}
 use Rattle.lift_record.specs.declared.version.Version.TheVariants.{Two}
-use Rattle.lift_journal.specs.Layout.{Batch, new_batch, bodies, size_of, start_of, IsBody, Holds}
+use Rattle.lift_journal.specs.Layout.{Batch, new_batch, bodies, size_of, start_of, IsBody, Holds, Picks}
 use Rattle.lift_journal.specs.Stops.{StopsShort}
 use Rattle.lift_journal.specs.Journal.{ReadsAs, StandsFor, JournalView}
 use Rattle.lift_journal.proofs.Looking.{open_ok, open_err}
 use Rattle.lift_journal.proofs.Seeing.{bodies_few}
-use Rattle.lift_journal.proofs.Standing.{ready, append_leaves, append_stands, lists_leave, lists_stand, same_batches, stands_then}
+use Rattle.lift_journal.proofs.Standing.{picks_synced, append_picks, gate_high, ready, append_leaves, append_stands, lists_leave, lists_stand, same_batches, stands_then}
+use Rattle.lift_journal.specs.Told.{NoneFails, LastFails}
+use Rattle.lift_journal.proofs.Telling.{none_made}
 use Rattle.lift_journal.proofs.journal.Journal.append.Goals as goal
 
 pub returns-then-is_err-clause-any_moment : goal.returns-then-is_err-clause-any_moment
@@ -160,3 +162,48 @@ returns-then-is_err-clause-stops g c _ =
     (subst (λ n. StopsShort j.shape at.batches batch n old new) before.size stops)) in
     subst (λ (v : JournalView g.row.D.Denot). (g.D.Disk.state v.device).is_honest → (g.D.Disk.state v.device).is_inert → (batches : List Batch) → LeavesNow (g.D.Disk.state v.device) (Holds v.shape batches)
     → StopsShort v.shape batches batch (bodies (length items)) (g.D.Disk.state v.device) new) c.self.view_is made
+
+pub returns-then-is_err-clause-half : goal.returns-then-is_err-clause-half
+returns-then-is_err-clause-half g c =
+    let j = c.self.inside in
+    let old = g.D.Disk.state j.device in
+    let new = g.D.Disk.state c.write_batch.new.disk in
+    let high = j.gate + length (take c.body_count-bodies.result c.body_of-body.result) + 2 in
+    let made = append_picks j.shape j.start j.gate j.number high old new (gate_high old.size j.shape j.start j.gate j.number c.self.invariant.place) (c.self.invariant.stands c.if-self.false) c.write_batch.ensures.touched in
+    subst (λ (v : JournalView g.row.D.Denot). v.is_broken ≡ false → LeavesOnly (g.D.Disk.state v.device) new (Picks v.is_second)) c.self.view_is (λ _. made)
+
+pub returns-clause-half : goal.returns-clause-half
+returns-clause-half g c =
+    let j = c.self.inside in
+    let old = g.D.Disk.state j.device in
+    let new = g.D.Disk.state c.write_batch.new.disk in
+    let high = j.gate + length (take c.body_count-bodies.result c.body_of-body.result) + 2 in
+    let made = append_picks j.shape j.start j.gate j.number high old new (gate_high old.size j.shape j.start j.gate j.number c.self.invariant.place) (c.self.invariant.stands c.if-self.false) c.write_batch.ensures.touched in
+    subst (λ (v : JournalView g.row.D.Denot). v.is_broken ≡ false → LeavesOnly (g.D.Disk.state v.device) new (Picks v.is_second)) c.self.view_is (λ _. made)
+
+pub returns-then-self-bodies-clause-half : goal.returns-then-self-bodies-clause-half
+returns-then-self-bodies-clause-half g c =
+    let j = c.self.inside in
+    let old = g.D.Disk.state j.device in
+    subst (λ (v : JournalView g.row.D.Denot). v.is_broken ≡ false → LeavesOnly (g.D.Disk.state v.device) (g.D.Disk.state v.device) (Picks v.is_second)) c.self.view_is
+    (λ whole. leaves_none old (Picks (nat_lt 2 j.start)) (g.met.D.Disk.only_now j.device) (picks_synced j.shape j.start j.gate j.number old (c.self.invariant.stands whole)))
+
+pub returns-then-self-clause-told : goal.returns-then-self-clause-told
+returns-then-self-clause-told g c = record { ok = tt; err = none_made (g.D.Disk.state c.args.self.now.device) }
+
+pub returns-then-self-bodies-clause-told : goal.returns-then-self-bodies-clause-told
+returns-then-self-bodies-clause-told g c = record { ok = tt; err = none_made (g.D.Disk.state c.args.self.now.device) }
+
+pub returns-then-is_err-clause-told : goal.returns-then-is_err-clause-told
+returns-then-is_err-clause-told g c = record {
+  ok = tt;
+  err = subst (λ (v : JournalView g.row.D.Denot). LastFails (g.D.Disk.state v.device) (g.D.Disk.state c.write_batch.new.disk)) c.self.view_is
+      (open_err c.write_batch.result _ (sym c.is_err.ensures.value ∙ c.if-is_err.true) c.write_batch.ensures.told.err);
+}
+
+pub returns-clause-told : goal.returns-clause-told
+returns-clause-told g c = record {
+  ok = subst (λ (v : JournalView g.row.D.Denot). NoneFails (g.D.Disk.state v.device) (g.D.Disk.state c.write_batch.new.disk)) c.self.view_is
+      (open_ok c.write_batch.result _ (sym c.is_err.ensures.value ∙ c.if-is_err.false) c.write_batch.ensures.told.ok);
+  err = tt;
+}

@@ -6,6 +6,8 @@ use Rattle.lift_journal.specs.declared.reads.AtGate.TheVariants.{Batch as BatchA
 use Rattle.lift_journal.proofs.Cursors.{none_next, some_next, next_is, not_closed, not_missing}
 use Rattle.lift_journal.proofs.Unique.{holds_unique}
 use Rattle.lift_journal.proofs.Walks.{seen_at}
+use Rattle.lift_journal.specs.Told.{NoneFails, LastFails}
+use Rattle.lift_journal.proofs.Telling.{none_made}
 use Rattle.lift_journal.proofs.journal.Journal.next.Goals as goal
 
 pub returns-then-cursor-self-clause-gives : goal.returns-then-cursor-self-clause-gives
@@ -77,3 +79,33 @@ returns-in-Ok-Closed-clause-damaged g c s is =
     subst (λ (v : JournalView g.row.D.Denot). (g.D.Disk.state v.device).is_honest → (batches : List Batch) → Holds v.shape batches (g.D.Disk.state v.device).image
     → IsCursorIn batches c.args.cursor.now → ⊥) c.self.view_is
     (subst (λ (w : CursorView). (g.D.Disk.state j.device).is_honest → (batches : List Batch) → Holds j.shape batches image → IsCursorIn batches w → ⊥) c.cursor.view_is made)
+
+pub returns-then-self-clause-told : goal.returns-then-self-clause-told
+returns-then-self-clause-told g c = record { ok = tt; err = none_made (g.D.Disk.state c.args.self.now.device) }
+
+pub returns-then-cursor-self-clause-told : goal.returns-then-cursor-self-clause-told
+returns-then-cursor-self-clause-told g c = record { ok = none_made (g.D.Disk.state c.args.self.now.device); err = tt }
+
+pub returns-in-Err-clause-told : goal.returns-in-Err-clause-told
+returns-in-Err-clause-told g c = record {
+  ok = tt;
+  err = subst (λ (v : JournalView g.row.D.Denot). LastFails (g.D.Disk.state v.device) (g.D.Disk.state c.look.new.disk)) c.self.view_is c.in-Err.ensures.looks.err.told;
+}
+
+pub returns-in-Ok-Damaged-clause-told : goal.returns-in-Ok-Damaged-clause-told
+returns-in-Ok-Damaged-clause-told g c = record {
+  ok = tt;
+  err = subst (λ (v : JournalView g.row.D.Denot). NoneFails (g.D.Disk.state v.device) (g.D.Disk.state c.look.new.disk)) c.self.view_is c.in-Ok-Damaged.ensures.looks.ok.told;
+}
+
+pub returns-in-Ok-Closed-clause-told : goal.returns-in-Ok-Closed-clause-told
+returns-in-Ok-Closed-clause-told g c = record {
+  ok = tt;
+  err = subst (λ (v : JournalView g.row.D.Denot). NoneFails (g.D.Disk.state v.device) (g.D.Disk.state c.look.new.disk)) c.self.view_is c.in-Ok-Closed.ensures.looks.ok.told;
+}
+
+pub returns-in-Ok-Batch-clause-told : goal.returns-in-Ok-Batch-clause-told
+returns-in-Ok-Batch-clause-told g c = record {
+  ok = subst (λ (v : JournalView g.row.D.Denot). NoneFails (g.D.Disk.state v.device) (g.D.Disk.state c.look.new.disk)) c.self.view_is c.in-Ok-Batch.ensures.looks.ok.told;
+  err = tt;
+}

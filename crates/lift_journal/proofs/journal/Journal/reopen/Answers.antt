@@ -1,7 +1,7 @@
 use Rattle.std.proofs.Common.{◌-◌, subst}
 use Rattle.lift_journal.specs.Journal.{JournalView}
 use Rattle.lift_journal.specs.Opening.{Opens}
-use Rattle.lift_journal.proofs.Standing.{opens}
+use Rattle.lift_journal.proofs.Standing.{opens, picks_synced}
 use Rattle.lift_journal.proofs.journal.Journal.reopen.Goals as goal
 
 pub returns-in-Ok-clause-opens : goal.returns-in-Ok-clause-opens
@@ -9,5 +9,11 @@ returns-in-Ok-clause-opens g c =
     let place = c.in-Ok.place in
     let new = g.D.Disk.state c.find_place.new.disk in
     let made = opens (g.D.Disk.state c.self.inside.device) new place.shape place.start place.gate place.number
-    c.find_place.ensures.only c.in-Ok.ensures.failures c.in-Ok.ensures.settled c.in-Ok.ensures.stands in
+    c.find_place.ensures.only c.in-Ok.ensures.failures c.in-Ok.ensures.told c.in-Ok.ensures.settled c.in-Ok.ensures.stands in
     subst (λ (v : JournalView g.row.D.Denot). Opens (g.D.Disk.state v.device) new place.shape (place.gate - place.start)) c.self.view_is made
+
+pub returns-in-Ok-clause-half : goal.returns-in-Ok-clause-half
+returns-in-Ok-clause-half g c =
+    let place = c.in-Ok.place in
+    picks_synced place.shape place.start place.gate place.number (g.D.Disk.state c.find_place.new.disk)
+    (λ honest_new. c.in-Ok.ensures.stands (c.find_place.ensures.only.runs.honest.0 honest_new))

@@ -1,12 +1,15 @@
-use Rattle.std.proofs.Common.{◌≡◌, ◌⊎◌, ◌+◌, [], List, length, ◌∙◌, ap, subst, arith}
+use Rattle.std.proofs.Common.{◌≡◌, ◌⊎◌, ◌+◌, not, nat_lt, [], List, length, ◌∙◌, ap, subst, arith}
 use Rattle.lift_base.specs.declared.history.Record.{Record}
 use Rattle.lift_disk.specs.Disk.{LeavesNow, LeavesOnly}
 use Rattle.lift_register.specs.Base.{base_records}
 use Rattle.lift_journal.specs.Layout.{Batch, Holds}
-use Rattle.lift_journal.specs.Checkpoint.{batch_count, checkpoint_of}
+use Rattle.lift_journal.specs.Checkpoint.{batch_count, checkpoint_of, sectors_for}
 use Rattle.lift_journal.specs.Journal.{ReadsAs, StandsFor, JournalView, StandsAt}
-use Rattle.lift_journal.proofs.Replacing.{other_inside, other_place, checkpoint_reads, replace_leaves, replace_lists, replace_holds, replace_stands}
-use Rattle.lift_journal.proofs.Standing.{holds_synced}
+use Rattle.lift_journal.proofs.Replacing.{replace_picks, replace_second, replace_stops, other_inside, other_place, checkpoint_reads, replace_leaves, replace_lists, replace_holds, replace_stands}
+use Rattle.lift_journal.proofs.Standing.{holds_synced, same_batches}
+use Rattle.lift_journal.specs.Stops.{StopsCheckpoint}
+use Rattle.lift_journal.specs.Told.{NoneFails, LastFails}
+use Rattle.lift_journal.proofs.Telling.{none_made}
 use Rattle.lift_journal.proofs.journal.Journal.replace.Goals as goal
 
 pub invariant_of-self : goal.invariant_of-self
@@ -101,3 +104,55 @@ returns-in-Err-clause-any_moment_listed g c =
     c.write_checkpoint.ensures.runs (c.self.invariant.stands c.if-self.false) c.write_checkpoint.ensures.any_moment in
     subst (λ (v : JournalView g.row.D.Denot). (batches : List Batch) → LeavesNow (g.D.Disk.state v.device) (Holds v.shape batches)
     → LeavesOnly (g.D.Disk.state v.device) new (λ left. Holds v.shape batches left ⊎ Holds v.shape (checkpoint_of (base_records register)) left)) c.self.view_is leaves
+
+pub returns-in-Ok-clause-half : goal.returns-in-Ok-clause-half
+returns-in-Ok-clause-half g c =
+    let j = c.self.inside in
+    let stands = c.self.invariant.stands c.if-self.false in
+    let was = c.write_checkpoint.ensures.runs.honest.0 in
+    replace_picks j.shape j.start j.gate j.number c.other_half-start.result.0 c.other_half-start.result.1 (g.D.Disk.state j.device) c.args.register.now c.self.invariant.place c.other_half-start.ensures
+    c.base_len.ensures.lawful (g.D.Disk.state c.write_checkpoint.new.disk)
+    (λ honest. c.in-Ok.ensures.synced (was honest) (stands (was honest)).synced) (λ honest. c.in-Ok.ensures.picked (was honest) (stands (was honest)).synced)
+
+pub returns-in-Ok-clause-switched : goal.returns-in-Ok-clause-switched
+returns-in-Ok-clause-switched g c =
+    let j = c.self.inside in
+    subst (λ (v : JournalView g.row.D.Denot). nat_lt 2 c.other_half-start.result.0 ≡ not v.is_second) c.self.view_is
+    (replace_second j.shape j.start j.gate j.number c.other_half-start.result.0 c.other_half-start.result.1 (g.D.Disk.state j.device) c.args.register.now c.self.invariant.place c.other_half-start.ensures
+    c.base_len.ensures.lawful)
+
+pub returns-in-Err-clause-stops : goal.returns-in-Err-clause-stops
+returns-in-Err-clause-stops g c _ =
+    let j = c.self.inside in
+    let old = g.D.Disk.state j.device in
+    let new = g.D.Disk.state c.write_checkpoint.new.disk in
+    let register = c.args.register.now in
+    let records = base_records register in
+    let other = c.other_half-start.result.0 in
+    let pick = c.other_half-start.result.1 in
+    let place = c.self.invariant.place in
+    let inside = other_inside old.size j.shape j.start j.gate j.number other pick place c.other_half-start.ensures in
+    let stands = c.self.invariant.stands c.if-self.false in
+    let made = λ (honest : old.is_honest) (inert : old.is_inert) (batches : List Batch) (lists : LeavesNow old (Holds j.shape batches)).
+    (let at = stands honest in
+    let stops = c.in-Err.ensures.stops (other + j.shape.half) (omega (arith, place.within.half.0)) inside.1 honest inert at.synced in
+    subst (λ (bs : List Batch). StopsCheckpoint j.shape (nat_lt 2 j.start) bs (checkpoint_of records) (sectors_for (length records)) old new)
+    (same_batches j.shape j.start j.gate j.number old stands batches lists honest)
+    (replace_stops j.shape j.start j.gate j.number other pick old register place c.other_half-start.ensures c.base_len.ensures.lawful new at stops)) in
+    subst (λ (v : JournalView g.row.D.Denot). (g.D.Disk.state v.device).is_honest → (g.D.Disk.state v.device).is_inert → (batches : List Batch) → LeavesNow (g.D.Disk.state v.device) (Holds v.shape batches)
+    → StopsCheckpoint v.shape v.is_second batches (checkpoint_of records) (sectors_for (length records)) (g.D.Disk.state v.device) new) c.self.view_is made
+
+pub returns-then-self-clause-told : goal.returns-then-self-clause-told
+returns-then-self-clause-told g c = record { ok = tt; err = none_made (g.D.Disk.state c.args.self.now.device) }
+
+pub returns-in-Err-clause-told : goal.returns-in-Err-clause-told
+returns-in-Err-clause-told g c = record {
+  ok = tt;
+  err = subst (λ (v : JournalView g.row.D.Denot). LastFails (g.D.Disk.state v.device) (g.D.Disk.state c.write_checkpoint.new.disk)) c.self.view_is c.in-Err.ensures.told.err;
+}
+
+pub returns-in-Ok-clause-told : goal.returns-in-Ok-clause-told
+returns-in-Ok-clause-told g c = record {
+  ok = subst (λ (v : JournalView g.row.D.Denot). NoneFails (g.D.Disk.state v.device) (g.D.Disk.state c.write_checkpoint.new.disk)) c.self.view_is c.in-Ok.ensures.told.ok;
+  err = tt;
+}

@@ -1,9 +1,9 @@
 use Rattle.std.proofs.Common.{◌≡◌, List, subst}
 use Rattle.lift_disk.specs.Disk.{LeavesNow}
-use Rattle.lift_journal.specs.Layout.{Batch, Holds, used}
+use Rattle.lift_journal.specs.Layout.{Batch, Holds, Picks, used}
 use Rattle.lift_journal.specs.Journal.{JournalView}
 use Rattle.std.specs.Prelude.{false}
-use Rattle.lift_journal.proofs.Standing.{same_used}
+use Rattle.lift_journal.proofs.Standing.{same_used, picks_synced}
 use Rattle.lift_journal.proofs.journal.Journal.room.Goals as goal
 
 pub returns-clause-used : goal.returns-clause-used
@@ -13,3 +13,9 @@ returns-clause-used g c =
     same_used j.shape j.start j.gate j.number (g.D.Disk.state j.device) (c.self.invariant.stands whole) batches lists honest in
     subst (λ (v : JournalView g.row.D.Denot). v.is_broken ≡ false → (g.D.Disk.state v.device).is_honest → (batches : List Batch)
     → LeavesNow (g.D.Disk.state v.device) (Holds v.shape batches) → v.used ≡ used batches) c.self.view_is made
+
+pub returns-clause-half : goal.returns-clause-half
+returns-clause-half g c =
+    let j = c.self.inside in
+    subst (λ (v : JournalView g.row.D.Denot). v.is_broken ≡ false → LeavesNow (g.D.Disk.state v.device) (Picks v.is_second)) c.self.view_is
+    (λ whole. picks_synced j.shape j.start j.gate j.number (g.D.Disk.state j.device) (c.self.invariant.stands whole))

@@ -1,0 +1,149 @@
+//! Journals on files, and the plain calls beside them.
+ghost use Rattle.std.specs.Prelude.{◌≡◌, ◌≤◌, ◌<◌, ◌++◌, ◌∷◌, [], All, length};
+ghost use Rattle.lift_base.specs.Records.{IsLawful};
+ghost use Rattle.lift_journal.specs.Order.{IsEntry};
+
+use crate::fault::Fault;
+use arrayvec::ArrayVec;
+use lift_base::{Dir, Floor, Letter, Number, Record, Shape};
+use lift_disk::{Disk, FileDisk};
+use lift_journal::Journal;
+use std::fs::{File, Files};
+
+/// A stop of car A.
+fn stop() -> Record
+    ensures lawful { IsLawful result }
+    ensures entry { IsEntry result }
+{
+    Record::Stop {
+        car: Letter::default(),
+        number: Number::new(1).unwrap(),
+        floor: Floor::default(),
+        dir: Dir::Up,
+    }
+}
+
+fn push_copy<T: Copy>(list: &mut ArrayVec<T, 63>, item: &T)
+    requires { length list.old.items < 63 }
+    ensures { list.new.items ≡ list.old.items ++ item.now ∷ [] }
+{
+    list.push(*item);
+}
+
+/// So many stops.
+fn stops(count: usize) -> ArrayVec<Record, 63>
+    requires { count ≤ 63 }
+    ensures count { length result.items ≡ count }
+    ensures lawful { All IsLawful result.items }
+    ensures entries { All IsEntry result.items }
+{
+    let record = &stop();
+    let mut batch = ArrayVec::new();
+    for _place in 0..count {
+        push_copy(&mut batch, record);
+    }
+    batch
+}
+
+fn journal_at<F: Files<File = File>>(rt: &F, image: &str) -> Result<Journal<FileDisk>, Fault> {
+    let disk = FileDisk::open(rt, image)?;
+    match Journal::open(disk) {
+        Ok(journal) => Ok(journal),
+        Err((_disk, fault)) => Err(Fault::from(fault)),
+    }
+}
+
+/// Makes an empty journal with so many sectors in a half.
+pub(crate) fn format<F: Files<File = File>>(rt: &F, image: &str, half: u32) -> Result<(), Fault> {
+    let shape = Shape {
+        floors: 64,
+        cars: 16,
+        kiosks: 47,
+        half,
+    };
+    if !shape.is_within_limits() {
+        return Err(Fault::Words);
+    }
+    let mut disk = FileDisk::create(rt, image, 2 * half + 2)?;
+    lift_journal::format(&mut disk, shape)?;
+    Ok(())
+}
+
+/// Appends batches of 63 records up to the end of the half; how many.
+pub(crate) fn fill<F: Files<File = File>>(rt: &F, image: &str) -> Result<u32, Fault> {
+    let mut journal = journal_at(rt, image)?;
+    let batch = stops(63);
+    let mut batches = 0u32;
+    for _batch in 0..1_000_000 {
+        if !journal.room(63) {
+            break;
+        }
+        journal.append(&batch)?;
+        batches = batches.saturating_add(1);
+    }
+    Ok(batches)
+}
+
+/// Opens a journal; the sectors of its halves.
+pub(crate) fn open<F: Files<File = File>>(rt: &F, image: &str) -> Result<u32, Fault> {
+    let journal = journal_at(rt, image)?;
+    Ok(journal.shape().half)
+}
+
+/// Opens a journal and reads its batches: how many, and how many records.
+pub(crate) fn walk<F: Files<File = File>>(rt: &F, image: &str) -> Result<(u32, u64), Fault> {
+    let mut journal = journal_at(rt, image)?;
+    let mut cursor = journal.first();
+    let mut batches = 0u32;
+    let mut records = 0u64;
+    for _batch in 0..1_000_000 {
+        match journal.next(&mut cursor)? {
+            Some(batch) => {
+                batches = batches.saturating_add(1);
+                records = records.saturating_add(batch.len() as u64);
+            }
+            None => break,
+        }
+    }
+    Ok((batches, records))
+}
+
+/// Appends so many batches of one record; how many had room.
+pub(crate) fn append<F: Files<File = File>>(rt: &F, image: &str, count: u32) -> Result<u32, Fault> {
+    let mut journal = journal_at(rt, image)?;
+    let batch = stops(1);
+    let mut batches = 0u32;
+    for _batch in 0..count {
+        if !journal.room(1) {
+            break;
+        }
+        journal.append(&batch)?;
+        batches = batches.saturating_add(1);
+    }
+    Ok(batches)
+}
+
+/// Reads the first sectors of a file in order, so many of those that are there.
+pub(crate) fn read<F: Files<File = File>>(rt: &F, file: &str, sectors: u32) -> Result<u32, Fault> {
+    let mut disk = FileDisk::open(rt, file)?;
+    let mut buffer = [0; 512];
+    let sectors = sectors.min(disk.sectors());
+    for sector in 0..sectors {
+        if sector < disk.sectors() {
+            disk.read(sector, &mut buffer)?;
+        }
+    }
+    Ok(sectors)
+}
+
+/// Writes a sector of a new file and syncs it, so many times.
+pub(crate) fn sync<F: Files<File = File>>(rt: &F, file: &str, count: u32) -> Result<(), Fault> {
+    let mut disk = FileDisk::create(rt, file, 1000)?;
+    for time in 0..count {
+        if time % 1000 < disk.sectors() {
+            disk.write(time % 1000, &[0xA5; 512])?;
+            disk.sync()?;
+        }
+    }
+    Ok(())
+}

@@ -1,0 +1,91 @@
+//! What the words ask for.
+ghost use Rattle.std.specs.Prelude.{◌≤◌, IfOk};
+
+use crate::deciding::Load;
+use crate::fault::Fault;
+use lift_base::text::number_up_to;
+
+/// What is to be done.
+#[derive(Clone, Copy)]
+pub(crate) enum Workload<'a> {
+    List,
+    /// Decisions, by schedules or from nothing.
+    Decide(Load, bool),
+    /// An empty journal with so many sectors in a half.
+    Format(&'a str, u32),
+    Fill(&'a str),
+    Open(&'a str),
+    Walk(&'a str),
+    Batches(&'a str, u32),
+    Read(&'a str, u32),
+    Sync(&'a str, u32),
+}
+
+/// The number that a word spells.
+fn number(word: &str, most: u32) -> Result<u32, Fault>
+    ensures { IfOk result (λ number. number ≤ most) }
+{
+    match number_up_to(word, most) {
+        Some(number) => Ok(number),
+        None => Err(Fault::Words),
+    }
+}
+
+/// The word at this place, empty where there is none.
+fn word(words: &[String], place: usize) -> &str {
+    match words.get(place) {
+        Some(word) => word.as_str(),
+        None => "",
+    }
+}
+
+/// Decisions by these words.
+fn decisions<'a>(words: &'a [String]) -> Result<Workload<'a>, Fault> {
+    let load = Load {
+        cars: number(word(words, 1), 16)? as u8,
+        calls: number(word(words, 2), 512)?,
+        times: number(word(words, 3), u32::MAX)?,
+    };
+    let how = word(words, 4);
+    if how == "schedule" {
+        Ok(Workload::Decide(load, false))
+    } else if how == "plain" {
+        Ok(Workload::Decide(load, true))
+    } else {
+        Err(Fault::Words)
+    }
+}
+
+/// What is done with a file, by the name of the workload.
+fn on_file<'a>(name: &str, file: &'a str, count: &str) -> Result<Workload<'a>, Fault> {
+    if name == "fill" {
+        Ok(Workload::Fill(file))
+    } else if name == "open" {
+        Ok(Workload::Open(file))
+    } else if name == "walk" {
+        Ok(Workload::Walk(file))
+    } else if name == "format" {
+        Ok(Workload::Format(file, number(count, 1_000_000)?))
+    } else if name == "batches" {
+        Ok(Workload::Batches(file, number(count, u32::MAX)?))
+    } else if name == "read" {
+        Ok(Workload::Read(file, number(count, u32::MAX)?))
+    } else if name == "sync" {
+        Ok(Workload::Sync(file, number(count, u32::MAX)?))
+    } else {
+        Err(Fault::Words)
+    }
+}
+
+/// What the words behind the program's name ask for; without words, the list of what there is.
+pub(crate) fn workload_of<'a>(words: &'a [String]) -> Result<Workload<'a>, Fault> {
+    if words.is_empty() {
+        return Ok(Workload::List);
+    }
+    let name = word(words, 0);
+    if name == "decide" {
+        decisions(words)
+    } else {
+        on_file(name, word(words, 1), word(words, 2))
+    }
+}

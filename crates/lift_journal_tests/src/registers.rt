@@ -1,0 +1,138 @@
+//! Registers, and the checkpoints of them.
+use crate::records::demo;
+use lift_base::{Content, Dir, Floor, Last, Letter, Number, Party, Record, Row, Terminal};
+use lift_building::Building;
+use lift_disk::Disk;
+use lift_journal::Journal;
+use lift_register::Register;
+use std::process::Abort;
+
+/// Sixteen cars of 32 places and 47 kiosks, all on the upper one of two floors.
+const LARGEST: &str = "floors = 2
+door_ms = 6000
+kiosks = [1,1,1,1,1,1,1,1,1,1,1,1,1,1,1,1,1,1,1,1,1,1,1,1,1,1,1,1,1,1,1,1,1,1,1,1,1,1,1,1,1,1,1,1,1,1,1]
+flight = [[0,3000],[3000,0]]
+cars = [{places=32},{places=32},{places=32},{places=32},{places=32},{places=32},{places=32},{places=32},{places=32},{places=32},{places=32},{places=32},{places=32},{places=32},{places=32},{places=32}]
+";
+
+/// The last command of a car, a stop at floor 0, up; or of a kiosk, a call by car A.
+fn last(index: u8, number: u32) -> Record {
+    let terminal = Terminal::new(index).unwrap_or_default();
+    let content = match terminal.car() {
+        Some(_) => Content::Stopped {
+            floor: Floor::default(),
+            dir: Dir::Up,
+        },
+        None => Content::Letter {
+            from: Floor::new(1).unwrap_or_default(),
+            to: Floor::default(),
+            car: Letter::default(),
+            party: Party::default(),
+        },
+    };
+    let number = Number::new(number).unwrap_or_default();
+    Record::Last {
+        terminal,
+        last: Last { number, content },
+    }
+}
+
+/// An open call of a kiosk for this car.
+fn row(index: u8, car: u8) -> Record {
+    Record::Row(Row {
+        kiosk: Terminal::of_kiosk(index).unwrap_or_default(),
+        number: Number::new(1).unwrap_or_default(),
+        from: Floor::new(1).unwrap_or_default(),
+        to: Floor::default(),
+        car: Letter::new(car).unwrap_or_default(),
+        party: Party::default(),
+        aboard: false,
+    })
+}
+
+fn take(register: &mut Register, building: &Building, record: &Record) -> bool {
+    if register.base_fits(building, record) {
+        register.apply_base(building, record);
+        true
+    } else {
+        false
+    }
+}
+
+/// A register of two records: the last command of car A, with this number, and no call done.
+pub(crate) fn small<R: AllocGlobal + Abort>(rt: &R, number: u32) -> Register {
+    let building = Building::read(rt.alloc(), LARGEST)
+        .ok()
+        .expect(rt, "a building");
+    let mut register = Register::empty(demo());
+    assert!(rt; take(&mut register, &building, &last(0, number)));
+    register
+}
+
+/// A register of 67 records, in two batches: 32 open calls for each of two cars, two last commands, and no call done.
+pub(crate) fn medium<R: AllocGlobal + Abort>(rt: &R) -> Register {
+    let building = Building::read(rt.alloc(), LARGEST)
+        .ok()
+        .expect(rt, "a building");
+    let mut register = Register::empty(demo());
+    for car in 0..2 {
+        for kiosk in 0..32 {
+            assert!(rt; take(&mut register, &building, &row(kiosk, car)));
+        }
+    }
+    assert!(rt; take(&mut register, &building, &last(16, 40)));
+    assert!(rt; take(&mut register, &building, &last(17, 24)));
+    assert!(rt; take(&mut register, &building, &Record::Done { count: 0 }));
+    register
+}
+
+/// The register with the most records: 32 open calls for each of 16 cars, and 63 last commands.
+pub(crate) fn largest<R: AllocGlobal + Abort>(rt: &R) -> Register {
+    let building = Building::read(rt.alloc(), LARGEST)
+        .ok()
+        .expect(rt, "a building");
+    let mut register = Register::empty(demo());
+    for car in 0..16 {
+        for kiosk in 0..32 {
+            assert!(rt; take(&mut register, &building, &row(kiosk, car)));
+        }
+    }
+    for index in 0..63 {
+        assert!(rt; take(&mut register, &building, &last(index, 11)));
+    }
+    assert!(rt; take(&mut register, &building, &Record::Done { count: 5 }));
+    register
+}
+
+/// The place behind these records, where they are the register's from this place on.
+fn place_behind(register: &Register, place: usize, records: &[Record]) -> Option<usize> {
+    let mut next = place;
+    for record in records {
+        if next >= register.base_len() || register.base_record(next) != *record {
+            return None;
+        }
+        next += 1;
+    }
+    Some(next)
+}
+
+/// Whether the journal holds just the register's records, in batches of 63; the last one may be shorter.
+pub(crate) fn is_checkpoint<D: Disk>(journal: &mut Journal<D>, register: &Register) -> bool {
+    let mut cursor = journal.first();
+    let mut place = 0;
+    for _ in 0..11 {
+        let found = match journal.next(&mut cursor) {
+            Ok(Some(found)) => found,
+            Ok(None) => return place == register.base_len(),
+            Err(_) => return false,
+        };
+        let Some(behind) = place_behind(register, place, found.as_slice()) else {
+            return false;
+        };
+        if found.len() != 63 && behind != register.base_len() {
+            return false;
+        }
+        place = behind;
+    }
+    false
+}

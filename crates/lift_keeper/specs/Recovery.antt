@@ -1,0 +1,133 @@
+-- What records make of a register, taken in one after another.
+use Rattle.std.specs.Prelude.{ℕ, ◌≡◌, ◌+◌, Bool, true, false, List, [], ◌∷◌, Option, Some, None, take, slice_get}
+use Rattle.lift_base.specs.declared.history.Entry.{Entry}
+use Rattle.lift_base.specs.declared.history.Entry.TheVariants.{Allot as Allotting, Stop as Stopping}
+use Rattle.lift_base.specs.declared.history.Record.{Record}
+use Rattle.lift_base.specs.declared.history.Record.TheVariants.{Allot, Stop, Row, Last, Done}
+use Rattle.lift_building.specs.Plan.{Plan}
+use Rattle.lift_journal.specs.Layout.{Batch, records_of}
+use Rattle.lift_register.specs.Register.{RegisterState, register_of, empty}
+use Rattle.lift_register.specs.Fits.{Fits, FitFrom}
+use Rattle.lift_register.specs.Base.{BaseFits, BaseFitFrom, with_record, with_records}
+use Rattle.lift_register.specs.Belongs.{BelongsTo}
+use Rattle.lift_register.specs.Balanced.{IsBalanced}
+use Rattle.lift_register.specs.WellFormed.{IsWellFormed}
+
+-- the record can be taken in now, as an entry or as a part of a checkpoint
+abbrev pub RecordFits : Plan → RegisterState → Record → Type 0
+RecordFits plan register (Allot kiosk number from to car party) = Fits plan register (Allotting kiosk number from to car party)
+RecordFits plan register (Stop car number floor dir) = Fits plan register (Stopping car number floor dir)
+RecordFits plan register (Row row) = BaseFits plan register (Row row)
+RecordFits plan register (Last terminal last) = BaseFits plan register (Last terminal last)
+RecordFits plan register (Done count) = BaseFits plan register (Done count)
+
+-- the register with the record taken in
+abbrev pub with_next : RegisterState → Record → RegisterState
+with_next register (Allot kiosk number from to car party) = register_of register (Allotting kiosk number from to car party ∷ [])
+with_next register (Stop car number floor dir) = register_of register (Stopping car number floor dir ∷ [])
+with_next register (Row row) = with_record register (Row row)
+with_next register (Last terminal last) = with_record register (Last terminal last)
+with_next register (Done count) = with_record register (Done count)
+
+-- the register with these records taken in, one after another
+abbrev pub with_all : RegisterState → List Record → RegisterState
+with_all register [] = register
+with_all register (content ∷ later) = with_all (with_next register content) later
+
+-- each record fits where it comes
+abbrev pub AllFit : Plan → RegisterState → List Record → Type 0
+AllFit plan register [] = Unit {0}
+AllFit plan register (content ∷ later) = RecordFits plan register content × AllFit plan (with_next register content) later
+
+-- the first of the records that doesn't fit, counted from 0
+pub record IsFirstMisfit (plan : Plan) (records : List Record) (place : ℕ) : Type 0 where
+  pub fit : AllFit plan empty (take place records)
+  pub misfit : Record
+  pub there : slice_get records place ≡ Some misfit
+  pub fails : ¬ RecordFits plan (with_all empty (take place records)) misfit
+
+-- the records of these batches fit one after another from nothing, and make this register
+pub record MakesRegister (plan : Plan) (batches : List Batch) (register : RegisterState) : Type 0 where
+  pub fit : AllFit plan empty (records_of batches)
+  pub is : register ≡ with_all empty (records_of batches)
+
+-- the accepted commands among these records
+abbrev pub entries_of : List Record → List Entry
+entries_of [] = []
+entries_of (Allot kiosk number from to car party ∷ later) = Allotting kiosk number from to car party ∷ entries_of later
+entries_of (Stop car number floor dir ∷ later) = Stopping car number floor dir ∷ entries_of later
+entries_of (Row row ∷ later) = entries_of later
+entries_of (Last terminal last ∷ later) = entries_of later
+entries_of (Done count ∷ later) = entries_of later
+
+-- the checkpoint fits, and the entries behind it; this is the register of the two
+pub record IsRegisterOf (plan : Plan) (base entries : List Record) (register : RegisterState) : Type 0 where
+  pub base_fits : BaseFitFrom plan empty base
+  pub entries_fit : FitFrom plan (with_records empty base) (entries_of entries)
+  pub is : register ≡ register_of (with_records empty base) (entries_of entries)
+
+-- behind the record a checkpoint has begun and not ended
+abbrev pub leaves_open : Record → Bool
+leaves_open (Allot kiosk number from to car party) = false
+leaves_open (Stop car number floor dir) = false
+leaves_open (Row row) = true
+leaves_open (Last terminal last) = true
+leaves_open (Done count) = false
+
+abbrev pub is_unended : Option Record → Bool
+is_unended None = false
+is_unended (Some last) = leaves_open last
+
+-- what a recovery has made so far
+pub record RecoveryState : Type 0 where
+  pub plan : Plan
+  pub register : RegisterState
+  -- a checkpoint has begun and not ended
+  pub is_open : Bool
+  -- how many records were taken
+  pub taken : ℕ
+
+-- before the first record
+abbrev pub beginning : Plan → RecoveryState
+beginning plan = record { plan = plan; register = empty; is_open = false; taken = 0 }
+
+-- the record can be taken in now: it fits, and no entry stands within a checkpoint
+abbrev pub Passes : RecoveryState → Record → Type 0
+Passes state (Allot kiosk number from to car party) =
+    (state.is_open ≡ false) × Fits state.plan state.register (Allotting kiosk number from to car party)
+Passes state (Stop car number floor dir) =
+    (state.is_open ≡ false) × Fits state.plan state.register (Stopping car number floor dir)
+Passes state (Row row) = BaseFits state.plan state.register (Row row)
+Passes state (Last terminal last) = BaseFits state.plan state.register (Last terminal last)
+Passes state (Done count) = BaseFits state.plan state.register (Done count)
+
+abbrev pub passed : RecoveryState → Record → RecoveryState
+passed state content = record {
+  plan = state.plan;
+  register = with_next state.register content;
+  is_open = leaves_open content;
+  taken = state.taken + 1;
+}
+
+abbrev pub AllPass : RecoveryState → List Record → Type 0
+AllPass state [] = Unit {0}
+AllPass state (content ∷ later) = Passes state content × AllPass (passed state content) later
+
+abbrev pub all_passed : RecoveryState → List Record → RecoveryState
+all_passed state [] = state
+all_passed state (content ∷ later) = all_passed (passed state content) later
+
+-- all of the records before this place have been taken, and the one there can't be
+pub record StopsAt (old new : RecoveryState) (records : List Record) : Type 0 where
+  pub place : ℕ
+  pub misfit : Record
+  pub there : slice_get records place ≡ Some misfit
+  pub pass : AllPass old (take place records)
+  pub same : new ≡ all_passed old (take place records)
+  pub fails : ¬ Passes new misfit
+
+-- what is true of every recovery
+pub record IsRecovery (plan : Plan) (register : RegisterState) (is_open : Bool) : Type 0 where
+  pub lawful : IsWellFormed register
+  pub belongs : BelongsTo plan register
+  pub balanced : is_open ≡ false → IsBalanced register
