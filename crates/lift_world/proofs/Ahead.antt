@@ -8,6 +8,7 @@ use Rattle.lift_building.specs.Plan.{Plan}
 use Rattle.lift_policy.specs.Step.{State}
 use Rattle.lift_policy.specs.declared.command.Command.{Command}
 use Rattle.lift_world.specs.declared.event.Answer.{Answer}
+use Rattle.lift_world.specs.declared.event.Taken.{Taken}
 use Rattle.lift_world.specs.declared.event.Event.{Event}
 use Rattle.lift_world.specs.declared.event.Event.TheVariants.{Ask, Take, Seal, Pull, Fold, Body as BodyWrite, FirstSync, Gate, SecondSync, Answer as Answering, Hear, Fault, Cut, Reopen}
 use Rattle.lift_world.specs.declared.event.Phase.TheVariants.{Writing, Synced, GateWritten}
@@ -15,14 +16,15 @@ use Rattle.lift_world.specs.Decided.{Decision, when, decided}
 use Rattle.lift_world.specs.World.{World, Batch, is_running, is_broken, is_off, is_idle, is_synced, is_gate_written, written, is_taken_of, is_answer_to, asks, batch_of, state_of}
 use Rattle.lift_world.specs.Next.{next, taking, deciding, sealing, unanswered, unknown_to, answer_of, may_take, pulled, may_pull, in_phase, settling, failing, answering, bodies, may_write, may_sync, may_fail}
 use Rattle.lift_world.specs.Possible.{CanBeLookedAt}
-use Rattle.lift_world.specs.Relay.{IsQueueInOrder, is_flushers, FlusherPassesScans, FlusherComesFirst, FlusherPassesSeals}
+use Rattle.lift_world.specs.Relay.{is_flushers, FlusherPassesScans, FlusherComesFirst, FlusherPassesSeals}
 use Rattle.lift_world.proofs.Phases.{writing_busy}
 use Rattle.lift_world.proofs.Beside.{lift_when, lift_then, lift_if, lift_pull, lift_cond, keeps_words}
 use Rattle.lift_world.proofs.Counted.{count_both, owed, in_queue, owed_unknown, owed_none, owed_parts, owed_others, answered_by, owed_to}
 use Rattle.lift_world.proofs.Given.{led}
 use Rattle.lift_world.proofs.Looks.{may_be_taken, takes_need_looks}
+use Rattle.lift_world.proofs.Scans.{taken_as}
 use Rattle.lift_world.proofs.Steps.{if_from, then_from, mapped, taken_next}
-use Rattle.lift_world.proofs.Ordered.{end_above, flies_to, none_owed}
+use Rattle.lift_world.proofs.Ordered.{Ordered, ordered_from, end_above, flies_to, none_owed}
 
 -- a part of a front stays, whatever comes behind it
 part_of : (front ys : List Entry) (s u : ℕ) → s ≤ u → u ≤ length front → take (u - s) (drop s (front ++ ys)) ≡ take (u - s) (drop s front)
@@ -30,19 +32,23 @@ part_of front ys s u low high =
     let l = length-drop s front in
     ap (λ (xs : List Entry). take (u - s) xs) (drop-append-le s front ys (omega arith)) ∙ take-append-le (u - s) (drop s front) ys (omega arith)
 
-module _ (w : World) (command : Command) (d : Decision) where
+-- the world with what was decided meanwhile
+abbrev pub decided_on : World → State → List Taken → World
+decided_on w state more = record w { accepted = take w.sealed w.accepted ++ state.batch; positions = state.positions; taken = w.taken ++ more }
+
+module _ (w : World) (state : State) (more : List Taken) where
   abbrev behind : World → World
-  behind x = deciding x command d
+  behind x = decided_on x state more
 
   -- the batch in flight is sealed, and stays
-  same_batch : IsQueueInOrder w → is_idle w.phase ≡ false → batch_of (behind w) ≡ batch_of w
+  same_batch : Ordered w → is_idle w.phase ≡ false → batch_of (behind w) ≡ batch_of w
   same_batch order busy =
       let front : List Entry = take w.sealed w.accepted in
       let flown_is = flies_to w busy in
       let low = order.safe_first in
       let high = end_above _ w.queue w.sealed order.in_order in
-      let whole = length-take-le w.sealed w.accepted order.all_accepted in
-      part_of front d.next.batch w.safe w.flight.upto (omega arith) (omega arith)
+      let whole = length-take-le w.sealed w.accepted order.accepted in
+      part_of front state.batch w.safe w.flight.upto (omega arith) (omega arith)
       ∙ sym (part_of front (drop w.sealed w.accepted) w.safe w.flight.upto (omega arith) (omega arith))
       ∙ ap (λ (xs : List Entry). take (w.flight.upto - w.safe) (drop w.safe xs)) (take-append-drop w.sealed w.accepted)
 
@@ -50,21 +56,21 @@ module _ (w : World) (command : Command) (d : Decision) where
   lift_pulled [] = refl
   lift_pulled (batch ∷ rest) = ap (λ (x : World). Some x) (lift_pull behind (is_broken w.power) (nat_lt w.safe batch.upto) _ _ _)
 
-  lift_body : (o : Option ℕ) → IsQueueInOrder w → written w.phase ≡ o
+  lift_body : (o : Option ℕ) → Ordered w → written w.phase ≡ o
       → option_and_then (λ n. when (may_write (behind w) n) (behind (in_phase w (Writing (n + 1))))) o ≡ option_map behind (option_and_then (λ n. when (may_write w n) (in_phase w (Writing (n + 1)))) o)
   lift_body None order at = refl
   lift_body (Some n) order at =
       ap (λ (xs : List Entry). when (is_running w.power && nat_lt n (bodies (length xs) + 1)) (behind (in_phase w (Writing (n + 1))))) (same_batch order (writing_busy w.phase n at))
       ∙ lift_when behind (may_write w n) (in_phase w (Writing (n + 1)))
 
-  lift_sync : (o : Option ℕ) → IsQueueInOrder w → written w.phase ≡ o
+  lift_sync : (o : Option ℕ) → Ordered w → written w.phase ≡ o
       → option_and_then (λ n. when (may_sync (behind w) n) (behind (in_phase w Synced))) o ≡ option_map behind (option_and_then (λ n. when (may_sync w n) (in_phase w Synced)) o)
   lift_sync None order at = refl
   lift_sync (Some n) order at =
       ap (λ (xs : List Entry). when (is_running w.power && eqb n (bodies (length xs) + 1)) (behind (in_phase w Synced))) (same_batch order (writing_busy w.phase n at))
       ∙ lift_when behind (may_sync w n) (in_phase w Synced)
 
-  passes : (event : Event) → IsQueueInOrder w → IsTrue (is_flushers event) → next (behind w) event ≡ option_map behind (next w event)
+  pub passes : (event : Event) → Ordered w → IsTrue (is_flushers event) → next (behind w) event ≡ option_map behind (next w event)
   passes (Ask terminal number body) order is = absurd (false≢true is)
   passes (Take terminal letter) order is = absurd (false≢true is)
   passes Seal order is = absurd (false≢true is)
@@ -81,7 +87,7 @@ module _ (w : World) (command : Command) (d : Decision) where
   passes (Reopen kept) order is = absurd (false≢true is)
 
 pub flusher_passes_scans : (w : World) → FlusherPassesScans w
-flusher_passes_scans w command decision event order is = passes w command decision event order is
+flusher_passes_scans w command decision event order is = passes w decision.next (taken_as command decision.reply ∷ []) event (ordered_from w order) is
 
 -- What the flusher's events leave of what a look and a decision read.
 pub record Works (terminal : ℕ) (w y : World) : Type 0 where
@@ -108,7 +114,7 @@ module _ (terminal : ℕ) (w : World) (event : Event) (is : IsTrue (is_flushers 
   longer : (batch : Batch) (rest : List Batch) → w.queue ≡ batch ∷ rest → length rest ≤ length w.queue
   longer batch rest at = let l : length w.queue ≡ length rest + 1 = ap length at ∙ omega arith in omega arith
 
-  works : (y : World) → next w event ≡ Some y → Works terminal w y
+  pub works : (y : World) → next w event ≡ Some y → Works terminal w y
   works y h =
       let none : owed terminal [] ≡ 0 = refl in
       led (Works terminal w) w event y (record {
@@ -143,7 +149,7 @@ module _ (terminal : ℕ) (w : World) (event : Event) (is : IsTrue (is_flushers 
       }) h
 
   -- a terminal that could be looked at still can be
-  still_looked_at : (y : World) → next w event ≡ Some y → CanBeLookedAt w terminal → CanBeLookedAt y terminal
+  pub still_looked_at : (y : World) → next w event ≡ Some y → CanBeLookedAt w terminal → CanBeLookedAt y terminal
   still_looked_at y h can =
       let k = works y h in
       let keeps = keeps_words w event y (λ kept e. not_his (Cut kept) e refl) h in
@@ -159,23 +165,41 @@ module _ (terminal : ℕ) (w : World) (event : Event) (is : IsTrue (is_flushers 
       let owes = k.owes in
       record { powered = keeps.0 can.powered; few_queued = omega arith; asks_more = omega arith; not_taken = none_owed terminal (unanswered y) (omega arith) }
 
-pub flusher_comes_first : (w : World) → FlusherComesFirst w
-flusher_comes_first w terminal letter event taken later order is takes h =
+-- what a take does
+pub record Took (w : World) (terminal : ℕ) (letter : Option ℕ) (taken : World) : Type 0 where
+  pub command : Command
+  pub decision : Decision
+  pub is : deciding w command decision ≡ taken
+  pub still : (event : Event) (before : World) → IsTrue (is_flushers event) → next w event ≡ Some before → next before (Take terminal letter) ≡ Some (deciding before command decision)
+
+-- behind the flusher's events it does the same
+pub took : (w : World) (terminal : ℕ) (letter : Option ℕ) (taken : World) → next w (Take terminal letter) ≡ Some taken → Took w terminal letter taken
+took w terminal letter taken takes =
     let a = if_from (may_take w terminal) (option_and_then (taking w letter) (find (asks terminal) (reverse w.asked))) taken takes in
     let b = then_from (taking w letter) (find (asks terminal) (reverse w.asked)) taken a.1 in
     let command : Command = b.0 in
     let c = mapped (deciding w command) (decided w.building (state_of w) command.terminal command.number command.body letter) taken b.2 in
     let d : Decision = c.0 in
-    let m = mapped (λ (v : World). deciding v command d) (next w event) later
-    (sym (passes w command d event order is) ∙ ap (λ (x : World). next x event) c.2 ∙ h) in
-    let before : World = m.0 in
-    let k = works terminal w event is before m.1 in
-    let may = may_be_taken before terminal (still_looked_at terminal w event is before m.1 (takes_need_looks w terminal letter taken takes)) in
-    let finds : find (asks terminal) (reverse before.asked) ≡ Some command = ap (λ (xs : List Command). find (asks terminal) (reverse xs)) k.same_asked ∙ b.1 in
-    let decides : decided before.building (state_of before) command.terminal command.number command.body letter ≡ Some d =
-    ap (λ (p : Plan). decided p (state_of before) command.terminal command.number command.body letter) k.same_building
-    ∙ ap (λ (s : State). decided w.building s command.terminal command.number command.body letter) k.same_state ∙ c.1 in
-    (before, m.1, taken_next before terminal letter command may finds ∙ ap (option_map (deciding before command)) decides ∙ ap (λ (x : World). Some x) m.2)
+    record {
+      command = command;
+      decision = d;
+      is = c.2;
+      still = λ event before is h.
+          let k = works terminal w event is before h in
+          let may = may_be_taken before terminal (still_looked_at terminal w event is before h (takes_need_looks w terminal letter taken takes)) in
+          let finds : find (asks terminal) (reverse before.asked) ≡ Some command = ap (λ (xs : List Command). find (asks terminal) (reverse xs)) k.same_asked ∙ b.1 in
+          let decides : decided before.building (state_of before) command.terminal command.number command.body letter ≡ Some d =
+          ap (λ (p : Plan). decided p (state_of before) command.terminal command.number command.body letter) k.same_building
+          ∙ ap (λ (s : State). decided w.building s command.terminal command.number command.body letter) k.same_state ∙ c.1 in
+          taken_next before terminal letter command may finds ∙ ap (option_map (deciding before command)) decides;
+    }
+
+pub flusher_comes_first : (w : World) → FlusherComesFirst w
+flusher_comes_first w terminal letter event taken later order is takes h =
+    let t = took w terminal letter taken takes in
+    let m = mapped (λ (v : World). deciding v t.command t.decision) (next w event) later
+    (sym (flusher_passes_scans w t.command t.decision event order is) ∙ ap (λ (x : World). next x event) t.is ∙ h) in
+    (m.0, m.1, t.still event m.0 is m.1 ∙ ap (λ (x : World). Some x) m.2)
 
 -- Behind a seal the flusher works on as before it.
 module _ (w : World) where

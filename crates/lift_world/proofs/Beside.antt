@@ -1,7 +1,7 @@
 -- What terminals do passes through what the controller does.
 use Rattle.std.proofs.Common.{ℕ, zero, suc, ◌≡◌, ◌+◌, Bool, true, false, not, ◌&&◌, cond, eqb, List, [], ◌∷◌, ◌++◌, length, Option, Some, None, refl, sym, ap, subst, ◌∙◌, append_assoc}
-use Rattle.std.specs.Prelude.{unwrap_or, filter, find, reverse, count_by, slice_get, nat_lt, option_map, option_and_then}
-use Rattle.std.proofs.lemmas.Bool.{and_parts, not-true}
+use Rattle.std.specs.Prelude.{IsTrue, unwrap_or, filter, find, reverse, count_by, slice_get, nat_lt, option_map, option_and_then}
+use Rattle.std.proofs.lemmas.Bool.{false≢true, and_parts, not-true}
 use Rattle.std.proofs.lemmas.List.{append-nil, reverse-append}
 use Rattle.std.proofs.lemmas.List.Elements.{filter-append}
 use Rattle.std.proofs.lemmas.List.Sums.{length-filter}
@@ -17,6 +17,7 @@ use Rattle.lift_world.specs.declared.event.Event.TheVariants.{Ask, Take, Seal, P
 use Rattle.lift_world.specs.Decided.{Decision, when, decided}
 use Rattle.lift_world.specs.World.{World, Batch, is_running, is_broken, is_off, is_synced, is_gate_written, written, asks, is_taken_of, is_answer_to, state_of}
 use Rattle.lift_world.specs.Next.{next, goes, asking, taking, deciding, sealing, pulled, pulling, in_phase, settling, failing, answering, hearing, next_answer, reopened, unanswered, unknown_to, may_ask, may_take, may_seal, may_pull, may_write, may_sync, may_fail, may_reopen}
+use Rattle.lift_world.specs.Relay.{is_flushers}
 use Rattle.lift_world.specs.Beside.{is_of_terminals, terminals_part, own_part, with_words, StandBeside, PassesThrough, TerminalsPass}
 use Rattle.lift_world.proofs.Steps.{then_from, if_from, mapped}
 use Rattle.lift_world.proofs.Possibilities.{when_some}
@@ -52,7 +53,7 @@ module _ {A : Type 0} (p : A → Bool) where
       ∙ sym (reverse-append (filter p (x ∷ [])) (filter p xs)) ∙ ap reverse (sym (filter-append p (x ∷ []) xs))
 
   -- what passes says what the last one is, and how many there are
-  same_last : (xs ys : List A) → filter p xs ≡ filter p ys → find p (reverse xs) ≡ find p (reverse ys)
+  pub same_last : (xs ys : List A) → filter p xs ≡ filter p ys → find p (reverse xs) ≡ find p (reverse ys)
   same_last xs ys e =
       find_first (reverse xs) ∙ ap first (filter_reverse xs ∙ ap reverse e ∙ sym (filter_reverse ys)) ∙ sym (find_first (reverse ys))
 
@@ -117,6 +118,23 @@ module _ (w : World) (asked : List Command) (heard : List Answer) where
       ∙ ap (taking_from terminal letter (count_by (asks terminal) w.asked)) (same_last (asks terminal) asked w.asked same)
       ∙ lift_take on_words (may_take w terminal) (deciding w) (λ (c : Command). decided w.building (state_of w) c.terminal c.number c.body letter) (find (asks terminal) (reverse w.asked))
 
+  -- so the flusher's events are possible beside any words, and leave them
+  pub passes_words : (event : Event) → IsTrue (is_flushers event) → next (on_words w) event ≡ option_map on_words (next w event)
+  passes_words (Ask terminal number body) is = absurd (false≢true is)
+  passes_words (Take terminal letter) is = absurd (false≢true is)
+  passes_words Seal is = absurd (false≢true is)
+  passes_words Pull is = lift_cond on_words (may_pull w) (pulled (on_words w) w.queue) (pulled w w.queue) (lift_pulled w.queue)
+  passes_words Fold is = lift_then on_words (λ n. is_running w.power && eqb n 0) (λ n. w) (written w.phase)
+  passes_words BodyWrite is = lift_then on_words (may_write w) (λ n. in_phase w (Writing (n + 1))) (written w.phase)
+  passes_words FirstSync is = lift_then on_words (may_sync w) (λ n. in_phase w Synced) (written w.phase)
+  passes_words Gate is = lift_when on_words (is_running w.power && is_synced w.phase) (in_phase w GateWritten)
+  passes_words SecondSync is = lift_when on_words (is_running w.power && is_gate_written w.phase) (settling w)
+  passes_words (Answering terminal) is = lift_if on_words (not (is_off w.power)) (answering w terminal) (find (is_taken_of terminal) w.due)
+  passes_words (Hear terminal) is = absurd (false≢true is)
+  passes_words Fault is = lift_when on_words (may_fail w) (failing w)
+  passes_words (Cut kept) is = absurd (false≢true is)
+  passes_words (Reopen kept) is = absurd (false≢true is)
+
 -- power that is on stays on, and what was answered stays answered
 abbrev pub Keeps : World → World → Type 0
 Keeps w x = (is_off w.power ≡ false → is_off x.power ≡ false) × ((more : List Answer) × (x.answered ≡ w.answered ++ more))
@@ -155,7 +173,7 @@ abbrev Later : World → World → List Command → List Answer → Event → Wo
 Later w made asked heard event x = (x ≡ with_words w x.asked x.heard) × (next (with_words made asked heard) event ≡ Some (with_words made x.asked x.heard))
 
 module _ (w made : World) (asked : List Command) (heard : List Answer) (keeps : Keeps w made) where
-  ask_later : (terminal number : ℕ) (body : Rattle.lift_base.specs.declared.command.Body.Body) (x : World) → next (with_words w asked heard) (Ask terminal number body) ≡ Some x
+  pub ask_later : (terminal number : ℕ) (body : Rattle.lift_base.specs.declared.command.Body.Body) (x : World) → next (with_words w asked heard) (Ask terminal number body) ≡ Some x
       → Later w made asked heard (Ask terminal number body) x
   ask_later terminal number body x h =
       let command : Command = record { terminal = terminal; number = number; body = body } in
@@ -168,7 +186,7 @@ module _ (w made : World) (asked : List Command) (heard : List Answer) (keeps : 
         ap (λ (b : Bool). when (not b && same) later) (keeps.0 (not-true (is_off w.power) both.0)) ∙ ap (λ (b : Bool). when b later) both.1,
       )
 
-  hear_later : (terminal : ℕ) (x : World) → next (with_words w asked heard) (Hear terminal) ≡ Some x → Later w made asked heard (Hear terminal) x
+  pub hear_later : (terminal : ℕ) (x : World) → next (with_words w asked heard) (Hear terminal) ≡ Some x → Later w made asked heard (Hear terminal) x
   hear_later terminal x h =
       let p = is_answer_to terminal in
       let n : ℕ = count_by p heard in
@@ -248,22 +266,21 @@ all_pass (Take terminal letter ∷ events) w made asked heard g s =
 all_pass (Seal ∷ events) w made asked heard g s =
     own_passes made asked heard Seal events w refl (λ kept is. cc) (lift_when (on_words w asked heard) (may_seal w) (sealing w)) g s (λ x h k. all_pass events x made asked heard h k)
 all_pass (Pull ∷ events) w made asked heard g s =
-    own_passes made asked heard Pull events w refl (λ kept is. cc)
-    (lift_cond (on_words w asked heard) (may_pull w) (pulled (with_words w asked heard) w.queue) (pulled w w.queue) (lift_pulled w asked heard w.queue)) g s (λ x h k. all_pass events x made asked heard h k)
+    own_passes made asked heard Pull events w refl (λ kept is. cc) (passes_words w asked heard Pull refl) g s (λ x h k. all_pass events x made asked heard h k)
 all_pass (Fold ∷ events) w made asked heard g s =
-    own_passes made asked heard Fold events w refl (λ kept is. cc) (lift_then (on_words w asked heard) (λ n. is_running w.power && eqb n 0) (λ n. w) (written w.phase)) g s (λ x h k. all_pass events x made asked heard h k)
+    own_passes made asked heard Fold events w refl (λ kept is. cc) (passes_words w asked heard Fold refl) g s (λ x h k. all_pass events x made asked heard h k)
 all_pass (BodyWrite ∷ events) w made asked heard g s =
-    own_passes made asked heard BodyWrite events w refl (λ kept is. cc) (lift_then (on_words w asked heard) (may_write w) (λ n. in_phase w (Writing (n + 1))) (written w.phase)) g s (λ x h k. all_pass events x made asked heard h k)
+    own_passes made asked heard BodyWrite events w refl (λ kept is. cc) (passes_words w asked heard BodyWrite refl) g s (λ x h k. all_pass events x made asked heard h k)
 all_pass (FirstSync ∷ events) w made asked heard g s =
-    own_passes made asked heard FirstSync events w refl (λ kept is. cc) (lift_then (on_words w asked heard) (may_sync w) (λ n. in_phase w Synced) (written w.phase)) g s (λ x h k. all_pass events x made asked heard h k)
+    own_passes made asked heard FirstSync events w refl (λ kept is. cc) (passes_words w asked heard FirstSync refl) g s (λ x h k. all_pass events x made asked heard h k)
 all_pass (Gate ∷ events) w made asked heard g s =
-    own_passes made asked heard Gate events w refl (λ kept is. cc) (lift_when (on_words w asked heard) (is_running w.power && is_synced w.phase) (in_phase w GateWritten)) g s (λ x h k. all_pass events x made asked heard h k)
+    own_passes made asked heard Gate events w refl (λ kept is. cc) (passes_words w asked heard Gate refl) g s (λ x h k. all_pass events x made asked heard h k)
 all_pass (SecondSync ∷ events) w made asked heard g s =
-    own_passes made asked heard SecondSync events w refl (λ kept is. cc) (lift_when (on_words w asked heard) (is_running w.power && is_gate_written w.phase) (settling w)) g s (λ x h k. all_pass events x made asked heard h k)
+    own_passes made asked heard SecondSync events w refl (λ kept is. cc) (passes_words w asked heard SecondSync refl) g s (λ x h k. all_pass events x made asked heard h k)
 all_pass (Answering terminal ∷ events) w made asked heard g s =
-    own_passes made asked heard (Answering terminal) events w refl (λ kept is. cc) (lift_if (on_words w asked heard) (not (is_off w.power)) (answering w terminal) (find (is_taken_of terminal) w.due)) g s (λ x h k. all_pass events x made asked heard h k)
+    own_passes made asked heard (Answering terminal) events w refl (λ kept is. cc) (passes_words w asked heard (Answering terminal) refl) g s (λ x h k. all_pass events x made asked heard h k)
 all_pass (Fault ∷ events) w made asked heard g s =
-    own_passes made asked heard Fault events w refl (λ kept is. cc) (lift_when (on_words w asked heard) (may_fail w) (failing w)) g s (λ x h k. all_pass events x made asked heard h k)
+    own_passes made asked heard Fault events w refl (λ kept is. cc) (passes_words w asked heard Fault refl) g s (λ x h k. all_pass events x made asked heard h k)
 all_pass (Cut kept ∷ events) w made asked heard g s = absurd s
 all_pass (Reopen kept ∷ events) w made asked heard g s =
     own_passes made asked heard (Reopen kept) events w refl (λ k is. cc) (lift_reopen w asked heard kept w.power) g s (λ x h k. all_pass events x made asked heard h k)

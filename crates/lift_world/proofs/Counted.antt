@@ -197,7 +197,7 @@ run_balances terminal [] w k = k
 run_balances terminal (event ∷ events) w k = run_balances terminal events (unwrap_or (next w event) w) (balances terminal w event k)
 
 -- what was heard was answered
-heard_few : (w : World) (terminal : ℕ) → HearsInOrder w → heard_by w terminal ≤ answered_by w terminal
+pub heard_few : (w : World) (terminal : ℕ) → HearsInOrder w → heard_by w terminal ≤ answered_by w terminal
 heard_few w terminal k =
     let rest = k terminal in
     let a = length-filter (is_answer_to terminal) w.heard in

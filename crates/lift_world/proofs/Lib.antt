@@ -30,5 +30,8 @@ pub mod Beside
 pub mod Ordered
 pub mod Relay
 pub mod Ahead
+pub mod Interleaved
+pub mod ScansAmong
+pub mod StandsOn
 pub mod Policies
 pub mod Lawful

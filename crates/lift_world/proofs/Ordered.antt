@@ -1,5 +1,5 @@
 -- The queued batches end one behind the other, and no terminal has two commands on their way.
-use Rattle.std.proofs.Common.{ℕ, ◌≡◌, ◌≢◌, ◌≤◌, Bool, true, false, cond, eqb, ltb, List, [], ◌∷◌, ◌++◌, length, take, refl, sym, ap, subst, ◌∙◌, arith}
+use Rattle.std.proofs.Common.{ℕ, ◌≡◌, ◌≢◌, ◌≤◌, Bool, true, false, cond, eqb, ltb, List, [], ◌∷◌, ◌++◌, length, take, Option, Some, refl, sym, ap, subst, ◌∙◌, arith}
 use Rattle.std.specs.Prelude.{unwrap_or}
 use Rattle.std.specs.List.{AllByRecursion}
 use Rattle.std.proofs.lemmas.Bool.{eq-eqb, eqb-false, ltb-true, ltb-false, false≢true}
@@ -43,6 +43,9 @@ pub record Ordered (w : World) : Type 0 where
   pub ends : is_running w.power ≡ true → last_end (flown w) w.queue ≡ w.sealed
   pub doubt : w.flight.upto ≤ w.sealed
   pub accepted : w.sealed ≤ length w.accepted
+
+pub ordered_from : (w : World) → IsQueueInOrder w → Ordered w
+ordered_from w k = record { safe_first = k.safe_first; in_order = k.in_order; ends = k.ends; doubt = k.doubt; accepted = k.all_accepted }
 
 -- a queue without its first batch
 first_of : (w : World) (batch : Batch) (rest : List Batch) → Ordered w → w.queue ≡ batch ∷ rest → (flown w ≤ batch.upto) × EndInOrder batch.upto rest w.sealed
@@ -121,6 +124,9 @@ ordered w event k = leads Ordered w event (record {
   cut = λ kept is. record { safe_first = k.safe_first; in_order = end_above (flown w) w.queue w.sealed k.in_order; ends = λ runs. absurd (false≢true runs); doubt = k.doubt; accepted = k.accepted };
   reopened = λ kept may is_reopen. record { safe_first = omega arith; in_order = omega arith; ends = λ runs. refl; doubt = omega arith; accepted = omega arith };
 })
+
+pub ordered_next : (w : World) (event : Event) (after : World) → Ordered w → next w event ≡ Some after → Ordered after
+ordered_next w event after k h = subst Ordered (ap (λ (o : Option World). unwrap_or o w) h) (ordered w event k)
 
 run_ordered : (events : List Event) (w : World) → Ordered w → Ordered (run events w)
 run_ordered [] w k = k

@@ -31,7 +31,7 @@ one_more w command d =
     sym (append_assoc (w.due ++ w.flight.commands ++ flat_map (λ (b : Batch). b.commands) w.queue) w.taken (taken_as command d.reply ∷ []))
 
 -- an ask still stands after another terminal's take
-found_still : (w : World) (command : Command) (d : Decision) (other : Command) → Finds w other.terminal other → other.terminal ≢ command.terminal → Finds (deciding w command d) other.terminal other
+pub found_still : (w : World) (command : Command) (d : Decision) (other : Command) → Finds w other.terminal other → other.terminal ≢ command.terminal → Finds (deciding w command d) other.terminal other
 found_still w command d other finds apart =
     let test = is_taken_of other.terminal in
     let may = and_parts (not (is_off w.power) && nat_le (length w.queue) 4) (is_waiting w other.terminal) finds.0 in
@@ -57,7 +57,7 @@ front_long : (xs ys : List Entry) (n : ℕ) → n ≤ length xs → n ≤ length
 front_long xs ys n le = let l = length-take-le n xs le in let a = length-append (take n xs) ys in omega arith
 
 -- the scan of the rest is the rest of the scan
-scanned_rest : (w : World) (command : Command) (d : Decision) (commands : List Command) (replies : List Reply) (state : State) → w.sealed ≤ length w.accepted
+pub scanned_rest : (w : World) (command : Command) (d : Decision) (commands : List Command) (replies : List Reply) (state : State) → w.sealed ≤ length w.accepted
     → scanned (deciding w command d) commands replies state ≡ scanned w (command ∷ commands) (d.reply ∷ replies) state
 scanned_rest w command d commands replies state le =
     ap (λ (xs : List Entry). record w { accepted = xs ++ state.batch; positions = state.positions; taken = (w.taken ++ taken_as command d.reply ∷ []) ++ with_replies commands replies }) (front_stays w.accepted d.next.batch w.sealed le)
@@ -65,7 +65,7 @@ scanned_rest w command d commands replies state le =
     (append_assoc w.taken (taken_as command d.reply ∷ []) (with_replies commands replies))
 
 -- an empty scan
-scanned_none : (w : World) → scanned w [] [] (state_of w) ≡ w
+pub scanned_none : (w : World) → scanned w [] [] (state_of w) ≡ w
 scanned_none w = rw (Rattle.std.proofs.lemmas.List.take-append-drop w.sealed w.accepted, append-nil w.taken) refl
 
 pub runs_are_takes : (w : World) → RunsAreTakes w

@@ -77,7 +77,7 @@ count_more terminal c b e cs = sum_by-cons (λ (d : Command). cond (asks termina
 count_both : (terminal : ℕ) (xs ys : List Command) → count_by (asks terminal) (xs ++ ys) ≡ count_by (asks terminal) xs + count_by (asks terminal) ys
 count_both terminal xs ys = sum_by-append (λ (d : Command). cond (asks terminal d) 1 0) xs ys
 
-count_other : (terminal : ℕ) (c : Command) (xs : List Command) → terminal ≢ c.terminal → count_by (asks terminal) (xs ++ c ∷ []) ≡ count_by (asks terminal) xs
+pub count_other : (terminal : ℕ) (c : Command) (xs : List Command) → terminal ≢ c.terminal → count_by (asks terminal) (xs ++ c ∷ []) ≡ count_by (asks terminal) xs
 count_other terminal c xs apart =
     let more = count_more terminal c false (ne_eqb c.terminal terminal (λ e. apart (sym e))) [] in
     let both = count_both terminal xs (c ∷ []) in
@@ -128,7 +128,7 @@ module _ (terminal : ℕ) where
   finds_none [] apart = refl
   finds_none (x ∷ xs) apart = ap (find (asks terminal)) (reverse-append (x ∷ []) xs) ∙ finds_none_more (reverse xs) x (finds_none xs apart.1) (ne_eqb x.terminal terminal apart.0)
 
-finds_ask : (before : List Command) (c : Command) (after : List Command) → AllByRecursion (λ (d : Command). d.terminal ≢ c.terminal) after → find (asks c.terminal) (reverse (before ++ c ∷ after)) ≡ Some c
+pub finds_ask : (before : List Command) (c : Command) (after : List Command) → AllByRecursion (λ (d : Command). d.terminal ≢ c.terminal) after → find (asks c.terminal) (reverse (before ++ c ∷ after)) ≡ Some c
 finds_ask before c after apart =
     ap (find (asks c.terminal)) (reverse-append before (c ∷ after) ∙ ap (λ (xs : List Command). xs ++ reverse before) (reverse-append (c ∷ []) after))
     ∙ finds_here c.terminal (reverse after) c (reverse before) (eq-eqb c.terminal c.terminal refl) (finds_none c.terminal after apart)

@@ -66,7 +66,7 @@ module _ (w : World) (on : is_running w.power ≡ true) where
   fails Synced h = absurd h
   fails GateWritten h = may (is_running w.power && true) true _ (and_from (is_running w.power) true on refl) refl
 
-keep_one : {A : Type 0} (b : Bool) (x : A) (xs : List A) → b ≡ false → cond (not b) (x ∷ xs) xs ≡ x ∷ xs
+pub keep_one : {A : Type 0} (b : Bool) (x : A) (xs : List A) → b ≡ false → cond (not b) (x ∷ xs) xs ≡ x ∷ xs
 keep_one false x xs e = refl
 keep_one true x xs e = absurd (false≢true (sym e))
 
@@ -78,7 +78,7 @@ others-apart : (terminal : ℕ) (cs : List Taken) → AllByRecursion (λ (d : Ta
 others-apart terminal [] h = refl
 others-apart terminal (c ∷ cs) h = keep_one (eqb c.terminal terminal) c (others terminal cs) (ne_eqb c.terminal terminal h.0) ∙ ap (λ (xs : List Taken). c ∷ xs) (others-apart terminal cs h.1)
 
-others-first : (c : Taken) (cs : List Taken) → AllByRecursion (λ (d : Taken). d.terminal ≢ c.terminal) cs → others c.terminal (c ∷ cs) ≡ cs
+pub others-first : (c : Taken) (cs : List Taken) → AllByRecursion (λ (d : Taken). d.terminal ≢ c.terminal) cs → others c.terminal (c ∷ cs) ≡ cs
 others-first c cs h = drop_one (eqb c.terminal c.terminal) c (others c.terminal cs) (eq-eqb c.terminal c.terminal refl) ∙ others-apart c.terminal cs h
 
 -- the world with these commands left to answer, and those answered

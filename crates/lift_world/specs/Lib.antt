@@ -10,6 +10,7 @@ pub mod Turns
 pub mod Asking
 pub mod Beside
 pub mod Relay
+pub mod Among
 pub mod Policies
 pub mod Lawful
 pub mod Due

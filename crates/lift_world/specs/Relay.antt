@@ -1,5 +1,5 @@
 -- The turns of an allocator and of a flusher, with sealed batches queued between them.
-use Rattle.std.specs.Prelude.{ℕ, Bool, true, false, ◌≡◌, ◌≢◌, ◌≤◌, ◌<◌, ◌+◌, ◌-◌, IsTrue, option_map, List, [], ◌∷◌, ◌++◌, length, map, replicate, Option, Some, None, if◌then◌else◌}
+use Rattle.std.specs.Prelude.{ℕ, Bool, true, false, not, ◌≡◌, ◌≢◌, ◌≤◌, ◌<◌, ◌+◌, ◌-◌, IsTrue, option_map, List, [], ◌∷◌, ◌++◌, length, map, filter, replicate, Option, Some, None, if◌then◌else◌}
 use Rattle.std.specs.List.{AllByRecursion}
 use Rattle.lift_base.specs.declared.command.Reply.{Reply}
 use Rattle.lift_policy.specs.Eligible.{any_eligible}
@@ -74,89 +74,100 @@ AllocationsAreEvents w = (command : Command) (commands : List Command) (reply : 
 abbrev pub FullQueueWaits : World → Type 0
 FullQueueWaits w = (terminal : ℕ) (letter : Option ℕ) → 4 < length w.queue → next w (Take terminal letter) ≡ None
 
--- the flusher between two turns: no batch is in flight, and all that is due is answered
+-- the flusher between two turns: no batch is in flight
 pub record IsBetweenFlushes (w : World) : Type 0 where
   pub running : w.power ≡ Running
   pub idle : w.phase ≡ Idle
   pub nothing_flies : w.flight ≡ no_batch
-  pub nothing_due : w.due ≡ []
 
 abbrev pub answers_to : List Taken → List Event
 answers_to commands = map (λ (c : Taken). Answer c.terminal) commands
 
--- a flusher's turn: the first batch of the queue, with so many entries, is made safe, and its commands are answered
-abbrev pub flusher_events : Batch → ℕ → ℕ → List Event
-flusher_events batch folds count = Pull ∷ (device_calls folds count ++ answers_to batch.commands)
+-- The flusher looks at the terminals of its batch too, and answers only where its look gave the ask: of these commands
+-- those that it answers, and those that it leaves due.
+abbrev pub answered_of : (ℕ → Bool) → List Taken → List Taken
+answered_of gave commands = filter (λ (c : Taken). gave c.terminal) commands
 
--- the world after it
-abbrev pub flushed : World → Batch → List Batch → World
-flushed w batch rest = record w {
+abbrev pub left_of : (ℕ → Bool) → List Taken → List Taken
+left_of gave commands = filter (λ (c : Taken). not (gave c.terminal)) commands
+
+-- a flusher's turn: the first batch of the queue, with so many entries, is made safe, and those of its commands are
+-- answered whose asks its look gave
+abbrev pub flusher_events : (ℕ → Bool) → Batch → ℕ → ℕ → List Event
+flusher_events gave batch folds count = Pull ∷ (device_calls folds count ++ answers_to (answered_of gave batch.commands))
+
+-- the world after it: what isn't answered is due behind what was due before
+abbrev pub flushed : World → (ℕ → Bool) → Batch → List Batch → World
+flushed w gave batch rest = record w {
   safe = batch.upto;
   queue = rest;
-  answered = w.answered ++ map answer_of batch.commands;
-  given = w.given ++ batch.commands;
+  due = w.due ++ left_of gave batch.commands;
+  answered = w.answered ++ map answer_of (answered_of gave batch.commands);
+  given = w.given ++ answered_of gave batch.commands;
 }
 
--- A flusher's turn that answers Ok is its list of events, whatever the allocator has taken or queued before it.
+-- A flusher's turn that answers Ok is its list of events, whatever the allocator has taken or queued before it, and
+-- whatever was due and its look gives.
 abbrev pub FlushesAreEvents : World → Type 0
-FlushesAreEvents w = (batch : Batch) (rest : List Batch) (folds : ℕ) → IsBetweenFlushes w → IsQueueInOrder w → w.queue ≡ batch ∷ rest
-    → goes (flusher_events batch folds (batch.upto - w.safe)) w ≡ Some (flushed w batch rest)
+FlushesAreEvents w = (gave : ℕ → Bool) (batch : Batch) (rest : List Batch) (folds : ℕ) → IsBetweenFlushes w → IsQueueInOrder w → w.queue ≡ batch ∷ rest
+    → goes (flusher_events gave batch folds (batch.upto - w.safe)) w ≡ Some (flushed w gave batch rest)
 
 -- one in which a device call fails
-abbrev pub failing_flush : Batch → ℕ → Phase → ℕ → List Event
-failing_flush batch folds phase count =
-    Pull ∷ (replicate folds Fold ++ (calls_to (bodies count + 1) phase ++ Fault ∷ answers_to batch.commands))
+abbrev pub failing_flush : (ℕ → Bool) → Batch → ℕ → Phase → ℕ → List Event
+failing_flush gave batch folds phase count =
+    Pull ∷ (replicate folds Fold ++ (calls_to (bodies count + 1) phase ++ Fault ∷ answers_to (answered_of gave batch.commands)))
 
--- the world after it: each command of the batch is answered Unknown, and the batch is in doubt
-abbrev pub flush_failed : World → Batch → List Batch → Phase → World
-flush_failed w batch rest phase = record w {
+-- the world after it: each command of the batch gets Unknown, and the batch is in doubt
+abbrev pub flush_failed : World → (ℕ → Bool) → Batch → List Batch → Phase → World
+flush_failed w gave batch rest phase = record w {
   flight = record { commands = []; upto = batch.upto };
   phase = phase;
   power = Broken;
   queue = rest;
-  answered = w.answered ++ map answer_of (map unknown_to batch.commands);
-  given = w.given ++ map unknown_to batch.commands;
+  due = w.due ++ map unknown_to (left_of gave batch.commands);
+  answered = w.answered ++ map answer_of (map unknown_to (answered_of gave batch.commands));
+  given = w.given ++ map unknown_to (answered_of gave batch.commands);
 }
 
 -- A flusher's turn that fails is its list of events, whichever device call it was.
 abbrev pub FailedFlushesAreEvents : World → Type 0
-FailedFlushesAreEvents w = (batch : Batch) (rest : List Batch) (folds : ℕ) (phase : Phase) → IsBetweenFlushes w → IsQueueInOrder w → w.queue ≡ batch ∷ rest
+FailedFlushesAreEvents w = (gave : ℕ → Bool) (batch : Batch) (rest : List Batch) (folds : ℕ) (phase : Phase) → IsBetweenFlushes w → IsQueueInOrder w → w.queue ≡ batch ∷ rest
     → w.safe < batch.upto → MayFailIn (bodies (batch.upto - w.safe) + 1) phase
-    → goes (failing_flush batch folds phase (batch.upto - w.safe)) w ≡ Some (flush_failed w batch rest phase)
+    → goes (failing_flush gave batch folds phase (batch.upto - w.safe)) w ≡ Some (flush_failed w gave batch rest phase)
 
--- the flusher between two turns after a fault: all that is due is answered
+-- the flusher between two turns after a fault: the batch in doubt has no commands left
 pub record IsBrokenBetween (w : World) : Type 0 where
   pub broken : w.power ≡ Broken
   pub nothing_flies : w.flight.commands ≡ []
-  pub nothing_due : w.due ≡ []
 
 -- a flusher's turn after a fault: no device call
-abbrev pub broken_flush : Batch → List Event
-broken_flush batch = Pull ∷ answers_to batch.commands
+abbrev pub broken_flush : (ℕ → Bool) → Batch → List Event
+broken_flush gave batch = Pull ∷ answers_to (answered_of gave batch.commands)
 
--- the world after it: each command of the batch is answered Unknown, and nothing else changes
-abbrev pub flushed_broken : World → Batch → List Batch → World
-flushed_broken w batch rest = record w {
+-- the world after it: each command of the batch gets Unknown, and nothing else changes
+abbrev pub flushed_broken : World → (ℕ → Bool) → Batch → List Batch → World
+flushed_broken w gave batch rest = record w {
   queue = rest;
-  answered = w.answered ++ map answer_of (map unknown_to batch.commands);
-  given = w.given ++ map unknown_to batch.commands;
+  due = w.due ++ map unknown_to (left_of gave batch.commands);
+  answered = w.answered ++ map answer_of (map unknown_to (answered_of gave batch.commands));
+  given = w.given ++ map unknown_to (answered_of gave batch.commands);
 }
 
 -- A flusher's turn after a fault is its list of events.
 abbrev pub BrokenFlushesAreEvents : World → Type 0
-BrokenFlushesAreEvents w = (batch : Batch) (rest : List Batch) → IsBrokenBetween w → IsQueueInOrder w → w.queue ≡ batch ∷ rest
-    → goes (broken_flush batch) w ≡ Some (flushed_broken w batch rest)
+BrokenFlushesAreEvents w = (gave : ℕ → Bool) (batch : Batch) (rest : List Batch) → IsBrokenBetween w → IsQueueInOrder w → w.queue ≡ batch ∷ rest
+    → goes (broken_flush gave batch) w ≡ Some (flushed_broken w gave batch rest)
 
 -- Each of these turns ends where the next begins, and leaves the other part's beginning as it was.
 pub record TurnsMeet (w : World) : Type 0 where
   pub scanned : (commands : List Command) (replies : List Reply) (state : State) → IsBetweenScans w → IsBetweenScans (allocated w commands replies state)
   pub scanned_beside : (commands : List Command) (replies : List Reply) (state : State) → IsBetweenFlushes w → IsBetweenFlushes (allocated w commands replies state)
-  pub wrote : (batch : Batch) (rest : List Batch) → IsBetweenFlushes w → IsBetweenFlushes (flushed w batch rest)
-  pub wrote_beside : (batch : Batch) (rest : List Batch) → IsBetweenScans w → IsBetweenScans (flushed w batch rest)
-  pub fell : (batch : Batch) (rest : List Batch) (phase : Phase) → IsBetweenFlushes w → IsBrokenBetween (flush_failed w batch rest phase)
-  pub fell_beside : (batch : Batch) (rest : List Batch) (phase : Phase) → IsBetweenScans w → IsBetweenScans (flush_failed w batch rest phase)
-  pub stayed : (batch : Batch) (rest : List Batch) → IsBrokenBetween w → IsBrokenBetween (flushed_broken w batch rest)
-  pub stayed_beside : (batch : Batch) (rest : List Batch) → IsBetweenScans w → IsBetweenScans (flushed_broken w batch rest)
+  pub wrote : (gave : ℕ → Bool) (batch : Batch) (rest : List Batch) → IsBetweenFlushes w → IsBetweenFlushes (flushed w gave batch rest)
+  pub wrote_beside : (gave : ℕ → Bool) (batch : Batch) (rest : List Batch) → IsBetweenScans w → IsBetweenScans (flushed w gave batch rest)
+  pub fell : (gave : ℕ → Bool) (batch : Batch) (rest : List Batch) (phase : Phase) → IsBetweenFlushes w → IsBrokenBetween (flush_failed w gave batch rest phase)
+  pub fell_beside : (gave : ℕ → Bool) (batch : Batch) (rest : List Batch) (phase : Phase) → IsBetweenScans w → IsBetweenScans (flush_failed w gave batch rest phase)
+  pub stayed : (gave : ℕ → Bool) (batch : Batch) (rest : List Batch) → IsBrokenBetween w → IsBrokenBetween (flushed_broken w gave batch rest)
+  pub stayed_beside : (gave : ℕ → Bool) (batch : Batch) (rest : List Batch) → IsBetweenScans w → IsBetweenScans (flushed_broken w gave batch rest)
 
 -- what a flusher does
 abbrev pub is_flushers : Event → Bool
@@ -188,10 +199,10 @@ abbrev pub FlusherPassesSeals : World → Type 0
 FlusherPassesSeals w = (event : Event) → IsTrue (is_flushers event) → (event ≡ Pull → w.queue ≢ [])
     → next (sealing w) event ≡ option_map sealing (next w event)
 
--- A clerk between two turns is both parts between two of theirs, with nothing queued, and the other way round: so a split
--- and a rejoining keep the world, whole or broken.
+-- A clerk between two turns is both parts between two of theirs, with nothing queued and nothing due, and the other way
+-- round: so a split and a rejoining keep the world, whole or broken.
 pub record PartsMeet (w : World) : Type 0 where
   pub split : IsAtRest w → IsBetweenScans w × IsBetweenFlushes w
-  pub rejoined : IsQueueInOrder w → IsBetweenScans w → IsBetweenFlushes w → w.queue ≡ [] → IsAtRest w
+  pub rejoined : IsQueueInOrder w → IsBetweenScans w → IsBetweenFlushes w → w.queue ≡ [] → w.due ≡ [] → IsAtRest w
   pub split_broken : IsBrokenAtRest w → IsBetweenScans w × IsBrokenBetween w
-  pub rejoined_broken : IsQueueInOrder w → IsBetweenScans w → IsBrokenBetween w → w.queue ≡ [] → IsBrokenAtRest w
+  pub rejoined_broken : IsQueueInOrder w → IsBetweenScans w → IsBrokenBetween w → w.queue ≡ [] → w.due ≡ [] → IsBrokenAtRest w

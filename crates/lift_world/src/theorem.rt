@@ -11,6 +11,7 @@ ghost use Rattle.lift_world.specs.Possible.{AsksOnceHeard, HearsTheNext, TakesNe
 ghost use Rattle.lift_world.specs.Asking.{AsksStand};
 ghost use Rattle.lift_world.specs.Beside.{GoesAreRuns, RunsJoin, TerminalsPass};
 ghost use Rattle.lift_world.specs.Relay.{IsQueueInOrder, AllocationsAreEvents, FullQueueWaits, FlushesAreEvents, FailedFlushesAreEvents, BrokenFlushesAreEvents, TurnsMeet, PartsMeet, FlusherPassesScans, FlusherComesFirst, FlusherPassesSeals};
+ghost use Rattle.lift_world.specs.Among.{FlusherMightComeFirst, FlusherGoesAmong, AsksStandAtOnce, AsksStandOn, ScansGoAmong, AllocationsGoAmong};
 ghost use Rattle.lift_world.specs.Lawful.{IsTypedEvent, RecoversRecords, AcceptsFitting, AcceptsRecords};
 ghost use Rattle.lift_world.specs.Policies.{StepsAreAny, RunsAreAny};
 ghost use Rattle.lift_world.specs.Due.{DueOnceSafe};
@@ -116,7 +117,8 @@ pub fn replies_are_safe()
 
 /// The turns of an allocator and of a flusher, with batches queued between them. An allocator's turn, wherever the flusher
 /// is, and each turn of the flusher, one that answers Ok, one in which any device call fails and one after that, are lists
-/// of events; with the queue full nothing is taken. Each ends where the next one begins; a split of a clerk at rest and a
+/// of events, whichever asks the flusher's own look gives: what it doesn't give stays due. With the queue full nothing is
+/// taken. Each ends where the next one begins; a split of a clerk at rest and a
 /// rejoining with nothing queued keep the world. What the flusher does behind a take it might have done before it, and
 /// behind a seal it leaves what it leaves before it, but for what was sealed.
 pub fn relays_are_events()
@@ -130,6 +132,19 @@ pub fn relays_are_events()
     ensures beside { (w : World) → FlusherPassesScans w }
     ensures first { (w : World) → FlusherComesFirst w }
     ensures seals { (w : World) → FlusherPassesSeals w }
+{}
+
+/// The parts among one another. Whatever the flusher does among others' events it might have done first, and whatever it can
+/// do alone it can do among them, wherever they come: so each turn of it above is possible in every interleaving. An ask
+/// stands as soon as it is made and until it is taken. An allocator's scan and its seal go on among the events of terminals
+/// and of the flusher, and leave what these leave alone, with what was decided.
+pub fn parts_interleave()
+    ensures first { (w : World) → FlusherMightComeFirst w }
+    ensures flushes { (w : World) → FlusherGoesAmong w }
+    ensures asked { (w : World) → AsksStandAtOnce w }
+    ensures stands { (w : World) → AsksStandOn w }
+    ensures scans { (w : World) → ScansGoAmong w }
+    ensures allocations { (w : World) → AllocationsGoAmong w }
 {}
 
 /// What terminals do at other moments passes through. Wherever asks and hears come among the events of a turn or of a

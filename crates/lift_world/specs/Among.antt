@@ -1,0 +1,107 @@
+-- An allocator and a flusher work at the same time, and terminals beside them: their events come among one another.
+use Rattle.std.specs.Prelude.{ℕ, ◌≡◌, ◌≢◌, ◌≤◌, Bool, true, false, not, ◌||◌, List, [], ◌∷◌, ◌++◌, length, map, filter, count_by, Option, Some, IsSome, IsTrue, unwrap_or}
+use Rattle.std.specs.List.{AllByRecursion}
+use Rattle.lift_base.specs.declared.command.Body.{Body}
+use Rattle.lift_base.specs.declared.command.Reply.{Reply}
+use Rattle.lift_policy.specs.Eligible.{any_eligible}
+use Rattle.lift_policy.specs.Step.{State}
+use Rattle.lift_policy.specs.Run.{Run}
+use Rattle.lift_policy.specs.declared.command.Command.{Command}
+use Rattle.lift_world.specs.declared.event.Event.{Event}
+use Rattle.lift_world.specs.declared.event.Event.TheVariants.{Ask, Take, Seal, Pull}
+use Rattle.lift_world.specs.World.{World, state_of}
+use Rattle.lift_world.specs.Next.{next, goes}
+use Rattle.lift_world.specs.Tie.{Finds}
+use Rattle.lift_world.specs.Headline.{HearsInOrder, AsksOneByOne}
+use Rattle.lift_world.specs.Turns.{scanned}
+use Rattle.lift_world.specs.Beside.{is_of_terminals}
+use Rattle.lift_world.specs.Faults.{goes_on}
+use Rattle.lift_world.specs.Relay.{IsQueueInOrder, IsBetweenScans, allocated, is_flushers}
+
+-- of a list of events what the flusher does, and the rest
+abbrev pub flushers_part : List Event → List Event
+flushers_part events = filter is_flushers events
+
+abbrev pub others_part : List Event → List Event
+others_part events = filter (λ (e : Event). not (is_flushers e)) events
+
+abbrev pub is_pull : Event → Bool
+is_pull Pull = true
+is_pull event = false
+
+-- Whatever the flusher did among others' events, without a power cut or a recovery, it might as well have done first, where
+-- it pulled no batch that was sealed meanwhile.
+abbrev pub FlusherMightComeFirst : World → Type 0
+FlusherMightComeFirst w = (events : List Event) (after : World) → IsQueueInOrder w → AllByRecursion (λ (e : Event). IsTrue (goes_on e)) events
+    → count_by is_pull events ≤ length w.queue → goes events w ≡ Some after → goes (flushers_part events ++ others_part events) w ≡ Some after
+
+-- Others' events come among the flusher's: each is possible where it stands, behind all that came before it.
+abbrev pub StandAmong : World → List Event → Type 0
+StandAmong w [] = Unit {0}
+StandAmong w (event ∷ events) = (is_flushers event ≡ false → IsTrue (goes_on event) × IsSome (next w event)) × StandAmong (unwrap_or (next w event) w) events
+
+-- All of it is possible, and leaves what the others' events leave in the world that the flusher made.
+pub record GoesAmong (events : List Event) (w made : World) : Type 0 where
+  pub after : World
+  pub possible : goes events w ≡ Some after
+  pub same : goes (others_part events) made ≡ Some after
+
+-- Whatever the flusher can do alone, as each of its turns, it can do among others' events too, wherever these come.
+abbrev pub FlusherGoesAmong : World → Type 0
+FlusherGoesAmong w = (events : List Event) (made : World) → IsQueueInOrder w → goes (flushers_part events) w ≡ Some made → StandAmong w events → GoesAmong events w made
+
+-- what others do beside an allocator: terminals and the flusher
+abbrev pub is_beside : Event → Bool
+is_beside event = is_of_terminals event || is_flushers event
+
+abbrev pub AreBeside : List Event → Type 0
+AreBeside events = AllByRecursion (λ (e : Event). IsTrue (is_beside e)) events
+
+-- An ask stands as soon as it is made, where at most four batches are queued: a look finds it.
+abbrev pub AsksStandAtOnce : World → Type 0
+AsksStandAtOnce w = (terminal number : ℕ) (body : Body) (after : World) → HearsInOrder w → AsksOneByOne w terminal → length w.queue ≤ 4
+    → next w (Ask terminal number body) ≡ Some after → Finds after terminal (record { terminal = terminal; number = number; body = body })
+
+-- And it stands on, whatever terminals and the flusher do.
+abbrev pub AsksStandOn : World → Type 0
+AsksStandOn w = (terminal : ℕ) (command : Command) (event : Event) (after : World) → HearsInOrder w → Finds w terminal command → IsTrue (is_beside event)
+    → next w event ≡ Some after → Finds after terminal command
+
+-- a look of a scan: what others did since the look before it, and the ask that it finds
+pub record Look : Type 0 where
+  pub before : List Event
+  pub command : Command
+
+abbrev pub commands_of : List Look → List Command
+commands_of looks = map (λ (l : Look). l.command) looks
+
+-- Each look finds its ask in the world that the others' events alone have made by then, which is this one at the last look.
+-- No terminal is looked at twice.
+abbrev pub LooksStand : World → List Look → World → Type 0
+LooksStand w [] last = w ≡ last
+LooksStand w (look ∷ looks) last =
+    (there : World) × AreBeside look.before × (goes look.before w ≡ Some there) × Finds there look.command.terminal look.command
+    × AllByRecursion (λ (d : Command). d.terminal ≢ look.command.terminal) (commands_of looks) × LooksStand there looks last
+
+-- the scan's takes, with others' events between them
+abbrev pub look_events : List Look → List (Option ℕ) → List Event
+look_events [] letters = []
+look_events (look ∷ looks) [] = []
+look_events (look ∷ looks) (letter ∷ letters) = look.before ++ Take look.command.terminal letter ∷ look_events looks letters
+
+-- A scan among others' events, some before and between its looks and some behind them. Each take is possible in its place,
+-- with some letter, and all of it leaves what the others' events alone leave, with what was decided: so a terminal may be
+-- answered, hear and ask again until it is looked at.
+abbrev pub ScansGoAmong : World → Type 0
+ScansGoAmong w = (looks : List Look) (replies : List Reply) (state : State) (last : World) → IsQueueInOrder w → LooksStand w looks last
+    → Run w.building any_eligible (state_of w) (commands_of looks) replies state
+    → (letters : List (Option ℕ)) × ((behind : List Event) (after : World) → AreBeside behind → goes behind last ≡ Some after
+    → goes (look_events looks letters ++ behind) w ≡ Some (scanned after (commands_of looks) replies state))
+
+-- An allocator's turn among others' events, some of them between its looks and its seal and some behind that. There the
+-- flusher goes on with the batches queued before; from the world left here on the new one is queued as they were.
+abbrev pub AllocationsGoAmong : World → Type 0
+AllocationsGoAmong w = (look : Look) (looks : List Look) (reply : Reply) (replies : List Reply) (state : State) (last : World) → IsQueueInOrder w → IsBetweenScans w
+    → LooksStand w (look ∷ looks) last → Run w.building any_eligible (state_of w) (commands_of (look ∷ looks)) (reply ∷ replies) state
+    → (letters : List (Option ℕ)) × ((between behind : List Event) (after : World) → AreBeside (between ++ behind) → goes (between ++ behind) last ≡ Some after
+    → goes (look_events (look ∷ looks) letters ++ (between ++ Seal ∷ behind)) w ≡ Some (allocated after (commands_of (look ∷ looks)) (reply ∷ replies) state))
