@@ -106,6 +106,12 @@ FitFrom-append plan register [] later same fit more = subst (λ (r : RegisterSta
 FitFrom-append plan register (entry ∷ first) later same fit more =
     (fit.0, FitFrom-append plan (register_of register (entry ∷ [])) first later (register_of-append register (entry ∷ []) []) fit.1 (subst (λ (r : RegisterState). FitFrom plan r later) (sym (register_of-append register (entry ∷ []) first)) more))
 
+pub FitFrom-parts : (plan : Plan) (register : RegisterState) (first later : List Entry) → register_of register [] ≡ register → FitFrom plan register (first ++ later) → FitFrom plan register first × FitFrom plan (register_of register first) later
+FitFrom-parts plan register [] later same fit = (record {}, subst (λ (r : RegisterState). FitFrom plan r later) (sym same) fit)
+FitFrom-parts plan register (entry ∷ first) later same fit =
+    let rest = FitFrom-parts plan (register_of register (entry ∷ [])) first later (register_of-append register (entry ∷ []) []) fit.1 in
+    ((fit.0, rest.0), subst (λ (r : RegisterState). FitFrom plan r later) (register_of-append register (entry ∷ []) first) rest.1)
+
 pub rows_of-empty : (car : ℕ) → rows_of empty car ≡ []
 rows_of-empty car = elim (cases_lt car 16) [
   | inl below ↦ get_or-on_cars (λ (k : ℕ). []) car [] below

@@ -7,3 +7,4 @@ pub mod WellFormed
 pub mod Belongs
 pub mod Rows
 pub mod Steps
+pub mod Joins
