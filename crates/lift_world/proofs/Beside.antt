@@ -100,10 +100,10 @@ module _ (w : World) (asked : List Command) (heard : List Answer) where
   lift_pulled (batch ∷ rest) = ap (λ (x : World). Some x) (lift_pull on_words (is_broken w.power) (nat_lt w.safe batch.upto) _ _ _)
 
   lift_reopen : (kept : Kept) (p : Power) → when (may_reopen (on_words w) p kept) (reopened (on_words w) kept) ≡ option_map on_words (when (may_reopen w p kept) (reopened w kept))
-  lift_reopen Safe Running = refl
+  lift_reopen Safe Running = lift_when on_words (may_reopen w Running Safe) (reopened w Safe)
   lift_reopen Safe Broken = lift_when on_words (may_reopen w Broken Safe) (reopened w Safe)
   lift_reopen Safe (Off last) = lift_when on_words (may_reopen w (Off last) Safe) (reopened w Safe)
-  lift_reopen WithBatch Running = refl
+  lift_reopen WithBatch Running = lift_when on_words (may_reopen w Running WithBatch) (reopened w WithBatch)
   lift_reopen WithBatch Broken = lift_when on_words (may_reopen w Broken WithBatch) (reopened w WithBatch)
   lift_reopen WithBatch (Off last) = lift_when on_words (may_reopen w (Off last) WithBatch) (reopened w WithBatch)
 

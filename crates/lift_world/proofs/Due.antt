@@ -18,6 +18,7 @@ use Rattle.lift_world.specs.Headline.{HoldsNothingWhileOff}
 use Rattle.lift_world.specs.Due.{IsOfSafeBatch, GetsUnknown, DueOnceSafe}
 use Rattle.lift_world.proofs.Moves.{hold_when, hold_if, hold_then, hold_map}
 use Rattle.lift_world.proofs.Entries.{head_of}
+use Rattle.lift_world.proofs.Possibilities.{quiet_reopening}
 
 left_true : (a b : Bool) → a ≡ true → (a || b) ≡ true
 left_true true b h = refl
@@ -76,15 +77,18 @@ module _ (w : World) where
   fails : AllBecame (failing w)
   fails = All-append (Became (failing w)) w.due (map unknown_to w.flight.commands) (due_before (failing w)) (due_unknown (failing w) w.flight.commands (right_true (is_broken w.power)))
 
+  -- where nothing was taken
+  reopens_none : (kept : Kept) → w.taken ≡ [] → AllBecame (reopened w kept)
+  reopens_none kept none =
+      All-append (Became (reopened w kept)) w.due (map unknown_to w.taken) (due_before (reopened w kept))
+      (subst (λ (cs : List Taken). All (Became (reopened w kept)) (map unknown_to cs)) (sym none) (All-nil (Became (reopened w kept))))
+
   reopens_from : (power : Power) (kept : Kept) → w.power ≡ power → HoldsNothingWhileOff w → may_reopen w power kept ≡ true → AllBecame (reopened w kept)
-  reopens_from Running kept at off may = absurd (false≢true may)
+  reopens_from Running kept at off may = reopens_none kept (quiet_reopening w kept may).nothing_taken
   reopens_from Broken kept at off may =
       All-append (Became (reopened w kept)) w.due (map unknown_to w.taken) (due_before (reopened w kept))
       (due_unknown (reopened w kept) w.taken (left_true (is_broken w.power) false (ap is_broken at)))
-  reopens_from (Off last) kept at off may =
-      let none : w.taken ≡ [] = (off (ap is_off at)).nothing_taken in
-      All-append (Became (reopened w kept)) w.due (map unknown_to w.taken) (due_before (reopened w kept))
-      (subst (λ (cs : List Taken). All (Became (reopened w kept)) (map unknown_to cs)) (sym none) (All-nil (Became (reopened w kept))))
+  reopens_from (Off last) kept at off may = reopens_none kept (off (ap is_off at)).nothing_taken
 
   became : (event : Event) → HoldsNothingWhileOff w → AllBecame (unwrap_or (next w event) w)
   became (Ask terminal number body) off =

@@ -2,18 +2,18 @@
 use Rattle.std.proofs.Common.{ℕ, ◌≡◌, ◌+◌, Bool, true, false, not, ◌&&◌, cond, eqb, ltb, List, [], ◌∷◌, ◌++◌, map, Some, All, refl, sym, ap, subst, ◌∙◌, inl, inr, append_assoc}
 use Rattle.std.specs.Prelude.{Contains, IsTrue, unwrap_or, find, reverse, option_and_then, option_map}
 use Rattle.std.specs.List.{AllByRecursion}
-use Rattle.std.proofs.lemmas.Bool.{false≢true, and_parts}
+use Rattle.std.proofs.lemmas.Bool.{false≢true, and_parts, and_right}
 use Rattle.std.proofs.lemmas.List.{append-nil}
 use Rattle.std.proofs.lemmas.List.Elements.{All-nil, All-push, All-append, All-weaker, All-filter, All-map, All-contains, All-contains_itself}
 use Rattle.lift_world.specs.declared.event.Taken.{Taken}
 use Rattle.lift_world.specs.declared.event.Phase.{Phase}
-use Rattle.lift_world.specs.declared.event.Phase.TheVariants.{Writing, Synced, GateWritten}
+use Rattle.lift_world.specs.declared.event.Phase.TheVariants.{Idle, Writing, Synced, GateWritten}
 use Rattle.lift_world.specs.declared.event.Power.{Power}
 use Rattle.lift_world.specs.declared.event.Power.TheVariants.{Running, Broken}
 use Rattle.lift_world.specs.declared.event.Event.{Event}
 use Rattle.lift_world.specs.declared.event.Event.TheVariants.{Ask, Take, Seal, Pull, Fold, Body as BodyWrite, FirstSync, Gate, SecondSync, Answer as Answering, Hear, Fault, Cut, Reopen}
 use Rattle.lift_world.specs.Decided.{when, decided}
-use Rattle.lift_world.specs.World.{World, Batch, is_running, is_broken, is_off, is_idle, is_synced, is_gate_written, written, asks, is_taken_of, state_of}
+use Rattle.lift_world.specs.World.{World, Batch, no_batch, is_running, is_broken, is_off, is_synced, is_gate_written, written, asks, is_taken_of, state_of}
 use Rattle.lift_world.specs.Next.{run, next, unknown_to, asking, taking, deciding, sealing, pulled, in_phase, settling, failing, answering, hearing, next_answer, reopened, may_ask, may_take, may_seal, may_pull, may_write, may_sync, may_fail, may_reopen}
 use Rattle.lift_world.specs.Faults.{IsFailed, FaultsLeaveDoubt, goes_on, WasDueOrUnknown, OnlyUnknownSince, UnknownAfterFault, UnknownOverReopening}
 use Rattle.lift_world.proofs.Moves.{hold_when, hold_if, hold_then, hold_map}
@@ -25,19 +25,28 @@ pub not_running : (p : Power) → p ≡ Broken → is_running p ≡ true → ⊥
 not_running p broken on = false≢true (sym (ap is_running broken) ∙ on)
 
 may_fail_running : (w : World) → may_fail w ≡ true → is_running w.power ≡ true
-may_fail_running w may = (and_parts (is_running w.power) (not (is_idle w.phase)) (and_parts (is_running w.power && not (is_idle w.phase)) (not (is_synced w.phase)) may).0).0
+may_fail_running w may = (and_parts (is_running w.power) (not (is_synced w.phase)) may).0
 
-fails_in : (w : World) (phase : Phase) → w.power ≡ Running → w.phase ≡ phase → not (is_idle phase) ≡ true → not (is_synced phase) ≡ true → next w Fault ≡ Some (failing w)
-fails_in w phase on there busy unsynced =
-    ap (λ (p : Power). when (is_running p && not (is_idle w.phase) && not (is_synced w.phase)) (failing w)) on
-    ∙ ap (λ (p : Phase). when (not (is_idle p) && not (is_synced p)) (failing w)) there
-    ∙ ap (λ (b : Bool). when (b && not (is_synced phase)) (failing w)) busy
+fails_in : (w : World) (phase : Phase) → w.power ≡ Running → w.phase ≡ phase → not (is_synced phase) ≡ true → next w Fault ≡ Some (failing w)
+fails_in w phase on there unsynced =
+    ap (λ (p : Power). when (is_running p && not (is_synced w.phase)) (failing w)) on
+    ∙ ap (λ (p : Phase). when (not (is_synced p)) (failing w)) there
     ∙ ap (λ (b : Bool). when b (failing w)) unsynced
+
+-- with no batch in flight a fault leaves none in doubt
+fails_alone : (w : World) → w.flight ≡ no_batch → failing w ≡ record w { power = Broken }
+fails_alone w none =
+    ap (λ (b : Batch). record w { power = Broken; flight = record { commands = []; upto = b.upto }; due = w.due ++ map unknown_to b.commands }) none
+    ∙ ap (λ (cs : List Taken). record w { power = Broken; flight = no_batch; due = cs }) (append-nil w.due)
+    ∙ ap (λ (b : Batch). record w { power = Broken; flight = b }) (sym none)
 
 pub faults_leave_doubt : (w : World) → FaultsLeaveDoubt w
 faults_leave_doubt w = record {
-  writing = λ n on there. fails_in w (Writing n) on there refl refl;
-  gate = λ on there. fails_in w GateWritten on there refl refl;
+  writing = λ n on there. fails_in w (Writing n) on there refl;
+  gate = λ on there. fails_in w GateWritten on there refl;
+  idle = λ on there none. fails_in w Idle on there refl ∙ ap (λ (x : World). Some x) (fails_alone w none);
+  synced = λ there. ap (λ (p : Phase). when (is_running w.power && not (is_synced p)) (failing w)) there
+      ∙ ap (λ (b : Bool). when b (failing w)) (and_right (is_running w.power) false refl);
   only_running = λ after h. runs w.power (may_fail_running w (when_some (may_fail w) (failing w) after h).0);
   gives = λ after h. subst (λ (x : World). IsFailed w x) (when_some (may_fail w) (failing w) after h).1 (record {
     broken = refl;

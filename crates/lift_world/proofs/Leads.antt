@@ -18,7 +18,7 @@ use Rattle.lift_world.specs.Next.{next, unknown_to, asking, taking, deciding, se
 use Rattle.lift_world.proofs.Phases.{not_idle_synced, writing_busy}
 use Rattle.lift_world.proofs.Moves.{hold_when, hold_if, hold_then, hold_map}
 
-running_on : (p : Power) → is_running p ≡ true → is_off p ≡ false
+pub running_on : (p : Power) → is_running p ≡ true → is_off p ≡ false
 running_on Running h = refl
 running_on Broken h = absurd (false≢true h)
 running_on (Off kept) h = absurd (false≢true h)
@@ -35,8 +35,8 @@ pub record Leads (P : World → Type 0) (w : World) (event : Event) : Type 0 whe
       → decided w.building (state_of w) command.terminal command.number command.body letter ≡ Some d → event ≡ Take terminal letter → P (deciding w command d)
   pub sealed : is_off w.power ≡ false → is_empty w.taken ≡ false → event ≡ Seal → P (sealing w)
   pub fails : (batch : Batch) (rest : List Batch) → is_off w.power ≡ false → w.queue ≡ batch ∷ rest → is_broken w.power ≡ true → P (record w { queue = rest; due = w.due ++ map unknown_to batch.commands })
-  pub flies : (batch : Batch) (rest : List Batch) → is_off w.power ≡ false → w.queue ≡ batch ∷ rest → is_idle w.phase ≡ true → ltb w.safe batch.upto ≡ true → P (record w { queue = rest; flight = batch; phase = Writing 0 })
-  pub lands : (batch : Batch) (rest : List Batch) → is_off w.power ≡ false → w.queue ≡ batch ∷ rest → is_idle w.phase ≡ true → ltb w.safe batch.upto ≡ false → P (record w { queue = rest; due = w.due ++ batch.commands })
+  pub flies : (batch : Batch) (rest : List Batch) → is_running w.power ≡ true → w.queue ≡ batch ∷ rest → is_idle w.phase ≡ true → ltb w.safe batch.upto ≡ true → P (record w { queue = rest; flight = batch; phase = Writing 0 })
+  pub lands : (batch : Batch) (rest : List Batch) → is_running w.power ≡ true → w.queue ≡ batch ∷ rest → is_idle w.phase ≡ true → ltb w.safe batch.upto ≡ false → P (record w { queue = rest; due = w.due ++ batch.commands })
   pub goes_on : (phase : Phase) → is_off w.power ≡ false → is_idle w.phase ≡ false → is_idle phase ≡ false → P (in_phase w phase)
   pub settled : is_off w.power ≡ false → is_gate_written w.phase ≡ true → P (settling w)
   pub answered : (terminal : ℕ) (c : Taken) → is_off w.power ≡ false → find (is_taken_of terminal) w.due ≡ Some c → P (answering w terminal c)
@@ -46,7 +46,7 @@ pub record Leads (P : World → Type 0) (w : World) (event : Event) : Type 0 whe
   pub reopened : (kept : Kept) → may_reopen w w.power kept ≡ true → event ≡ Reopen kept → P (reopened w kept)
 
 module _ (P : World → Type 0) (w : World) where
-  pull_running : (event : Event) (batch : Batch) (rest : List Batch) (more : Bool) → ltb w.safe batch.upto ≡ more → is_idle w.phase ≡ true → is_off w.power ≡ false → w.queue ≡ batch ∷ rest → Leads P w event
+  pull_running : (event : Event) (batch : Batch) (rest : List Batch) (more : Bool) → ltb w.safe batch.upto ≡ more → is_idle w.phase ≡ true → is_running w.power ≡ true → w.queue ≡ batch ∷ rest → Leads P w event
       → P (cond more (record w { queue = rest; flight = batch; phase = Writing 0 }) (record w { queue = rest; due = w.due ++ batch.commands }))
   pull_running event batch rest true e idle on at k = k.flies batch rest on at idle e
   pull_running event batch rest false e idle on at k = k.lands batch rest on at idle e
@@ -55,7 +55,9 @@ module _ (P : World → Type 0) (w : World) where
       → P (cond broken (record w { queue = rest; due = w.due ++ map unknown_to batch.commands })
       (cond (ltb w.safe batch.upto) (record w { queue = rest; flight = batch; phase = Writing 0 }) (record w { queue = rest; due = w.due ++ batch.commands })))
   pull_first event batch rest true e may on at k = k.fails batch rest on at e
-  pull_first event batch rest false e may on at k = pull_running event batch rest (ltb w.safe batch.upto) refl (and_parts (is_running w.power) (is_idle w.phase) may).1 on at k
+  pull_first event batch rest false e may on at k =
+      let parts = and_parts (is_running w.power) (is_idle w.phase) may in
+      pull_running event batch rest (ltb w.safe batch.upto) refl parts.1 parts.0 at k
 
   pulls : (event : Event) (queue : List Batch) → w.queue ≡ queue → may_pull w ≡ true → is_off w.power ≡ false → Leads P w event → P (unwrap_or (pulled w queue) w)
   pulls event [] at may on k = k.stays
@@ -93,6 +95,6 @@ module _ (P : World → Type 0) (w : World) where
   leads (Hear terminal) k = hold_if P w (option_map (hearing w) (next_answer w terminal)) (not (is_off w.power)) k.stays
       (λ may. hold_map P w (hearing w) (next_answer w terminal) k.stays (λ a _. k.heard a (not-true (is_off w.power) may)))
   leads Fault k = hold_when P w (failing w) (may_fail w) k.stays
-      (λ may. k.failed (runs_on _ (and_parts (is_running w.power && not (is_idle w.phase)) (not (is_synced w.phase)) may).0) refl)
+      (λ may. k.failed (runs_on _ may) refl)
   leads (Cut kept) k = hold_when P w (cutting w kept) (may_keep w kept) k.stays (λ _. k.cut kept refl)
   leads (Reopen kept) k = hold_when P w (reopened w kept) (may_reopen w w.power kept) k.stays (λ may. k.reopened kept may refl)

@@ -35,3 +35,6 @@ pub mod ScansAmong
 pub mod StandsOn
 pub mod Policies
 pub mod Lawful
+pub mod Quiet
+pub mod Outcomes
+pub mod Short

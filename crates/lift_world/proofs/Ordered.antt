@@ -28,11 +28,11 @@ end_push : (low : ℕ) (queue : List Batch) (high : ℕ) (b : Batch) → high �
 end_push low [] high b le h = (omega arith, omega arith)
 end_push low (x ∷ queue) high b le h = (h.0, end_push x.upto queue high b le h.1)
 
-last_pushed : (low : ℕ) (queue : List Batch) (b : Batch) → last_end low (queue ++ b ∷ []) ≡ b.upto
+pub last_pushed : (low : ℕ) (queue : List Batch) (b : Batch) → last_end low (queue ++ b ∷ []) ≡ b.upto
 last_pushed low [] b = refl
 last_pushed low (x ∷ queue) b = last_pushed x.upto queue b
 
-not_both : {A : Type 0} (p : Power) → is_running p ≡ true → is_broken p ≡ true → A
+pub not_both : {A : Type 0} (p : Power) → is_running p ≡ true → is_broken p ≡ true → A
 not_both Running on broken = absurd (false≢true broken)
 not_both Broken on broken = absurd (false≢true on)
 not_both (Off kept) on broken = absurd (false≢true on)
@@ -48,7 +48,7 @@ pub ordered_from : (w : World) → IsQueueInOrder w → Ordered w
 ordered_from w k = record { safe_first = k.safe_first; in_order = k.in_order; ends = k.ends; doubt = k.doubt; accepted = k.all_accepted }
 
 -- a queue without its first batch
-first_of : (w : World) (batch : Batch) (rest : List Batch) → Ordered w → w.queue ≡ batch ∷ rest → (flown w ≤ batch.upto) × EndInOrder batch.upto rest w.sealed
+pub first_of : (w : World) (batch : Batch) (rest : List Batch) → Ordered w → w.queue ≡ batch ∷ rest → (flown w ≤ batch.upto) × EndInOrder batch.upto rest w.sealed
 first_of w batch rest k at = subst (λ (q : List Batch). EndInOrder (flown w) q w.sealed) at k.in_order
 
 rest_of : (w : World) (batch : Batch) (rest : List Batch) → Ordered w → w.queue ≡ batch ∷ rest → EndInOrder (flown w) rest w.sealed
@@ -59,7 +59,7 @@ pub flies_to : (w : World) → is_idle w.phase ≡ false → flown w ≡ w.fligh
 flies_to w busy = ap (λ (b : Bool). cond b w.safe w.flight.upto) busy
 
 -- a batch without entries ends where it begins
-none_ends : (w : World) (batch : Batch) (rest : List Batch) → Ordered w → w.queue ≡ batch ∷ rest → is_idle w.phase ≡ true → ltb w.safe batch.upto ≡ false → batch.upto ≡ flown w
+pub none_ends : (w : World) (batch : Batch) (rest : List Batch) → Ordered w → w.queue ≡ batch ∷ rest → is_idle w.phase ≡ true → ltb w.safe batch.upto ≡ false → batch.upto ≡ flown w
 none_ends w batch rest k at idle none =
     let low = (first_of w batch rest k at).0 in
     let high = ltb-false w.safe batch.upto none in
@@ -148,10 +148,14 @@ are_apart (c ∷ cs) one = (
   are_apart cs (λ terminal. let a = count_cons (is_taken_of terminal) c (eqb c.terminal terminal) refl cs in let o = one terminal in omega arith),
 )
 
+pub ordered_after : (building : Plan) (events : List Event) → Ordered (run events (start building))
+ordered_after building events =
+    run_ordered events (start building) (record { safe_first = omega arith; in_order = omega arith; ends = λ runs. refl; doubt = omega arith; accepted = omega arith })
+
 pub queue_in_order : (building : Plan) (events : List Event) → IsQueueInOrder (run events (start building))
 queue_in_order building events =
     let w : World = run events (start building) in
-    let k = run_ordered events (start building) (record { safe_first = omega arith; in_order = omega arith; ends = λ runs. refl; doubt = omega arith; accepted = omega arith }) in
+    let k = ordered_after building events in
     record {
       safe_first = k.safe_first;
       in_order = k.in_order;

@@ -1,7 +1,7 @@
 -- Which events are possible where, by computation.
 use Rattle.std.proofs.Common.{sym, map, ◌≡◌, ◌≢◌, ◌⊎◌, Bool, true, false, not, ◌&&◌, cond, List, [], ◌∷◌, ◌++◌, ◌||◌, length, Option, Some, None, refl, ap, subst, ◌∙◌, inl, inr, replicate}
 use Rattle.std.specs.Prelude.{unwrap_or, option_map, option_and_then, find, nat_lt}
-use Rattle.std.proofs.lemmas.Bool.{and_right, eqb-true, lt-ltb, le-ltb}
+use Rattle.std.proofs.lemmas.Bool.{and_right, and_parts, eqb-true, lt-ltb, le-ltb}
 use Rattle.lift_world.specs.declared.event.Kept.{Kept}
 use Rattle.lift_world.specs.declared.event.Kept.TheVariants.{Safe, WithBatch}
 use Rattle.lift_world.specs.declared.event.Phase.{Phase}
@@ -13,8 +13,8 @@ use Rattle.lift_world.specs.declared.event.Event.TheVariants.{Ask, Take, Seal, P
 use Rattle.lift_world.specs.declared.event.Taken.{Taken}
 use Rattle.lift_world.specs.Decided.{when}
 use Rattle.lift_world.specs.World.{World, Batch, may_keep, is_gate_written, is_broken, is_off, is_running, is_idle, written, same_kept, is_taken_of}
-use Rattle.lift_world.specs.Next.{next, run, sealing, cutting, reopened, answering, pulled, unknown_to, may_reopen, is_empty}
-use Rattle.lift_world.specs.Possible.{CutsToSafe, CutsWithBatch, IsCut, CutsGive, Seals, ReopensAfterCut, OnlyReopensAfterCut, IsReopened, ReopensAfterFault, ReopeningsGive, KeepsRunning, PullsInTurn, AnswersDue, AnswersOnlyDue}
+use Rattle.lift_world.specs.Next.{next, run, sealing, cutting, reopened, answering, pulled, unknown_to, may_reopen, is_quiet, is_empty}
+use Rattle.lift_world.specs.Possible.{CutsToSafe, CutsWithBatch, IsCut, CutsGive, Seals, ReopensAfterCut, OnlyReopensAfterCut, IsReopened, ReopensAfterFault, ReopeningsGive, IsQuiet, ReopensWhileQuiet, PullsInTurn, AnswersDue, AnswersOnlyDue}
 use Rattle.lift_world.proofs.Moves.{never}
 use Rattle.lift_world.proofs.Entries.{find_held}
 use Rattle.lift_world.proofs.Steps.{if_from, mapped}
@@ -112,8 +112,45 @@ not_empty : (queue : List Batch) → queue ≢ [] → is_empty queue ≡ false
 not_empty [] h = absurd (h refl)
 not_empty (b ∷ queue) h = refl
 
-pub keeps_running : (w : World) → KeepsRunning w
-keeps_running w kept on = ap (λ (p : Power). when (may_reopen w p kept) (reopened w kept)) on
+-- while running
+idle_is : (phase : Phase) → is_idle phase ≡ true → phase ≡ Idle
+idle_is Idle h = refl
+idle_is (Writing n) h = cc
+idle_is Synced h = cc
+idle_is GateWritten h = cc
+
+empty_is : {A : Type 0} (xs : List A) → is_empty xs ≡ true → xs ≡ []
+empty_is [] h = refl
+empty_is (x ∷ xs) h = cc
+
+quiet_as : (w : World) → IsQuiet w → is_quiet w ≡ true
+quiet_as w k =
+    ap (λ (p : Phase). is_idle p && is_empty w.queue && is_empty w.taken) k.idle
+    ∙ ap (λ (q : List Batch). is_empty q && is_empty w.taken) k.nothing_queued ∙ ap (λ (cs : List Taken). is_empty cs) k.nothing_taken
+
+quiet_from : (w : World) → is_quiet w ≡ true → IsQuiet w
+quiet_from w h =
+    let a = and_parts (is_idle w.phase && is_empty w.queue) (is_empty w.taken) h in
+    let b = and_parts (is_idle w.phase) (is_empty w.queue) a.0 in
+    record { idle = idle_is w.phase b.0; nothing_queued = empty_is w.queue b.1; nothing_taken = empty_is w.taken a.1 }
+
+pub quiet_reopening : (w : World) (kept : Kept) → may_reopen w Running kept ≡ true → IsQuiet w
+quiet_reopening w kept may = quiet_from w (first_true (is_quiet w) (may_keep w kept) may)
+
+never_with_batch : (phase : Phase) (a b : Bool) → (is_idle phase && a && b && is_gate_written phase) ≡ false
+never_with_batch Idle a b = and_right (a && b) false refl
+never_with_batch (Writing n) a b = refl
+never_with_batch Synced a b = refl
+never_with_batch GateWritten a b = refl
+
+pub reopens_while_quiet : (w : World) → ReopensWhileQuiet w
+reopens_while_quiet w = record {
+  safe = λ on quiet. ap (λ (p : Power). when (may_reopen w p Safe) (reopened w Safe)) on ∙ ap (λ (b : Bool). when (b && true) (reopened w Safe)) (quiet_as w quiet);
+  only_quiet = λ kept after on h.
+      quiet_reopening w kept (ap (λ (p : Power). may_reopen w p kept) (sym on) ∙ (when_some (may_reopen w w.power kept) (reopened w kept) after h).0);
+  only_safe = λ on. ap (λ (p : Power). when (may_reopen w p WithBatch) (reopened w WithBatch)) on
+      ∙ ap (λ (b : Bool). when b (reopened w WithBatch)) (never_with_batch w.phase (is_empty w.queue) (is_empty w.taken));
+}
 
 pub answers_due : (w : World) → AnswersDue w
 answers_due w terminal command on at =

@@ -9,7 +9,7 @@ use Rattle.lift_world.specs.declared.event.Event.{Event}
 use Rattle.lift_world.specs.World.{World, Batch, start, is_off}
 use Rattle.lift_world.specs.Next.{run, next, is_empty}
 use Rattle.lift_world.specs.Headline.{QueuesFew, HoldsNothingWhileOff}
-use Rattle.lift_world.proofs.Leads.{leads}
+use Rattle.lift_world.proofs.Leads.{leads, running_on}
 use Rattle.lift_world.proofs.Looks.{can_be_looked_at}
 
 not_none : (cs : List Taken) → is_empty cs ≡ false → cs ≢ []
@@ -72,8 +72,8 @@ holds w event k = leads HoldsNothingWhileOff w event (record {
   taken = λ terminal letter command d on may at made is_take. powered w _ on refl;
   sealed = λ on some is_seal. powered w _ on refl;
   fails = λ batch rest on at broken. powered w _ on refl;
-  flies = λ batch rest on at idle more. powered w _ on refl;
-  lands = λ batch rest on at idle none. powered w _ on refl;
+  flies = λ batch rest on at idle more. powered w _ (running_on w.power on) refl;
+  lands = λ batch rest on at idle none. powered w _ (running_on w.power on) refl;
   goes_on = λ phase on busy still. powered w _ on refl;
   settled = λ on gate. powered w _ on refl;
   answered = λ terminal c on at. powered w _ on refl;

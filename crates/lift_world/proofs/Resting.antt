@@ -1,6 +1,6 @@
 -- Where turns begin and end, and turns while broken.
 use Rattle.std.proofs.Common.{ℕ, ◌≡◌, ◌-◌, ◌≤◌, List, [], ◌∷◌, ◌++◌, length, map, take, drop, Option, refl, sym, ap, subst, ◌∙◌, arith}
-use Rattle.std.specs.Prelude.{Some, option_and_then}
+use Rattle.std.specs.Prelude.{Some, None, option_and_then}
 use Rattle.std.proofs.Math.Seq.{take-length}
 use Rattle.std.proofs.lemmas.List.{length-append, length-drop, take-append-le, drop-append-le}
 use Rattle.lift_base.specs.declared.history.Entry.{Entry}
@@ -11,20 +11,20 @@ use Rattle.lift_policy.specs.Step.{State}
 use Rattle.lift_policy.specs.Run.{Run}
 use Rattle.lift_policy.specs.declared.command.Command.{Command}
 use Rattle.lift_world.specs.declared.event.Event.{Event}
-use Rattle.lift_world.specs.declared.event.Event.TheVariants.{Seal, Pull}
+use Rattle.lift_world.specs.declared.event.Event.TheVariants.{Seal, Pull, Fault, Reopen}
 use Rattle.lift_world.specs.declared.event.Kept.{Kept}
 use Rattle.lift_world.specs.declared.event.Kept.TheVariants.{Safe, WithBatch}
 use Rattle.lift_world.specs.declared.event.Taken.{Taken}
 use Rattle.lift_world.specs.declared.event.Power.{Power}
 use Rattle.lift_world.specs.declared.event.Power.TheVariants.{Broken}
-use Rattle.lift_world.specs.World.{World, Batch, start, state_of, may_keep, outcome}
-use Rattle.lift_world.specs.Next.{goes, cutting, reopened, answer_of, unknown_to}
-use Rattle.lift_world.specs.Turns.{AreFound, IsAtRest, with_replies, take_events, answer_events, IsBrokenAtRest, broken_events, with_unknown, turned_broken, BrokenTurnsAreRuns, ChangesAnswersAlone, BrokenTurnsChangeNothing, TurnsEndAtRest, FailuresEndAtRest, BrokenTurnsEndAtRest, ReopeningsEndAtRest, CutsEndAtRest}
+use Rattle.lift_world.specs.World.{World, Batch, unplaced, start, state_of, may_keep, outcome}
+use Rattle.lift_world.specs.Next.{next, goes, cutting, reopened, may_reopen, answer_of, unknown_to}
+use Rattle.lift_world.specs.Turns.{AreFound, IsAtRest, with_replies, take_events, answer_events, IsBrokenAtRest, broken_events, with_unknown, turned_broken, BrokenTurnsAreRuns, ChangesAnswersAlone, BrokenTurnsChangeNothing, TurnsEndAtRest, FailuresEndAtRest, BrokenTurnsEndAtRest, ReopeningsEndAtRest, CutsEndAtRest, RunningReopeningsEndAtRest, FailedReopeningsEndAtRest}
 use Rattle.lift_world.proofs.Scans.{runs_are_takes, taken_as}
 use Rattle.lift_world.proofs.Decisions.{true_of}
-use Rattle.lift_world.proofs.Possibilities.{broken_opens, when_some}
+use Rattle.lift_world.proofs.Possibilities.{broken_opens, reopens_while_quiet, when_some}
 use Rattle.lift_world.proofs.Goes.{goes-append}
-use Rattle.lift_world.proofs.Turns.{SameLength, same_length, all_apart, answered_all, answers_of, answering_on, unknown_terminals, unknown_apart}
+use Rattle.lift_world.proofs.Turns.{at_rest, is_at_rest, SameLength, same_length, all_apart, answered_all, answers_of, answering_on, unknown_terminals, unknown_apart}
 
 -- where turns begin
 pub start_rests : (building : Plan) → IsAtRest (start building)
@@ -82,6 +82,48 @@ reopenings_rest w kept k may = (broken_opens w kept k.broken k.nothing_queued (t
 pub cuts_rest : (w : World) → CutsEndAtRest w
 cuts_rest w kept after h =
     subst (λ (x : World). IsAtRest (reopened x kept)) (when_some (may_keep w kept) (cutting w kept) after h).1 (reopened_rests (cutting w kept) kept refl refl)
+
+-- a reopening while running, and one that fails
+opens_at_rest : (w : World) → IsAtRest w → next w (Reopen Safe) ≡ Some (record w { positions = unplaced })
+opens_at_rest w k =
+    subst (λ (v : World). next v (Reopen Safe) ≡ Some (record v { positions = unplaced })) (is_at_rest w k)
+    (ap (λ (xs : List Entry). Some (record (at_rest w) { accepted = xs; safe = length xs; sealed = length xs; positions = unplaced })) (take-length w.accepted))
+
+pub running_reopenings_rest : (w : World) → RunningReopeningsEndAtRest w
+running_reopenings_rest w = record {
+  opens = λ k. opens_at_rest w k;
+  rests = λ k. record {
+    running = k.running;
+    idle = k.idle;
+    nothing_flies = k.nothing_flies;
+    nothing_queued = k.nothing_queued;
+    nothing_taken = k.nothing_taken;
+    nothing_due = k.nothing_due;
+    all_sealed = k.all_sealed;
+    all_safe = k.all_safe;
+  };
+  wherever = λ kept after on none h.
+      subst (λ (x : World). IsAtRest x) (when_some (may_reopen w w.power kept) (reopened w kept) after h).1
+      (reopened_rests w kept none ((reopens_while_quiet w).only_quiet kept after on h).nothing_taken);
+}
+
+pub failed_reopenings_rest : (w : World) → FailedReopeningsEndAtRest w
+failed_reopenings_rest w = record {
+  fails = λ k. subst (λ (v : World). next v Fault ≡ Some (record v { power = Broken })) (is_at_rest w k) refl;
+  rests = λ k. record {
+    broken = refl;
+    nothing_flies = ap (λ (b : Batch). b.commands) k.nothing_flies;
+    nothing_queued = k.nothing_queued;
+    nothing_taken = k.nothing_taken;
+    nothing_due = k.nothing_due;
+    all_sealed = k.all_sealed;
+    safe_in_range = let s = k.all_safe in omega arith;
+    doubt_in_range = let none : w.flight.upto ≡ 0 = ap (λ (b : Batch). b.upto) k.nothing_flies in omega arith;
+  };
+  opens = λ k. subst (λ (v : World). next (record v { power = Broken }) (Reopen Safe) ≡ Some (record v { positions = unplaced })) (is_at_rest w k)
+      (ap (λ (xs : List Entry). Some (record (at_rest w) { accepted = xs; safe = length xs; sealed = length xs; positions = unplaced })) (take-length w.accepted));
+  only_safe = λ k. subst (λ (v : World). next (record v { power = Broken }) (Reopen WithBatch) ≡ None) (is_at_rest w k) refl;
+}
 
 -- the commands answered Unknown, whatever was decided
 unknown_is : (commands : List Command) (replies : List Reply) → SameLength commands replies → map unknown_to (with_replies commands replies) ≡ with_unknown commands

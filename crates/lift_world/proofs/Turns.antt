@@ -3,7 +3,7 @@ use Rattle.std.proofs.Common.{ℕ, zero, suc, ◌≡◌, ◌≢◌, ◌+◌, ◌
 use Rattle.std.specs.Prelude.{find, option_map, option_and_then}
 use Rattle.std.specs.List.{AllByRecursion}
 use Rattle.std.proofs.Math.Seq.{take-length}
-use Rattle.std.proofs.lemmas.Bool.{false≢true, eq-eqb, ne_eqb, and_from, lt-ltb}
+use Rattle.std.proofs.lemmas.Bool.{false≢true, eq-eqb, ne_eqb, lt-ltb}
 use Rattle.std.proofs.lemmas.List.{append-nil, length-append, drop-append-le, nil_from_length}
 use Rattle.lift_base.specs.declared.history.Entry.{Entry}
 use Rattle.lift_base.specs.declared.travel.Position.{Position}
@@ -62,9 +62,9 @@ module _ (w : World) (on : is_running w.power ≡ true) where
 
   pub fails : (phase : Phase) → MayFailIn (bodies (length (batch_of w)) + 1) phase → next (in_phase w phase) Fault ≡ Some (failing (in_phase w phase))
   fails Idle h = absurd h
-  fails (Writing n) h = may (is_running w.power && true) true _ (and_from (is_running w.power) true on refl) refl
+  fails (Writing n) h = may (is_running w.power) true _ on refl
   fails Synced h = absurd h
-  fails GateWritten h = may (is_running w.power && true) true _ (and_from (is_running w.power) true on refl) refl
+  fails GateWritten h = may (is_running w.power) true _ on refl
 
 pub keep_one : {A : Type 0} (b : Bool) (x : A) (xs : List A) → b ≡ false → cond (not b) (x ∷ xs) xs ≡ x ∷ xs
 keep_one false x xs e = refl
@@ -150,7 +150,7 @@ same_length building s next (c ∷ commands) [] r = absurd r
 same_length building s next (c ∷ commands) (reply ∷ replies) r = same_length building r.0 next commands replies r.2
 
 -- a world at rest, with what that means put in
-abbrev at_rest : World → World
+abbrev pub at_rest : World → World
 at_rest w = record w { safe = length w.accepted; sealed = length w.accepted; flight = no_batch; phase = Idle; queue = []; power = Running; taken = []; due = [] }
 
 pub runs : (p : Power) → is_running p ≡ true → p ≡ Running
@@ -158,7 +158,7 @@ runs Running h = refl
 runs Broken h = absurd (false≢true h)
 runs (Off kept) h = absurd (false≢true h)
 
-is_at_rest : (w : World) → IsAtRest w → at_rest w ≡ w
+pub is_at_rest : (w : World) → IsAtRest w → at_rest w ≡ w
 is_at_rest w k =
     ap (λ (n : ℕ). record (at_rest w) { safe = n }) (sym k.all_safe) ∙ ap (λ (n : ℕ). record (at_rest w) { safe = w.safe; sealed = n }) (sym k.all_sealed)
     ∙ ap (λ (b : Batch). record (at_rest w) { safe = w.safe; sealed = w.sealed; flight = b }) (sym k.nothing_flies)

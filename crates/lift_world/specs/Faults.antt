@@ -1,14 +1,14 @@
 -- What a fault leaves, and what is answered after it.
-use Rattle.std.specs.Prelude.{ℕ, ◌≡◌, ◌⊎◌, Bool, true, false, List, [], ◌++◌, map, All, Contains, Some, IsTrue}
+use Rattle.std.specs.Prelude.{ℕ, ◌≡◌, ◌⊎◌, Bool, true, false, List, [], ◌++◌, map, All, Contains, Some, None, IsTrue}
 use Rattle.std.specs.List.{AllByRecursion}
 use Rattle.lift_base.specs.declared.command.Reply.TheVariants.{Unknown}
 use Rattle.lift_world.specs.declared.event.Kept.{Kept}
-use Rattle.lift_world.specs.declared.event.Phase.TheVariants.{Writing, GateWritten}
+use Rattle.lift_world.specs.declared.event.Phase.TheVariants.{Idle, Writing, Synced, GateWritten}
 use Rattle.lift_world.specs.declared.event.Power.TheVariants.{Running, Broken}
 use Rattle.lift_world.specs.declared.event.Taken.{Taken}
 use Rattle.lift_world.specs.declared.event.Event.{Event}
 use Rattle.lift_world.specs.declared.event.Event.TheVariants.{Fault, Cut, Reopen}
-use Rattle.lift_world.specs.World.{World}
+use Rattle.lift_world.specs.World.{World, no_batch}
 use Rattle.lift_world.specs.Next.{next, run, unknown_to, failing}
 
 -- a fault leaves the batch in doubt with its phase, and its commands get Unknown
@@ -23,10 +23,13 @@ pub record IsFailed (w after : World) : Type 0 where
   pub same_taken : after.taken ≡ w.taken
   pub same_given : after.given ≡ w.given
 
--- a device call of a batch can fail while it is written, and while its gate is
+-- A device call of a batch can fail while it is written, and while its gate is. So can one of a reopening, while no batch
+-- is in flight; that breaks the controller and changes nothing else: no batch is in doubt, and nothing is due by it.
 pub record FaultsLeaveDoubt (w : World) : Type 0 where
   pub writing : (n : ℕ) → w.power ≡ Running → w.phase ≡ Writing n → next w Fault ≡ Some (failing w)
   pub gate : w.power ≡ Running → w.phase ≡ GateWritten → next w Fault ≡ Some (failing w)
+  pub idle : w.power ≡ Running → w.phase ≡ Idle → w.flight ≡ no_batch → next w Fault ≡ Some (record w { power = Broken })
+  pub synced : w.phase ≡ Synced → next w Fault ≡ None
   pub only_running : (after : World) → next w Fault ≡ Some after → w.power ≡ Running
   pub gives : (after : World) → next w Fault ≡ Some after → IsFailed w after
 

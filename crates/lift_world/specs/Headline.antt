@@ -1,5 +1,5 @@
 -- What holds at each point of every run.
-use Rattle.std.specs.Prelude.{ℕ, ◌≡◌, ◌≢◌, ◌<◌, ◌≤◌, ◌+◌, ◌⊎◌, true, false, List, [], ◌∷◌, ◌++◌, length, map, filter, count_by, All, Contains, IsTrue}
+use Rattle.std.specs.Prelude.{ℕ, ◌≡◌, ◌≢◌, ◌<◌, ◌≤◌, ◌+◌, ◌⊎◌, true, false, List, [], ◌∷◌, ◌++◌, length, map, filter, count_by, All, Contains, IsTrue, Some}
 use Rattle.lift_base.specs.declared.history.Entry.{Entry}
 use Rattle.lift_base.specs.declared.history.Entry.TheVariants.{Allot}
 use Rattle.lift_base.specs.declared.history.Row.{Row}
@@ -8,12 +8,14 @@ use Rattle.lift_register.specs.Status.{Done}
 use Rattle.lift_register.specs.Fits.{FitFrom}
 use Rattle.lift_stops.specs.StopList.{StopsInOrder}
 use Rattle.lift_world.specs.declared.event.Kept.{Kept}
+use Rattle.lift_world.specs.declared.event.Phase.TheVariants.{Idle}
+use Rattle.lift_world.specs.declared.event.Power.TheVariants.{Running}
 use Rattle.lift_world.specs.declared.event.Answer.{Answer}
 use Rattle.lift_world.specs.declared.event.Taken.{Taken}
 use Rattle.lift_world.specs.declared.event.Event.{Event}
-use Rattle.lift_world.specs.declared.event.Event.TheVariants.{Ask}
-use Rattle.lift_world.specs.World.{World, Batch, register_after, outcome, may_keep, acknowledged, is_off, asks, is_taken_of, is_answer_to}
-use Rattle.lift_world.specs.Next.{answer_of, unanswered}
+use Rattle.lift_world.specs.declared.event.Event.TheVariants.{Ask, Reopen}
+use Rattle.lift_world.specs.World.{World, Batch, no_batch, unplaced, register_after, outcome, may_keep, acknowledged, is_off, asks, is_taken_of, is_answer_to}
+use Rattle.lift_world.specs.Next.{next, answer_of, unanswered}
 
 abbrev pub IsPrefixOf : List Entry → List Entry → Type 0
 IsPrefixOf xs ys = (rest : List Entry) × (xs ++ rest ≡ ys)
@@ -73,6 +75,14 @@ pub record StoresGiven (w : World) : Type 0 where
 pub record QueuesFew (w : World) : Type 0 where
   pub queued : length w.queue ≤ 5
   pub in_hand : w.taken ≢ [] → length w.queue ≤ 4
+
+-- where no batch is being written, none is in flight or in doubt
+abbrev pub FliesNothingWhileIdle : World → Type 0
+FliesNothingWhileIdle w = w.phase ≡ Idle → w.flight ≡ no_batch
+
+-- while running a reopening, wherever it is possible, unplaces the cars and changes nothing else
+abbrev pub ReopensInPlace : World → Type 0
+ReopensInPlace w = (kept : Kept) (after : World) → w.power ≡ Running → next w (Reopen kept) ≡ Some after → after ≡ record w { positions = unplaced }
 
 -- no command is on its way
 pub record HoldsNothing (w : World) : Type 0 where

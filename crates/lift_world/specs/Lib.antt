@@ -15,3 +15,5 @@ pub mod Policies
 pub mod Lawful
 pub mod Due
 pub mod Faults
+pub mod Outcomes
+pub mod Short

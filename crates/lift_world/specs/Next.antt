@@ -97,9 +97,10 @@ may_sync w n = is_running w.power && n == writes_of w
 abbrev pub settling : World → World
 settling w = record w { safe = w.flight.upto; flight = no_batch; phase = Idle; due = w.due ++ w.flight.commands }
 
--- a device call may fail while a batch is written; a failed write of the gate is that write and then the fault
+-- a device call may fail while a batch is written, and while none is, where a reopening makes one; a failed write of the
+-- gate is that write and then the fault
 abbrev pub may_fail : World → Bool
-may_fail w = is_running w.power && not (is_idle w.phase) && not (is_synced w.phase)
+may_fail w = is_running w.power && not (is_synced w.phase)
 
 -- the batch stays in doubt, and its commands are answered Unknown
 abbrev pub failing : World → World
@@ -136,9 +137,14 @@ cutting w kept = record w {
   heard = [];
 }
 
--- a reopening has the outcome of the last cut; after a fault alone any that the phase allows, once the queue is empty
+-- no batch is in flight or queued, and nothing is taken; replies of safe batches may be due
+abbrev pub is_quiet : World → Bool
+is_quiet w = is_idle w.phase && is_empty w.queue && is_empty w.taken
+
+-- A reopening has the outcome of the last cut; after a fault alone any that the phase allows, once the queue is empty.
+-- While running it is possible where no batch is on its way, and so with the safe list alone.
 abbrev pub may_reopen : World → Power → Kept → Bool
-may_reopen w Running kept = false
+may_reopen w Running kept = is_quiet w && may_keep w kept
 may_reopen w Broken kept = is_empty w.queue && may_keep w kept
 may_reopen w (Off last) kept = same_kept last kept && may_keep w kept
 

@@ -80,13 +80,21 @@ pub record ReopensAfterFault (w : World) : Type 0 where
   pub queued : (kept : Kept) → w.power ≡ Broken → w.queue ≢ [] → next w (Reopen kept) ≡ None
   pub drains : w.power ≡ Broken → (run (replicate (length w.queue) Pull) w).queue ≡ []
 
--- whatever reopening is possible, after a cut or after a fault, leaves this
+-- whatever reopening is possible, after a cut, after a fault or while running, leaves this
 abbrev pub ReopeningsGive : World → Type 0
 ReopeningsGive w = (kept : Kept) (after : World) → next w (Reopen kept) ≡ Some after → IsReopened w kept after
 
--- no recovery without a cut or a fault
-abbrev pub KeepsRunning : World → Type 0
-KeepsRunning w = (kept : Kept) → w.power ≡ Running → next w (Reopen kept) ≡ None
+-- no batch is in flight or queued, and nothing is taken
+pub record IsQuiet (w : World) : Type 0 where
+  pub idle : w.phase ≡ Idle
+  pub nothing_queued : w.queue ≡ []
+  pub nothing_taken : w.taken ≡ []
+
+-- while running a reopening is possible exactly there, with the safe list alone
+pub record ReopensWhileQuiet (w : World) : Type 0 where
+  pub safe : w.power ≡ Running → IsQuiet w → next w (Reopen Safe) ≡ Some (reopened w Safe)
+  pub only_quiet : (kept : Kept) (after : World) → w.power ≡ Running → next w (Reopen kept) ≡ Some after → IsQuiet w
+  pub only_safe : w.power ≡ Running → next w (Reopen WithBatch) ≡ None
 
 -- a terminal may ask exactly where it has heard an answer to each of its asks
 pub record AsksOnceHeard (w : World) : Type 0 where

@@ -1,5 +1,5 @@
 -- Whole turns as lists of events.
-use Rattle.std.specs.Prelude.{ℕ, ◌≡◌, ◌≢◌, ◌≤◌, ◌<◌, ◌==◌, ◌+◌, true, if◌then◌else◌, List, [], ◌∷◌, ◌++◌, length, map, take, replicate, Option, Some, IsTrue}
+use Rattle.std.specs.Prelude.{ℕ, ◌≡◌, ◌≢◌, ◌≤◌, ◌<◌, ◌==◌, ◌+◌, true, if◌then◌else◌, List, [], ◌∷◌, ◌++◌, length, map, take, replicate, Option, Some, None, IsTrue}
 use Rattle.std.specs.List.{AllByRecursion}
 use Rattle.lift_base.specs.declared.command.Reply.{Reply}
 use Rattle.lift_building.specs.Plan.{Plan}
@@ -10,11 +10,12 @@ use Rattle.lift_policy.specs.declared.command.Command.{Command}
 use Rattle.lift_world.specs.declared.event.Event.{Event}
 use Rattle.lift_world.specs.declared.event.Event.TheVariants.{Take, Seal, Pull, Fold, Body as BodyWrite, FirstSync, Gate, SecondSync, Answer, Fault, Cut, Reopen}
 use Rattle.lift_world.specs.declared.event.Kept.{Kept}
+use Rattle.lift_world.specs.declared.event.Kept.TheVariants.{Safe, WithBatch}
 use Rattle.lift_world.specs.declared.event.Taken.{Taken}
 use Rattle.lift_world.specs.declared.event.Phase.{Phase}
 use Rattle.lift_world.specs.declared.event.Phase.TheVariants.{Idle, Writing, Synced, GateWritten}
-use Rattle.lift_world.specs.declared.event.Power.TheVariants.{Broken}
-use Rattle.lift_world.specs.World.{World, no_batch, is_running, state_of, may_keep, outcome}
+use Rattle.lift_world.specs.declared.event.Power.TheVariants.{Running, Broken}
+use Rattle.lift_world.specs.World.{World, no_batch, unplaced, is_running, state_of, may_keep, outcome}
 use Rattle.lift_world.specs.Next.{next, goes, bodies, answer_of, unknown_to, reopened}
 use Rattle.lift_world.specs.Tie.{Finds}
 
@@ -194,3 +195,18 @@ ReopeningsEndAtRest w = (kept : Kept) → IsBrokenAtRest w → IsTrue (may_keep 
 -- The recovery after a cut leaves one too, wherever the cut came.
 abbrev pub CutsEndAtRest : World → Type 0
 CutsEndAtRest w = (kept : Kept) (after : World) → next w (Cut kept) ≡ Some after → IsAtRest (reopened after kept)
+
+-- While running a reopening is possible at rest. It unplaces the cars and changes nothing else, so that the world is at rest
+-- again; and wherever one is possible, it leaves a world at rest where nothing was due.
+pub record RunningReopeningsEndAtRest (w : World) : Type 0 where
+  pub opens : IsAtRest w → next w (Reopen Safe) ≡ Some (record w { positions = unplaced })
+  pub rests : IsAtRest w → IsAtRest (record w { positions = unplaced })
+  pub wherever : (kept : Kept) (after : World) → w.power ≡ Running → w.due ≡ [] → next w (Reopen kept) ≡ Some after → IsAtRest after
+
+-- One whose device call fails leaves a world broken at rest, with no batch in doubt. The next one has the safe list alone,
+-- and leaves what the failed one would have left.
+pub record FailedReopeningsEndAtRest (w : World) : Type 0 where
+  pub fails : IsAtRest w → next w Fault ≡ Some (record w { power = Broken })
+  pub rests : IsAtRest w → IsBrokenAtRest (record w { power = Broken })
+  pub opens : IsAtRest w → next (record w { power = Broken }) (Reopen Safe) ≡ Some (record w { positions = unplaced })
+  pub only_safe : IsAtRest w → next (record w { power = Broken }) (Reopen WithBatch) ≡ None

@@ -33,11 +33,12 @@ pub enum Event {
     Answer(Terminal),
     /// A terminal hears its next reply.
     Hear(Terminal),
-    /// A device call fails.
+    /// A device call fails, of a batch or of a reopening.
     Fault,
     /// The power fails.
     Cut(Kept),
-    /// A whole recovery. What was taken and not sealed is dropped, and answered Unknown.
+    /// A whole recovery, after a power cut, after a fault, or while running and no batch is on its way. What was taken and
+    /// not sealed is dropped, and answered Unknown.
     Reopen(Kept),
 }
 

@@ -6,7 +6,7 @@ ghost use Rattle.lift_policy.specs.declared.command.Command.{Command};
 ghost use Rattle.lift_world.specs.Next.{run};
 ghost use Rattle.lift_world.specs.Headline.{RecoversPrefix, RecoversAcknowledged, RecoversLetters, RecoversFitting, HearsInOrder, SealsAccepted, StoresGiven, QueuesFew, HoldsNothingWhileOff, AllAskOneByOne, IsOfTerminal, HoldsFew};
 ghost use Rattle.lift_world.specs.World.{World, start};
-ghost use Rattle.lift_world.specs.Possible.{CutsToSafe, CutsWithBatch, CutsGive, ReopensAfterCut, OnlyReopensAfterCut, ReopensAfterFault, ReopeningsGive, KeepsRunning};
+ghost use Rattle.lift_world.specs.Possible.{CutsToSafe, CutsWithBatch, CutsGive, ReopensAfterCut, OnlyReopensAfterCut, ReopensAfterFault, ReopeningsGive, ReopensWhileQuiet};
 ghost use Rattle.lift_world.specs.Possible.{AsksOnceHeard, HearsTheNext, TakesNeedLooks, Seals, PullsInTurn, CallsInOrder, AnswersDue, AnswersOnlyDue, GivenStays};
 ghost use Rattle.lift_world.specs.Asking.{AsksStand};
 ghost use Rattle.lift_world.specs.Beside.{GoesAreRuns, RunsJoin, TerminalsPass};
@@ -19,6 +19,10 @@ ghost use Rattle.lift_world.specs.Faults.{FaultsLeaveDoubt, OnlyFaultsBreak, Unk
 ghost use Rattle.lift_world.specs.Tie.{TakesAreSteps, StepsAreTakes, LooksAreTakes};
 ghost use Rattle.lift_world.specs.Turns.{HasRun, RunsAreTakes, TurnsAreRuns, FailuresAreRuns, BrokenTurnsAreRuns, BrokenTurnsChangeNothing};
 ghost use Rattle.lift_world.specs.Turns.{IsAtRest, TurnsEndAtRest, FailuresEndAtRest, BrokenTurnsEndAtRest, ReopeningsEndAtRest, CutsEndAtRest};
+ghost use Rattle.lift_world.specs.Turns.{RunningReopeningsEndAtRest, FailedReopeningsEndAtRest};
+ghost use Rattle.lift_world.specs.Headline.{FliesNothingWhileIdle, ReopensInPlace};
+ghost use Rattle.lift_world.specs.Outcomes.{OutcomesStay, GatesOfferBatches, SyncsKeepBatches, ReopeningsKeepOne};
+ghost use Rattle.lift_world.specs.Short.{HoldsFewEntries};
 
 use crate::event::Event;
 use lift_policy::Policy;
@@ -28,8 +32,9 @@ use lift_policy::Policy;
 /// refused for no entry. All that was accepted fits, one entry after another, and is a record of the journal where asks are
 /// as their types hold them. What is acknowledged or shown is read from what was given, and each stored answer is that of
 /// a command given. Each terminal asks one by one, and hears what it was answered, in order and each once. At most five
-/// batches are queued, none of more commands than there are terminals; a cut leaves no command on its way; and what is
-/// sealed is a front of what is accepted, which a scan's law asks for.
+/// batches are queued, none of more commands or entries than there are terminals; between batches none is in flight, and a
+/// reopening while nothing failed unplaces the cars alone; a cut leaves no command on its way; and what is sealed is a front
+/// of what is accepted, which a scan's law asks for.
 pub fn every_run()
     ensures prefix { (building : Plan) (events : List Event) → IsBuilding building
         → RecoversPrefix (run events (start building)) }
@@ -52,6 +57,9 @@ pub fn every_run()
     ensures off { (building : Plan) (events : List Event) → HoldsNothingWhileOff (run events (start building)) }
     ensures asked { (building : Plan) (events : List Event) → AllAskOneByOne (run events (start building)) }
     ensures few { (building : Plan) (events : List Event) → AllByRecursion IsOfTerminal events → HoldsFew (run events (start building)) }
+    ensures few_entries { (building : Plan) (events : List Event) → AllByRecursion IsOfTerminal events → HoldsFewEntries (run events (start building)) }
+    ensures idle { (building : Plan) (events : List Event) → FliesNothingWhileIdle (run events (start building)) }
+    ensures in_place { (building : Plan) (events : List Event) → ReopensInPlace (run events (start building)) }
 {}
 
 /// Which events are possible, in whatever world, and what they leave: so the theorem speaks of cuts, faults and recoveries
@@ -65,7 +73,7 @@ pub fn events_are_possible()
     ensures nothing_else { (w : World) → OnlyReopensAfterCut w }
     ensures reopening_after_fault { (w : World) → ReopensAfterFault w }
     ensures recovered { (w : World) → ReopeningsGive w }
-    ensures no_reopening { (w : World) → KeepsRunning w }
+    ensures reopening_while_quiet { (w : World) → ReopensWhileQuiet w }
     ensures asks { (w : World) → AsksOnceHeard w }
     ensures hears { (w : World) → HearsTheNext w }
     ensures takes { (w : World) → LooksAreTakes w }
@@ -94,7 +102,8 @@ pub fn turns_are_events()
 {}
 
 /// Where turns begin: at rest, as the machine starts. A turn that answers Ok ends there, and so does a reopening after a
-/// turn that failed, whatever turns came between, and the recovery after any cut.
+/// turn that failed, whatever turns came between, and the recovery after any cut. A reopening while nothing failed begins
+/// and ends there too; one whose device call fails is broken at rest, and the next one leaves what it would have left.
 pub fn turns_end_at_rest()
     ensures start { (building : Plan) → IsAtRest (start building) }
     ensures turns { (w : World) → TurnsEndAtRest w }
@@ -102,6 +111,8 @@ pub fn turns_end_at_rest()
     ensures broken_turns { (w : World) → BrokenTurnsEndAtRest w }
     ensures reopenings { (w : World) → ReopeningsEndAtRest w }
     ensures cuts { (w : World) → CutsEndAtRest w }
+    ensures running_reopenings { (w : World) → RunningReopeningsEndAtRest w }
+    ensures failed_reopenings { (w : World) → FailedReopeningsEndAtRest w }
 {}
 
 /// When replies are told. A command is due once its batch is safe, or else with Unknown, where a device call failed: then
@@ -113,6 +124,16 @@ pub fn replies_are_safe()
     ensures breaks { (w : World) → OnlyFaultsBreak w }
     ensures unknown { (w : World) → UnknownAfterFault w }
     ensures reopening { (w : World) → UnknownOverReopening w }
+{}
+
+/// What a power cut or a reopening could recover moves with three events alone. The write of a gate offers the batch; the
+/// second sync makes the list with the batch the safe one; a reopening makes the list that it kept the safe one. No look,
+/// seal, pull, answer, fault or cut changes what may be kept, or any list of it; nor, but for a pull, the batch in flight.
+pub fn outcomes_move()
+    ensures kept { (w : World) → OutcomesStay w }
+    ensures gate { (w : World) → GatesOfferBatches w }
+    ensures second_sync { (w : World) → SyncsKeepBatches w }
+    ensures reopening { (w : World) → ReopeningsKeepOne w }
 {}
 
 /// The turns of an allocator and of a flusher, with batches queued between them. An allocator's turn, wherever the flusher

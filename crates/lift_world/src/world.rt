@@ -151,7 +151,7 @@ impl<'b> World<'b> {
     ghost use Rattle.std.specs.Prelude.{take, ◌||◌};
     ghost use Rattle.std.specs.List.{list_any};
     ghost use Rattle.lift_world.specs.World.{start, may_keep, is_taken_of, outcome};
-    ghost use Rattle.lift_world.specs.Next.{taking, unanswered, may_take, may_pull, may_reopen, writes_of};
+    ghost use Rattle.lift_world.specs.Next.{taking, unanswered, may_take, may_pull, is_quiet, may_reopen, writes_of};
     ghost use Rattle.lift_world.specs.Replays.{Moves, MovesTo};
     ghost use Rattle.lift_world.specs.declared.event.Event.{Event};
 
@@ -446,7 +446,7 @@ impl<'b> World<'b> {
         ensures ok { IfOk result (λ possible. Moves self.old Event.Fault possible self.new) }
         ensures err { OnErr result (self.new ≡ self.old) }
     {
-        if !self.power.is_running() || self.phase.is_idle() || self.phase.is_synced() {
+        if !self.power.is_running() || self.phase.is_synced() {
             return Ok(false);
         }
         add_unknown(&mut self.due, self.flight.commands())?;
@@ -529,11 +529,18 @@ impl<'b> World<'b> {
         true
     }
 
+    /// No batch is in flight or queued, and nothing is taken.
+    fn is_quiet(&self) -> bool
+        ensures { result ≡ is_quiet self.now }
+    {
+        self.phase.is_idle() && self.queue.is_empty() && self.taken.is_empty()
+    }
+
     fn may_reopen(&self, kept: &Kept) -> bool
         ensures { result ≡ may_reopen self.now self.now.power kept.now }
     {
         match &self.power {
-            Power::Running => false,
+            Power::Running => self.is_quiet() && self.may_keep(kept),
             Power::Broken => self.queue.is_empty() && self.may_keep(kept),
             Power::Off(last) => *last == *kept && self.may_keep(kept),
         }
@@ -549,7 +556,7 @@ impl<'b> World<'b> {
         }
     }
 
-    /// What was taken and not sealed is dropped, and answered Unknown.
+    /// What was taken and not sealed, which there is only after a fault, is dropped and answered Unknown.
     fn reopen(&mut self, kept: Kept) -> Result<bool, Memory>
         ensures ok { IfOk result (λ possible. Moves self.old (Event.Reopen kept) possible self.new) }
         ensures err { OnErr result (self.new ≡ self.old) }

@@ -408,3 +408,104 @@ fn flushes_in_the_midst_of_a_scan(rt: HostRuntime) -> Result<(), Fail> {
     assert!(rt; goes(&mut world, &[answer(17), answer(18)]) && world.safe() == 3);
     Ok(())
 }
+
+/// A reopening of a running group gives what is safe and unplaces the cars. A reply that was due is told as it was decided.
+#[test]
+fn reopens_while_running(rt: HostRuntime) -> Result<(), Fail> {
+    let building = Building::read(rt.alloc(), DEMO).ok().ok_or("refused")?;
+    let mut world = World::new(rt.alloc(), &building, 64).ok().ok_or("memory")?;
+    assert!(rt; in_flight(&mut world) && written(&mut world));
+    assert!(rt; stays(&mut world, &Event::Reopen(Kept::WithBatch)));
+    assert!(rt; goes(&mut world, &[Event::Reopen(Kept::Safe)]));
+    assert!(rt; world.power() == Power::Running && world.phase() == Phase::Idle);
+    assert!(rt; world.accepted().len() == 1 && world.safe() == 1);
+    assert!(rt; goes(&mut world, &[answer(16), hear(16)]) && told(&world, letter(0)));
+    // No car is placed now: a new call is refused, and a repeated one gets its letter.
+    let calls = [
+        call(16, 1, 5),
+        call(17, 1, 2),
+        take(16),
+        take(17),
+        Event::Seal,
+        Event::Pull,
+    ];
+    assert!(rt; goes(&mut world, &calls) && world.accepted().len() == 1);
+    assert!(rt; goes(&mut world, &[answer(16)]) && told(&world, letter(0)));
+    assert!(rt; goes(&mut world, &[answer(17)]) && told(&world, Reply::Refused(Reason::NoCar)));
+    Ok(())
+}
+
+/// A reopening whose device call fails: no batch is in doubt, nothing is due by it, and what is asked is answered Unknown
+/// until the next one, which gives what is safe.
+#[test]
+fn fails_to_reopen(rt: HostRuntime) -> Result<(), Fail> {
+    let building = Building::read(rt.alloc(), DEMO).ok().ok_or("refused")?;
+    let mut world = World::new(rt.alloc(), &building, 64).ok().ok_or("memory")?;
+    assert!(rt; in_flight(&mut world) && written(&mut world));
+    assert!(rt; goes(&mut world, &[answer(16), hear(16), Event::Fault]));
+    assert!(rt; world.power() == Power::Broken && world.phase() == Phase::Idle);
+    assert!(rt; stays(&mut world, &answer(16)) && stays(&mut world, &Event::Fault));
+    assert!(rt; stays(&mut world, &Event::Reopen(Kept::WithBatch)));
+    assert!(rt; stays(&mut world, &Event::Cut(Kept::WithBatch)));
+    let turn = [
+        call(17, 1, 2),
+        allot(17, 0),
+        Event::Seal,
+        Event::Pull,
+        answer(17),
+    ];
+    assert!(rt; goes(&mut world, &turn) && told(&world, Reply::Unknown));
+    assert!(rt; world.accepted().len() == 2 && world.safe() == 1);
+    assert!(rt; goes(&mut world, &[Event::Reopen(Kept::Safe)]));
+    assert!(rt; world.power() == Power::Running && world.accepted().len() == 1);
+    Ok(())
+}
+
+/// A running group isn't reopened while a call is taken, queued or in flight, from its look to its second sync.
+#[test]
+fn reopens_between_batches(rt: HostRuntime) -> Result<(), Fail> {
+    let building = Building::read(rt.alloc(), DEMO).ok().ok_or("refused")?;
+    let mut world = World::new(rt.alloc(), &building, 64).ok().ok_or("memory")?;
+    assert!(rt; placed(&mut world) && goes(&mut world, &[call(16, 1, 5), call(17, 1, 2)]));
+    let batch = [
+        allot(16, 0),
+        Event::Seal,
+        Event::Pull,
+        Event::Fold,
+        Event::Body,
+        Event::Body,
+        Event::FirstSync,
+        Event::Gate,
+    ];
+    for event in &batch {
+        assert!(rt; world.step(event) == Ok(true));
+        assert!(rt; stays(&mut world, &Event::Reopen(Kept::Safe)));
+        assert!(rt; stays(&mut world, &Event::Reopen(Kept::WithBatch)));
+    }
+    // The next batch is queued behind the first: no reopening in between.
+    assert!(rt; goes(&mut world, &[allot(17, 0), Event::Seal, Event::SecondSync]));
+    assert!(rt; world.phase() == Phase::Idle && world.queued() == 1);
+    assert!(rt; stays(&mut world, &Event::Reopen(Kept::Safe)));
+    assert!(rt; goes(&mut world, &[Event::Pull]) && written(&mut world));
+    assert!(rt; goes(&mut world, &[Event::Reopen(Kept::Safe)]));
+    assert!(rt; world.accepted().len() == 2 && world.safe() == 2);
+    Ok(())
+}
+
+/// What is queued when a device call fails between two batches is answered Unknown, and lost.
+#[test]
+fn fails_between_batches(rt: HostRuntime) -> Result<(), Fail> {
+    let building = Building::read(rt.alloc(), DEMO).ok().ok_or("refused")?;
+    let mut world = World::new(rt.alloc(), &building, 64).ok().ok_or("memory")?;
+    assert!(rt; placed(&mut world));
+    assert!(rt;
+        goes(
+            &mut world,
+            &[call(16, 1, 5), allot(16, 0), Event::Seal, Event::Fault]
+        )
+    );
+    assert!(rt; stays(&mut world, &Event::Reopen(Kept::Safe)));
+    assert!(rt; goes(&mut world, &[Event::Pull, answer(16)]) && told(&world, Reply::Unknown));
+    assert!(rt; goes(&mut world, &[Event::Reopen(Kept::Safe)]) && world.accepted().is_empty());
+    Ok(())
+}

@@ -1,4 +1,4 @@
-use Rattle.lift_world.proofs.Possibilities.{cuts_to_safe, cuts_with_batch, cuts_give, seals, reopens_after_cut, only_reopens_after_cut, reopens_after_fault, reopenings_give, keeps_running, pulls_in_turn, answers_due, answers_only_due}
+use Rattle.lift_world.proofs.Possibilities.{cuts_to_safe, cuts_with_batch, cuts_give, seals, reopens_after_cut, only_reopens_after_cut, reopens_after_fault, reopenings_give, reopens_while_quiet, pulls_in_turn, answers_due, answers_only_due}
 use Rattle.lift_world.proofs.Calls.{calls_in_order}
 use Rattle.lift_world.proofs.Given.{given_stays}
 use Rattle.lift_world.proofs.Asked.{asks_once_heard, hears_the_next}
@@ -20,8 +20,8 @@ returns-clause-nothing_else c w = only_reopens_after_cut w
 pub returns-clause-reopening_after_fault : goal.returns-clause-reopening_after_fault
 returns-clause-reopening_after_fault c w = reopens_after_fault w
 
-pub returns-clause-no_reopening : goal.returns-clause-no_reopening
-returns-clause-no_reopening c w = keeps_running w
+pub returns-clause-reopening_while_quiet : goal.returns-clause-reopening_while_quiet
+returns-clause-reopening_while_quiet c w = reopens_while_quiet w
 
 pub returns-clause-answers : goal.returns-clause-answers
 returns-clause-answers c w = answers_due w

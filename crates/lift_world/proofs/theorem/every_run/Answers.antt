@@ -7,6 +7,8 @@ use Rattle.lift_world.proofs.Ordered.{queue_in_order}
 use Rattle.lift_world.proofs.Queued.{run_queues, start_queues, run_holds, start_holds_nothing}
 use Rattle.lift_world.proofs.Counted.{all_ask_one_by_one}
 use Rattle.lift_world.proofs.Few.{holds_few}
+use Rattle.lift_world.proofs.Short.{holds_few_entries}
+use Rattle.lift_world.proofs.Quiet.{flies_nothing_while_idle, reopens_in_place}
 use Rattle.lift_world.proofs.Sealed.{run_seals, start_seals}
 use Rattle.lift_world.proofs.Consistent.{start_holds, run_keeps, recovers_prefix, recovers_acknowledged, recovers_fitting, accepts_fitting}
 use Rattle.lift_world.proofs.Letters.{recovers_letters}
@@ -60,3 +62,12 @@ returns-clause-accepted c building events sound =
 
 pub returns-clause-written : goal.returns-clause-written
 returns-clause-written c building events sound typed = accepts_records building events sound typed
+
+pub returns-clause-idle : goal.returns-clause-idle
+returns-clause-idle c building events = flies_nothing_while_idle building events
+
+pub returns-clause-in_place : goal.returns-clause-in_place
+returns-clause-in_place c building events = reopens_in_place building events
+
+pub returns-clause-few_entries : goal.returns-clause-few_entries
+returns-clause-few_entries c building events of_terminals = holds_few_entries building events of_terminals

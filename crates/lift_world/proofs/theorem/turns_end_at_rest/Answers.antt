@@ -1,4 +1,4 @@
-use Rattle.lift_world.proofs.Resting.{start_rests, turns_rest, failures_rest, broken_turns_rest, reopenings_rest, cuts_rest}
+use Rattle.lift_world.proofs.Resting.{start_rests, turns_rest, failures_rest, broken_turns_rest, reopenings_rest, cuts_rest, running_reopenings_rest, failed_reopenings_rest}
 use Rattle.lift_world.proofs.theorem.turns_end_at_rest.Goals as goal
 
 pub returns-clause-start : goal.returns-clause-start
@@ -18,3 +18,9 @@ returns-clause-cuts c w = cuts_rest w
 
 pub returns-clause-broken_turns : goal.returns-clause-broken_turns
 returns-clause-broken_turns c w = broken_turns_rest w
+
+pub returns-clause-running_reopenings : goal.returns-clause-running_reopenings
+returns-clause-running_reopenings c w = running_reopenings_rest w
+
+pub returns-clause-failed_reopenings : goal.returns-clause-failed_reopenings
+returns-clause-failed_reopenings c w = failed_reopenings_rest w

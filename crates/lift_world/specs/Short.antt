@@ -1,0 +1,19 @@
+-- No batch has more entries than there are terminals.
+use Rattle.std.specs.Prelude.{ℕ, ◌≡◌, ◌≤◌, ◌+◌, true, List, [], ◌∷◌, length}
+use Rattle.lift_world.specs.World.{World, Batch, is_running, state_of, batch_of}
+use Rattle.lift_world.specs.Relay.{flown}
+
+-- each of these batches, from here or from where the one before it ends, has at most 63 entries
+abbrev pub AreShort : ℕ → List Batch → Type 0
+AreShort low [] = Unit {0}
+AreShort low (batch ∷ queue) = (batch.upto ≤ low + 63) × AreShort batch.upto queue
+
+-- The batch in flight or in doubt has at most 63 entries, and so have the queued ones, and the one that is being gathered.
+-- The first queued one begins where the batch in flight ends; after a fault, which leaves batches out, there or behind it.
+pub record HoldsFewEntries (w : World) : Type 0 where
+  pub flying : length (batch_of w) ≤ 63
+  pub begins : ℕ
+  pub behind : flown w ≤ begins
+  pub first : is_running w.power ≡ true → begins ≡ flown w
+  pub queued : AreShort begins w.queue
+  pub gathered : length (state_of w).batch ≤ 63
