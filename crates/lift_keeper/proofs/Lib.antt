@@ -1,4 +1,3 @@
-pub mod Firsts
 pub mod Changes
 pub mod Inside
 pub mod Decided

@@ -7,7 +7,7 @@ use Rattle.lift_building.specs.Plan.{Plan, IsBuilding}
 use Rattle.lift_register.specs.Register.{RegisterState, empty}
 use Rattle.lift_stops.specs.Schedule.{ScheduleState}
 use Rattle.lift_policy.specs.Step.{State}
-use Rattle.lift_policy.specs.View.{ViewState, positions_of}
+use Rattle.lift_policy.specs.View.{positions_of}
 use Rattle.lift_policy.specs.Laws.{IsStateIn}
 
 pub record DeciderState : Type 0 where
@@ -17,10 +17,6 @@ pub record DeciderState : Type 0 where
 -- what decisions read and change, of a register, the cars' schedules and the batch so far
 abbrev pub state_of : RegisterState → List (Option ScheduleState) → List Entry → State
 state_of register schedules batch = record { register = register; positions = positions_of schedules; batch = batch }
-
--- what decisions read of what a policy sees
-abbrev pub state_seen : ViewState → State
-state_seen view = record { register = view.register; positions = view.positions; batch = [] }
 
 -- these calls; no car has told where it is
 abbrev pub starting : RegisterState → State

@@ -14,7 +14,6 @@ ghost use Rattle.lift_policy.specs.Eligible.{eligible_cars};
 ghost use Rattle.lift_policy.specs.Step.{Step, Proceeds, first_cause, view_of, standing, stopping, next_from};
 ghost use Rattle.lift_keeper.specs.Decider.{IsPossible, nothing, starting};
 
-use crate::causes::{call_at, first_cause, is_next};
 use crate::group::Group;
 use arrayvec::ArrayVec;
 use lift_base::{
@@ -22,7 +21,7 @@ use lift_base::{
 };
 use lift_building::Building;
 use lift_cost::NewCall;
-use lift_policy::{Command, Eligible, Policy, View};
+use lift_policy::{Command, Eligible, Policy, View, call_at, car_at, first_cause, is_next};
 use lift_register::Register;
 use lift_stops::Schedule;
 use std::marker::Model;
@@ -145,18 +144,14 @@ impl<'b> Decider<'b> {
         } }
         ensures reply { result ≡ ReplyValue.Stopped (next_from self.new.state command.now.terminal floor dir) }
     {
-        match command.terminal.car() {
-            Some(car) => {
-                let next = if is_next(&self.group.register, command.terminal, command.number) {
-                    self.group
-                        .serve(self.building, command.number, car, Stop { floor, dir })
-                } else {
-                    self.group.stand(car, Position { floor, dir })
-                };
-                Reply::Stopped(next)
-            }
-            None => unreachable!(),
-        }
+        let car = car_at(self.building, command.terminal);
+        let next = if is_next(&self.group.register, command.terminal, command.number) {
+            self.group
+                .serve(self.building, command.number, car, Stop { floor, dir })
+        } else {
+            self.group.stand(car, Position { floor, dir })
+        };
+        Reply::Stopped(next)
     }
 
     /// The car stands there.
@@ -165,10 +160,8 @@ impl<'b> Decider<'b> {
         ensures state { self.new ≡ record { plan = self.old.plan; state = standing self.old.state command.now.terminal floor dir } }
         ensures reply { result ≡ ReplyValue.Placed (next_from self.new.state command.now.terminal floor dir) }
     {
-        match command.terminal.car() {
-            Some(car) => Reply::Placed(self.group.stand(car, Position { floor, dir })),
-            None => unreachable!(),
-        }
+        let car = car_at(self.building, command.terminal);
+        Reply::Placed(self.group.stand(car, Position { floor, dir }))
     }
 
     /// Decides a command: one decision of the rules, where this policy names the car of a new call. A new call or stop
@@ -206,7 +199,7 @@ fn cause_of(building: &Building, group: &Group, command: &Command) -> Option<Rea
     ensures { result ≡ first_cause building.now group.now command.now.terminal command.now.number command.now.body }
 {
     let view = group.view();
-    first_cause(building, &group.register, &view, command)
+    first_cause(building, &view, command)
 }
 
 /// The car that the policy names for a call that some car may take.

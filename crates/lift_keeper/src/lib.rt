@@ -1,7 +1,6 @@
 //! Decides the commands of a lift group, gathers what they add, and recovers the register from a journal.
 #![tactic(auto)]
 
-mod causes;
 mod decider;
 mod fault;
 mod group;

@@ -34,6 +34,10 @@ pub record State : Type 0 where
 abbrev pub view_of : State → ViewState
 view_of state = record { register = state.register; positions = state.positions }
 
+-- what a policy sees, with this batch
+abbrev pub state_seen : ViewState → List Entry → State
+state_seen view batch = record { register = view.register; positions = view.positions; batch = batch }
+
 abbrev pub floor_of : Body → ℕ
 floor_of (Call floor party) = floor
 floor_of (Stop floor dir) = floor

@@ -1,6 +1,7 @@
 //! Which car takes a call, and what each command is answered.
 #![tactic(auto)]
 
+mod causes;
 mod command;
 mod eligible;
 mod laws;
@@ -11,6 +12,7 @@ mod shipped;
 mod view;
 mod waits;
 
+pub use causes::{call_at, car_at, first_cause, is_next};
 pub use command::Command;
 pub use eligible::{Eligible, can_take};
 pub use laws::{decisions_are_computed, decisions_keep};

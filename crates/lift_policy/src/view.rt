@@ -41,6 +41,13 @@ impl<'a> View<'a> {
         }
     }
 
+    /// The register that it shows.
+    pub(crate) fn register(&self) -> &Register
+        ensures { result.now ≡ self.now.register }
+    {
+        self.register
+    }
+
     /// The open calls of a car, in order of allotment.
     pub fn open_rows(&self, car: Letter) -> &[Row]
         ensures value { result.now ≡ rows_of self.now.register car }

@@ -1,24 +1,22 @@
-ghost use Rattle.std.specs.Prelude.{◌≡◌, ◌<◌, ◌==◌, ◌+◌, ◌++◌, ◌∷◌, [], ℕ, List, Option, Some, None, true, false, option_map, slice_set};
+ghost use Rattle.std.specs.Prelude.{◌≡◌, ◌<◌, ◌==◌, ◌+◌, ◌++◌, [], List, Option, Some, None, true, option_map, slice_set};
 ghost use Rattle.lift_base.specs.declared.history.Entry.{Entry as EntryValue};
 ghost use Rattle.lift_base.specs.declared.command.Reply.{Reply as ReplyValue};
 ghost use Rattle.lift_base.specs.declared.command.Body.{Body as BodyValue};
-ghost use Rattle.lift_register.specs.Register.{RegisterState, last_of, rows_of, register_of, last_number};
-ghost use Rattle.lift_register.specs.Fits.{Fits};
+ghost use Rattle.lift_register.specs.Register.{last_of, rows_of, last_number};
 ghost use Rattle.lift_register.specs.Balanced.{IsBalanced};
 ghost use Rattle.lift_stops.specs.StopList.{next_stop};
-ghost use Rattle.lift_policy.specs.Terminals.{has_kiosk, has_car, kiosk_floor};
-ghost use Rattle.lift_policy.specs.Step.{State, is_call, first_cause, lacks_car};
-ghost use Rattle.lift_world.specs.Decided.{decided, allotted, kept_letter};
-ghost use Rattle.lift_world.specs.Carries.{Carries, state_with, joined};
+ghost use Rattle.lift_policy.specs.Eligible.{eligible_cars};
+ghost use Rattle.lift_policy.specs.Step.{first_cause};
+ghost use Rattle.lift_world.specs.Decided.{decided, allotted, kept_letter, is_among};
+ghost use Rattle.lift_world.specs.Carries.{Carries, seen, state_with, joined};
 ghost use Rattle.std.specs.Option.{option_to_list};
 
-use crate::causes::{
-    call_at, car_at, floor_of, has_car, has_kiosk, is_among, is_call, is_kept, is_numbered,
-    is_served, kiosk_floor, lacks_car, last_number,
-};
 use lift_base::{Body, Content, Dir, Entry, Floor, Letter, Party, Position, Reason, Reply};
 use lift_building::Building;
-use lift_policy::{Command, schedule_of};
+use lift_cost::NewCall;
+use lift_policy::{
+    Command, View, call_at, can_take, car_at, first_cause, is_next, schedule_of, schedules_at,
+};
 use lift_register::Register;
 
 /// What a decision gives: the reply, and the entry that was accepted with it.
@@ -28,27 +26,8 @@ pub struct Decided {
     pub entry: Option<Entry>,
 }
 
-/// It is a call for which no car is eligible.
-fn lacks_car_for(
-    building: &Building,
-    register: &Register,
-    positions: &[Option<Position>; 16],
-    command: &Command,
-) -> bool
-    requires { is_call command.now.body ≡ true → has_kiosk building.now command.now.terminal ≡ true }
-    ensures { (batch : List EntryValue) → result ≡ lacks_car building.now (state_with register.now positions.now batch) command.now.terminal command.now.body }
-{
-    match command.body {
-        Body::Call(to, party) => {
-            let call = call_at(building, command.terminal, to, party);
-            lacks_car(building, register, positions, &call)
-        }
-        _ => false,
-    }
-}
-
 /// The first cause for which the command is refused.
-pub fn first_cause(
+fn cause_of(
     building: &Building,
     register: &Register,
     positions: &[Option<Position>; 16],
@@ -56,48 +35,23 @@ pub fn first_cause(
 ) -> Option<Reason>
     ensures { (batch : List EntryValue) → result ≡ first_cause building.now (state_with register.now positions.now batch) command.now.terminal command.now.number command.now.body }
 {
-    let terminal = command.terminal;
-    let number = command.number.get();
-    let body = &command.body;
-    let call = is_call(body);
-    let numbered = is_numbered(body);
-    let floor = floor_of(body);
-    let known = if call {
-        has_kiosk(building, terminal)
-    } else {
-        has_car(building, terminal)
-    };
-    if !known {
-        return Some(Reason::WrongKind);
-    }
-    if building.floors() <= floor.get() {
-        return Some(Reason::NoSuchFloor);
-    }
-    if !call && !is_served(building, terminal, floor) {
-        return Some(Reason::NotServed);
-    }
-    if call && kiosk_floor(building, terminal) == floor {
-        return Some(Reason::SameFloor);
-    }
-    let last = last_number(register, terminal);
-    if numbered && number >= 1 && number == last && !is_kept(register, terminal, body) {
-        return Some(Reason::OtherBody);
-    }
-    if numbered && (number == 0 || number < last) {
-        return Some(Reason::OldNumber);
-    }
-    let gap = if numbered {
-        last + 1 < number
-    } else {
-        0 < number
-    };
-    if gap {
-        return Some(Reason::GapNumber);
-    }
-    if number == last + 1 && lacks_car_for(building, register, positions, command) {
-        return Some(Reason::NoCar);
-    }
-    None
+    let schedules = schedules_at(register, positions);
+    let view = View::new(register, &schedules);
+    first_cause(building, &view, command)
+}
+
+/// The car is one of those that may take the call now.
+#[tactic(auto, using(crate::proofs::Cars::among_is))]
+fn is_eligible(
+    building: &Building,
+    register: &Register,
+    positions: &[Option<Position>; 16],
+    call: &NewCall,
+    car: Letter,
+) -> bool
+    ensures { result ≡ is_among car (eligible_cars building.now (seen register.now positions.now) call.now) }
+{
+    positions[usize::from(car.get())].is_some() && can_take(building, register, *call, car)
 }
 
 /// The reply to a command that changes no register.
@@ -126,13 +80,13 @@ fn allot(
     ensures balanced { IsBalanced register.new }
 {
     let call = call_at(building, command.terminal, to, party);
-    if !is_among(building, register, positions, &call, car) {
+    if !is_eligible(building, register, positions, &call, car) {
         return None;
     }
     let entry = Entry::Allot {
         kiosk: command.terminal,
         number: command.number,
-        from: kiosk_floor(building, command.terminal),
+        from: call.from,
         to,
         car,
         party,
@@ -173,7 +127,7 @@ fn join(
         ≡ joined (state_with register.old positions.now batch) command.now.terminal command.now.number floor dir }
     ensures balanced { IsBalanced register.new }
 {
-    if command.number.get() != last_number(register, command.terminal) + 1 {
+    if !is_next(register, command.terminal, command.number) {
         return None;
     }
     let entry = Entry::Stop {
@@ -243,7 +197,7 @@ fn proceed(
 {
     match command.body {
         Body::Call(to, party) => {
-            if command.number.get() == last_number(register, command.terminal) + 1 {
+            if is_next(register, command.terminal, command.number) {
                 allot(building, register, positions, command, to, party, letter?)
             } else if letter.is_some() {
                 None
@@ -281,7 +235,7 @@ pub fn decide(
         register.old positions.old batch result register.new positions.new }
     ensures balanced { IsBalanced register.new }
 {
-    match first_cause(building, register, positions, command) {
+    match cause_of(building, register, positions, command) {
         Some(reason) => {
             if letter.is_some() {
                 return None;

@@ -1,7 +1,6 @@
 //! The controller as a machine of events: what terminals ask, what is decided, what the disk keeps, what is answered.
 #![tactic(auto)]
 
-mod causes;
 mod decide;
 mod event;
 mod lists;

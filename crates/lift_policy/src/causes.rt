@@ -1,0 +1,206 @@
+//! Why a command is refused.
+
+ghost use Rattle.std.specs.Prelude.{◌≡◌, ◌<◌, ◌==◌, ◌+◌, ◌&&◌, ◌||◌, List, not, if◌then◌else◌, nat_le, nat_lt, true};
+ghost use Rattle.lift_base.specs.declared.history.Entry.{Entry};
+ghost use Rattle.lift_register.specs.Register.{last_number};
+ghost use Rattle.lift_policy.specs.Terminals.{has_car, has_kiosk, kiosk_floor};
+ghost use Rattle.lift_policy.specs.Step.{state_seen, floor_of, is_call, is_numbered, is_same, is_kept, call_at, lacks_car, first_cause};
+
+use crate::command::Command;
+use crate::eligible::Eligible;
+use crate::view::View;
+use lift_base::{Body, Content, Floor, Letter, Number, Party, Reason, Terminal};
+use lift_building::Building;
+use lift_cost::NewCall;
+use lift_register::Register;
+
+fn floor_of(body: &Body) -> Floor
+    ensures { result ≡ floor_of body.now }
+{
+    match *body {
+        Body::Call(floor, _) => floor,
+        Body::Stop(floor, _) => floor,
+        Body::Place(floor, _) => floor,
+    }
+}
+
+fn is_call(body: &Body) -> bool
+    ensures { result ≡ is_call body.now }
+{
+    matches!(body, Body::Call(_, _))
+}
+
+fn is_numbered(body: &Body) -> bool
+    ensures { result ≡ is_numbered body.now }
+{
+    !matches!(body, Body::Place(_, _))
+}
+
+/// Whether the building has the terminal of such a command: a kiosk for a call, else a car.
+fn is_known(building: &Building, terminal: Terminal, call: bool) -> bool
+    ensures { result ≡ (if call then has_kiosk building.now terminal else has_car building.now terminal) }
+{
+    if call {
+        terminal.get() >= 16 && terminal.get() - 16 < building.kiosks()
+    } else {
+        terminal.get() < building.cars()
+    }
+}
+
+/// The floor of the kiosk at this terminal.
+fn kiosk_floor(building: &Building, terminal: Terminal) -> Floor
+    requires { has_kiosk building.now terminal ≡ true }
+    ensures value { result ≡ kiosk_floor building.now terminal }
+    ensures within { result < building.now.floors }
+{
+    building.kiosk_floor(terminal.get() - 16)
+}
+
+/// The car of this terminal.
+pub fn car_at(building: &Building, terminal: Terminal) -> Letter
+    requires { has_car building.now terminal ≡ true }
+    ensures { result ≡ terminal }
+{
+    let _at_most = building.cars();
+    match terminal.car() {
+        Some(car) => car,
+        None => unreachable!(),
+    }
+}
+
+/// The number of the terminal's last accepted command, 0 for none.
+fn last_number(register: &Register, terminal: Terminal) -> u32
+    ensures value { result ≡ last_number register.now terminal }
+    ensures limit { result < 16777216 }
+{
+    match register.last(terminal) {
+        Some(last) => last.number.get(),
+        None => 0,
+    }
+}
+
+/// Whether a number is the terminal's next.
+pub fn is_next(register: &Register, terminal: Terminal, number: Number) -> bool
+    ensures { result ≡ (number == last_number register.now terminal + 1) }
+{
+    number.get() == last_number(register, terminal) + 1
+}
+
+fn is_same(body: &Body, content: &Content) -> bool
+    ensures { result ≡ is_same body.now content.now }
+{
+    match content {
+        Content::Letter { to, party, .. } => match body {
+            Body::Call(floor, persons) => *to == *floor && *party == *persons,
+            _ => false,
+        },
+        Content::Stopped { floor: f, dir: d } => match body {
+            Body::Stop(floor, dir) => *f == *floor && *d == *dir,
+            _ => false,
+        },
+    }
+}
+
+fn is_kept(register: &Register, terminal: Terminal, body: &Body) -> bool
+    ensures { result ≡ is_kept register.now terminal body.now }
+{
+    match register.last(terminal) {
+        Some(last) => is_same(body, &last.content),
+        None => false,
+    }
+}
+
+/// What a party that calls at a kiosk asks for.
+pub fn call_at(building: &Building, terminal: Terminal, to: Floor, party: Party) -> NewCall
+    requires { has_kiosk building.now terminal ≡ true }
+    ensures value { result ≡ call_at building.now terminal to party }
+    ensures from { result.from < building.now.floors }
+{
+    NewCall {
+        from: kiosk_floor(building, terminal),
+        to,
+        party,
+    }
+}
+
+/// Whether no car may take what is asked, of a known terminal.
+fn lacks_car(building: &Building, view: &View, terminal: Terminal, body: &Body) -> bool
+    requires known { is_call body.now ≡ true → has_kiosk building.now terminal ≡ true }
+    ensures { (batch : List Entry) → result ≡ lacks_car building.now (state_seen view.now batch) terminal body.now }
+{
+    match *body {
+        Body::Call(to, party) => {
+            let call = call_at(building, terminal, to, party);
+            Eligible::among(building, view, call).is_none()
+        }
+        _ => false,
+    }
+}
+
+/// Whether a command has its terminal's last number, but says something else than the one that was accepted.
+fn is_other(register: &Register, command: &Command) -> bool
+    ensures { result ≡ (is_numbered command.now.body && nat_le 1 command.now.number && command.now.number == last_number register.now command.now.terminal
+        && not (is_kept register.now command.now.terminal command.now.body)) }
+{
+    let number = command.number.get();
+    is_numbered(&command.body)
+        && number >= 1
+        && number == last_number(register, command.terminal)
+        && !is_kept(register, command.terminal, &command.body)
+}
+
+/// Whether a numbered command's number is 0 or below its terminal's last one.
+fn is_old(register: &Register, command: &Command) -> bool
+    ensures { result ≡ (is_numbered command.now.body && (command.now.number == 0 || nat_lt command.now.number (last_number register.now command.now.terminal))) }
+{
+    let number = command.number.get();
+    is_numbered(&command.body) && (number == 0 || number < last_number(register, command.terminal))
+}
+
+/// Whether a command's number is above its terminal's next one, or a position's above 0.
+fn is_beyond(register: &Register, command: &Command) -> bool
+    ensures { result ≡ (if is_numbered command.now.body then nat_lt (last_number register.now command.now.terminal + 1) command.now.number else nat_lt 0 command.now.number) }
+{
+    let number = command.number.get();
+    if is_numbered(&command.body) {
+        number > last_number(register, command.terminal) + 1
+    } else {
+        number > 0
+    }
+}
+
+/// The first cause for which a command is refused, none where nothing stands against it.
+pub fn first_cause(building: &Building, view: &View, command: &Command) -> Option<Reason>
+    ensures { (batch : List Entry) → result ≡ first_cause building.now (state_seen view.now batch) command.now.terminal command.now.number command.now.body }
+{
+    let terminal = command.terminal;
+    let body = &command.body;
+    let register = view.register();
+    let call = is_call(body);
+    let floor = floor_of(body);
+    if !is_known(building, terminal, call) {
+        return Some(Reason::WrongKind);
+    }
+    if building.floors() <= floor.get() {
+        return Some(Reason::NoSuchFloor);
+    }
+    if !call && !building.serves(car_at(building, terminal), floor) {
+        return Some(Reason::NotServed);
+    }
+    if call && kiosk_floor(building, terminal) == floor {
+        return Some(Reason::SameFloor);
+    }
+    if is_other(register, command) {
+        return Some(Reason::OtherBody);
+    }
+    if is_old(register, command) {
+        return Some(Reason::OldNumber);
+    }
+    if is_beyond(register, command) {
+        return Some(Reason::GapNumber);
+    }
+    if is_next(register, terminal, command.number) && lacks_car(building, view, terminal, body) {
+        return Some(Reason::NoCar);
+    }
+    None
+}
