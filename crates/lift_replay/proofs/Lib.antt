@@ -1,2 +1,3 @@
 pub mod Records
 pub mod Words
+pub mod Written

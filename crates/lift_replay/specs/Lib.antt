@@ -1,3 +1,4 @@
 pub mod Grammar
 pub mod Known
+pub mod Reading
 pub mod Report

@@ -1,16 +1,15 @@
 -- The lines of a report.
-use Rattle.std.specs.Prelude.{ℕ, ◌-◌, ◌+◌, ◌<◌, Bool, true, false, List, [], ◌∷◌, ◌++◌, codes, length, nat_lt, if◌then◌else◌, Option, Some, None}
+use Rattle.std.specs.Prelude.{ℕ, ◌≡◌, ◌≢◌, ◌⊎◌, Bool, true, false, List, [], ◌∷◌, ◌++◌, codes, nat_lt, if◌then◌else◌, Option}
 use Rattle.std.specs.Fmt.{decimal}
-use Rattle.std.specs.List.{flat_map}
+use Rattle.std.specs.Io.KnownBytes.{Appends}
 use Rattle.lift_base.specs.Travel.{pass_number}
-use Rattle.lift_base.specs.Text.{letter_text, terminal_text, dir_text, reply_text}
+use Rattle.lift_base.specs.Text.{letter_text, terminal_text, reply_text}
 use Rattle.lift_base.specs.declared.history.Row.{Row}
 use Rattle.lift_base.specs.declared.travel.Halt.{Halt}
 use Rattle.lift_base.specs.Command.{reason_number}
 use Rattle.lift_base.specs.declared.command.Reply.{Reply}
 use Rattle.lift_base.specs.declared.command.Reason.{Reason}
 use Rattle.lift_building.specs.Text.{fault_number}
-use Rattle.lift_building.specs.declared.fault.Field.{Field}
 use Rattle.lift_building.specs.declared.fault.BuildingFault.{BuildingFault}
 use Rattle.lift_building.specs.declared.fault.BuildingFault.TheVariants.{NotToml, Missing, WrongType, OutOfRange, TableShape, Detour, Memory}
 
@@ -82,3 +81,17 @@ floors_text Memory = []
 -- a text is no building
 abbrev pub building_text : BuildingFault → List ℕ
 building_text fault = codes "BUILDING " ++ decimal (fault_number fault) ++ floors_text fault ++ 10 ∷ []
+
+-- Why nothing of a script is carried out: it is too long, it is no UTF-8, it has no `---`, or its building is refused,
+-- but not for want of memory, which is no fault of the script.
+abbrev pub IsRefusal : List ℕ → Type 0
+IsRefusal report = (report ≡ codes "TOO LONG\n") ⊎ ((report ≡ codes "NOT TEXT\n") ⊎ ((report ≡ codes "NO SCRIPT\n")
+    ⊎ ((fault : BuildingFault) × (fault ≢ Memory) × (report ≡ building_text fault))))
+
+-- The report of a bad script tells its cause: it is a refusal, or its last line is the malformed line's.
+abbrev pub TellsCause : List ℕ → Type 0
+TellsCause report = IsRefusal report ⊎ ((above : List ℕ) × (line : ℕ) × (report ≡ above ++ bad_text line))
+
+-- what was written is the report of a bad script
+abbrev pub AppendsBadReport : (old new : Option (List ℕ)) → Type 0
+AppendsBadReport old new = (report : List ℕ) × TellsCause report × Appends old new report

@@ -41,6 +41,7 @@ fn read_some<R: Read + Drop>(
     ensures gave { OnOk result ((more : List ℕ) × (bytes.new.items ≡ bytes.old.items ++ more)
         × Consumes (R.remaining input.old.reader) (R.remaining input.new.reader) more) }
     ensures end { result ≡ Ok false → IsAtEnd (R.remaining input.new.reader) }
+    ensures found_end { result ≡ Ok false → input.new.ended ≡ true }
     ensures ended { IfOk result (λ came. came ≡ true → input.new.ended ≡ input.old.ended) }
     ensures ok { OnOk result (input.new.failed ≡ input.old.failed) }
     ensures failed { result ≡ Err InputFault.Read → input.new.failed ≡ true }
@@ -75,6 +76,7 @@ pub fn read_all<R: Read + Drop>(
     ensures front { IfOk result (λ bytes.
         Consumes (R.remaining input.old.reader) (R.remaining input.new.reader) bytes.items) }
     ensures bound { IfOk result (λ bytes. vec_len bytes ≤ most + 1) }
+    ensures ended { IfOk result (λ bytes. vec_len bytes ≤ most → input.new.ended ≡ true) }
     ensures few_calls { input.new.calls ≤ calls }
     ensures unfailed { OnOk result (input.new.failed ≡ false) }
     ensures cause { result ≡ Err InputFault.Read

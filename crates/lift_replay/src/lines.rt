@@ -1,8 +1,9 @@
 //! What each line of a script does, and what it reports.
 
-ghost use Rattle.std.specs.Prelude.{◌≡◌, ◌<◌, ◌↔◌, length, IsTrue, OnOk, OnErr};
+ghost use Rattle.std.specs.Prelude.{◌≡◌, ◌<◌, ◌↔◌, ◌++◌, length, string_bytes, IsTrue, OnOk, OnErr};
 ghost use Rattle.lift_base.specs.declared.command.Reply.{Reply as ReplyValue};
 ghost use Rattle.lift_replay.specs.Known.{IsKnown};
+ghost use Rattle.lift_replay.specs.Report.{bad_text};
 ghost use Rattle.lift_policy.specs.View.{IsViewIn};
 
 use crate::asks::Ask;
@@ -305,6 +306,7 @@ pub fn push_line(
 ) -> Result<Verdict, AllocError>
     requires idle { length station.old.decider.state.batch ≡ 0 }
     ensures idle { length station.new.decider.state.batch ≡ 0 }
+    ensures bad { result ≡ Ok Verdict.Bad → string_bytes report.new ≡ string_bytes report.old ++ bad_text number }
 {
     if text.is_empty() || text.starts_with('#') {
         return Ok(Verdict::Good);

@@ -1,6 +1,8 @@
 //! A whole script, from its bytes to its report.
 
-ghost use Rattle.std.specs.Prelude.{◌≡◌, ◌≢◌, ◌⊎◌, ◌≤◌, true, false};
+ghost use Rattle.std.specs.Prelude.{◌≡◌, ◌≢◌, ◌⊎◌, ◌≤◌, true, false, OnOk};
+ghost use Rattle.lift_replay.specs.Reading.{IsRead};
+ghost use Rattle.lift_replay.specs.Report.{IsRefusal, AppendsBadReport};
 ghost use Rattle.lift_replay.specs.declared.script.ReplayFault.TheVariants.{Memory as NoMemory, Write as NoOutput};
 
 use crate::input::{InputFault, read_all};
@@ -90,7 +92,10 @@ fn split_script<'a>(alloc: Global, text: &'a str) -> Result<Option<(String, &'a 
 
 /// A report of one line, for a script of which nothing is carried out.
 fn refuse<W: Write>(writer: &mut W, report: &str) -> Result<Verdict, ReplayFault>
+    requires refusal { IsRefusal report.now }
     ensures output { result ≢ Err ReplayFault.Read }
+    ensures not_good { result ≢ Ok Verdict.Good }
+    ensures bad { result ≡ Ok Verdict.Bad → AppendsBadReport (W.contents writer.old) (W.contents writer.new) }
 {
     put_all(writer, report.as_bytes())?;
     Ok(Verdict::Bad)
@@ -103,6 +108,8 @@ fn refuse_building<W: Write>(
     fault: BuildingFault,
 ) -> Result<Verdict, ReplayFault>
     ensures output { result ≢ Err ReplayFault.Read }
+    ensures not_good { result ≢ Ok Verdict.Good }
+    ensures bad { result ≡ Ok Verdict.Bad → AppendsBadReport (W.contents writer.old) (W.contents writer.new) }
 {
     if fault == BuildingFault::Memory {
         return Err(ReplayFault::Memory);
@@ -120,6 +127,7 @@ fn run_lines<W: Write>(
     writer: &mut W,
 ) -> Result<Verdict, ReplayFault>
     ensures output { result ≢ Err ReplayFault.Read }
+    ensures bad { result ≡ Ok Verdict.Bad → AppendsBadReport (W.contents writer.old) (W.contents writer.new) }
 {
     let mut station = Station::new(alloc, building)?;
     let mut report = String::new(alloc);
@@ -145,6 +153,7 @@ fn run_lines<W: Write>(
 /// Carries out a script that has come whole.
 fn run_text<W: Write>(alloc: Global, text: &str, writer: &mut W) -> Result<Verdict, ReplayFault>
     ensures output { result ≢ Err ReplayFault.Read }
+    ensures bad { result ≡ Ok Verdict.Bad → AppendsBadReport (W.contents writer.old) (W.contents writer.new) }
 {
     let Some((building, lines)) = split_script(alloc, text)? else {
         return refuse(writer, "NO SCRIPT\n");
@@ -169,6 +178,11 @@ pub fn run<R: Read + Drop, W: Write>(
     ensures unwritten { result ≡ Err ReplayFault.Read → W.contents writer.new ≡ W.contents writer.old }
     ensures unread { result ≡ Err ReplayFault.Read
         → (input.new.failed ≡ true) ⊎ ((input.new.calls ≡ 2097152) × (input.new.ended ≡ false)) }
+    // A report is written, or refused by the writer, only of a script that was read; a good one was read to its end.
+    ensures read { OnOk result (IsRead R.remaining input.old input.new) }
+    ensures output { result ≡ Err ReplayFault.Write → IsRead R.remaining input.old input.new }
+    ensures good { result ≡ Ok Verdict.Good → input.new.ended ≡ true }
+    ensures bad { result ≡ Ok Verdict.Bad → AppendsBadReport (W.contents writer.old) (W.contents writer.new) }
 {
     let bytes = match read_all(alloc, input, MOST_BYTES, MOST_CALLS) {
         Ok(bytes) => bytes,

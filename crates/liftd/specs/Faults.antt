@@ -1,5 +1,5 @@
 -- What the program says of a fault, and of words that it doesn't know.
-use Rattle.std.specs.Prelude.{ℕ, List, ◌∷◌, ◌++◌, codes, Result, Ok, Err}
+use Rattle.std.specs.Prelude.{ℕ, List, ◌∷◌, ◌++◌, codes}
 use Rattle.std.specs.Fmt.{decimal}
 use Rattle.lift_building.specs.Text.{fault_number as building_number}
 use Rattle.lift_building.specs.declared.fault.BuildingFault.{BuildingFault}
@@ -7,8 +7,8 @@ use Rattle.lift_building.specs.declared.fault.BuildingFault.TheVariants.{Detour,
 use Rattle.lift_journal.specs.Fault.{fault_number as journal_number}
 use Rattle.lift_journal.specs.declared.fault.JournalFault.{JournalFault}
 use Rattle.lift_journal.specs.declared.fault.JournalFault.TheVariants.{Damaged}
-use Rattle.lift_replay.specs.declared.lines.Verdict.{Verdict}
-use Rattle.lift_replay.specs.declared.lines.Verdict.TheVariants.{Good, Bad}
+use Rattle.lift_replay.specs.declared.script.ReplayFault.{ReplayFault}
+use Rattle.lift_replay.specs.declared.script.ReplayFault.TheVariants.{Memory as NoMemory, Read, Write}
 use Rattle.liftd.specs.declared.fault.Fault.{Fault}
 use Rattle.liftd.specs.declared.fault.Fault.TheVariants.{Building, Journal, File, Memory}
 
@@ -38,8 +38,8 @@ abbrev pub of_building : BuildingFault → Fault
 of_building NoRoom = Memory
 of_building fault = Building fault
 
--- 0 where all was done, 1 for a bad report or a fault
-abbrev pub status_of : Result Verdict Fault → ℕ
-status_of (Ok Good) = 0
-status_of (Ok Bad) = 1
-status_of (Err fault) = 1
+-- a script whose reading, or whose writing, failed is undone for a file
+abbrev pub of_replay : ReplayFault → Fault
+of_replay NoMemory = Memory
+of_replay Read = File
+of_replay Write = File

@@ -1,6 +1,8 @@
 //! Tests: words, and what they come to where no file is made.
 
+use crate::output::Output;
 use crate::start::start;
+use lift_base::text::Counted;
 use std::io;
 use std::io::{Read, Write};
 
@@ -26,18 +28,26 @@ impl Write for Failing {
 
 /// What a run came to.
 #[derive(Drop)]
-struct End {
+struct Run {
     status: u8,
     report: Vec<u8>,
     errors: Vec<u8>,
 }
 
-impl End {
-    fn of<R: Read + Drop>(rt: &HostRuntime, words: &[&str], reader: R) -> End {
+impl Run {
+    fn of<R: Read + Drop>(rt: &HostRuntime, words: &[&str], reader: R) -> Run {
         let mut report = Vec::new(rt.alloc());
         let mut errors = Vec::new(rt.alloc());
-        let status = start(rt, rt.alloc(), words, reader, &mut report, &mut errors);
-        End {
+        let end = start(
+            rt,
+            rt.alloc(),
+            words,
+            &mut Counted::new(reader),
+            &mut report,
+            &mut Output::new(&mut errors),
+        );
+        let status = end.status();
+        Run {
             status,
             report,
             errors,
@@ -81,7 +91,7 @@ fn other_words(rt: HostRuntime) {
         .as_slice(),
     ] {
         assert!(rt;
-            End::of(&rt, words, Failing).is(2, "", "liftd: usage\n"),
+            Run::of(&rt, words, Failing).is(2, "", "liftd: usage\n"),
             "{words:?}"
         );
     }
@@ -106,8 +116,8 @@ fn other_halves(rt: HostRuntime) {
         "many",
     ] {
         let words = ["format", "image", "no/building", "--half", half];
-        let end = End::of(&rt, words.as_slice(), Failing);
-        assert!(rt; end.is(2, "", "liftd: usage\n"), "{half}");
+        let run = Run::of(&rt, words.as_slice(), Failing);
+        assert!(rt; run.is(2, "", "liftd: usage\n"), "{half}");
     }
 }
 
@@ -124,7 +134,7 @@ fn options_anywhere(rt: HostRuntime) {
         ["format", "", ""].as_slice(),
     ] {
         assert!(rt;
-            End::of(&rt, words, Failing).is(1, "", "liftd: file\n"),
+            Run::of(&rt, words, Failing).is(1, "", "liftd: file\n"),
             "{words:?}"
         );
     }
@@ -135,8 +145,8 @@ fn options_anywhere(rt: HostRuntime) {
 fn scripts(rt: HostRuntime) {
     let replay = ["replay"];
     for words in [&replay[..0], replay.as_slice()] {
-        assert!(rt; End::of(&rt, words, b"".as_slice()).is(1, "NO SCRIPT\n", ""));
-        assert!(rt; End::of(&rt, words, Failing).is(1, "", "liftd: file\n"));
+        assert!(rt; Run::of(&rt, words, b"".as_slice()).is(1, "NO SCRIPT\n", ""));
+        assert!(rt; Run::of(&rt, words, Failing).is(1, "", "liftd: file\n"));
     }
 }
 
@@ -145,26 +155,28 @@ fn scripts(rt: HostRuntime) {
 fn streams_that_fail(rt: HostRuntime) {
     let replay = ["replay"];
     let mut errors = Vec::new(rt.alloc());
-    let status = start(
+    let end = start(
         &rt,
         rt.alloc(),
         replay.as_slice(),
-        b"".as_slice(),
+        &mut Counted::new(b"".as_slice()),
         &mut Failing,
-        &mut errors,
+        &mut Output::new(&mut errors),
     );
-    assert!(rt; status == 1 && errors.as_slice() == b"liftd: file\n".as_slice());
+    assert!(rt; end.status() == 1 && errors.as_slice() == b"liftd: file\n".as_slice());
     for (word, wanted) in [("other", 2), ("replay", 1)] {
         let words = [word];
         let mut report = Vec::new(rt.alloc());
-        let status = start(
+        let mut errors = Output::new(Failing);
+        let end = start(
             &rt,
             rt.alloc(),
             words.as_slice(),
-            Failing,
+            &mut Counted::new(Failing),
             &mut report,
-            &mut Failing,
+            &mut errors,
         );
-        assert!(rt; status == wanted && report.is_empty(), "{word}");
+        assert!(rt; end.status() == wanted && report.is_empty(), "{word}");
+        assert!(rt; errors.failed(), "{word}");
     }
 }

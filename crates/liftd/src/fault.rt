@@ -1,14 +1,19 @@
 //! Why the program ends with its work undone, and the line that says so.
 
-ghost use Rattle.std.specs.Prelude.{◌≡◌, ◌≢◌, ◌++◌, ◌∷◌, [], Some, OnOk};
-ghost use Rattle.std.specs.Io.KnownBytes.{Appends};
-ghost use Rattle.std.specs.Fmt.{DisplaysOnOk};
+ghost use Rattle.std.specs.Prelude.{◌≡◌, ◌≢◌, ◌≤◌, ◌+◌, ◌++◌, ◌∷◌, [], Some, length};
+ghost use Rattle.std.specs.Fmt.{decimal};
 ghost use Rattle.std.specs.IoError.{error_kind};
-ghost use Rattle.liftd.specs.Faults.{building_text, journal_text, fault_text, of_building};
+ghost use Rattle.arrayvec.specs.ArrayString.{array_string_len};
+ghost use Rattle.liftd.specs.Faults.{building_text, journal_text, fault_text, of_building, of_replay};
+ghost use Rattle.liftd.specs.Output.{IsTold};
 ghost use Rattle.liftd.specs.declared.fault.Fault.TheVariants.{Memory as NoMemory};
 
+use crate::output::Output;
+use arrayvec::ArrayString;
+use itoa::Buffer;
 use lift_building::BuildingFault;
 use lift_journal::JournalFault;
+use lift_replay::ReplayFault;
 use std::alloc::AllocError;
 use std::io::{ErrorKind, Write};
 use std::{fmt, io};
@@ -47,6 +52,84 @@ impl From<BuildingFault> for Fault {
     }
 }
 
+impl From<ReplayFault> for Fault {
+    ghost from_gives = { λ replay fault. fault ≡ of_replay replay };
+
+    fn from(fault: ReplayFault) -> Fault {
+        match fault {
+            ReplayFault::Memory => Fault::Memory,
+            ReplayFault::Read => Fault::File,
+            ReplayFault::Write => Fault::File,
+        }
+    }
+}
+
+/// A line has room for 64 bytes, more than any fault needs.
+type Line = ArrayString<64>;
+
+/// Adds a number in decimal digits.
+fn push_number(line: &mut Line, number: u32)
+    requires { array_string_len line.old + 10 ≤ 64 }
+    ensures text { line.new.bytes ≡ line.old.bytes ++ decimal number }
+    ensures bound { array_string_len line.new ≤ array_string_len line.old + 10 }
+{
+    let mut digits = Buffer::new();
+    line.push_str(digits.format(number));
+}
+
+/// A line that has no number.
+fn plain_line(text: &str) -> Line
+    requires { length text.now ≤ 63 }
+    ensures text { result.bytes ≡ text.now }
+    ensures same { array_string_len result ≡ length text.now }
+{
+    let mut line = Line::new();
+    line.push_str(text);
+    line
+}
+
+/// The line of a building's fault, without its end.
+fn building_line(fault: BuildingFault) -> Line
+    ensures text { result.bytes ≡ building_text fault }
+    ensures short { array_string_len result ≤ 63 }
+{
+    match fault {
+        BuildingFault::Detour(from, by, to) => {
+            let mut line = plain_line("liftd: building 6 ");
+            push_number(&mut line, u32::from(from.get()));
+            line.push_str(" ");
+            push_number(&mut line, u32::from(by.get()));
+            line.push_str(" ");
+            push_number(&mut line, u32::from(to.get()));
+            line
+        }
+        _ => {
+            let mut line = plain_line("liftd: building ");
+            push_number(&mut line, u32::from(fault.number()));
+            line
+        }
+    }
+}
+
+/// The line of a journal's fault, without its end.
+fn journal_line(fault: JournalFault) -> Line
+    ensures text { result.bytes ≡ journal_text fault }
+    ensures short { array_string_len result ≤ 63 }
+{
+    match fault {
+        JournalFault::Damaged(sector) => {
+            let mut line = plain_line("liftd: journal 3 ");
+            push_number(&mut line, sector);
+            line
+        }
+        _ => {
+            let mut line = plain_line("liftd: journal ");
+            push_number(&mut line, u32::from(fault.number()));
+            line
+        }
+    }
+}
+
 impl Fault {
     /// What a refused call on a file comes to.
     pub fn of_file(error: io::Error) -> Fault
@@ -60,38 +143,26 @@ impl Fault {
         }
     }
 
-    /// Writes its line.
-    pub fn tell<E: Write>(&self, errors: &mut E) -> io::Result<()>
-        ensures { OnOk result (Appends (E.contents errors.old) (E.contents errors.new) (fault_text self.now ++ 10 ∷ [])) }
+    /// Its line, without its end.
+    fn line(&self) -> Line
+        ensures text { result.bytes ≡ fault_text self.now }
+        ensures short { array_string_len result ≤ 63 }
     {
-        writeln!(errors, "{self}")
-    }
-}
-
-fn write_building<W: fmt::Write>(fault: &BuildingFault, f: &mut fmt::Formatter<W>) -> fmt::Result
-    ensures { DisplaysOnOk W.write_str_gives f.old result (Some (building_text fault.now)) f.new }
-{
-    match fault {
-        BuildingFault::Detour(from, by, to) => {
-            let (from, by, to) = (from.get(), by.get(), to.get());
-            write!(f, "liftd: building 6 {from} {by} {to}")
-        }
-        _ => {
-            let number = fault.number();
-            write!(f, "liftd: building {number}")
+        match *self {
+            Fault::Building(fault) => building_line(fault),
+            Fault::Journal(fault) => journal_line(fault),
+            Fault::File => plain_line("liftd: file"),
+            Fault::Memory => plain_line("liftd: memory"),
         }
     }
-}
 
-fn write_journal<W: fmt::Write>(fault: &JournalFault, f: &mut fmt::Formatter<W>) -> fmt::Result
-    ensures { DisplaysOnOk W.write_str_gives f.old result (Some (journal_text fault.now)) f.new }
-{
-    match fault {
-        JournalFault::Damaged(sector) => write!(f, "liftd: journal 3 {sector}"),
-        _ => {
-            let number = fault.number();
-            write!(f, "liftd: journal {number}")
-        }
+    /// Writes its line.
+    pub fn tell<E: Write + Drop>(&self, errors: &mut Output<E>)
+        ensures { IsTold E.contents errors.old errors.new (fault_text self.now ++ 10 ∷ []) }
+    {
+        let mut line = self.line();
+        line.push_str("\n");
+        errors.put(line.as_str().as_bytes());
     }
 }
 
@@ -99,12 +170,9 @@ impl fmt::Display for Fault {
     ghost output = { λ fault. Some (fault_text fault) };
 
     fn fmt<W: fmt::Write>(&self, f: &mut fmt::Formatter<W>) -> fmt::Result {
-        match self {
-            Fault::Building(fault) => write_building(fault, f),
-            Fault::Journal(fault) => write_journal(fault, f),
-            Fault::File => write!(f, "liftd: file"),
-            Fault::Memory => write!(f, "liftd: memory"),
-        }
+        let line = self.line();
+        let text = line.as_str();
+        write!(f, "{text}")
     }
 }
 

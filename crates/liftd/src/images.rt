@@ -1,6 +1,8 @@
 //! Tests: journals made on real files, and what is refused before and while one is made.
 
+use crate::output::Output;
 use crate::start::start;
+use lift_base::text::Counted;
 use std::fs;
 use std::test::Fail;
 
@@ -30,15 +32,15 @@ const FOLDER: &str = "liftd_folder";
 fn formatted(rt: &HostRuntime, words: &[&str]) -> (u8, Vec<u8>) {
     let mut report = Vec::new(rt.alloc());
     let mut errors = Vec::new(rt.alloc());
-    let status = start(
+    let end = start(
         rt,
         rt.alloc(),
         words,
-        b"".as_slice(),
+        &mut Counted::new(b"".as_slice()),
         &mut report,
-        &mut errors,
+        &mut Output::new(&mut errors),
     );
-    (status, errors)
+    (end.status(), errors)
 }
 
 fn are_zeros(bytes: &[u8]) -> bool {

@@ -3,15 +3,18 @@
 
 #[cfg(test)]
 mod command_lines;
+mod end;
 mod fault;
 mod format;
 #[cfg(test)]
 mod images;
+mod output;
 mod replay;
 mod start;
 mod words;
 
-use crate::fault::Fault;
+use crate::output::Output;
+use lift_base::text::Counted;
 use std::process::ExitCode;
 use std::{env, io};
 
@@ -22,24 +25,17 @@ fn given(rt: &HostRuntime) -> io::Result<Vec<String>> {
 }
 
 fn main(rt: HostRuntime) -> ExitCode {
-    let mut errors = rt.stderr();
-    let status = match given(&rt) {
+    let mut errors = Output::new(rt.stderr());
+    let end = match given(&rt) {
         Ok(words) => start::start(
             &rt,
             rt.alloc(),
             words.as_slice(),
-            rt.stdin(),
+            &mut Counted::new(rt.stdin()),
             &mut rt.stdout(),
             &mut errors,
         ),
-        Err(error) => {
-            if error.kind() == io::ErrorKind::OutOfMemory {
-                start::ended(Err(Fault::Memory), &mut errors)
-            } else {
-                // a word that is no text
-                start::other_words(&mut errors)
-            }
-        }
+        Err(error) => start::not_given(error, &mut errors),
     };
-    ExitCode::from(status)
+    ExitCode::from(end.status())
 }

@@ -1,100 +1,111 @@
-//! From the program's words to its status.
+//! From the program's words to its end.
 
-ghost use Rattle.std.specs.Prelude.{◌≡◌, ◌≤◌, ◌++◌, ◌∷◌, [], ℕ, map, take, OnOk};
-ghost use Rattle.std.specs.Io.KnownBytes.{Appends};
-ghost use Rattle.liftd.specs.Faults.{usage_text, status_of};
+ghost use Rattle.std.specs.Prelude.{◌≡◌, ◌≢◌, None, false, true, map, IfSome};
+ghost use Rattle.std.specs.IoError.{error_kind};
+ghost use Rattle.lift_replay.specs.Report.{AppendsBadReport};
+ghost use Rattle.lift_replay.specs.declared.lines.Verdict.TheVariants.{Good, Bad};
+ghost use Rattle.liftd.specs.Ends.{IsEndFor, IsEndOf, IsReadOrFailed, line_of};
+ghost use Rattle.liftd.specs.Output.{IsTold};
 ghost use Rattle.liftd.specs.Words.{Asks, IsInRange};
-ghost use Rattle.liftd.specs.declared.words.Request.{Request as Wanted};
 ghost use Rattle.liftd.specs.declared.words.Request.TheVariants.{Replay};
 
+use crate::end::End;
 use crate::fault::Fault;
 use crate::format::format;
+use crate::output::Output;
 use crate::replay::replay;
 use crate::words::{Request, request_of};
-use lift_base::text::put_all;
-use lift_replay::Verdict;
+use lift_base::text::Counted;
 use std::alloc::Global;
 use std::convert::AsStr;
 use std::fs::{File, Files};
-use std::io::{Read, Write};
+use std::io;
+use std::io::{ErrorKind, Read, Write};
 
 /// Does what the request asks for.
 fn done<F: Files<File = File>, R: Read + Drop, W: Write>(
     rt: &F,
     alloc: Global,
     request: Request<'_>,
-    reader: R,
+    input: &mut Counted<R>,
     writer: &mut W,
-) -> Result<Verdict, Fault>
+) -> End
     requires range { IsInRange request }
-    ensures unwritten { (request.entry ≡ Replay → ⊥) → W.contents writer.new ≡ W.contents writer.old }
+    requires fresh { input.old.calls ≡ 0 }
+    requires unhurt { input.old.failed ≡ false }
+    requires before_end { input.old.ended ≡ false }
+    ensures end { IsEndFor request.entry result }
+    ensures unwritten { request.entry ≢ Replay → W.contents writer.new ≡ W.contents writer.old }
+    ensures good { result ≡ End.Replayed Good → input.new.ended ≡ true }
+    ensures bad { result ≡ End.Replayed Bad → AppendsBadReport (W.contents writer.old) (W.contents writer.new) }
+    ensures cause { request.entry ≡ Replay → result ≡ End.Failed Fault.File
+        → IsReadOrFailed R.remaining input.old input.new }
 {
     match request {
-        Request::Replay => replay(alloc, reader, writer),
+        Request::Replay => match replay(alloc, input, writer) {
+            Ok(verdict) => End::Replayed(verdict),
+            Err(fault) => End::Failed(fault),
+        },
         Request::Format {
             image,
             building,
             half,
-        } => {
-            format(rt, alloc, image, building, half)?;
-            Ok(Verdict::Good)
-        }
+        } => match format(rt, alloc, image, building, half) {
+            Ok(disk) => End::Formatted(disk),
+            Err(fault) => End::Failed(fault),
+        },
     }
 }
 
-/// Tells of words that are those of no command, and answers their status.
-pub fn other_words<E: Write>(errors: &mut E) -> u8
-    ensures status { result ≡ 2 }
-    ensures line { (n : ℕ) × Appends (E.contents errors.old) (E.contents errors.new) (take n (usage_text ++ 10 ∷ [])) }
+/// Why the words weren't given: for want of memory, or since one of them is no text.
+pub fn not_given<E: Write + Drop>(error: io::Error, errors: &mut Output<E>) -> End
+    ensures memory { error_kind error ≡ ErrorKind.OutOfMemory → result ≡ End.Failed Fault.Memory }
+    ensures other { error_kind error ≢ ErrorKind.OutOfMemory → result ≡ End.OtherWords }
+    ensures told { IfSome (line_of result) (IsTold E.contents errors.old errors.new) }
 {
-    // where the line can't be written, the status alone tells
-    let _ = put_all(errors, b"liftd: usage\n");
-    2
+    let end = if error.kind() == ErrorKind::OutOfMemory {
+        End::Failed(Fault::Memory)
+    } else {
+        End::OtherWords
+    };
+    end.tell(errors);
+    end
 }
 
-/// Tells of a fault, and answers the status of what was done.
-pub fn ended<E: Write>(end: Result<Verdict, Fault>, errors: &mut E) -> u8
-    ensures status { result ≡ status_of end }
-    ensures quiet { OnOk end (E.contents errors.new ≡ E.contents errors.old) }
-{
-    match end {
-        Ok(Verdict::Good) => 0,
-        Ok(Verdict::Bad) => 1,
-        Err(fault) => {
-            // here too
-            let _ = fault.tell(errors);
-            1
-        }
-    }
-}
-
-/// Does what the words behind the program's name ask for, and answers the status: 0 good, 1 a bad report or a fault,
-/// 2 other words. A fault writes its line to `errors`, and so do other words.
-pub fn start<F: Files<File = File>, S: AsStr, R: Read + Drop, W: Write, E: Write>(
+/// Does what the words behind the program's name ask for, and answers how it ended. A fault writes its line to
+/// `errors`, and so do other words.
+pub fn start<F: Files<File = File>, S: AsStr, R: Read + Drop, W: Write, E: Write + Drop>(
     rt: &F,
     alloc: Global,
     words: &[S],
-    reader: R,
+    input: &mut Counted<R>,
     writer: &mut W,
-    errors: &mut E,
-) -> u8
-    ensures status { result ≤ 2 }
-    // Status 2 is for other words alone,
-    ensures other { result ≡ 2 → (request : Wanted) → Asks (map S.text words.now) request → ⊥ }
-    // which are never good,
-    ensures refused { ((request : Wanted) → Asks (map S.text words.now) request → ⊥) → 1 ≤ result }
-    // and are told.
-    ensures usage { result ≡ 2
-        → (n : ℕ) × Appends (E.contents errors.old) (E.contents errors.new) (take n (usage_text ++ 10 ∷ [])) }
+    errors: &mut Output<E>,
+) -> End
+    requires fresh { input.old.calls ≡ 0 }
+    requires unhurt { input.old.failed ≡ false }
+    requires before_end { input.old.ended ≡ false }
+    // It ends as the words ask,
+    ensures end { IsEndOf (map S.text words.now) result }
+    // a fault and other words are told by their line,
+    ensures told { IfSome (line_of result) (IsTold E.contents errors.old errors.new) }
+    // and what was done tells nothing.
+    ensures quiet { line_of result ≡ None → errors.new ≡ errors.old }
     // Only a replay writes a report.
     ensures unwritten { (Asks (map S.text words.now) Replay → ⊥) → W.contents writer.new ≡ W.contents writer.old }
-    // What is good tells nothing.
-    ensures quiet { result ≡ 0 → E.contents errors.new ≡ E.contents errors.old }
+    // A good script was read to its end,
+    ensures good { result ≡ End.Replayed Good → input.new.ended ≡ true }
+    // the report of a bad one tells the cause,
+    ensures bad { result ≡ End.Replayed Bad → AppendsBadReport (W.contents writer.old) (W.contents writer.new) }
+    // and one that is undone for a file was read, or could not be.
+    ensures cause { Asks (map S.text words.now) Replay → result ≡ End.Failed Fault.File
+        → IsReadOrFailed R.remaining input.old input.new }
 {
-    let request = match request_of(alloc, words) {
-        Ok(Some(request)) => request,
-        Ok(None) => return other_words(errors),
-        Err(error) => return ended(Err(Fault::from(error)), errors),
+    let end = match request_of(alloc, words) {
+        Ok(Some(request)) => done(rt, alloc, request, input, writer),
+        Ok(None) => End::OtherWords,
+        Err(error) => End::Failed(Fault::from(error)),
     };
-    ended(done(rt, alloc, request, reader, writer), errors)
+    end.tell(errors);
+    end
 }

@@ -1,7 +1,12 @@
-use Rattle.std.proofs.Common.{◌≡◌, length}
+use Rattle.std.proofs.Common.{◌≡◌, ℕ, List, length}
+use Rattle.std.specs.Io.KnownBytes.{Appends}
 use denote.Text.{Utf8}
 use denote.Shadow.{shadow}
 use Rattle.lift_replay.proofs.script.run_lines.Given as goal
 
 abbrev pub invariant-loop-place : goal.invariant-loop-place
-invariant-loop-place g l = shadow (Utf8 l.rest) × (length l.station.decider.state.batch ≡ 0)
+invariant-loop-place g l = record {
+  text : shadow (Utf8 l.rest);
+  idle : length l.station.decider.state.batch ≡ 0;
+  written : (report : List ℕ) × Appends (g.W.Write.contents l.fn.writer) (g.W.Write.contents l.writer) report;
+}

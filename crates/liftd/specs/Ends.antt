@@ -1,0 +1,77 @@
+-- How the program ends, and what it says of it.
+use Rattle.std.specs.Prelude.{ℕ, ◌≡◌, ◌⊎◌, ◌+◌, ◌*◌, List, [], ◌∷◌, ◌++◌, Option, Some, None, true, false}
+use Rattle.clap.specs.Words.{Text}
+use Rattle.lift_base.specs.Input.{InputState}
+use Rattle.lift_building.specs.Gives.{IsFirstFault}
+use Rattle.lift_disk.specs.Files.{file_state_of}
+use Rattle.lift_disk.specs.declared.file.FileDisk.{FileDisk}
+use Rattle.lift_journal.specs.declared.fault.JournalFault.TheVariants.{Disk}
+use Rattle.lift_replay.specs.declared.lines.Verdict.TheVariants.{Good, Bad}
+use Rattle.lift_replay.specs.Reading.{IsRead}
+use Rattle.liftd.specs.Faults.{fault_text, usage_text}
+use Rattle.liftd.specs.Words.{Asks}
+use Rattle.liftd.specs.declared.fault.Fault.{Fault}
+use Rattle.liftd.specs.declared.fault.Fault.TheVariants.{Building, Journal, File, Memory}
+use Rattle.liftd.specs.declared.end.End.{End}
+use Rattle.liftd.specs.declared.end.End.TheVariants.{Replayed, Formatted, Failed, OtherWords}
+use Rattle.liftd.specs.declared.words.Request.{Request}
+use Rattle.liftd.specs.declared.words.Request.TheVariants.{Replay, Format}
+
+-- 0 where all was done, 1 for a bad script or a fault, 2 for other words
+abbrev pub status_of : End → ℕ
+status_of (Replayed Good) = 0
+status_of (Replayed Bad) = 1
+status_of (Formatted disk) = 0
+status_of (Failed fault) = 1
+status_of OtherWords = 2
+
+-- the line that is told, none where there is nothing to tell
+abbrev pub line_of : End → Option (List ℕ)
+line_of (Replayed verdict) = None
+line_of (Formatted disk) = None
+line_of (Failed fault) = Some (fault_text fault ++ 10 ∷ [])
+line_of OtherWords = Some (usage_text ++ 10 ∷ [])
+
+-- A journal with so many sectors in a half was made on the device: by five calls, of which none failed.
+pub record IsMadeWith (half : ℕ) (disk : FileDisk) : Type 0 where
+  pub size : (file_state_of disk).size ≡ 2 + 2 * half
+  pub calls : (file_state_of disk).calls ≡ 5
+  pub failures : (file_state_of disk).failures ≡ 0
+
+-- the journal that was asked for
+abbrev pub IsMadeFor : Request → FileDisk → Type 0
+IsMadeFor Replay disk = ⊥
+IsMadeFor (Format image building half) disk = IsMadeWith half disk
+
+-- a file, or want of memory
+abbrev pub IsFileFault : Fault → Type 0
+IsFileFault fault = (fault ≡ File) ⊎ (fault ≡ Memory)
+
+-- these, the first fault of a building's text, or a failed call of the device
+abbrev pub IsFormatFault : Fault → Type 0
+IsFormatFault (Building fault) = (text : List ℕ) × IsFirstFault text fault
+IsFormatFault (Journal fault) = fault ≡ Disk
+IsFormatFault File = Unit {0}
+IsFormatFault Memory = Unit {0}
+
+-- A script was read, or couldn't be: a call of its reader failed, or all were used and its end was not found.
+abbrev pub IsReadOrFailed : {R : Type 0} → (R → Option (List ℕ)) → (old new : InputState R) → Type 0
+IsReadOrFailed remaining old new =
+    IsRead remaining old new ⊎ ((new.failed ≡ true) ⊎ ((new.calls ≡ 2097152) × (new.ended ≡ false)))
+
+-- what a request may fail by
+abbrev pub IsFaultOf : Request → Fault → Type 0
+IsFaultOf Replay fault = IsFileFault fault
+IsFaultOf (Format image building half) fault = IsFormatFault fault
+
+-- what a request may come to
+abbrev pub IsEndFor : Request → End → Type 0
+IsEndFor request (Replayed verdict) = request ≡ Replay
+IsEndFor request (Formatted disk) = IsMadeFor request disk
+IsEndFor request (Failed fault) = IsFaultOf request fault
+IsEndFor request OtherWords = ⊥
+
+-- What these words come to: an end of what they ask for, want of memory, or, where they ask for nothing, other words.
+abbrev pub IsEndOf : List Text → End → Type 0
+IsEndOf words OtherWords = (request : Request) → Asks words request → ⊥
+IsEndOf words end = (end ≡ Failed Memory) ⊎ ((request : Request) × Asks words request × IsEndFor request end)
