@@ -1,5 +1,5 @@
 -- How the program ends, and what it says of it.
-use Rattle.std.specs.Prelude.{ℕ, ◌≡◌, ◌⊎◌, ◌+◌, ◌*◌, List, [], ◌∷◌, ◌++◌, Option, Some, None, true, false}
+use Rattle.std.specs.Prelude.{ℕ, ◌≡◌, ◌⊎◌, ◌+◌, ◌*◌, List, [], ◌∷◌, ◌++◌, Option, Some, None, IfSome, true, false}
 use Rattle.clap.specs.Words.{Text}
 use Rattle.lift_base.specs.Input.{InputState}
 use Rattle.lift_building.specs.Gives.{IsFirstFault}
@@ -9,6 +9,7 @@ use Rattle.lift_journal.specs.declared.fault.JournalFault.TheVariants.{Disk}
 use Rattle.lift_replay.specs.declared.lines.Verdict.TheVariants.{Good, Bad}
 use Rattle.lift_replay.specs.Reading.{IsRead}
 use Rattle.liftd.specs.Faults.{fault_text, usage_text}
+use Rattle.liftd.specs.Output.{OutputState, IsTold}
 use Rattle.liftd.specs.Words.{Asks}
 use Rattle.liftd.specs.declared.fault.Fault.{Fault}
 use Rattle.liftd.specs.declared.fault.Fault.TheVariants.{Building, Journal, File, Memory}
@@ -75,3 +76,11 @@ IsEndFor request OtherWords = ⊥
 abbrev pub IsEndOf : List Text → End → Type 0
 IsEndOf words OtherWords = (request : Request) → Asks words request → ⊥
 IsEndOf words end = (end ≡ Failed Memory) ⊎ ((request : Request) × Asks words request × IsEndFor request end)
+
+-- the status of an end that these words come to, whose line was told, if it has one
+pub record IsStatusFor {E : Type 0} (contents : E → Option (List ℕ)) (words : List Text) (old new : OutputState E) (status : ℕ) : Type 0 where
+  pub end : End
+  pub is_end : IsEndOf words end
+  pub is_status : status ≡ status_of end
+  pub told : IfSome (line_of end) (IsTold contents old new)
+  pub quiet : line_of end ≡ None → new ≡ old

@@ -2,7 +2,6 @@
 
 use crate::output::Output;
 use crate::start::start;
-use lift_base::text::Counted;
 use std::io;
 use std::io::{Read, Write};
 
@@ -38,15 +37,14 @@ impl Run {
     fn of<R: Read + Drop>(rt: &HostRuntime, words: &[&str], reader: R) -> Run {
         let mut report = Vec::new(rt.alloc());
         let mut errors = Vec::new(rt.alloc());
-        let end = start(
+        let status = start(
             rt,
             rt.alloc(),
             words,
-            &mut Counted::new(reader),
+            reader,
             &mut report,
             &mut Output::new(&mut errors),
         );
-        let status = end.status();
         Run {
             status,
             report,
@@ -155,28 +153,28 @@ fn scripts(rt: HostRuntime) {
 fn streams_that_fail(rt: HostRuntime) {
     let replay = ["replay"];
     let mut errors = Vec::new(rt.alloc());
-    let end = start(
+    let status = start(
         &rt,
         rt.alloc(),
         replay.as_slice(),
-        &mut Counted::new(b"".as_slice()),
+        b"".as_slice(),
         &mut Failing,
         &mut Output::new(&mut errors),
     );
-    assert!(rt; end.status() == 1 && errors.as_slice() == b"liftd: file\n".as_slice());
+    assert!(rt; status == 1 && errors.as_slice() == b"liftd: file\n".as_slice());
     for (word, wanted) in [("other", 2), ("replay", 1)] {
         let words = [word];
         let mut report = Vec::new(rt.alloc());
         let mut errors = Output::new(Failing);
-        let end = start(
+        let status = start(
             &rt,
             rt.alloc(),
             words.as_slice(),
-            &mut Counted::new(Failing),
+            Failing,
             &mut report,
             &mut errors,
         );
-        assert!(rt; end.status() == wanted && report.is_empty(), "{word}");
+        assert!(rt; status == wanted && report.is_empty(), "{word}");
         assert!(rt; errors.failed(), "{word}");
     }
 }

@@ -2,7 +2,6 @@
 
 use crate::output::Output;
 use crate::start::start;
-use lift_base::text::Counted;
 use std::fs;
 use std::test::Fail;
 
@@ -32,15 +31,15 @@ const FOLDER: &str = "liftd_folder";
 fn formatted(rt: &HostRuntime, words: &[&str]) -> (u8, Vec<u8>) {
     let mut report = Vec::new(rt.alloc());
     let mut errors = Vec::new(rt.alloc());
-    let end = start(
+    let status = start(
         rt,
         rt.alloc(),
         words,
-        &mut Counted::new(b"".as_slice()),
+        b"".as_slice(),
         &mut report,
         &mut Output::new(&mut errors),
     );
-    (end.status(), errors)
+    (status, errors)
 }
 
 fn are_zeros(bytes: &[u8]) -> bool {

@@ -14,7 +14,6 @@ mod start;
 mod words;
 
 use crate::output::Output;
-use lift_base::text::Counted;
 use std::process::ExitCode;
 use std::{env, io};
 
@@ -26,16 +25,16 @@ fn given(rt: &HostRuntime) -> io::Result<Vec<String>> {
 
 fn main(rt: HostRuntime) -> ExitCode {
     let mut errors = Output::new(rt.stderr());
-    let end = match given(&rt) {
+    let status = match given(&rt) {
         Ok(words) => start::start(
             &rt,
             rt.alloc(),
             words.as_slice(),
-            &mut Counted::new(rt.stdin()),
+            rt.stdin(),
             &mut rt.stdout(),
             &mut errors,
         ),
-        Err(error) => start::not_given(error, &mut errors),
+        Err(error) => start::not_given(error, &mut errors).status(),
     };
-    ExitCode::from(end.status())
+    ExitCode::from(status)
 }

@@ -1,10 +1,10 @@
-//! From the program's words to its end.
+//! From the program's words to its status.
 
 ghost use Rattle.std.specs.Prelude.{◌≡◌, ◌≢◌, None, false, true, map, IfSome};
 ghost use Rattle.std.specs.IoError.{error_kind};
 ghost use Rattle.lift_replay.specs.Report.{AppendsBadReport};
 ghost use Rattle.lift_replay.specs.declared.lines.Verdict.TheVariants.{Good, Bad};
-ghost use Rattle.liftd.specs.Ends.{IsEndFor, IsEndOf, IsReadOrFailed, line_of};
+ghost use Rattle.liftd.specs.Ends.{IsEndFor, IsEndOf, IsReadOrFailed, IsStatusFor, line_of};
 ghost use Rattle.liftd.specs.Output.{IsTold};
 ghost use Rattle.liftd.specs.Words.{Asks, IsInRange};
 ghost use Rattle.liftd.specs.declared.words.Request.TheVariants.{Replay};
@@ -74,7 +74,7 @@ pub fn not_given<E: Write + Drop>(error: io::Error, errors: &mut Output<E>) -> E
 
 /// Does what the words behind the program's name ask for, and answers how it ended. A fault writes its line to
 /// `errors`, and so do other words.
-pub fn start<F: Files<File = File>, S: AsStr, R: Read + Drop, W: Write, E: Write + Drop>(
+fn carry_out<F: Files<File = File>, S: AsStr, R: Read + Drop, W: Write, E: Write + Drop>(
     rt: &F,
     alloc: Global,
     words: &[S],
@@ -108,4 +108,24 @@ pub fn start<F: Files<File = File>, S: AsStr, R: Read + Drop, W: Write, E: Write
     };
     end.tell(errors);
     end
+}
+
+/// Does what the words behind the program's name ask for, and answers the status: 0 where all was done, 1 for a bad
+/// script or a fault, 2 for other words. A fault writes its line to `errors`, and so do other words.
+pub fn start<F: Files<File = File>, S: AsStr, R: Read + Drop, W: Write, E: Write + Drop>(
+    rt: &F,
+    alloc: Global,
+    words: &[S],
+    reader: R,
+    writer: &mut W,
+    errors: &mut Output<E>,
+) -> u8
+    // It is the status of an end that the words come to, and which is told,
+    ensures status { IsStatusFor E.contents (map S.text words.now) errors.old errors.new result }
+    // and only a replay writes a report.
+    ensures unwritten { (Asks (map S.text words.now) Replay → ⊥) → W.contents writer.new ≡ W.contents writer.old }
+{
+    let mut input = Counted::new(reader);
+    let end = carry_out(rt, alloc, words, &mut input, writer, errors);
+    end.status()
 }
