@@ -1,30 +1,56 @@
 -- A device in memory, by the calls that it has recorded.
-use Rattle.std.specs.Prelude.{◌≡◌, ◌⊎◌, ◌≤◌, ℕ, Bool, true, List, [], ◌∷◌, length, take, replicate, slice_get, slice_set, Some, Vec, zero, suc}
+use Rattle.std.specs.Prelude.{◌≡◌, ◌⊎◌, ◌≤◌, ◌<◌, ◌-◌, ◌++◌, ℕ, Bool, true, List, [], ◌∷◌, length, take, replicate, slice_get, slice_set, Some, zero, suc}
 use Rattle.std.proofs.Common.{arith}
 use mathlib.Core.Logic.{inl, inr}
-use Rattle.std.specs.declared.alloc.Global.{Global}
 use Rattle.lift_disk.specs.Disk.{DiskState, Image, ChangesWithin}
 use Rattle.lift_disk.specs.declared.outcome.Outcome.{Outcome}
 use Rattle.lift_disk.specs.declared.outcome.Outcome.TheVariants.{Keep, Lose, Fill}
+use Rattle.lift_disk.specs.declared.call.Front.{Front}
+use Rattle.lift_disk.specs.declared.call.Front.TheVariants.{Short, Long}
+use Rattle.lift_disk.specs.declared.call.Flags.{Flags}
+use Rattle.lift_disk.specs.declared.call.Flags.TheVariants.{Few, Many}
 use Rattle.lift_disk.specs.declared.call.Call.{Call}
 use Rattle.lift_disk.specs.declared.call.Call.TheVariants.{Write, Sync}
+
+-- a sector that begins with these bytes, with zeros behind them
+abbrev pub with_zeros : List ℕ → List ℕ
+with_zeros front = front ++ replicate (512 - length front) 0
+
+-- what is recorded of a sector
+abbrev pub front_bytes : Front → List ℕ
+front_bytes (Short bytes) = bytes
+front_bytes (Long bytes) = bytes.items
+
+-- what is recorded of the loose sectors
+abbrev pub flag_list : Flags → List Bool
+flag_list (Few flags) = flags
+flag_list (Many flags) = flags.items
 
 -- the image after these calls
 abbrev pub image_after : List Call → Image → Image
 image_after [] image = image
-image_after (Write sector bytes ∷ calls) image = image_after calls (slice_set image sector bytes)
-image_after (Sync loose ∷ calls) image = image_after calls image
+image_after (Write sector front ∷ calls) image = image_after calls (slice_set image sector (with_zeros (front_bytes front)))
+image_after (Sync from loose ∷ calls) image = image_after calls image
 
 abbrev pub IsFlagged : List Bool → ℕ → Type 0
 IsFlagged flags i = slice_get flags i ≡ Some true
 
+-- the flag of this sector is set, where the first flag is that of `from`
+abbrev pub IsFlaggedFrom : ℕ → List Bool → ℕ → Type 0
+IsFlaggedFrom from flags i = (from ≤ i) × IsFlagged flags (i - from)
+
+-- one of the sectors from that one on, below the end
+abbrev pub IsWithin : ℕ → ℕ → ℕ → Type 0
+IsWithin from end i = (from ≤ i) × (i < end)
+
 -- A crash before the j-th call, a sync, might have left this: that sync has kept which sectors were loose.
 pub record WasLeft (first : Image) (calls : List Call) (since : ℕ) (left : Image) : Type 0 where
   pub at : ℕ
-  pub loose : Vec Bool Global
+  pub from : ℕ
+  pub loose : Flags
   pub late : since ≤ at
-  pub synced : slice_get calls at ≡ Some (Sync loose)
-  pub within : ChangesWithin (IsFlagged loose.items) (image_after (take at calls) first) left
+  pub synced : slice_get calls at ≡ Some (Sync from loose)
+  pub within : ChangesWithin (IsFlaggedFrom from (flag_list loose)) (image_after (take at calls) first) left
 
 -- What is said of a device in memory that was told nothing. Its calls by now are counted, and those that change what a crash leaves are recorded.
 abbrev pub memory_state : Image → List Call → Image → Image → List Bool → Bool → Bool → ℕ → ℕ → ℕ → DiskState
@@ -60,4 +86,4 @@ none_past (y ∷ xs) (suc i) x late is = none_past xs i x (omega arith) is
 pub no_other : (first : Image) (calls : List Call) (now : Image) (loose : List Bool) (left : Image)
     → ChangesWithin (IsFlagged loose) now left ⊎ WasLeft first calls (length calls) left → ChangesWithin (IsFlagged loose) now left
 no_other first calls now loose left (inl is) = is
-no_other first calls now loose left (inr was) = absurd (none_past calls was.at (Sync was.loose) was.late was.synced)
+no_other first calls now loose left (inr was) = absurd (none_past calls was.at (Sync was.from was.loose) was.late was.synced)

@@ -11,6 +11,7 @@ mod fuse;
 mod memory;
 mod outcome;
 mod record;
+mod span;
 
 pub use disk::{Arm, Disk, DiskFault};
 pub use file::{FileDisk, FileFault};

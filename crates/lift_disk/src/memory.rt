@@ -1,12 +1,13 @@
 //! A device in memory. It records its calls, so what a crash at any past moment might have left is still known.
-ghost use Rattle.std.specs.Prelude.{◌≡◌, ◌<◌, ◌+◌, ◌^◌, ◌++◌, [], ◌∷◌, length, replicate, true, false, refl, OnOk, OnErr, IfOk, IfSome};
+ghost use Rattle.std.specs.Prelude.{◌≡◌, ◌≤◌, ◌<◌, ◌+◌, ◌^◌, ◌++◌, [], ◌∷◌, ℕ, length, replicate, true, false, refl, OnOk, OnErr, IfOk, IfSome};
 ghost use Rattle.std.proofs.Common.{inl};
 ghost use Rattle.lift_disk.specs.Disk.{ChangesWithin, IsSynced, IsUnarmed};
-ghost use Rattle.lift_disk.specs.Memory.{IsFlagged, image_after, no_other};
+ghost use Rattle.lift_disk.specs.Memory.{IsFlagged, IsWithin, image_after, no_other};
 
 use crate::call::Call;
 use crate::count::ProofCount;
 use crate::record::{clear, copy, copy_flagged, leave, no_flags, note_sync, note_write, zeros};
+use crate::span::Span;
 use crate::{Disk, DiskFault, Outcome};
 use lift_base::Memory;
 use std::alloc::Global;
@@ -19,6 +20,8 @@ pub struct MemDisk {
     image: Vec<[u8; 512]>,
     synced: Vec<[u8; 512]>,
     loose: Vec<bool>,
+    /// No sector outside of it is loose, so that a sync need not look at them all.
+    span: Span,
     is_steady: bool,
     is_short: bool,
     failures: ProofCount,
@@ -26,6 +29,9 @@ pub struct MemDisk {
     writes: ProofCount,
     ghost sized: { length loose.items ≡ length image.items },
     ghost fits: { length image.items < 2 ^ 32 },
+    ghost spanned: { (i : ℕ) → IsFlagged loose.items i → IsWithin span.from span.end i },
+    ghost order: { span.from ≤ span.end },
+    ghost bound: { span.end ≤ length image.items },
     ghost recorded: { image_after history.items first.items ≡ image.items },
     ghost kept: { ChangesWithin (IsFlagged loose.items) image.items synced.items },
 }
@@ -53,6 +59,7 @@ impl MemDisk {
             image: zeros(alloc, sectors)?,
             synced: zeros(alloc, sectors)?,
             loose: no_flags(alloc, sectors)?,
+            span: Span::none(),
             is_steady: true,
             is_short: false,
             failures: ProofCount::new(),
@@ -79,6 +86,7 @@ impl MemDisk {
         if let Some(i) = sector {
             self.writes = ProofCount::next(&self.writes);
             self.loose[i as usize] = true;
+            self.span = self.span.with(i);
         }
     }
 
@@ -103,6 +111,7 @@ impl MemDisk {
             mut image,
             synced,
             loose,
+            span,
             is_steady,
             is_short,
             failures,
@@ -119,6 +128,7 @@ impl MemDisk {
             image,
             synced,
             loose,
+            span,
             is_steady,
             is_short,
             failures,
@@ -152,7 +162,7 @@ impl Disk for MemDisk {
     }
 
     fn write(&mut self, sector: u32, bytes: &[u8; 512]) -> Result<(), DiskFault> {
-        if note_write(&mut self.history, sector, bytes).is_err() {
+        if note_write(self.alloc, &mut self.history, sector, bytes).is_err() {
             self.fail_short(Some(sector));
             return Err(DiskFault);
         }
@@ -160,17 +170,19 @@ impl Disk for MemDisk {
         self.writes = ProofCount::next(&self.writes);
         self.image[sector as usize] = *bytes;
         self.loose[sector as usize] = true;
+        self.span = self.span.with(sector);
         Ok(())
     }
 
     fn sync(&mut self) -> Result<(), DiskFault> {
-        if note_sync(self.alloc, &mut self.history, &self.loose).is_err() {
+        if note_sync(self.alloc, &mut self.history, &self.loose, self.span).is_err() {
             self.fail_short(None);
             return Err(DiskFault);
         }
         self.calls = ProofCount::next(&self.calls);
-        copy_flagged(&self.image, &self.loose, &mut self.synced);
+        copy_flagged(&self.image, &self.loose, self.span, &mut self.synced);
         clear(&mut self.loose);
+        self.span = Span::none();
         self.is_steady = true;
         Ok(())
     }

@@ -1,23 +1,66 @@
 //! The work on the fields of a device in memory.
-ghost use Rattle.std.specs.Prelude.{◌≡◌, ◌++◌, [], ◌∷◌, ℕ, length, replicate, slice_get, Some, false, OnOk, OnErr, IfOk};
+ghost use Rattle.std.specs.Prelude.{◌≡◌, ◌≤◌, ◌↔◌, ◌++◌, [], ◌∷◌, ℕ, length, replicate, slice_get, Some, false, OnOk, OnErr, IfOk};
 ghost use Rattle.lift_disk.specs.Disk.{ChangesWithin};
-ghost use Rattle.lift_disk.specs.Memory.{IsFlagged, LeavesBy};
+ghost use Rattle.lift_disk.specs.Memory.{IsFlagged, IsFlaggedFrom, IsWithin, LeavesBy, with_zeros, front_bytes, flag_list};
 ghost use Rattle.lift_disk.specs.declared.call.Call.TheVariants.{Write, Sync};
 
 use crate::Outcome;
-use crate::call::Call;
+use crate::call::{Call, Flags, Front};
+use crate::span::Span;
 use std::alloc::{AllocError, Global};
+
+/// Zeros at the end of a sector that aren't recorded.
+const BLANK: [u8; 480] = [0; 480];
+
+/// So many flags are recorded in the call itself.
+const FEW: usize = 8;
+
+/// What is recorded of a sector.
+fn front_of(alloc: Global, bytes: &[u8; 512]) -> Result<Front, AllocError>
+    ensures { IfOk result (λ front. with_zeros (front_bytes front) ≡ bytes.now) }
+{
+    match bytes.strip_suffix(&BLANK) {
+        Some(front) => {
+            let mut short = [0; 32];
+            short.copy_from_slice(front);
+            Ok(Front::Short(short))
+        }
+        None => {
+            let long = bytes.to_vec(alloc)?;
+            Ok(Front::Long(long))
+        }
+    }
+}
+
+/// What is recorded of the loose sectors.
+fn flags_of(alloc: Global, loose: &[bool], span: Span) -> Result<Flags, AllocError>
+    requires order { span.from ≤ span.end }
+    requires bound { span.end ≤ length loose.now }
+    requires spanned { (i : ℕ) → IsFlagged loose.now i → IsWithin span.from span.end i }
+    ensures { IfOk result (λ flags. (i : ℕ) → IsFlaggedFrom span.from (flag_list flags) i ↔ IsFlagged loose.now i) }
+{
+    if span.end - span.from <= FEW && FEW <= loose.len() - span.from {
+        // behind the span none is loose
+        let mut few = [false; FEW];
+        few.copy_from_slice(&loose[span.from..span.from + FEW]);
+        return Ok(Flags::Few(few));
+    }
+    let many = loose[span.from..span.end].to_vec(alloc)?;
+    Ok(Flags::Many(many))
+}
 
 /// Records a write.
 pub(crate) fn note_write(
+    alloc: Global,
     calls: &mut Vec<Call>,
     sector: u32,
     bytes: &[u8; 512],
 ) -> Result<(), AllocError>
-    ensures ok { OnOk result (calls.new.items ≡ calls.old.items ++ Write sector bytes.now ∷ []) }
+    ensures ok { OnOk result ((v : _) × (with_zeros (front_bytes v) ≡ bytes.now) × (calls.new.items ≡ calls.old.items ++ Write sector v ∷ [])) }
     ensures err { OnErr result (calls.new.items ≡ calls.old.items) }
 {
-    calls.push(Call::Write(sector, *bytes))?;
+    let front = front_of(alloc, bytes)?;
+    calls.push(Call::Write(sector, front))?;
     Ok(())
 }
 
@@ -26,12 +69,17 @@ pub(crate) fn note_sync(
     alloc: Global,
     calls: &mut Vec<Call>,
     loose: &[bool],
+    span: Span,
 ) -> Result<(), AllocError>
-    ensures ok { OnOk result ((v : _) × (v.items ≡ loose.now) × (calls.new.items ≡ calls.old.items ++ Sync v ∷ [])) }
+    requires order { span.from ≤ span.end }
+    requires bound { span.end ≤ length loose.now }
+    requires spanned { (i : ℕ) → IsFlagged loose.now i → IsWithin span.from span.end i }
+    ensures ok { OnOk result ((v : _) × ((i : ℕ) → IsFlaggedFrom span.from (flag_list v) i ↔ IsFlagged loose.now i)
+        × (calls.new.items ≡ calls.old.items ++ Sync span.from v ∷ [])) }
     ensures err { OnErr result (calls.new.items ≡ calls.old.items) }
 {
-    let loose = loose.to_vec(alloc)?;
-    calls.push(Call::Sync(loose))?;
+    let flags = flags_of(alloc, loose, span)?;
+    calls.push(Call::Sync(span.from, flags))?;
     Ok(())
 }
 
@@ -43,12 +91,14 @@ pub(crate) fn clear(flags: &mut Vec<bool>)
 }
 
 /// Writes the flagged sectors over those of the same places. The others are the same already.
-pub(crate) fn copy_flagged(from: &[[u8; 512]], flags: &[bool], to: &mut Vec<[u8; 512]>)
+pub(crate) fn copy_flagged(from: &[[u8; 512]], flags: &[bool], span: Span, to: &mut Vec<[u8; 512]>)
     requires sized { length flags.now ≡ length from.now }
+    requires bound { span.end ≤ length flags.now }
+    requires spanned { (i : ℕ) → IsFlagged flags.now i → IsWithin span.from span.end i }
     requires kept { ChangesWithin (IsFlagged flags.now) from.now to.old.items }
     ensures { to.new.items ≡ from.now }
 {
-    for i in 0..flags.len() {
+    for i in span.from..span.end {
         if flags[i] {
             to[i] = from[i];
         }

@@ -56,3 +56,26 @@ fn a_sync_makes_it_safe(rt: HostRuntime) {
         assert!(rt; holds(&mut disk.cut(Outcome::Lose), [1, 3, 4, 0]));
     }
 }
+
+/// Sectors that lie far apart, and some that hold bytes only at their front or at their end.
+#[test]
+fn a_sync_makes_each_sector_safe(rt: HostRuntime) {
+    let mut disk = MemDisk::new(rt.alloc(), 130).ok().expect(&rt, "memory");
+    assert!(rt; put(&mut disk, 129, 1) && put(&mut disk, 0, 2) && put(&mut disk, 64, 3));
+    let mut front = [0; 512];
+    front[0] = 0xA5;
+    let mut end = [0; 512];
+    end[511] = 0x5A;
+    assert!(rt; disk.sectors() == 130);
+    assert!(rt; disk.write(7, &front).is_ok() && disk.write(8, &end).is_ok());
+    assert!(rt; disk.sync().is_ok());
+    assert!(rt; put(&mut disk, 64, 4) && put(&mut disk, 100, 5));
+    let mut disk = disk.cut(Outcome::Lose);
+    for (sector, byte) in [(129, 1), (0, 2), (64, 3), (100, 0)] {
+        assert!(rt; get(&mut disk, sector) == Some(byte));
+    }
+    assert!(rt; disk.sectors() == 130);
+    let mut buffer = [1; 512];
+    assert!(rt; disk.read(7, &mut buffer).is_ok() && buffer == front);
+    assert!(rt; disk.read(8, &mut buffer).is_ok() && buffer == end);
+}

@@ -50,6 +50,13 @@ impl Asks {
         true
     }
 
+    /// Nothing is asked any more.
+    pub fn clear(&mut self)
+        ensures { self.new ≡ replicate 63 None }
+    {
+        self.waiting.fill(None);
+    }
+
     /// What the terminal asks.
     pub fn get(&self, terminal: Terminal) -> Option<&Ask>
         ensures { option_map (λ ask. ask.now) result ≡ slice_index_or self.now terminal None }

@@ -6,6 +6,7 @@ mod input;
 mod line;
 mod lines;
 mod parsing;
+mod piece;
 pub mod report;
 mod script;
 mod station;

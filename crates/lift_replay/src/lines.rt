@@ -13,10 +13,11 @@ use crate::report::{
     push_bad, push_cost, push_fault, push_halt, push_heard, push_refused, push_row, push_rows_head,
     push_turn, push_waiting,
 };
-use crate::station::{Answer, Station, Turn};
+use crate::station::{Answer, Station};
 use lift_base::{Body, Floor, Halt, Letter, Number, Party, Reason, Reply, Terminal};
 use lift_building::Building;
 use lift_cost::NewCall;
+use lift_journal::JournalFault;
 use lift_policy::{Eligible, Etd, View};
 use lift_register::Register;
 use std::alloc::AllocError;
@@ -51,26 +52,44 @@ fn push_ask(
 }
 
 /// What a terminal hears: nothing is known of the commands of a turn that failed.
-fn heard(turn: &Turn, answer: &Answer) -> Reply
-    ensures safe { OnOk turn.now.outcome (result ≡ answer.now.reply) }
-    ensures failed { OnErr turn.now.outcome (result ≡ ReplyValue.Unknown) }
+fn heard(outcome: &Result<usize, JournalFault>, answer: &Answer) -> Reply
+    ensures safe { OnOk outcome.now (result ≡ answer.now.reply) }
+    ensures failed { OnErr outcome.now (result ≡ ReplyValue.Unknown) }
 {
-    match turn.outcome {
+    match outcome {
         Ok(_) => answer.reply,
         Err(_) => Reply::Unknown,
     }
 }
 
 /// What a turn took and added, or its fault, and then what each terminal hears.
-fn push_outcome(report: &mut String, turn: &Turn) -> Result<(), AllocError> {
-    match turn.outcome {
-        Ok(accepted) => push_turn(report, turn.answers.len(), accepted)?,
+fn push_outcome(
+    report: &mut String,
+    outcome: &Result<usize, JournalFault>,
+    answers: &[Answer],
+) -> Result<(), AllocError> {
+    match outcome {
+        Ok(accepted) => push_turn(report, answers.len(), *accepted)?,
         Err(fault) => push_fault(report, "turn", fault.number())?,
     }
-    for answer in turn.answers.as_slice() {
-        push_heard(report, answer.terminal, answer.number, heard(turn, answer))?;
+    for answer in answers {
+        push_heard(
+            report,
+            answer.terminal,
+            answer.number,
+            heard(outcome, answer),
+        )?;
     }
     Ok(())
+}
+
+/// One turn, and what it reports.
+fn push_turn_of(report: &mut String, station: &mut Station) -> Result<(), AllocError>
+    requires idle { length station.old.decider.state.batch ≡ 0 }
+    ensures idle { length station.new.decider.state.batch ≡ 0 }
+{
+    let outcome = station.turn();
+    push_outcome(report, &outcome, station.answers.as_slice())
 }
 
 /// Halts in their order, or that there are none.
@@ -283,7 +302,7 @@ fn carry_out(
             floor,
             party,
         } => push_call(report, station, kiosk, number, Body::Call(floor, party)),
-        ScriptLine::Turn => push_outcome(report, &station.turn()),
+        ScriptLine::Turn => push_turn_of(report, station),
         ScriptLine::Stops { car } => show_stops(report, station, car),
         ScriptLine::Cost {
             kiosk,

@@ -1,12 +1,14 @@
 //! A whole script, from its bytes to its report.
 
-ghost use Rattle.std.specs.Prelude.{◌≡◌, ◌≢◌, ◌⊎◌, ◌≤◌, true, false, OnOk};
+ghost use Rattle.std.specs.Prelude.{◌≡◌, ◌≢◌, ◌⊎◌, ◌≤◌, ◌++◌, ℕ, List, [], length, string_bytes, true, false, OnOk};
+ghost use Rattle.std.specs.Io.KnownBytes.{Appends};
 ghost use Rattle.lift_replay.specs.Reading.{IsRead};
-ghost use Rattle.lift_replay.specs.Report.{IsRefusal, AppendsBadReport};
+ghost use Rattle.lift_replay.specs.Report.{IsRefusal, TellsCause, AppendsBadReport};
 ghost use Rattle.lift_replay.specs.declared.script.ReplayFault.TheVariants.{Memory as NoMemory, Write as NoOutput};
 
 use crate::input::{InputFault, read_all};
 use crate::lines::{Verdict, push_line};
+use crate::piece::{PIECE_BYTES, ROOM_BYTES, put_piece};
 use crate::report::push_building_fault;
 use crate::station::Station;
 use lift_base::Memory;
@@ -119,7 +121,44 @@ fn refuse_building<W: Write>(
     refuse(writer, &report)
 }
 
-/// Carries out the lines, and writes what each reports before the next.
+/// Carries out the lines, and adds what each reports to a piece of the report, which is written once it is large enough.
+/// What is left in the piece, also where a line could not be carried out, is of whole lines.
+fn add_lines<W: Write>(
+    alloc: Global,
+    station: &mut Station,
+    lines: &str,
+    piece: &mut String,
+    writer: &mut W,
+) -> Result<Verdict, ReplayFault>
+    requires idle { length station.old.decider.state.batch ≡ 0 }
+    ensures output { result ≢ Err ReplayFault.Read }
+    ensures bad { result ≡ Ok Verdict.Bad → (written : List ℕ) × Appends (W.contents writer.old) (W.contents writer.new) written
+        × TellsCause (written ++ string_bytes piece.new) }
+{
+    let mut report = String::new(alloc);
+    let mut rest = lines;
+    for place in 0..=lines.len() {
+        let Some((line, behind)) = next_line(rest) else {
+            return Ok(Verdict::Good);
+        };
+        rest = behind;
+        report.clear();
+        let verdict = push_line(&mut report, station, line, place + 1)?;
+        if station.is_short() {
+            return Err(ReplayFault::Memory);
+        }
+        piece.push_str(&report)?;
+        if verdict == Verdict::Bad {
+            return Ok(verdict);
+        }
+        if piece.len() >= PIECE_BYTES {
+            put_piece(writer, piece)?;
+        }
+    }
+    Ok(Verdict::Good)
+}
+
+/// Carries out the lines, and writes what they report, up to the end or to the line that ended the run.
 fn run_lines<W: Write>(
     alloc: Global,
     building: &Building,
@@ -130,24 +169,12 @@ fn run_lines<W: Write>(
     ensures bad { result ≡ Ok Verdict.Bad → AppendsBadReport (W.contents writer.old) (W.contents writer.new) }
 {
     let mut station = Station::new(alloc, building)?;
-    let mut report = String::new(alloc);
-    let mut rest = lines;
-    for place in 0..=lines.len() {
-        let Some((line, behind)) = next_line(rest) else {
-            return Ok(Verdict::Good);
-        };
-        rest = behind;
-        report.clear();
-        let verdict = push_line(&mut report, &mut station, line, place + 1)?;
-        if station.is_short() {
-            return Err(ReplayFault::Memory);
-        }
-        put_all(writer, report.as_bytes())?;
-        if verdict == Verdict::Bad {
-            return Ok(verdict);
-        }
-    }
-    Ok(Verdict::Good)
+    let mut piece = String::with_capacity(alloc, ROOM_BYTES)?;
+    let end = add_lines(alloc, &mut station, lines, &mut piece, writer);
+    let written = put_piece(writer, &mut piece);
+    let verdict = end?;
+    written?;
+    Ok(verdict)
 }
 
 /// Carries out a script that has come whole.
@@ -164,8 +191,8 @@ fn run_text<W: Write>(alloc: Global, text: &str, writer: &mut W) -> Result<Verdi
     }
 }
 
-/// Carries out a script: reads it whole, and writes its report line by line. The verdict is Bad where the script, its
-/// building or one of its lines is malformed. After `Read` nothing was written.
+/// Carries out a script: reads it whole, and writes its report in pieces of whole lines. The verdict is Bad where the
+/// script, its building or one of its lines is malformed. After `Read` nothing was written.
 pub fn run<R: Read + Drop, W: Write>(
     alloc: Global,
     input: &mut Counted<R>,

@@ -31,17 +31,14 @@ pub struct Answer {
     pub reply: Reply,
 }
 
-/// A turn: what it took, with the answers by rising terminal, and how many entries it added, or why none are safe.
-#[derive(Drop)]
-pub struct Turn {
-    pub answers: ArrayVec<Answer, 63>,
-    pub outcome: Result<usize, JournalFault>,
-}
-
 #[derive(Drop)]
 pub struct Station<'b> {
     pub decider: Decider<'b>,
     pub asks: Asks,
+    /// What the last turn took, with the answers by rising terminal.
+    pub answers: ArrayVec<Answer, 63>,
+    /// The last batch, as the journal took it.
+    records: ArrayVec<Record, 63>,
     journal: Journal<FuseDisk>,
     /// The fault after which the journal may lack what the decider shows.
     pub fault: Option<JournalFault>,
@@ -70,6 +67,8 @@ impl<'b> Station<'b> {
         Ok(Station {
             decider: Decider::new(building),
             asks: Asks::new(),
+            answers: ArrayVec::new(),
+            records: ArrayVec::new(),
             journal,
             fault: None,
         })
@@ -91,8 +90,8 @@ impl<'b> Station<'b> {
         if batch.is_empty() {
             return Ok(0);
         }
-        let records = records_of(&batch);
-        match self.journal.append(&records) {
+        put_records(&batch, &mut self.records);
+        match self.journal.append(&self.records) {
             Ok(()) => Ok(batch.len()),
             Err(fault) => {
                 self.fault = Some(fault);
@@ -117,20 +116,24 @@ impl<'b> Station<'b> {
         }
     }
 
-    /// One turn: a scan, and one batch.
-    pub fn turn(&mut self) -> Turn
+    /// One turn: a scan, and one batch. The answer is how many entries it added, or why none are safe.
+    pub fn turn(&mut self) -> Result<usize, JournalFault>
         requires idle { length self.old.decider.state.batch ≡ 0 }
         ensures idle { length self.new.decider.state.batch ≡ 0 }
     {
         let room = self.make_room();
-        let answers = scan(&mut self.decider, self.fault.is_some(), &self.asks);
-        self.asks = Asks::new();
+        scan(
+            &mut self.decider,
+            self.fault.is_some(),
+            &self.asks,
+            &mut self.answers,
+        );
+        self.asks.clear();
         let committed = self.commit();
-        let outcome = match room {
+        match room {
             Ok(()) => committed,
             Err(fault) => Err(fault),
-        };
-        Turn { answers, outcome }
+        }
     }
 }
 
@@ -162,7 +165,7 @@ fn answer_to(decider: &mut Decider, is_broken: bool, terminal: Terminal, ask: &A
     }
 }
 
-/// What the terminal with this index is answered, if it asks.
+/// What this terminal is answered, if it asks.
 fn answer_at(
     decider: &mut Decider,
     is_broken: bool,
@@ -179,28 +182,26 @@ fn answer_at(
 }
 
 /// Answers what each terminal asks, by rising terminal.
-fn scan(decider: &mut Decider, is_broken: bool, asks: &Asks) -> ArrayVec<Answer, 63>
+fn scan(decider: &mut Decider, is_broken: bool, asks: &Asks, answers: &mut ArrayVec<Answer, 63>)
     requires idle { length decider.old.state.batch ≡ 0 }
     ensures plan { decider.new.plan ≡ decider.old.plan }
 {
-    let mut answers = ArrayVec::new();
+    answers.clear();
     for index in 0..63u8 {
         let answer = answer_at(decider, is_broken, asks, Terminal::new(index));
-        push_some(&mut answers, answer);
+        push_some(answers, answer);
     }
-    answers
 }
 
-/// The records that keep these entries.
-fn records_of(batch: &ArrayVec<Entry, 63>) -> ArrayVec<Record, 63>
+/// The records that keep these entries, in the place of others.
+fn put_records(batch: &ArrayVec<Entry, 63>, records: &mut ArrayVec<Record, 63>)
     requires written { All (λ (e : EntryValue). IsRecord (record_of e)) batch.now.items }
-    ensures kept { result.items ≡ map record_of batch.now.items }
-    ensures lawful { All IsLawful result.items }
-    ensures entries { All IsEntry result.items }
+    ensures kept { records.new.items ≡ map record_of batch.now.items }
+    ensures lawful { All IsLawful records.new.items }
+    ensures entries { All IsEntry records.new.items }
 {
-    let mut records = ArrayVec::new();
+    records.clear();
     for place in 0..batch.len() {
-        push_some(&mut records, Some(Record::of_entry(&batch[place])));
+        push_some(records, Some(Record::of_entry(&batch[place])));
     }
-    records
 }

@@ -2,7 +2,7 @@
 use super::scripts::DEMO;
 use lift_base::text::Counted;
 use lift_replay::{ReplayFault, Verdict, run};
-use std::alloc::Global;
+use std::alloc::{AllocError, Global};
 use std::io;
 use std::io::{Read, Write};
 use std::test::Fail;
@@ -119,4 +119,79 @@ fn broken_ends(rt: HostRuntime) {
     let mut writer = Narrow { room: 10 };
     let written = run(rt.alloc(), &mut Counted::new(b"".as_slice()), &mut writer);
     assert!(rt; written == Ok(Verdict::Bad));
+}
+
+/// A writer that takes so many bytes, and keeps them.
+#[derive(Drop)]
+struct Keeping {
+    room: usize,
+    taken: Vec<u8>,
+}
+
+impl Write for Keeping {
+    fn write(&mut self, buf: &[u8]) -> io::Result<usize> {
+        let count = self.room.min(buf.len());
+        if count == 0 && !buf.is_empty() {
+            return Err(io::Error::from(io::ErrorKind::TimedOut));
+        }
+        if self.taken.extend_from_slice(&buf[..count]).is_err() {
+            return Err(io::Error::from(io::ErrorKind::OutOfMemory));
+        }
+        self.room -= count;
+        Ok(count)
+    }
+
+    fn flush(&mut self) -> io::Result<()> {
+        Ok(())
+    }
+}
+
+/// So many turns in which nobody asks, and then a malformed line.
+fn turns(alloc: Global, count: u32) -> Result<String, AllocError> {
+    let mut script = String::from_str(alloc, DEMO)?;
+    script.push_str("[[cars]]\nplaces = 8\n---\n")?;
+    for _ in 0..count {
+        script.push_str("turn\n")?;
+    }
+    script.push_str("turns\n")?;
+    Ok(script)
+}
+
+/// What they report.
+fn turns_report(alloc: Global, count: u32) -> Result<String, AllocError> {
+    let mut report = String::new(alloc);
+    for _ in 0..count {
+        report.push_str("turn 0 0\n")?;
+    }
+    report.push_str("BAD 9001\n")?;
+    Ok(report)
+}
+
+/// A long report comes whole, and its front where the writer takes no more. Run with each allocation refused in turn, it
+/// is a front of it as well.
+#[test]
+fn long_reports(rt: HostRuntime) -> Result<(), Fail> {
+    let script = turns(rt.alloc(), 9000)?;
+    let wanted = turns_report(rt.alloc(), 9000)?;
+    assert!(rt; wanted.len() == 81_009);
+    for room in [0, 1, 32_768, 32_776, 32_777, 50_000, 81_008, 81_009] {
+        let mut writer = Keeping {
+            room,
+            taken: Vec::with_capacity(rt.alloc(), room)?,
+        };
+        let end = run(
+            rt.alloc(),
+            &mut Counted::new(script.as_bytes()),
+            &mut writer,
+        );
+        assert!(rt;
+            wanted.as_bytes().starts_with(writer.taken.as_slice()),
+            "{room}"
+        );
+        if end != Err(ReplayFault::Memory) {
+            assert!(rt; writer.taken.len() == room, "{room}");
+            assert!(rt; end.is_ok() == (room == 81_009), "{room}");
+        }
+    }
+    Ok(())
 }

@@ -15,6 +15,9 @@ invariant_of-result c =
     record {
       sized = ap length c.in_ok-no_flags.ensures ∙ length-replicate n false ∙ sym (ap length c.in_ok-zeros-2.ensures ∙ length-replicate n zeros);
       fits = omega (arith, ap length c.in_ok-zeros-2.ensures, length-replicate n zeros, c.ranges.sectors.fits);
+      spanned = λ i is. absurd (none_flagged n i (subst (λ (l : List Bool). IsFlagged l i) c.in_ok-no_flags.ensures is));
+      order = omega (arith, c.none.ensures.0, c.none.ensures.1);
+      bound = omega (arith, c.none.ensures.0, c.none.ensures.1);
       recorded = ap (λ (l : List Call). image_after l c.in_ok-zeros.field-0.items) c.new.ensures.items ∙ c.in_ok-zeros.ensures ∙ sym c.in_ok-zeros-2.ensures;
       kept = subst (λ (l : Image). ChangesWithin (IsFlagged c.in_ok-no_flags.field-0.items) now l) (c.in_ok-zeros-2.ensures ∙ sym c.in_ok-zeros-3.ensures) (changes_nothing (IsFlagged c.in_ok-no_flags.field-0.items) now);
     }

@@ -1,7 +1,7 @@
-use Rattle.std.proofs.Common.{List, slice_set, ◌∙◌, ap, arith}
+use Rattle.std.proofs.Common.{ℕ, List, length, slice_set, ◌∙◌, ap, inl, inr, ⊎_elim, arith}
 use Rattle.std.proofs.lemmas.List.{length-set}
 use Rattle.lift_disk.specs.Disk.{Image}
-use Rattle.lift_disk.specs.Memory.{image_after}
+use Rattle.lift_disk.specs.Memory.{image_after, with_zeros, front_bytes}
 use Rattle.lift_disk.specs.declared.call.Call.{Call}
 use Rattle.lift_disk.specs.declared.call.Call.TheVariants.{Write}
 use Rattle.lift_disk.proofs.History.{image_after-push, flagged_set, write_within, kept_write, write_goes_on, ok_items}
@@ -10,9 +10,22 @@ use Rattle.lift_disk.proofs.memory.MemDiskDisk.write.Goals as goal
 pub invariant_of-self-2-clause-recorded : goal.invariant_of-self-2-clause-recorded
 invariant_of-self-2-clause-recorded c =
     let m = c.args.self.now in
-    ap (λ (l : List Call). image_after l m.first.items) (ok_items c.note_write.result (c.is_err.ensures.value) c.if-is_err.false c.note_write.ensures.ok)
-    ∙ image_after-push m.history.items (Write c.args.sector c.args.bytes.now) m.first.items
-    ∙ ap (λ (l : Image). slice_set l c.args.sector c.args.bytes.now) m.recorded
+    let noted = ok_items c.note_write.result c.is_err.ensures.value c.if-is_err.false c.note_write.ensures.ok in
+    ap (λ (l : List Call). image_after l m.first.items) noted.2
+    ∙ image_after-push m.history.items (Write c.args.sector noted.0) m.first.items
+    ∙ ap (λ (l : Image). slice_set l c.args.sector (with_zeros (front_bytes noted.0))) m.recorded
+    ∙ ap (λ (b : List ℕ). slice_set m.image.items c.args.sector b) noted.1
+
+pub invariant_of-self-2-clause-spanned : goal.invariant_of-self-2-clause-spanned
+invariant_of-self-2-clause-spanned c = λ i is.
+    let m = c.args.self.now in
+    c.with-self.ensures.holds i (⊎_elim (λ was. inl (m.spanned i was)) (λ same. inr same) ((flagged_set m.loose.items c.args.sector i (omega (arith, m.sized))).0 is))
+
+pub invariant_of-self-2-clause-bound : goal.invariant_of-self-2-clause-bound
+invariant_of-self-2-clause-bound c =
+    let m = c.args.self.now in
+    let old = c.with-self.ensures.bound (length m.image.items) m.bound c.requires in
+    omega (arith, old, length-set m.image.items c.args.sector c.args.bytes.now)
 
 pub invariant_of-self-2-clause-kept : goal.invariant_of-self-2-clause-kept
 invariant_of-self-2-clause-kept c =
@@ -22,9 +35,10 @@ invariant_of-self-2-clause-kept c =
 pub returns-clause-goes_on : goal.returns-clause-goes_on
 returns-clause-goes_on c =
     let m = c.args.self.now in
+    let noted = ok_items c.note_write.result c.is_err.ensures.value c.if-is_err.false c.note_write.ensures.ok in
     write_goes_on m.first.items m.history.items m.image.items m.synced.items m.loose.items m.is_steady m.is_short m.failures.count m.calls.count m.writes.count
-    c.args.sector c.args.bytes.now c.note_write.new.calls.items _ _
-    (omega (arith, m.sized)) (ok_items c.note_write.result (c.is_err.ensures.value) c.if-is_err.false c.note_write.ensures.ok) c.next-self.ensures
+    c.args.sector c.args.bytes.now noted.0 c.note_write.new.calls.items _ _
+    (omega (arith, m.sized)) noted.2 c.next-self.ensures
 
 pub returns-clause-touched : goal.returns-clause-touched
 returns-clause-touched c honest =

@@ -2,7 +2,7 @@ use Rattle.std.proofs.Common.{◌≡◌, ℕ, List, length}
 use Rattle.std.specs.Io.KnownBytes.{Appends}
 use denote.Text.{Utf8}
 use denote.Shadow.{shadow}
-use Rattle.lift_replay.proofs.script.run_lines.Given as goal
+use Rattle.lift_replay.proofs.script.add_lines.Given as goal
 
 abbrev pub invariant-loop-place : goal.invariant-loop-place
 invariant-loop-place g l = record {

@@ -1,4 +1,4 @@
-use Rattle.std.proofs.Common.{All, map, take, List, sym, subst}
+use Rattle.std.proofs.Common.{All, take, List, sym, subst}
 use Rattle.std.proofs.lemmas.List.Elements.{All-take}
 use Rattle.lift_base.specs.declared.history.Entry.{Entry}
 use Rattle.lift_base.specs.declared.history.Record.{Record}
@@ -6,7 +6,7 @@ use Rattle.lift_base.specs.History.{record_of}
 use Rattle.lift_base.specs.Records.{IsRecord, IsLawful}
 use Rattle.lift_journal.specs.Order.{IsEntry}
 use Rattle.lift_replay.proofs.Records.{are_entries, are_lawful}
-use Rattle.lift_replay.proofs.station.records_of.Goals as goal
+use Rattle.lift_replay.proofs.station.put_records.Goals as goal
 
 pub returns-clause-lawful : goal.returns-clause-lawful
 returns-clause-lawful c =
