@@ -154,7 +154,7 @@ module _ (w : World) (terminal : ℕ) (k : Balances w terminal) where
       let same : count_by (is_answer_to terminal) (answer_of c ∷ []) ≡ owed terminal (c ∷ []) = refl in
       record { answers = (let a = k.answers in omega arith); hears = k.hears }
 
-balances : (terminal : ℕ) (w : World) (event : Event) → Balances w terminal → Balances (unwrap_or (next w event) w) terminal
+pub balances : (terminal : ℕ) (w : World) (event : Event) → Balances w terminal → Balances (unwrap_or (next w event) w) terminal
 balances terminal w event k =
     let zero_more : owed terminal [] ≡ 0 = refl in
     leads (λ (x : World). Balances x terminal) w event (record {

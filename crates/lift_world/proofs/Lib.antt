@@ -27,12 +27,14 @@ pub mod Cars
 pub mod Replayed
 pub mod Carried
 pub mod Beside
+pub mod Owing
 pub mod Ordered
 pub mod Relay
 pub mod Ahead
 pub mod Interleaved
 pub mod ScansAmong
 pub mod StandsOn
+pub mod Stays
 pub mod Policies
 pub mod Lawful
 pub mod Quiet

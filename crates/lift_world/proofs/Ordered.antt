@@ -141,7 +141,7 @@ pub none_owed : (terminal : ℕ) (cs : List Taken) → owed terminal cs ≡ 0 �
 none_owed terminal [] h = tt
 none_owed terminal (c ∷ cs) h = let n = none_by terminal c cs (eqb c.terminal terminal) refl h in (n.1, none_owed terminal cs n.0)
 
-are_apart : (cs : List Taken) → ((terminal : ℕ) → owed terminal cs ≤ 1) → AreApart cs
+pub are_apart : (cs : List Taken) → ((terminal : ℕ) → owed terminal cs ≤ 1) → AreApart cs
 are_apart [] one = tt
 are_apart (c ∷ cs) one = (
   none_owed c.terminal cs (let a = count_cons (is_taken_of c.terminal) c true (eq-eqb c.terminal c.terminal refl) cs in let o = one c.terminal in omega arith),

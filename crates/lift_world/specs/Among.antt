@@ -1,5 +1,5 @@
 -- An allocator and a flusher work at the same time, and terminals beside them: their events come among one another.
-use Rattle.std.specs.Prelude.{ℕ, ◌≡◌, ◌≢◌, ◌≤◌, Bool, true, false, not, ◌||◌, List, [], ◌∷◌, ◌++◌, length, map, filter, count_by, Option, Some, IsSome, IsTrue, unwrap_or}
+use Rattle.std.specs.Prelude.{ℕ, ◌≡◌, ◌≢◌, ◌≤◌, ◌<◌, Bool, true, false, not, ◌||◌, List, [], ◌∷◌, ◌++◌, length, map, filter, find, reverse, count_by, Option, Some, IsSome, IsTrue, unwrap_or}
 use Rattle.std.specs.List.{AllByRecursion}
 use Rattle.lift_base.specs.declared.command.Body.{Body}
 use Rattle.lift_base.specs.declared.command.Reply.{Reply}
@@ -7,10 +7,12 @@ use Rattle.lift_policy.specs.Eligible.{any_eligible}
 use Rattle.lift_policy.specs.Step.{State}
 use Rattle.lift_policy.specs.Run.{Run}
 use Rattle.lift_policy.specs.declared.command.Command.{Command}
+use Rattle.lift_world.specs.declared.event.Kept.{Kept}
+use Rattle.lift_world.specs.declared.event.Taken.{Taken}
 use Rattle.lift_world.specs.declared.event.Event.{Event}
-use Rattle.lift_world.specs.declared.event.Event.TheVariants.{Ask, Take, Seal, Pull}
-use Rattle.lift_world.specs.World.{World, state_of}
-use Rattle.lift_world.specs.Next.{next, goes}
+use Rattle.lift_world.specs.declared.event.Event.TheVariants.{Ask, Take, Seal, Pull, Cut}
+use Rattle.lift_world.specs.World.{World, is_off, is_answer_to, asks, state_of}
+use Rattle.lift_world.specs.Next.{next, goes, unanswered}
 use Rattle.lift_world.specs.Tie.{Finds}
 use Rattle.lift_world.specs.Headline.{HearsInOrder, AsksOneByOne}
 use Rattle.lift_world.specs.Turns.{scanned}
@@ -57,15 +59,35 @@ is_beside event = is_of_terminals event || is_flushers event
 abbrev pub AreBeside : List Event → Type 0
 AreBeside events = AllByRecursion (λ (e : Event). IsTrue (is_beside e)) events
 
--- An ask stands as soon as it is made, where at most four batches are queued: a look finds it.
-abbrev pub AsksStandAtOnce : World → Type 0
-AsksStandAtOnce w = (terminal number : ℕ) (body : Body) (after : World) → HearsInOrder w → AsksOneByOne w terminal → length w.queue ≤ 4
-    → next w (Ask terminal number body) ≡ Some after → Finds after terminal (record { terminal = terminal; number = number; body = body })
+-- The terminal's ask stands: it asked more than it was answered, nothing of it is on its way, and what it asked last is
+-- this command.
+pub record StandsAsk (w : World) (terminal : ℕ) (command : Command) : Type 0 where
+  pub powered : is_off w.power ≡ false
+  pub asks_more : count_by (is_answer_to terminal) w.answered < count_by (asks terminal) w.asked
+  pub not_taken : AllByRecursion (λ (c : Taken). c.terminal ≢ terminal) (unanswered w)
+  pub asked_last : find (asks terminal) (reverse w.asked) ≡ Some command
 
--- And it stands on, whatever terminals and the flusher do.
+-- An ask stands as soon as it is made, however many batches are queued.
+abbrev pub AsksStandAtOnce : World → Type 0
+AsksStandAtOnce w = (terminal number : ℕ) (body : Body) (after : World) → HearsInOrder w → AsksOneByOne w terminal
+    → next w (Ask terminal number body) ≡ Some after → StandsAsk after terminal (record { terminal = terminal; number = number; body = body })
+
+-- And it stands on, whatever comes but a take of that terminal or a power cut.
 abbrev pub AsksStandOn : World → Type 0
-AsksStandOn w = (terminal : ℕ) (command : Command) (event : Event) (after : World) → HearsInOrder w → Finds w terminal command → IsTrue (is_beside event)
-    → next w event ≡ Some after → Finds after terminal command
+AsksStandOn w = (terminal : ℕ) (command : Command) (event : Event) (after : World) → HearsInOrder w → StandsAsk w terminal command
+    → ((letter : Option ℕ) → event ≢ Take terminal letter) → ((kept : Kept) → event ≢ Cut kept)
+    → next w event ≡ Some after → StandsAsk after terminal command
+
+-- A look finds an ask exactly where it stands and at most four batches are queued.
+pub record LooksFindAsks (w : World) (terminal : ℕ) (command : Command) : Type 0 where
+  pub stands : Finds w terminal command → StandsAsk w terminal command
+  pub few_queued : Finds w terminal command → length w.queue ≤ 4
+  pub finds : StandsAsk w terminal command → length w.queue ≤ 4 → Finds w terminal command
+
+-- The queue grows by seals alone: so an ask that a look finds is found until it is taken, something is sealed or the power
+-- is cut.
+abbrev pub SealsAloneQueue : World → Type 0
+SealsAloneQueue w = (event : Event) (after : World) → event ≢ Seal → next w event ≡ Some after → length after.queue ≤ length w.queue
 
 -- a look of a scan: what others did since the look before it, and the ask that it finds
 pub record Look : Type 0 where

@@ -11,6 +11,7 @@ pub mod Asking
 pub mod Beside
 pub mod Relay
 pub mod Among
+pub mod Stays
 pub mod Policies
 pub mod Lawful
 pub mod Due

@@ -11,7 +11,8 @@ ghost use Rattle.lift_world.specs.Possible.{AsksOnceHeard, HearsTheNext, TakesNe
 ghost use Rattle.lift_world.specs.Asking.{AsksStand};
 ghost use Rattle.lift_world.specs.Beside.{GoesAreRuns, RunsJoin, TerminalsPass};
 ghost use Rattle.lift_world.specs.Relay.{IsQueueInOrder, AllocationsAreEvents, FullQueueWaits, FlushesAreEvents, FailedFlushesAreEvents, BrokenFlushesAreEvents, TurnsMeet, PartsMeet, FlusherPassesScans, FlusherComesFirst, FlusherPassesSeals};
-ghost use Rattle.lift_world.specs.Among.{FlusherMightComeFirst, FlusherGoesAmong, AsksStandAtOnce, AsksStandOn, ScansGoAmong, AllocationsGoAmong};
+ghost use Rattle.lift_world.specs.Among.{FlusherMightComeFirst, FlusherGoesAmong, AsksStandAtOnce, AsksStandOn, LooksFindAsks, SealsAloneQueue, ScansGoAmong, AllocationsGoAmong};
+ghost use Rattle.lift_world.specs.Stays.{StaysBetweenScans, StaysBetweenFlushes, StaysBrokenBetween, StaysInOrder, HearsOnInOrder, AsksOnOneByOne, RestsInOrder};
 ghost use Rattle.lift_world.specs.Lawful.{IsTypedEvent, RecoversRecords, AcceptsFitting, AcceptsRecords};
 ghost use Rattle.lift_world.specs.Policies.{StepsAreAny, RunsAreAny};
 ghost use Rattle.lift_world.specs.Due.{DueOnceSafe};
@@ -32,9 +33,9 @@ use lift_policy::Policy;
 /// refused for no entry. All that was accepted fits, one entry after another, and is a record of the journal where asks are
 /// as their types hold them. What is acknowledged or shown is read from what was given, and each stored answer is that of
 /// a command given. Each terminal asks one by one, and hears what it was answered, in order and each once. At most five
-/// batches are queued, none of more commands or entries than there are terminals; between batches none is in flight, and a
-/// reopening while nothing failed unplaces the cars alone; a cut leaves no command on its way; and what is sealed is a front
-/// of what is accepted, which a scan's law asks for.
+/// batches are queued, none of more commands than there are terminals, nor, while running, of more entries; between batches
+/// none is in flight, and a reopening while nothing failed unplaces the cars alone; a cut leaves no command on its way; and
+/// what is sealed is a front of what is accepted, which a scan's law asks for.
 pub fn every_run()
     ensures prefix { (building : Plan) (events : List Event) → IsBuilding building
         → RecoversPrefix (run events (start building)) }
@@ -157,15 +158,32 @@ pub fn relays_are_events()
 
 /// The parts among one another. Whatever the flusher does among others' events it might have done first, and whatever it can
 /// do alone it can do among them, wherever they come: so each turn of it above is possible in every interleaving. An ask
-/// stands as soon as it is made and until it is taken. An allocator's scan and its seal go on among the events of terminals
-/// and of the flusher, and leave what these leave alone, with what was decided.
+/// stands as soon as it is made and until it is taken, or a power cut empties the words; a look finds it exactly where at
+/// most four batches are queued, and the queue grows by seals alone. An allocator's scan and its seal go on among the events
+/// of terminals and of the flusher, and leave what these leave alone, with what was decided.
 pub fn parts_interleave()
     ensures first { (w : World) → FlusherMightComeFirst w }
     ensures flushes { (w : World) → FlusherGoesAmong w }
     ensures asked { (w : World) → AsksStandAtOnce w }
     ensures stands { (w : World) → AsksStandOn w }
+    ensures looks { (w : World) (terminal : ℕ) (command : Command) → LooksFindAsks w terminal command }
+    ensures queue { (w : World) → SealsAloneQueue w }
     ensures scans { (w : World) → ScansGoAmong w }
     ensures allocations { (w : World) → AllocationsGoAmong w }
+{}
+
+/// Where a part is, the others leave it: the allocator between two scans until something is taken, and the flusher between
+/// two turns, whole or broken, until a cut or a reopening. A queue in order stays so, and terminals go on to hear in order
+/// and to ask one by one, over every event and in whatever world that was so, also one that no run of events from an empty
+/// journal leads to; and at rest the queue is in order.
+pub fn parts_stay()
+    ensures scans { (w : World) → StaysBetweenScans w }
+    ensures flushes { (w : World) → StaysBetweenFlushes w }
+    ensures broken { (w : World) → StaysBrokenBetween w }
+    ensures in_order { (w : World) → StaysInOrder w }
+    ensures heard { (w : World) → HearsOnInOrder w }
+    ensures asked { (w : World) → AsksOnOneByOne w }
+    ensures rest { (w : World) → RestsInOrder w }
 {}
 
 /// What terminals do at other moments passes through. Wherever asks and hears come among the events of a turn or of a
