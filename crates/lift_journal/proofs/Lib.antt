@@ -10,6 +10,7 @@ pub mod Walks
 pub mod Looking
 pub mod Seeing
 pub mod Refusing
+pub mod Refusals
 pub mod Standing
 pub mod Stopping
 pub mod Formats

@@ -53,3 +53,5 @@ pub record Refuses (old new : DiskState) (fault : JournalFault) : Type 0 where
   pub saved : SavesAsRead old new
   pub cause : RefusedFor fault old new
   pub told : FailsBy fault old new
+  -- an image that holds batches is refused for a failed call alone
+  pub good : old.is_honest → (shape : Shape) (batches : List Batch) → Holds shape batches new.image → fault ≡ Disk

@@ -1,11 +1,12 @@
 //! Batches of records, each in the journal whole or not at all.
-ghost use Rattle.std.specs.Prelude.{◌≡◌, ◌≤◌, ◌<◌, ◌+◌, ◌-◌, ◌++◌, ◌⊎◌, ◌↔◌, List, [], ◌∷◌, IsTrue, length, OnOk, true, false, not, All, Ok, Err, IsErrOf, IfOk, IfErr, OnErr};
+ghost use Rattle.std.specs.Prelude.{ℕ, ◌≡◌, ◌≤◌, ◌<◌, ◌+◌, ◌-◌, ◌++◌, ◌⊎◌, ◌↔◌, List, [], ◌∷◌, IsTrue, length, OnOk, true, false, not, All, Ok, Err, IsErrOf, IfOk, IfErr, OnErr};
 ghost use Rattle.lift_base.specs.declared.history.Record.{Record as RecordValue};
+ghost use Rattle.lift_base.specs.History.{IsWithinLimits};
 ghost use Rattle.lift_base.specs.Records.{IsLawful};
 ghost use Rattle.lift_disk.specs.Disk.{LeavesNow, LeavesOnly, MayLeave, IsSynced, Image, RunsOn};
 ghost use Rattle.lift_register.specs.Base.{base_records};
 ghost use Rattle.lift_journal.specs.Checkpoint.{checkpoint_of, sectors_for};
-ghost use Rattle.lift_journal.specs.Layout.{bodies, Batch, new_batch, Holds, Picks, used};
+ghost use Rattle.lift_journal.specs.Layout.{bodies, Batch, new_batch, records_of, Holds, Picks, used};
 ghost use Rattle.std.specs.Option.{option_map};
 ghost use Rattle.lift_journal.specs.Order.{IsEntry};
 ghost use Rattle.lift_journal.specs.Steps.{Makes, ReadsOnly, IsSyncedAt};
@@ -79,7 +80,8 @@ impl<D: Disk> Journal<D> {
 
     /// The installation that the device was formatted for.
     pub fn shape(&self) -> Shape
-        ensures { result ≡ self.now.shape }
+        ensures value { result ≡ self.now.shape }
+        ensures within { IsWithinLimits result }
     {
         self.shape
     }
@@ -219,6 +221,10 @@ impl<D: Disk> Journal<D> {
         ensures switched { OnOk result (self.new.is_second ≡ not self.old.is_second) }
         ensures kept { OnErr result ((self.new.is_second ≡ self.old.is_second) × (self.new.used ≡ self.old.used)) }
         ensures used { OnOk result (self.new.used ≡ sectors_for (length (base_records register.now))) }
+        // Behind a checkpoint any batch has room.
+        ensures roomy { OnOk result ((count : ℕ) → self.new.used + bodies count + 2 ≤ self.new.shape.half) }
+        ensures joined { records_of (checkpoint_of (base_records register.now)) ≡ base_records register.now }
+        ensures counted { self.old.is_broken ≡ false → used (checkpoint_of (base_records register.now)) ≡ sectors_for (length (base_records register.now)) }
         ensures failed { IsErrOf result JournalFault.Disk → (D.state self.old.device).failures < (D.state self.new.device).failures }
         ensures breaks { IsErrOf result JournalFault.Disk → self.new.is_broken ≡ true }
         ensures whole { OnOk result ((D.state self.new.device).failures ≡ (D.state self.old.device).failures) }

@@ -2,3 +2,8 @@ pub mod Decider
 pub mod Fault
 pub mod Recovery
 pub mod Opening
+pub mod Images
+pub mod Cuts
+pub mod Writer
+pub mod Reopening
+pub mod Keeper

@@ -104,6 +104,13 @@ impl<'b> Decider<'b> {
         self.group.batch.len()
     }
 
+    /// The batch so far.
+    pub(crate) fn batch(&self) -> &ArrayVec<Entry, 63>
+        ensures { result.now.items ≡ self.now.state.batch }
+    {
+        &self.group.batch
+    }
+
     /// Gives the batch out, and keeps the register and the positions.
     pub fn seal(&mut self) -> ArrayVec<Entry, 63>
         ensures batch { result.items ≡ self.old.state.batch }

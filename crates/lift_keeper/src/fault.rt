@@ -1,6 +1,8 @@
 //! Why a call of the keeper is refused.
 
-ghost use Rattle.std.specs.Prelude.{◌≡◌, ◌≤◌};
+ghost use Rattle.std.specs.Prelude.{◌≡◌, ◌↔◌, IsTrue};
+ghost use Rattle.lift_journal.specs.declared.fault.JournalFault.TheVariants.{Disk};
+ghost use Rattle.lift_keeper.specs.declared.fault.KeeperFault.TheVariants.{Journal};
 ghost use Rattle.lift_keeper.specs.Fault.{fault_number};
 
 use lift_journal::JournalFault;
@@ -26,5 +28,12 @@ impl KeeperFault {
             KeeperFault::OtherBuilding => 6,
             KeeperFault::BadEntry(_) => 7,
         }
+    }
+
+    /// Whether a call of the device has failed just now.
+    pub fn is_of_disk(self) -> bool
+        ensures { IsTrue result ↔ (self ≡ Journal Disk) }
+    {
+        matches!(self, KeeperFault::Journal(JournalFault::Disk))
     }
 }

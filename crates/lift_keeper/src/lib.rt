@@ -1,13 +1,19 @@
-//! Decides the commands of a lift group, gathers what they add, and recovers the register from a journal.
+//! Decides the commands of a lift group, makes what they add safe in a journal, and recovers the register from it.
 #![tactic(auto)]
 
+mod copies;
 mod decider;
 mod fault;
 mod group;
+mod keeper;
 mod opening;
 mod recovery;
 mod schedules;
+mod store;
+mod writer;
 
 pub use decider::Decider;
 pub use fault::KeeperFault;
+pub use keeper::Keeper;
 pub use opening::recover;
+pub use writer::Writer;

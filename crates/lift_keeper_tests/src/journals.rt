@@ -20,9 +20,36 @@ kiosks = [0, 2]
 flight = [[0, 3000, 4000, 5000], [3000, 0, 3000, 4000], [4000, 3000, 0, 3000], [5000, 4000, 3000, 0]]
 ";
 
-/// The building with so many cars for 8 persons.
+/// Ten floors, kiosks on floors 0 and 5; a flight takes 2,000 ms and 1,000 ms for each floor. The cars follow.
+pub(crate) const DEMO_FLOORS: &str = "\
+floors = 10
+door_ms = 6000
+kiosks = [0, 5]
+flight = [
+[0,3000,4000,5000,6000,7000,8000,9000,10000,11000],
+[3000,0,3000,4000,5000,6000,7000,8000,9000,10000],
+[4000,3000,0,3000,4000,5000,6000,7000,8000,9000],
+[5000,4000,3000,0,3000,4000,5000,6000,7000,8000],
+[6000,5000,4000,3000,0,3000,4000,5000,6000,7000],
+[7000,6000,5000,4000,3000,0,3000,4000,5000,6000],
+[8000,7000,6000,5000,4000,3000,0,3000,4000,5000],
+[9000,8000,7000,6000,5000,4000,3000,0,3000,4000],
+[10000,9000,8000,7000,6000,5000,4000,3000,0,3000],
+[11000,10000,9000,8000,7000,6000,5000,4000,3000,0]]
+";
+
+/// The ten floors with so many cars for 8 persons.
+pub(crate) fn demo(alloc: Global, cars: u32) -> Result<Building, Fail> {
+    with_cars(alloc, DEMO_FLOORS, cars)
+}
+
+/// The four floors with so many cars for 8 persons.
 pub(crate) fn building(alloc: Global, cars: u32) -> Result<Building, Fail> {
-    let mut text = String::from_str(alloc, FLOORS)?;
+    with_cars(alloc, FLOORS, cars)
+}
+
+fn with_cars(alloc: Global, floors: &str, cars: u32) -> Result<Building, Fail> {
+    let mut text = String::from_str(alloc, floors)?;
     for _car in 0..cars {
         text.push_str("[[cars]]\nplaces = 8\n")?;
     }

@@ -1,7 +1,11 @@
-//! The tests of `lift_keeper`: registers found again in journals.
+//! The tests of `lift_keeper`: batches made safe, and registers found again in journals.
 #![tactic(auto)]
 
 #[cfg(test)]
 mod journals;
+#[cfg(test)]
+mod keeping;
+#[cfg(test)]
+mod openings;
 #[cfg(test)]
 mod recoveries;

@@ -1,4 +1,5 @@
 use Rattle.lift_journal.proofs.Looking.{cause_told}
+use Rattle.lift_journal.proofs.Refusals.{good_refusal}
 use Rattle.lift_journal.proofs.Standing.{opens, picks_synced}
 use Rattle.lift_journal.proofs.journal.Journal.open.Goals as goal
 
@@ -17,6 +18,7 @@ returns-in-Err-clause-refused g c = record {
   saved = c.find_place.ensures.only.saved;
   cause = c.in-Err.ensures.refused;
   told = cause_told c.in-Err.fault (g.D.Disk.state c.args.disk) (g.D.Disk.state c.find_place.new.disk) c.in-Err.ensures.cause;
+  good = good_refusal c.in-Err.fault (g.D.Disk.state c.args.disk) (g.D.Disk.state c.find_place.new.disk) c.in-Err.ensures.refused;
 }
 
 pub returns-in-Ok-clause-half : goal.returns-in-Ok-clause-half

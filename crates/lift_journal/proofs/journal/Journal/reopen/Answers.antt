@@ -1,6 +1,8 @@
 use Rattle.std.proofs.Common.{◌-◌, subst}
 use Rattle.lift_journal.specs.Journal.{JournalView}
-use Rattle.lift_journal.specs.Opening.{Opens}
+use Rattle.lift_journal.specs.Opening.{Opens, Refuses}
+use Rattle.lift_journal.proofs.Looking.{cause_told}
+use Rattle.lift_journal.proofs.Refusals.{good_refusal}
 use Rattle.lift_journal.proofs.Standing.{opens, picks_synced}
 use Rattle.lift_journal.proofs.journal.Journal.reopen.Goals as goal
 
@@ -17,3 +19,19 @@ returns-in-Ok-clause-half g c =
     let place = c.in-Ok.place in
     picks_synced place.shape place.start place.gate place.number (g.D.Disk.state c.find_place.new.disk)
     (λ honest_new. c.in-Ok.ensures.stands (c.find_place.ensures.only.runs.honest.0 honest_new))
+
+pub returns-else-is_of_disk-clause-refused : goal.returns-else-is_of_disk-clause-refused
+returns-else-is_of_disk-clause-refused g c =
+    let old = g.D.Disk.state c.self.inside.device in
+    let new = g.D.Disk.state c.find_place.new.disk in
+    let made : Refuses old new c.in-Err.fault = record {
+      moments = c.find_place.ensures.only.touched.moments;
+      runs = c.find_place.ensures.only.runs;
+      writes = c.find_place.ensures.only.writes;
+      image = c.find_place.ensures.only.image;
+      saved = c.find_place.ensures.only.saved;
+      cause = c.in-Err.ensures.refused;
+      told = cause_told c.in-Err.fault old new c.in-Err.ensures.cause;
+      good = good_refusal c.in-Err.fault old new c.in-Err.ensures.refused;
+    } in
+    subst (λ (v : JournalView g.row.D.Denot). Refuses (g.D.Disk.state v.device) new c.in-Err.fault) c.self.view_is made

@@ -5,6 +5,7 @@ use Rattle.lift_register.specs.Base.{base_records}
 use Rattle.lift_journal.specs.Layout.{Batch, Holds}
 use Rattle.lift_journal.specs.Checkpoint.{batch_count, checkpoint_of, sectors_for}
 use Rattle.lift_journal.specs.Journal.{ReadsAs, StandsFor, JournalView, StandsAt}
+use Rattle.lift_journal.proofs.Checkpoints.{checkpoint_records, used_checkpoint}
 use Rattle.lift_journal.proofs.Replacing.{replace_picks, replace_second, replace_stops, other_inside, other_place, checkpoint_reads, replace_leaves, replace_lists, replace_holds, replace_stands}
 use Rattle.lift_journal.proofs.Standing.{holds_synced, same_batches}
 use Rattle.lift_journal.specs.Stops.{StopsCheckpoint}
@@ -156,3 +157,18 @@ returns-in-Ok-clause-told g c = record {
   ok = subst (λ (v : JournalView g.row.D.Denot). NoneFails (g.D.Disk.state v.device) (g.D.Disk.state c.write_checkpoint.new.disk)) c.self.view_is c.in-Ok.ensures.told.ok;
   err = tt;
 }
+
+pub returns-then-self-clause-joined : goal.returns-then-self-clause-joined
+returns-then-self-clause-joined g c = checkpoint_records (base_records c.args.register.now)
+
+pub returns-in-Ok-clause-joined : goal.returns-in-Ok-clause-joined
+returns-in-Ok-clause-joined g c = checkpoint_records (base_records c.args.register.now)
+
+pub returns-in-Err-clause-joined : goal.returns-in-Err-clause-joined
+returns-in-Err-clause-joined g c = checkpoint_records (base_records c.args.register.now)
+
+pub returns-in-Ok-clause-counted : goal.returns-in-Ok-clause-counted
+returns-in-Ok-clause-counted g c _ = used_checkpoint (base_records c.args.register.now) (omega (arith, c.base_len.ensures.limit.0, c.base_len.ensures.value))
+
+pub returns-in-Err-clause-counted : goal.returns-in-Err-clause-counted
+returns-in-Err-clause-counted g c _ = used_checkpoint (base_records c.args.register.now) (omega (arith, c.base_len.ensures.limit.0, c.base_len.ensures.value))

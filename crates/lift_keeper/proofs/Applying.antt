@@ -1,0 +1,67 @@
+-- Records and entries taken into a register, one after another.
+use Rattle.std.proofs.Common.{◌≡◌, ℕ, zero, suc, List, [], ◌∷◌, ◌++◌, Some, take, drop, map, All, ap, subst, arith}
+use Rattle.std.specs.Prelude.{slice_get}
+use Rattle.std.proofs.lemmas.List.Elements.{All-nil, All-cons, All-head, All-tail}
+use Rattle.lift_base.specs.History.{record_of}
+use Rattle.lift_base.specs.Records.{IsLawful}
+use Rattle.lift_base.specs.declared.history.Entry.{Entry}
+use Rattle.lift_base.specs.declared.history.Entry.TheVariants.{Allot, Stop}
+use Rattle.lift_base.specs.declared.history.Record.{Record}
+use Rattle.lift_building.specs.Plan.{Plan}
+use Rattle.lift_register.specs.Register.{RegisterState, register_of}
+use Rattle.lift_register.specs.Fits.{Fits, FitFrom}
+use Rattle.lift_register.specs.Base.{BaseFits, BaseFitFrom, with_record, with_records}
+use Rattle.lift_journal.specs.Order.{IsEntry}
+
+-- the record at one place of a checkpoint fits, and those behind it
+pub base_here : (plan : Plan) (register : RegisterState) (records : List Record) (k : ℕ) (next : Record) → slice_get records k ≡ Some next
+    → BaseFitFrom plan register (drop k records) → BaseFits plan register next × BaseFitFrom plan (with_record register next) (drop (suc k) records)
+base_here plan register [] k next is fit = absurd (cc is)
+base_here plan register (first ∷ records) zero next is fit =
+    let same : first ≡ next = cc is in
+    subst (λ (r : Record). BaseFits plan register r × BaseFitFrom plan (with_record register r) records) same fit
+base_here plan register (first ∷ records) (suc k) next is fit = base_here plan register records k next is fit
+
+pub base_next : (register : RegisterState) (records : List Record) (k : ℕ) (next : Record) → slice_get records k ≡ Some next
+    → with_records register (take (suc k) records) ≡ with_record (with_records register (take k records)) next
+base_next register [] k next is = absurd (cc is)
+base_next register (first ∷ records) zero next is = let same : first ≡ next = cc is in ap (with_record register) same
+base_next register (first ∷ records) (suc k) next is = base_next (with_record register first) records k next is
+
+-- the entry at one place fits, and those behind it
+pub entry_here : (plan : Plan) (register : RegisterState) (entries : List Entry) (k : ℕ) (next : Entry) → slice_get entries k ≡ Some next
+    → FitFrom plan register (drop k entries) → Fits plan register next × FitFrom plan (register_of register (next ∷ [])) (drop (suc k) entries)
+entry_here plan register [] k next is fit = absurd (cc is)
+entry_here plan register (first ∷ entries) zero next is fit =
+    let same : first ≡ next = cc is in
+    subst (λ (e : Entry). Fits plan register e × FitFrom plan (register_of register (e ∷ [])) entries) same fit
+entry_here plan register (first ∷ entries) (suc k) next is fit = entry_here plan register entries k next is fit
+
+pub entry_next : (entries : List Entry) (k : ℕ) (next : Entry) → slice_get entries k ≡ Some next → take (suc k) entries ≡ take k entries ++ next ∷ []
+entry_next [] k next is = absurd (cc is)
+entry_next (first ∷ entries) zero next is = let same : first ≡ next = cc is in ap (λ (e : Entry). e ∷ []) same
+entry_next (first ∷ entries) (suc k) next is = ap (λ (l : List Entry). first ∷ l) (entry_next entries k next is)
+
+-- what fits is lawful
+fits_lawful : (plan : Plan) (register : RegisterState) (entry : Entry) → Fits plan register entry → IsLawful (record_of entry)
+fits_lawful plan register (Allot kiosk number from to car party) fits = record { of_kiosk = fits.0.of_kiosk.0; numbered = omega (arith, fits.1); apart = fits.0.apart }
+fits_lawful plan register (Stop car number floor dir) fits = omega (arith, fits.1)
+
+pub all_lawful : (plan : Plan) (register : RegisterState) (entries : List Entry) → FitFrom plan register entries → All (λ (e : Entry). IsLawful (record_of e)) entries
+all_lawful plan register [] fit = All-nil (λ (e : Entry). IsLawful (record_of e))
+all_lawful plan register (entry ∷ entries) fit =
+    All-cons (λ (e : Entry). IsLawful (record_of e)) entry entries (fits_lawful plan register entry fit.0) (all_lawful plan (register_of register (entry ∷ [])) entries fit.1)
+
+-- the records of entries
+is_entry : (e : Entry) → IsEntry (record_of e)
+is_entry (Allot kiosk number from to car party) = tt
+is_entry (Stop car number floor dir) = tt
+
+pub are_entries : (entries : List Entry) → All IsEntry (map record_of entries)
+are_entries [] = All-nil IsEntry
+are_entries (e ∷ es) = All-cons IsEntry (record_of e) (map record_of es) (is_entry e) (are_entries es)
+
+pub are_lawful : (entries : List Entry) → All (λ (e : Entry). IsLawful (record_of e)) entries → All IsLawful (map record_of entries)
+are_lawful [] all = All-nil IsLawful
+are_lawful (e ∷ es) all =
+    All-cons IsLawful (record_of e) (map record_of es) (All-head (λ (x : Entry). IsLawful (record_of x)) e es all) (are_lawful es (All-tail (λ (x : Entry). IsLawful (record_of x)) e es all))

@@ -1,0 +1,37 @@
+use Rattle.std.proofs.Common.{false, refl, sym, ap, subst, arith}
+use Rattle.lift_base.specs.declared.history.Shape.{Shape}
+use Rattle.lift_keeper.specs.Reopening.{RefusesReopening}
+use Rattle.lift_keeper.proofs.Reopenings.{reopens, guards, refused_journal, refused_recovery}
+use Rattle.lift_keeper.proofs.Writers.{whole_writer}
+use Rattle.lift_journal.specs.Journal.{JournalView}
+use Rattle.lift_keeper.proofs.writer.Writer.open.Goals as goal
+
+pub returns-in-Err-clause-refused : goal.returns-in-Err-clause-refused
+returns-in-Err-clause-refused g c = refused_journal c.args.building.now (g.D.Disk.state c.args.disk) (g.D.Disk.state c.in-Err.disk) c.in-Err.fault c.in-Err.ensures.refused
+
+pub returns-in-Ok-recover-clause-opens : goal.returns-in-Ok-recover-clause-opens
+returns-in-Ok-recover-clause-opens g c =
+    let middle = c.in-Ok.journal in
+    let after = c.recover.new.journal in
+    let found = c.in-Ok-recover.ensures in
+    reopens c.args.building.now (g.D.Disk.state c.args.disk) (g.D.Disk.state middle.device) (g.D.Disk.state after.device) middle.shape middle.used
+    c.in-Ok.ensures.opens c.recover.ensures.reads c.in-Ok-recover.register found.shape found.is_read found.kept middle.is_second c.in-Ok.ensures.half after.shape.half after.is_second after.used
+    (ap (λ (s : Shape). s.half) c.recover.ensures.same.0) c.recover.ensures.second c.recover.ensures.same.1
+
+pub returns-in-Err-recover-clause-refused : goal.returns-in-Err-recover-clause-refused
+returns-in-Err-recover-clause-refused g c =
+    subst (λ (d : g.row.D.Denot). RefusesReopening c.args.building.now (g.D.Disk.state c.args.disk) (g.D.Disk.state d) c.in-Err-recover.fault) (sym c.into_disk.ensures)
+    (refused_recovery g.D.Disk.state c.args.building.now (g.D.Disk.state c.args.disk) c.in-Ok.journal c.recover.new.journal c.in-Ok.journal.used
+    c.in-Ok.ensures.opens c.in-Ok.ensures.whole c.recover.ensures.reads c.in-Err-recover.fault c.in-Err-recover.ensures.refused)
+
+pub invariant_of-result : goal.invariant_of-result
+invariant_of-result g c =
+    let middle = c.in-Ok.journal in
+    let after = c.recover.new.journal in
+    let found = c.in-Ok-recover.ensures in
+    let made = guards c.args.building.now (g.D.Disk.state c.args.disk) (g.D.Disk.state middle.device) (g.D.Disk.state after.device) middle.shape middle.used
+    c.in-Ok.ensures.opens c.recover.ensures.reads c.in-Ok-recover.register found.shape found.is_read found.kept middle.is_second c.in-Ok.ensures.half found.possible after.shape after.is_second after.used
+    c.recover.ensures.same.0 c.recover.ensures.second c.recover.ensures.same.1 in
+    let counted = ap (λ (j : JournalView g.row.D.Denot). (g.D.Disk.state j.device).failures) c.of-opened.ensures in
+    whole_writer c.args.building.now after c.in-Ok-recover.register c.of.result.value.items (g.D.Disk.state c.of-opened.result.value.device).failures false
+    (g.D.Disk.state after.device) refl made found.whole.1 (cc (c.of.ensures, c.new.ensures)) (omega (arith, counted))

@@ -1,0 +1,73 @@
+//! Registers copied, and batches taken into them.
+
+ghost use Rattle.std.specs.Prelude.{◌≡◌, ◌<◌, ◌++◌, length, All, map};
+ghost use Rattle.std.specs.Option.{option_to_list};
+ghost use Rattle.lift_base.specs.declared.history.Entry.{Entry as EntryValue};
+ghost use Rattle.lift_base.specs.History.{record_of};
+ghost use Rattle.lift_base.specs.Records.{IsLawful};
+ghost use Rattle.lift_register.specs.Register.{register_of};
+ghost use Rattle.lift_register.specs.Fits.{FitFrom};
+ghost use Rattle.lift_register.specs.Belongs.{BelongsTo};
+ghost use Rattle.lift_register.specs.Balanced.{IsBalanced};
+ghost use Rattle.lift_register.specs.WellFormed.{IsWellFormed};
+ghost use Rattle.lift_journal.specs.Order.{IsEntry};
+
+use arrayvec::ArrayVec;
+use lift_base::{Entry, Record};
+use lift_building::Building;
+use lift_register::Register;
+
+/// Another register with the same calls, last commands and count.
+pub fn copy_of(building: &Building, register: &Register) -> Register
+    requires belongs { BelongsTo building.now register.now }
+    requires balanced { IsBalanced register.now }
+    ensures value { result ≡ register.now }
+    ensures lawful { IsWellFormed result }
+{
+    let mut copy = Register::empty(building.shape(64));
+    for place in 0..register.base_len() {
+        copy.apply_base(building, &register.base_record(place));
+    }
+    copy
+}
+
+/// Takes these entries into a register, one after another.
+pub fn apply_all(register: &mut Register, building: &Building, entries: &[Entry])
+    requires fits { FitFrom building.now register.old entries.now }
+    requires balanced { IsBalanced register.old }
+    requires belongs { BelongsTo building.now register.old }
+    ensures value { register.new ≡ register_of register.old entries.now }
+    ensures lawful { IsWellFormed register.new }
+    ensures balanced { IsBalanced register.new }
+    ensures belongs { BelongsTo building.now register.new }
+{
+    let _done = register.done();
+    for entry in entries {
+        register.apply(building, entry);
+    }
+}
+
+/// Adds an item, if there is one.
+fn push_some<T: Copy>(list: &mut ArrayVec<T, 63>, item: Option<T>)
+    requires { length list.old.items < 63 }
+    ensures { list.new.items ≡ list.old.items ++ option_to_list item }
+{
+    if let Some(item) = item {
+        list.push(item);
+    }
+}
+
+/// The records that keep these entries.
+pub fn records_of(batch: &ArrayVec<Entry, 63>) -> ArrayVec<Record, 63>
+    requires lawful { All (λ (e : EntryValue). IsLawful (record_of e)) batch.now.items }
+    ensures kept { result.items ≡ map record_of batch.now.items }
+    ensures length { length result.items ≡ length batch.now.items }
+    ensures lawful { All IsLawful result.items }
+    ensures entries { All IsEntry result.items }
+{
+    let mut records = ArrayVec::new();
+    for place in 0..batch.len() {
+        push_some(&mut records, Some(Record::of_entry(&batch[place])));
+    }
+    records
+}

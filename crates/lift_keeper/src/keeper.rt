@@ -1,0 +1,264 @@
+//! Decisions, and the batch that makes them safe.
+
+ghost use Rattle.std.specs.Prelude.{◌≡◌, ◌<◌, ◌≤◌, ◌+◌, ◌⊎◌, ◌↔◌, [], length, true, false, Ok, Err, IfOk, IfErr, OnOk, OnErr};
+ghost use Rattle.lift_disk.specs.Disk.{LeavesNow, LeavesOnly, RunsOn};
+ghost use Rattle.lift_register.specs.Register.{register_of};
+ghost use Rattle.lift_register.specs.WellFormed.{IsWellFormed};
+ghost use Rattle.lift_register.specs.Belongs.{BelongsTo};
+ghost use Rattle.lift_register.specs.Balanced.{IsBalanced};
+ghost use Rattle.lift_policy.specs.View.{positions_of, AreSchedulesOf};
+ghost use Rattle.lift_policy.specs.Step.{Step, view_of};
+ghost use Rattle.lift_journal.specs.Steps.{Makes};
+ghost use Rattle.lift_journal.specs.Told.{NoneFails};
+ghost use Rattle.lift_keeper.specs.Decider.{starting};
+ghost use Rattle.lift_keeper.specs.Images.{IsImageOf, IsImageIn, IsInDoubt};
+ghost use Rattle.lift_keeper.specs.Reopening.{Reopens, RefusesReopening, FailsBy};
+ghost use Rattle.lift_keeper.specs.Writer.{StopsCommit, commit_calls, commit_writes, commit_used, commit_second};
+
+use crate::copies::copy_of;
+use crate::decider::Decider;
+use crate::fault::KeeperFault;
+use crate::writer::Writer;
+use lift_base::{Body, Number, Reply, Terminal};
+use lift_building::Building;
+use lift_disk::{Arm, Disk};
+use lift_journal::JournalFault;
+use lift_policy::{Policy, View, decisions_keep};
+use lift_register::Register;
+use lift_stops::Schedule;
+use std::marker::Model;
+
+/// Decides commands, and makes what they add safe on a device.
+#[derive(Drop)]
+pub struct Keeper<'b, D: Disk> {
+    decider: Decider<'b>,
+    writer: Writer<'b, D>,
+}
+
+impl<'b, D: Disk> Model for Keeper<'b, D> {
+    ghost use Rattle.lift_keeper.specs.Keeper.{KeeperView, IsKeeper};
+
+    ghost Value = { KeeperView D };
+
+    ghost view = { λ k. record { state = k.decider.state; writer = k.writer } };
+
+    ghost invariant = { λ k. IsKeeper k.writer.plan k.decider.state k.decider.plan k.writer.register k.writer.is_broken };
+}
+
+impl<'b, D: Disk> Keeper<'b, D> {
+    /// Opens a device that a crash may have left, with the building that its journal is of: the recovery. It writes
+    /// nothing. No car has told where it is. An `Err` hands the device back.
+    ///
+    /// `Journal` with the journal's faults 1 to 3, then `OtherBuilding`, then `BadEntry`; `Journal(Disk)` comes at the
+    /// call that failed.
+    pub fn open(disk: D, building: &'b Building) -> Result<Self, (D, KeeperFault)>
+        ensures opens { IfOk result (λ keeper. Reopens building.now (D.state disk) (D.state keeper.writer.device) keeper.writer.register keeper.writer.half keeper.writer.is_second keeper.writer.used) }
+        ensures state { IfOk result (λ keeper. keeper.state ≡ starting keeper.writer.register) }
+        ensures plan { IfOk result (λ keeper. keeper.writer.plan ≡ building.now) }
+        ensures whole { IfOk result (λ keeper. (keeper.writer.is_broken ≡ false) × (keeper.writer.doubt ≡ [])) }
+        ensures opened { IfOk result (λ keeper. keeper.writer.opened ≡ (D.state keeper.writer.device).failures) }
+        ensures refused { IfErr result (λ err. RefusesReopening building.now (D.state disk) (D.state err.0) err.1) }
+    {
+        match Writer::open(disk, building) {
+            Ok(writer) => {
+                let register = copy_of(building, writer.register());
+                let decider = Decider::of(building, register);
+                Ok(Keeper { decider, writer })
+            }
+            Err(refused) => Err(refused),
+        }
+    }
+
+    /// Whether a call of the device has failed, and no reopening has succeeded since.
+    pub fn is_broken(&self) -> bool
+        ensures value { result ≡ self.now.writer.is_broken }
+        ensures failed { self.now.writer.is_broken ≡ true → self.now.writer.opened < (D.state self.now.writer.device).failures }
+    {
+        self.writer.is_broken()
+    }
+
+    /// How many entries the batch has, at most 63.
+    pub fn pending(&self) -> usize
+        ensures value { result ≡ length self.now.state.batch }
+        ensures limit { result ≤ 63 }
+    {
+        self.decider.pending()
+    }
+
+    /// What it shows of the calls: those of all entries that were accepted, also of those that aren't safe yet.
+    pub fn register(&self) -> &Register
+        ensures value { result.now ≡ self.now.state.register }
+        ensures lawful { IsWellFormed result.now }
+        ensures belongs { BelongsTo self.now.writer.plan result.now }
+        ensures balanced { IsBalanced result.now }
+        ensures ahead { self.now.writer.is_broken ≡ false → result.now ≡ register_of self.now.writer.register self.now.state.batch }
+    {
+        self.decider.register()
+    }
+
+    /// The register that is safe: every crash leaves an image that reads as it. Of a broken keeper, the register that was
+    /// safe before the fault, and a crash leaves all of the batch in doubt or nothing.
+    pub fn safe_register(&self) -> &Register
+        ensures value { result.now ≡ self.now.writer.register }
+        ensures safe { self.now.writer.is_broken ≡ false → LeavesNow (D.state self.now.writer.device) (IsImageOf self.now.writer.plan result.now) }
+        ensures in_doubt { self.now.writer.is_broken ≡ true → LeavesNow (D.state self.now.writer.device) (IsInDoubt self.now.writer.plan result.now self.now.writer.doubt) }
+        ensures placed { self.now.writer.is_broken ≡ false
+            → LeavesNow (D.state self.now.writer.device) (IsImageIn self.now.writer.plan self.now.writer.half self.now.writer.is_second self.now.writer.used result.now) }
+    {
+        self.writer.register()
+    }
+
+    /// The schedules of the cars that have told where they are, each with its car's open calls: their positions, and where
+    /// they stop.
+    pub fn positions(&self) -> &[Option<Schedule>; 16]
+        ensures positions { positions_of result.now ≡ self.now.state.positions }
+        ensures own { AreSchedulesOf self.now.state.register result.now }
+    {
+        self.decider.schedules()
+    }
+
+    /// What a policy sees.
+    pub fn view(&self) -> View
+        ensures { result ≡ view_of self.now.state }
+    {
+        self.decider.view()
+    }
+
+    /// Decides a command: one decision of the rules, where this policy names the car of a new call. A new call or stop
+    /// joins the batch, which must have room for it.
+    pub fn decide<P: Policy>(
+        &mut self,
+        terminal: Terminal,
+        number: Number,
+        body: &Body,
+        policy: &P,
+    ) -> Reply
+        requires whole { self.old.writer.is_broken ≡ false }
+        requires room { length self.old.state.batch < 63 }
+        ensures step { Step self.old.writer.plan (P.chooses policy.now) self.old.state terminal number body.now result self.new.state }
+        ensures grows { length self.new.state.batch ≤ length self.old.state.batch + 1 }
+        ensures writer { self.new.writer ≡ self.old.writer }
+    {
+        decisions_keep(policy);
+        let _safe = self.writer.register();
+        self.decider.decide(terminal, number, body, policy)
+    }
+
+    /// Makes the batch safe, and begins another.
+    pub fn commit(&mut self) -> Result<(), KeeperFault>
+        // A crash at any moment of the call leaves the register that was safe before it, or that with the batch.
+        ensures any_moment { self.old.writer.is_broken ≡ false → LeavesOnly (D.state self.old.writer.device) (D.state self.new.writer.device)
+            (IsInDoubt self.old.writer.plan self.old.writer.register self.old.state.batch) }
+        ensures acknowledged { OnOk result (LeavesNow (D.state self.new.writer.device) (IsImageOf self.old.writer.plan self.old.state.register)) }
+        ensures register { OnOk result (self.new.writer.register ≡ self.old.state.register) }
+        ensures begins { OnOk result (self.new.state ≡ record self.old.state { batch = [] }) }
+        ensures in_doubt { result ≡ Err (KeeperFault.Journal JournalFault.Disk)
+            → LeavesNow (D.state self.new.writer.device) (IsInDoubt self.old.writer.plan self.old.writer.register self.old.state.batch) }
+
+        ensures broken { (result ≡ Err (KeeperFault.Journal JournalFault.Broken)) ↔ (self.old.writer.is_broken ≡ true) }
+        ensures rests { self.old.writer.is_broken ≡ true → self.new ≡ self.old }
+        ensures empty { self.old.writer.is_broken ≡ false → self.old.state.batch ≡ [] → (result ≡ Ok tt) × (self.new ≡ self.old) }
+        ensures causes { IfErr result (λ fault. (fault ≡ KeeperFault.Journal JournalFault.Disk) ⊎ (fault ≡ KeeperFault.Journal JournalFault.Broken)) }
+        ensures failed { result ≡ Err (KeeperFault.Journal JournalFault.Disk) → (D.state self.old.writer.device).failures < (D.state self.new.writer.device).failures }
+        ensures breaks { result ≡ Err (KeeperFault.Journal JournalFault.Disk) → (self.new.writer.is_broken ≡ true) × (self.new.writer.doubt ≡ self.old.state.batch) }
+        ensures unmoved { OnErr result ((self.new.state ≡ self.old.state) × (self.new.writer.register ≡ self.old.writer.register)) }
+        ensures stays { OnOk result ((self.new.writer.is_broken ≡ false) × (self.new.writer.doubt ≡ [])) }
+        ensures same { (self.new.writer.plan ≡ self.old.writer.plan) × (self.new.writer.half ≡ self.old.writer.half) × (self.new.writer.opened ≡ self.old.writer.opened) }
+
+        // How many calls it makes: none for no entries, else those of an append, and of a checkpoint where room is wanted.
+        ensures runs { RunsOn (D.state self.old.writer.device) (D.state self.new.writer.device) }
+        ensures made { Makes result (commit_calls self.old.writer.register self.old.writer.used self.old.writer.half (length self.old.state.batch))
+            (commit_writes self.old.writer.register self.old.writer.used self.old.writer.half (length self.old.state.batch)) (D.state self.old.writer.device) (D.state self.new.writer.device) }
+        ensures used { OnOk result (self.new.writer.used ≡ commit_used self.old.writer.register self.old.writer.used self.old.writer.half (length self.old.state.batch)) }
+        ensures second { OnOk result (self.new.writer.is_second ≡ commit_second self.old.writer.is_second self.old.writer.used self.old.writer.half (length self.old.state.batch)) }
+        ensures told_ok { OnOk result (NoneFails (D.state self.old.writer.device) (D.state self.new.writer.device)) }
+        ensures told { IfErr result (λ fault. FailsBy fault (D.state self.old.writer.device) (D.state self.new.writer.device)) }
+
+        // Where a device stopped it that changes no byte in a failed call, the number of calls says what each cut leaves.
+        ensures stops { result ≡ Err (KeeperFault.Journal JournalFault.Disk) → (D.state self.old.writer.device).is_honest → (D.state self.old.writer.device).is_inert
+            → StopsCommit self.old.writer.plan self.old.writer.half self.old.writer.is_second self.old.writer.used self.old.writer.register self.old.state.batch
+            (D.state self.old.writer.device) (D.state self.new.writer.device) }
+    {
+        self.writer.commit(self.decider.batch())?;
+        let _safe = self.decider.seal();
+        Ok(())
+    }
+
+    /// Opens it again, also after a fault: no car has told where it is, and the batch is empty. It writes nothing, and gives
+    /// the register that was safe, or that with the batch in doubt. A refusal leaves it as it was, and a failed call broken.
+    pub fn reopen(&mut self) -> Result<(), KeeperFault>
+        ensures opens { OnOk result (Reopens self.old.writer.plan (D.state self.old.writer.device) (D.state self.new.writer.device) self.new.writer.register self.new.writer.half self.new.writer.is_second self.new.writer.used) }
+        ensures state { OnOk result (self.new.state ≡ starting self.new.writer.register) }
+        ensures one_of { OnOk result ((D.state self.old.writer.device).is_honest
+            → (self.new.writer.register ≡ self.old.writer.register) ⊎ (self.new.writer.register ≡ register_of self.old.writer.register self.old.writer.doubt)) }
+        // A crash at any moment of the call leaves the register that was safe before it, or that with the batch in doubt.
+        ensures any_moment { LeavesOnly (D.state self.old.writer.device) (D.state self.new.writer.device)
+            (IsInDoubt self.old.writer.plan self.old.writer.register self.old.writer.doubt) }
+        ensures whole { OnOk result ((self.new.writer.is_broken ≡ false) × (self.new.writer.doubt ≡ [])) }
+        ensures opened { OnOk result (self.new.writer.opened ≡ (D.state self.new.writer.device).failures) }
+        ensures refused { IfErr result (λ fault. RefusesReopening self.old.writer.plan (D.state self.old.writer.device) (D.state self.new.writer.device) fault) }
+        ensures good { IfErr result (λ fault. (D.state self.old.writer.device).is_honest → fault ≡ KeeperFault.Journal JournalFault.Disk) }
+        ensures breaks { result ≡ Err (KeeperFault.Journal JournalFault.Disk) → self.new.writer.is_broken ≡ true }
+        ensures stays { IfErr result (λ fault. (fault ≡ KeeperFault.Journal JournalFault.Disk) ⊎ (self.new.writer.is_broken ≡ self.old.writer.is_broken)) }
+        ensures unmoved { OnErr result ((self.new.state ≡ self.old.state) × (self.new.writer.register ≡ self.old.writer.register) × (self.new.writer.doubt ≡ self.old.writer.doubt)) }
+        ensures plan { self.new.writer.plan ≡ self.old.writer.plan }
+    {
+        self.writer.reopen()?;
+        let building = self.decider.building();
+        self.decider = Decider::of(building, copy_of(building, self.writer.register()));
+        Ok(())
+    }
+
+    /// The device, as it is.
+    pub fn into_disk(self) -> D
+        ensures { result ≡ self.entry.writer.device }
+    {
+        self.writer.into_disk()
+    }
+
+    /// The part that decides, and the part that makes safe. The batch of a broken keeper is dropped.
+    pub fn part(self) -> (Decider<'b>, Writer<'b, D>)
+        requires { (self.state.batch ≡ []) ⊎ (self.writer.is_broken ≡ true) }
+        ensures decider { result.0 ≡ record { plan = self.entry.writer.plan; state = record self.entry.state { batch = [] } } }
+        ensures writer { result.1 ≡ self.entry.writer }
+    {
+        let Keeper {
+            mut decider,
+            writer,
+        } = self;
+        let _dropped = decider.seal();
+        (decider, writer)
+    }
+
+    /// The two parts of a keeper together again.
+    pub fn whole(decider: Decider<'b>, writer: Writer<'b, D>) -> Self
+        requires plan { decider.plan ≡ writer.plan }
+        requires sealed { decider.state.batch ≡ [] }
+        requires equal { (writer.is_broken ≡ true) ⊎ (decider.state.register ≡ writer.register) }
+        ensures { result ≡ record { state = decider.entry.state; writer = writer.entry } }
+    {
+        let _safe = writer.register();
+        Keeper { decider, writer }
+    }
+}
+
+impl<'b, D: Arm> Keeper<'b, D> {
+    ghost use Rattle.lift_disk.specs.Disk.{IsUnchanged, IsTold};
+
+    /// Tells the device anew which calls to fail. It changes no image.
+    pub fn arm(&mut self, calls: u32)
+        ensures same { IsUnchanged (D.state self.old.writer.device) (D.state self.new.writer.device) }
+        ensures told { IsTold (D.fails_by calls (D.state self.old.writer.device).calls) (D.state self.new.writer.device) }
+        ensures state { self.new.state ≡ self.old.state }
+        ensures writer { self.new.writer ≡ record self.old.writer { device = self.new.writer.device } }
+    {
+        self.writer.arm(calls);
+    }
+
+    /// Whether a growth inside the device was refused, now or earlier.
+    pub fn short(&self) -> bool
+        ensures { result ≡ (D.state self.now.writer.device).is_short }
+    {
+        self.writer.short()
+    }
+}
