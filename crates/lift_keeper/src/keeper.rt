@@ -10,7 +10,7 @@ ghost use Rattle.lift_policy.specs.View.{positions_of, AreSchedulesOf};
 ghost use Rattle.lift_policy.specs.Step.{Step, view_of};
 ghost use Rattle.lift_journal.specs.Steps.{Makes};
 ghost use Rattle.lift_journal.specs.Told.{NoneFails};
-ghost use Rattle.lift_keeper.specs.Decider.{starting};
+ghost use Rattle.lift_keeper.specs.Decider.{starting, IsPossible};
 ghost use Rattle.lift_keeper.specs.Images.{IsImageOf, IsImageIn, IsInDoubt};
 ghost use Rattle.lift_keeper.specs.Reopening.{Reopens, RefusesReopening, FailsBy};
 ghost use Rattle.lift_keeper.specs.Writer.{StopsCommit, commit_calls, commit_writes, commit_used, commit_second};
@@ -91,6 +91,8 @@ impl<'b, D: Disk> Keeper<'b, D> {
         ensures lawful { IsWellFormed result.now }
         ensures belongs { BelongsTo self.now.writer.plan result.now }
         ensures balanced { IsBalanced result.now }
+        // What decisions read is possible in the building.
+        ensures possible { IsPossible self.now.writer.plan self.now.state }
         ensures ahead { self.now.writer.is_broken ≡ false → result.now ≡ register_of self.now.writer.register self.now.state.batch }
     {
         self.decider.register()
@@ -162,6 +164,7 @@ impl<'b, D: Disk> Keeper<'b, D> {
         ensures failed { result ≡ Err (KeeperFault.Journal JournalFault.Disk) → (D.state self.old.writer.device).failures < (D.state self.new.writer.device).failures }
         ensures breaks { result ≡ Err (KeeperFault.Journal JournalFault.Disk) → (self.new.writer.is_broken ≡ true) × (self.new.writer.doubt ≡ self.old.state.batch) }
         ensures unmoved { OnErr result ((self.new.state ≡ self.old.state) × (self.new.writer.register ≡ self.old.writer.register)) }
+        ensures whole { OnOk result ((D.state self.new.writer.device).failures ≡ (D.state self.old.writer.device).failures) }
         ensures stays { OnOk result ((self.new.writer.is_broken ≡ false) × (self.new.writer.doubt ≡ [])) }
         ensures same { (self.new.writer.plan ≡ self.old.writer.plan) × (self.new.writer.half ≡ self.old.writer.half) × (self.new.writer.opened ≡ self.old.writer.opened) }
 
@@ -200,7 +203,8 @@ impl<'b, D: Disk> Keeper<'b, D> {
         ensures good { IfErr result (λ fault. (D.state self.old.writer.device).is_honest → fault ≡ KeeperFault.Journal JournalFault.Disk) }
         ensures breaks { result ≡ Err (KeeperFault.Journal JournalFault.Disk) → self.new.writer.is_broken ≡ true }
         ensures stays { IfErr result (λ fault. (fault ≡ KeeperFault.Journal JournalFault.Disk) ⊎ (self.new.writer.is_broken ≡ self.old.writer.is_broken)) }
-        ensures unmoved { OnErr result ((self.new.state ≡ self.old.state) × (self.new.writer.register ≡ self.old.writer.register) × (self.new.writer.doubt ≡ self.old.writer.doubt)) }
+        ensures unmoved { OnErr result ((self.new.state ≡ self.old.state) × (self.new.writer.register ≡ self.old.writer.register) × (self.new.writer.doubt ≡ self.old.writer.doubt)
+            × (self.new.writer.opened ≡ self.old.writer.opened)) }
         ensures plan { self.new.writer.plan ≡ self.old.writer.plan }
     {
         self.writer.reopen()?;
@@ -221,11 +225,13 @@ impl<'b, D: Disk> Keeper<'b, D> {
         requires { (self.state.batch ≡ []) ⊎ (self.writer.is_broken ≡ true) }
         ensures decider { result.0 ≡ record { plan = self.entry.writer.plan; state = record self.entry.state { batch = [] } } }
         ensures writer { result.1 ≡ self.entry.writer }
+        ensures equal { self.entry.writer.is_broken ≡ false → result.0.state.register ≡ result.1.register }
     {
         let Keeper {
             mut decider,
             writer,
         } = self;
+        let _safe = writer.register();
         let _dropped = decider.seal();
         (decider, writer)
     }
