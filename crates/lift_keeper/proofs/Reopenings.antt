@@ -1,5 +1,5 @@
 -- An opening of a journal, and the recovery of its register behind it.
-use Rattle.std.proofs.Common.{◌≡◌, ℕ, zero, suc, Bool, false, List, [], ◌∷◌, ◌++◌, Some, All, take, refl, sym, ◌∙◌, ap, subst, arith}
+use Rattle.std.proofs.Common.{◌≡◌, ℕ, zero, suc, Bool, false, List, [], ◌∷◌, ◌++◌, Some, All, take, refl, sym, ◌∙◌, ap, subst, arith, ⊎_elim, inl, inr}
 use Rattle.std.specs.Prelude.{slice_get, Result, Ok, Err, OnOk, IfOk}
 use Rattle.std.proofs.lemmas.List.Elements.{All-head, All-tail}
 use Rattle.lift_base.specs.declared.history.Entry.TheVariants.{Allot as Allotting, Stop as Stopping}
@@ -7,7 +7,7 @@ use Rattle.lift_base.specs.declared.history.Record.{Record}
 use Rattle.lift_base.specs.declared.history.Record.TheVariants.{Allot, Stop, Row, Last, Done}
 use Rattle.lift_base.specs.declared.history.Shape.{Shape}
 use Rattle.lift_building.specs.Plan.{Plan, shape_of}
-use Rattle.lift_disk.specs.Disk.{DiskState, Image, ChangesWithin, LeavesNow, LeavesOnly, MayLeave}
+use Rattle.lift_disk.specs.Disk.{DiskState, Image, ChangesWithin, KeepsImage, LeavesNow, LeavesOnly, MayLeave}
 use Rattle.lift_disk.proofs.Moments.{changes_nothing, leaves_then, leaves_weaker, runs_then}
 use Rattle.lift_register.specs.Register.{RegisterState, register_of, empty}
 use Rattle.lift_register.specs.Fits.{FitFrom}
@@ -21,7 +21,7 @@ use Rattle.lift_journal.specs.Journal.{JournalView, ReadsAs, StandsFor}
 use Rattle.lift_journal.specs.Layout.{records_of, Holds, Picks}
 use Rattle.lift_journal.specs.Opening.{Opens, Refuses}
 use Rattle.lift_journal.specs.Order.{IsEntry}
-use Rattle.lift_journal.specs.Steps.{ReadsOnly, IsSyncedAt}
+use Rattle.lift_journal.specs.Steps.{ReadsOnly, SavesAsRead, IsSyncedAt}
 use Rattle.lift_journal.specs.Told.{NoneFails}
 use Rattle.lift_journal.proofs.Chains.{all_same}
 use Rattle.lift_journal.proofs.Telling.{passes_then, fails_then}
@@ -78,6 +78,17 @@ module _ (plan : Plan) (old mid new : DiskState) (shape : Shape) (taken : ℕ) (
       (leaves_weaker mid new (ChangesWithin mid.is_loose mid.image) (MayLeave old)
       (λ honest_mid left is. (let honest = opens.runs.honest.0 honest_mid in subst (MayLeave old) (sym (same_mid honest left is)) (opens.seen honest)))
       reads.touched.moments)
+
+  pub images : KeepsImage old new
+  images honest inert = reads.image (opens.runs.honest.1 honest) (opens.runs.inert.1 inert) ∙ opens.image honest inert
+
+  pub saves : SavesAsRead old new
+  saves honest inert =
+      let read = reads.image (opens.runs.honest.1 honest) (opens.runs.inert.1 inert) in
+      ⊎_elim
+      (λ same. ⊎_elim (λ before. inl (same ∙ before)) (λ now. inr (same ∙ now ∙ sym read)) (opens.saved honest inert))
+      (λ now. inr now)
+      (reads.saved (opens.runs.honest.1 honest) (opens.runs.inert.1 inert))
 
   here : MayLeave mid mid.image
   here = changes_nothing mid.is_loose mid.image
@@ -157,6 +168,8 @@ module _ (plan : Plan) (old mid new : DiskState) (shape : Shape) (taken : ℕ) (
       moments = moments;
       runs = runs_then old mid new opens.runs reads.runs;
       writes = reads.writes ∙ opens.writes;
+      image = images;
+      saved = saves;
       failures = all.failures ∙ opens.failures;
       told = passes_then old mid new opens.runs opens.told all.told;
       synced = λ honest. (at_new honest).synced;
@@ -177,6 +190,8 @@ refused_journal plan old new fault refuses = record {
   moments = refuses.moments;
   runs = refuses.runs;
   writes = refuses.writes;
+  image = refuses.image;
+  saved = refuses.saved;
   cause = refuses.cause;
   told = refuses.told;
   good = λ honest register is. ap (λ (f : JournalFault). Journal f) (refuses.good honest (shape_of plan is.half) is.reads.batches is.reads.holds);
@@ -250,6 +265,8 @@ module _ {D : Type 0} (state : D → DiskState) (plan : Plan) (old : DiskState) 
     moments = moments plan old (state before.device) (state after.device) before.shape taken opens reads;
     runs = runs_then old (state before.device) (state after.device) opens.runs reads.runs;
     writes = reads.writes ∙ opens.writes;
+    image = images plan old (state before.device) (state after.device) before.shape taken opens reads;
+    saved = saves plan old (state before.device) (state after.device) before.shape taken opens reads;
     cause = cause_of fault is;
     told = told_of fault is;
     good = good_of fault is;

@@ -2,11 +2,12 @@
 use Rattle.std.specs.Prelude.{◌≡◌, ◌≢◌, ℕ, Bool, List}
 use Rattle.lift_base.specs.declared.history.Shape.{Shape}
 use Rattle.lift_building.specs.Plan.{Plan, shape_of}
-use Rattle.lift_disk.specs.Disk.{DiskState, MayLeave, IsSynced, LeavesNow, LeavesOnly, RunsOn}
+use Rattle.lift_disk.specs.Disk.{DiskState, MayLeave, IsSynced, KeepsImage, LeavesNow, LeavesOnly, RunsOn}
 use Rattle.lift_register.specs.Register.{RegisterState}
 use Rattle.lift_journal.specs.declared.fault.JournalFault.TheVariants.{Disk}
 use Rattle.lift_journal.specs.Layout.{Batch, records_of, Holds}
 use Rattle.lift_journal.specs.Opening.{RefusedFor as JournalRefusedFor}
+use Rattle.lift_journal.specs.Steps.{SavesAsRead}
 use Rattle.lift_journal.specs.Told.{NoneFails, FailsBy as JournalFailsBy}
 use Rattle.lift_keeper.specs.declared.fault.KeeperFault.{KeeperFault}
 use Rattle.lift_keeper.specs.declared.fault.KeeperFault.TheVariants.{Journal, OtherBuilding, BadEntry}
@@ -19,6 +20,9 @@ pub record Reopens (plan : Plan) (old new : DiskState) (register : RegisterState
   pub moments : LeavesOnly old new (MayLeave old)
   pub runs : RunsOn old new
   pub writes : new.writes ≡ old.writes
+  -- an inert device reads as before, and what its last sync saved is what was saved before, or what is read
+  pub image : KeepsImage old new
+  pub saved : SavesAsRead old new
   pub failures : new.failures ≡ old.failures
   pub told : NoneFails old new
   -- at the end every crash leaves one and the same of these images, which reads as the register and as no other
@@ -56,6 +60,8 @@ pub record RefusesReopening (plan : Plan) (old new : DiskState) (fault : KeeperF
   pub moments : LeavesOnly old new (MayLeave old)
   pub runs : RunsOn old new
   pub writes : new.writes ≡ old.writes
+  pub image : KeepsImage old new
+  pub saved : SavesAsRead old new
   pub cause : RefusedFor fault plan old new
   pub told : FailsBy fault old new
   -- an image of a register of the building is refused for a failed call alone
