@@ -1,0 +1,4 @@
+pub mod Runs
+pub mod Moves
+pub mod Letters
+pub mod Single

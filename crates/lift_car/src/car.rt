@@ -1,0 +1,51 @@
+//! What is driven.
+
+ghost use Rattle.std.specs.Prelude.{◌≡◌};
+ghost use Rattle.lift_base.specs.declared.travel.Position.{Position as PositionValue};
+ghost use Rattle.lift_base.specs.declared.travel.Stop.{Stop as StopValue};
+ghost use Rattle.lift_car.specs.Drive.{position_at};
+
+use lift_base::{Position, Stop};
+
+/// A car that tells where it is, and goes to a stop.
+pub trait Car {
+    // where it tells to be
+    ghost told: { Self → PositionValue };
+
+    // going to a stop takes it from one state to another
+    ghost goes: { Self → StopValue → Self → Type 0 };
+
+    /// The next floor at which it can still stop, and its direction.
+    fn tell(&self) -> Position
+        ensures { result ≡ told self.now };
+
+    /// Goes to the stop. It then tells that floor and direction.
+    fn go(&mut self, stop: Stop)
+        ensures arrives { told self.new ≡ position_at stop }
+        ensures goes { goes self.old stop self.new };
+}
+
+/// A car that is at once where it is sent.
+#[derive(Clone, Copy)]
+pub struct ModelCar {
+    pub position: Position,
+}
+
+impl Car for ModelCar {
+    ghost use Rattle.lift_car.specs.Model.{place_of, IsSentTo};
+
+    ghost told = { place_of };
+
+    ghost goes = { IsSentTo };
+
+    fn tell(&self) -> Position {
+        self.position
+    }
+
+    fn go(&mut self, stop: Stop) {
+        self.position = Position {
+            floor: stop.floor,
+            dir: stop.dir,
+        };
+    }
+}

@@ -1,0 +1,13 @@
+//! Cars at the desk: their sessions, lines in and lines out, and agents that drive them. Nothing here takes memory, and nothing
+//! waits but a port's own rest.
+#![tactic(auto)]
+
+mod car;
+mod driving;
+mod lines;
+mod terms;
+
+pub use car::{Car, ModelCar};
+pub use driving::drive;
+pub use lines::{CarLines, lines_ask_for_one_thing, session};
+pub use terms::{CarEnd, DriveEnd, Ending};

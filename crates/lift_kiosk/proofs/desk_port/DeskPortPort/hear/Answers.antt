@@ -1,0 +1,12 @@
+use Rattle.std.proofs.Common.{ap, refl, ◌∙◌}
+use Rattle.lift_desk.specs.Seats.{TerminalSeat}
+use Rattle.lift_kiosk.specs.Desk.{DeskPortState, port_view}
+use Rattle.lift_kiosk.specs.Hearing.{heard}
+use Rattle.lift_kiosk.proofs.Desk.{hears_reply}
+use Rattle.lift_kiosk.proofs.desk_port.DeskPortPort.hear.Goals as goal
+
+pub returns-clause-some : goal.returns-clause-some
+returns-clause-some c =
+    let looked = c.in_ok-reply.ensures.looked in
+    hears_reply c.self.inside.seat.view c.hear.new.seat.view looked.0 c.in_ok-reply.reply (ap (λ (s : TerminalSeat). s.view) looked.1) looked.2 c.reply_fits.ensures (c.in_ok-reply.ensures.rests refl)
+    ∙ ap (λ (p : DeskPortState). heard (port_view p.seat.view) c.in_ok-reply.reply 1) c.self.view_is

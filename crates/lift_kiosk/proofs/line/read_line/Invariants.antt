@@ -1,0 +1,10 @@
+use Rattle.std.proofs.Common.{◌≡◌, ◌+◌, ℕ, List}
+use Rattle.lift_kiosk.specs.Lines.{GivesPart, Keeps65, source_of}
+use Rattle.lift_kiosk.proofs.line.read_line.Given as goal
+
+-- less than a line came so far, and it is kept
+abbrev pub invariant-loop : goal.invariant-loop
+invariant-loop g l = record {
+  calls : l.reader.calls ≡ l.fn.reader.calls + l.counter;
+  part : (part : List ℕ) × GivesPart part (source_of g.R.Read.remaining l.fn.reader) (source_of g.R.Read.remaining l.reader) × Keeps65 part l.line.bytes.items l.line.is_longer;
+}

@@ -1,0 +1,6 @@
+pub mod Port
+pub mod Hearing
+pub mod Lines
+pub mod Session
+pub mod Kiosk
+pub mod Desk

@@ -1,0 +1,94 @@
+-- How the lines of a session come and go.
+use Rattle.std.specs.Prelude.{◌≡◌, ◌≢◌, ℕ, ◌+◌, Bool, true, List, [], ◌∷◌, ◌++◌, length, take, nat_lt, Option}
+use Rattle.std.specs.List.{AllByRecursion}
+use Rattle.std.specs.Str.{IsAscii}
+use Rattle.lift_base.specs.Input.{InputState}
+use Rattle.lift_kiosk.specs.declared.line.NoLine.{NoLine}
+use Rattle.lift_kiosk.specs.declared.line.NoLine.TheVariants.{AtEnd, NoCalls, Fault}
+use Rattle.lift_kiosk.specs.declared.terms.End.{End}
+use Rattle.lift_kiosk.specs.declared.terms.End.TheVariants.{Closed, Limit, ReadFault}
+use Rattle.std.specs.Io.KnownBytes.{Appends, Consumes, IsAtEnd, Keeps}
+
+-- a reader: how often it was called, whether a call failed or found the end, and what it has left, where it tells that
+pub record Source : Type 0 where
+  pub calls : ℕ
+  pub failed : Bool
+  pub ended : Bool
+  pub left : Option (List ℕ)
+
+-- a writer: whether a call failed or took nothing, and what was written, where it tells that
+pub record Sink : Type 0 where
+  pub failed : Bool
+  pub written : Option (List ℕ)
+
+-- all of these bytes were written
+pub record Takes (bytes : List ℕ) (before after : Sink) : Type 0 where
+  pub failed : after.failed ≡ before.failed
+  pub written : Appends before.written after.written bytes
+
+-- a call failed or took nothing, and only a front of these bytes was written
+pub record TakesFront (bytes : List ℕ) (before after : Sink) : Type 0 where
+  pub count : ℕ
+  pub failed : after.failed ≡ true
+  pub written : Appends before.written after.written (take count bytes)
+
+-- a writer with what was seen of its calls
+pub record OutputState (W : Type 0) : Type 0 where
+  pub writer : W
+  pub failed : Bool
+
+abbrev pub sink_of : {W : Type 0} → (contents : W → Option (List ℕ)) → OutputState W → Sink
+sink_of contents output = record { failed = output.failed; written = contents output.writer }
+
+-- these bytes came, one at each call
+pub record Gives (bytes : List ℕ) (before after : Source) : Type 0 where
+  pub calls : after.calls ≡ before.calls + length bytes
+  pub failed : after.failed ≡ before.failed
+  pub ended : after.ended ≡ before.ended
+  pub left : Consumes before.left after.left bytes
+
+-- one call found the end
+pub record FindsEnd (before after : Source) : Type 0 where
+  pub calls : after.calls ≡ before.calls + 1
+  pub failed : after.failed ≡ before.failed
+  pub ended : after.ended ≡ true
+  pub left : Consumes before.left after.left []
+  pub nothing : IsAtEnd after.left
+
+-- one call failed
+pub record Fails (before after : Source) : Type 0 where
+  pub calls : after.calls ≡ before.calls + 1
+  pub failed : after.failed ≡ true
+  pub ended : after.ended ≡ before.ended
+  pub left : Keeps before.left after.left
+
+abbrev pub HasNoFeed : List ℕ → Type 0
+HasNoFeed bytes = AllByRecursion (λ byte. byte ≢ 10) bytes
+
+-- a line came, and its line feed
+pub record GivesLine (line : List ℕ) (before after : Source) : Type 0 where
+  pub whole : HasNoFeed line
+  pub bytes : Gives (line ++ 10 ∷ []) before after
+
+-- less than a line came
+pub record GivesPart (part : List ℕ) (before after : Source) : Type 0 where
+  pub whole : HasNoFeed part
+  pub bytes : Gives part before after
+
+abbrev pub AreAscii : List (List ℕ) → Type 0
+AreAscii words = AllByRecursion IsAscii words
+
+-- what is kept of a line: its first 65 bytes, and whether there are more
+pub record Keeps65 (line kept : List ℕ) (longer : Bool) : Type 0 where
+  pub front : kept ≡ take 65 line
+  pub more : longer ≡ nat_lt 65 (length line)
+
+-- a counted reader as a source
+abbrev pub source_of : {R : Type 0} → (remaining : R → Option (List ℕ)) → InputState R → Source
+source_of remaining input = record { calls = input.calls; failed = input.failed; ended = input.ended; left = remaining input.reader }
+
+-- why a session ends where no line came
+abbrev pub IsEndWithoutLine : NoLine → End → Type 0
+IsEndWithoutLine AtEnd end = end ≡ Closed
+IsEndWithoutLine NoCalls end = end ≡ Limit
+IsEndWithoutLine Fault end = end ≡ ReadFault

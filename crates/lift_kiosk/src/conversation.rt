@@ -1,0 +1,185 @@
+//! A session, whatever kind of terminal speaks in it.
+
+ghost use Rattle.std.specs.Prelude.{◌≡◌, ◌≢◌, ℕ, List, ◌+◌, ◌≤◌, ◌<◌, ◌^◌, OnOk, IfErr, IfSome, IfNone, Err, None, true};
+ghost use Rattle.std.specs.Str.Lines.{strip_carriage_return};
+ghost use Rattle.lift_kiosk.specs.Lines.{Keeps65, sink_of, source_of, IsEndWithoutLine};
+ghost use Rattle.lift_kiosk.specs.Session.{Means, PortDid, GoesOn, EndsWith, Answers, LastStep, EndsLines, IsSession, standing, last_after, last_opened};
+ghost use Rattle.lift_kiosk.specs.declared.outcome.Outcome.{Outcome as OutcomeValue};
+
+use crate::dialect::{Dialect, Wanted};
+use crate::line::{Line, NoLine, read_line};
+use crate::listening::{bring_in, carry_out};
+use crate::outcome::{Opening, Outcome};
+use crate::output::Watched;
+use crate::port::Port;
+use crate::reading::wanted_of;
+use crate::speaking::{answer_of, opening_of};
+use crate::terms::{End, LastLetter, Limits, SessionEnd};
+use lift_base::text::Counted;
+use std::io::{Read, Write};
+
+/// What comes of a line.
+fn outcome_of<T: Dialect, P: Port>(line: &Line, port: &mut P, looks: u32) -> Outcome
+    requires free { (P.view port.old).pending ≡ None }
+    ensures means { (bytes : List ℕ) → Keeps65 bytes line.now.bytes.items line.now.is_longer
+        → Means T.wants (strip_carriage_return bytes) result }
+    ensures did { PortDid looks (P.view port.old) result (P.view port.new) }
+    ensures stays { P.place port.new ≡ P.place port.old }
+{
+    match wanted_of::<T>(line) {
+        None => Outcome::Malformed,
+        Some(Wanted::NoFloor) => Outcome::OffFloors,
+        Some(Wanted::Ask(ask)) => carry_out(port, &ask, looks),
+    }
+}
+
+/// The last command, behind a line.
+fn last_behind<T: Dialect>(last: &LastLetter, outcome: &Outcome) -> LastLetter
+    ensures { result ≡ last_after T.keeps last.now outcome.now }
+{
+    match outcome {
+        Outcome::Answered(ask, reply) => T::keep(last, ask.number, reply),
+        _ => *last,
+    }
+}
+
+/// The last command, behind the start.
+fn last_behind_opening<T: Dialect>(last: &LastLetter, opening: &Opening) -> LastLetter
+    ensures { result ≡ last_opened T.keeps last.now opening.now }
+{
+    match opening {
+        Opening::BroughtIn(number, reply) => T::keep(last, *number, reply),
+        _ => *last,
+    }
+}
+
+/// Why a session ends with this outcome; none where it goes on.
+fn end_with(outcome: &Outcome) -> Option<End>
+    ensures some { IfSome result (λ end. EndsWith outcome.now end) }
+    ensures none { IfNone result (GoesOn outcome.now) }
+{
+    match outcome {
+        Outcome::NotAnswered(_) => Some(End::Late),
+        Outcome::Refused(_) => Some(End::Spent),
+        _ => None,
+    }
+}
+
+/// Why a session ends for which no line came.
+fn end_without_line(no_line: NoLine) -> End
+    ensures { IsEndWithoutLine no_line result }
+{
+    match no_line {
+        NoLine::AtEnd => End::Closed,
+        NoLine::NoCalls => End::Limit,
+        NoLine::Fault => End::ReadFault,
+    }
+}
+
+/// One line: it is read, carried out and answered. An `Err` ends the session.
+fn exchange<T: Dialect, R: Read + Drop, W: Write + Drop, P: Port>(
+    reader: &mut Counted<R>,
+    writer: &mut Watched<W>,
+    port: &mut P,
+    last: &mut LastLetter,
+    limits: &Limits,
+    calls: u64,
+) -> Result<(), End>
+    requires free { (P.view port.old).pending ≡ None }
+    requires few { reader.old.calls ≤ calls }
+    requires countable { calls < 2 ^ 63 }
+    ensures ok { OnOk result ((line : List ℕ) × (outcome : OutcomeValue) × GoesOn outcome
+        × Answers T.wants T.keeps limits.now line outcome
+        (standing last.old (P.view port.old) (source_of R.remaining reader.old) (sink_of W.contents writer.old))
+        (standing last.new (P.view port.new) (source_of R.remaining reader.new) (sink_of W.contents writer.new))) }
+    ensures end { IfErr result (λ end. LastStep T.wants T.keeps limits.now calls end
+        (standing last.old (P.view port.old) (source_of R.remaining reader.old) (sink_of W.contents writer.old))
+        (standing last.new (P.view port.new) (source_of R.remaining reader.new) (sink_of W.contents writer.new))) }
+    ensures free { OnOk result ((P.view port.new).pending ≡ None) }
+    ensures calls { reader.new.calls ≤ calls }
+    ensures stays { P.place port.new ≡ P.place port.old }
+{
+    let line = match read_line(reader, calls - reader.calls()) {
+        Ok(line) => line,
+        Err(no_line) => return Err(end_without_line(no_line)),
+    };
+    let outcome = outcome_of::<T, P>(&line, port, limits.looks);
+    *last = last_behind::<T>(last, &outcome);
+    match writer.put(&answer_of(&outcome)) {
+        Ok(()) => {}
+        Err(_) => return Err(End::WriteFault),
+    }
+    match end_with(&outcome) {
+        None => Ok(()),
+        Some(end) => Err(end),
+    }
+}
+
+/// Answers line after line. The last command is what it was before the first.
+fn answer_lines<T: Dialect, R: Read + Drop, W: Write + Drop, P: Port>(
+    reader: &mut Counted<R>,
+    writer: &mut Watched<W>,
+    port: &mut P,
+    last: &mut LastLetter,
+    limits: &Limits,
+    calls: u64,
+) -> End
+    requires free { (P.view port.old).pending ≡ None }
+    requires few { reader.old.calls ≤ calls }
+    requires countable { calls < 2 ^ 63 }
+    ensures ends { EndsLines T.wants T.keeps limits.now calls result
+        (standing last.old (P.view port.old) (source_of R.remaining reader.old) (sink_of W.contents writer.old))
+        (standing last.new (P.view port.new) (source_of R.remaining reader.new) (sink_of W.contents writer.new)) }
+    ensures calls { reader.new.calls ≤ calls }
+    ensures stays { P.place port.new ≡ P.place port.old }
+{
+    for _ in 0..limits.lines {
+        match exchange::<T, R, W, P>(reader, writer, port, last, limits, calls) {
+            Ok(()) => {}
+            Err(end) => return end,
+        }
+    }
+    End::Limit
+}
+
+/// A session, whatever kind of terminal speaks in it. It may call the reader as often as the limits say, beyond the calls
+/// that were made before.
+pub fn converse<T: Dialect, R: Read + Drop, W: Write + Drop, P: Port>(
+    reader: &mut Counted<R>,
+    writer: &mut Watched<W>,
+    port: &mut P,
+    last: LastLetter,
+    limits: Limits,
+) -> SessionEnd
+    requires countable { reader.old.calls < 2 ^ 62 }
+    ensures session { IsSession T.wants T.keeps limits result.end
+        (standing last (P.view port.old) (source_of R.remaining reader.old) (sink_of W.contents writer.old))
+        (standing result.last (P.view port.new) (source_of R.remaining reader.new) (sink_of W.contents writer.new)) }
+    ensures calls { reader.new.calls ≤ reader.old.calls + limits.reads }
+    ensures stays { P.place port.new ≡ P.place port.old }
+    ensures late { result.end ≡ End.Late → ((P.view port.new).pending ≢ None)
+        × ((P.view port.old).looks + limits.looks ≤ (P.view port.new).looks) }
+    ensures spent { result.end ≡ End.Spent → ((P.view port.new).spent ≡ true) × ((P.view port.new).pending ≡ None) }
+    ensures closed { result.end ≡ End.Closed → reader.new.ended ≡ true }
+    ensures unwritten { result.end ≡ End.WriteFault → writer.new.failed ≡ true }
+    ensures failed { result.end ≡ End.ReadFault → reader.new.failed ≡ true }
+{
+    let opening = bring_in(port, limits.looks);
+    let mut last = last_behind_opening::<T>(&last, &opening);
+    match writer.put(&opening_of(&last, &opening)) {
+        Ok(()) => {}
+        Err(_) => return SessionEnd {
+            last,
+            end: End::WriteFault,
+        },
+    }
+    if let Opening::StillWaits = opening {
+        return SessionEnd {
+            last,
+            end: End::Late,
+        };
+    }
+    let calls = reader.calls() + u64::from(limits.reads);
+    let end = answer_lines::<T, R, W, P>(reader, writer, port, &mut last, &limits, calls);
+    SessionEnd { last, end }
+}

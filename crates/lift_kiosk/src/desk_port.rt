@@ -1,0 +1,108 @@
+//! A port at the desk.
+
+ghost use Rattle.std.specs.Prelude.{◌≡◌, ◌<◌};
+ghost use Rattle.lift_desk.specs.Seats.{IsSeatOf};
+ghost use Rattle.lift_desk.specs.Words.{IsBody, IsReply};
+
+use crate::port::Port;
+use lift_base::{Body, Number, Reply};
+use lift_desk::{AskRefusal, Desk, Seat};
+use std::marker::Model;
+use std::thread;
+
+/// A terminal's seat at the desk as a port. It rests by letting other threads run.
+#[derive(Drop)]
+pub struct DeskPort<'d> {
+    desk: &'d Desk,
+    seat: Seat,
+}
+
+impl<'d> Model for DeskPort<'d> {
+    ghost use Rattle.lift_desk.specs.Seats.{IsSeatOf};
+    ghost use Rattle.lift_kiosk.specs.Desk.{DeskPortState};
+
+    ghost Value = { DeskPortState };
+
+    ghost view = { λ p. record { desk = p.desk.now; seat = p.seat } };
+
+    ghost invariant = { λ p. IsSeatOf p.desk.now p.seat };
+}
+
+impl<'d> DeskPort<'d> {
+    /// The port of a seat of this desk.
+    pub fn new(desk: &'d Desk, seat: Seat) -> Self
+        requires { IsSeatOf desk.now seat }
+        ensures { result ≡ record { desk = desk.now; seat = seat } }
+    {
+        DeskPort { desk, seat }
+    }
+
+    /// The seat, for the next session.
+    pub fn into_seat(self) -> Seat
+        ensures seat { result ≡ self.entry.seat }
+        ensures stays { IsSeatOf self.entry.desk result }
+    {
+        let DeskPort { desk: _, seat } = self;
+        seat
+    }
+}
+
+/// What a word can spell is what the types hold.
+fn body_fits(body: &Body)
+    ensures { IsBody body.now }
+{
+    match body {
+        Body::Call(floor, party) => {
+            let _floor = floor.get();
+            let _party = party.get();
+        }
+        Body::Stop(floor, _) => {
+            let _floor = floor.get();
+        }
+        Body::Place(floor, _) => {
+            let _floor = floor.get();
+        }
+    }
+}
+
+fn reply_fits(reply: &Reply)
+    ensures { IsReply reply.now }
+{
+    match reply {
+        Reply::Car(car) => {
+            let _car = car.get();
+        }
+        Reply::Stopped(Some(stop)) | Reply::Placed(Some(stop)) => {
+            let _floor = stop.floor.get();
+        }
+        _ => {}
+    }
+}
+
+impl<'d> Port for DeskPort<'d> {
+    ghost use Rattle.lift_kiosk.specs.Desk.{port_view, place_of};
+
+    ghost view = { λ p. port_view p.seat.view };
+
+    ghost place = { place_of };
+
+    fn pending(&self) -> Option<Number> {
+        self.seat.pending()
+    }
+
+    fn ask(&mut self, number: Number, body: Body) -> Result<(), AskRefusal> {
+        let _number = number.get();
+        body_fits(&body);
+        self.desk.ask(&mut self.seat, number, body)
+    }
+
+    fn hear(&mut self) -> Option<Reply> {
+        let reply = self.desk.hear(&mut self.seat)?;
+        reply_fits(&reply);
+        Some(reply)
+    }
+
+    fn rest(&mut self) {
+        thread::yield_now();
+    }
+}

@@ -1,0 +1,178 @@
+//! What a kiosk says in its sessions.
+
+ghost use Rattle.std.specs.Prelude.{◌≡◌, ◌≢◌, ℕ, ◌<◌, ◌≤◌, List, map, ◌+◌, ◌^◌, IfSome, IfNone, None, true, ◌∷◌, codes};
+ghost use Rattle.lift_kiosk.specs.Lines.{sink_of, source_of};
+ghost use Rattle.lift_kiosk.specs.Session.{IsSession, standing};
+ghost use Rattle.lift_kiosk.specs.Kiosk.{ArePartyWords, AreCallWords, SpellsCall, WantsCall, keeps_letter};
+ghost use Rattle.lift_kiosk.specs.declared.dialect.Wanted.{Wanted as WantedValue};
+
+use crate::conversation::converse;
+use crate::dialect::{Dialect, Wanted};
+use crate::output::Watched;
+use crate::port::Port;
+use crate::reading::{number_of_word, words_in};
+use crate::terms::{End, LastLetter, Limits, SessionEnd};
+use lift_base::text::{Counted, number_up_to};
+use lift_base::{Body, Floor, Number, Party, Reply};
+use lift_desk::Ask;
+use std::io::{Read, Write};
+
+/// A call as its line spells it, to a floor up to 999.
+#[derive(Clone, Copy)]
+struct CallLine {
+    number: Number,
+    floor: u32,
+    party: Party,
+}
+
+/// The party that the last words name: absent means 1.
+fn party_of(words: &[&str]) -> Option<Party>
+    ensures some { IfSome result (λ party.
+        ArePartyWords (map (λ word. word.now) words.now) party × (1 ≤ party) × (party ≤ 15)) }
+    ensures none { IfNone result ((party : ℕ) → 1 ≤ party → party ≤ 15
+        → ArePartyWords (map (λ word. word.now) words.now) party → ⊥) }
+{
+    match words {
+        [] => Some(Party::default()),
+        [word] => match number_up_to(word, 15) {
+            Some(number) => Party::new(number as u8),
+            None => None,
+        },
+        _ => None,
+    }
+}
+
+/// The call that the words behind CALL spell.
+fn call_of(words: &[&str]) -> Option<CallLine>
+    ensures some { IfSome result (λ call.
+        AreCallWords (map (λ word. word.now) words.now) call.number call.floor call.party) }
+    ensures none { IfNone result ((number floor party : ℕ)
+        → AreCallWords (map (λ word. word.now) words.now) number floor party → ⊥) }
+{
+    match words {
+        [number, floor, party @ ..] => {
+            let number = number_of_word(number)?;
+            let floor = number_up_to(floor, 999)?;
+            let party = party_of(party)?;
+            Some(CallLine {
+                number,
+                floor,
+                party,
+            })
+        }
+        _ => None,
+    }
+}
+
+/// The call that all words of a line spell.
+fn call_among(words: &[&str]) -> Option<CallLine>
+    ensures some { IfSome result (λ call. (others : List (List ℕ)) × (map (λ word. word.now) words.now ≡ codes "CALL" ∷ others)
+        × AreCallWords others call.number call.floor call.party) }
+    ensures none { IfNone result ((others : List (List ℕ)) (number floor party : ℕ)
+        → map (λ word. word.now) words.now ≡ codes "CALL" ∷ others → AreCallWords others number floor party → ⊥) }
+{
+    match words {
+        [first, others @ ..] => {
+            if *first == "CALL" {
+                call_of(others)
+            } else {
+                None
+            }
+        }
+        [] => None,
+    }
+}
+
+/// The call that a line spells.
+fn call_line(line: &[u8]) -> Option<CallLine>
+    ensures some { IfSome result (λ call. SpellsCall line.now call.number call.floor call.party) }
+    ensures none { IfNone result ((number floor party : ℕ) → SpellsCall line.now number floor party → ⊥) }
+{
+    match words_in(line) {
+        Some(words) => call_among(words.as_slice()),
+        None => None,
+    }
+}
+
+/// What a call asks for.
+fn wanted_by(call: &CallLine) -> Wanted
+    ensures { (line : List ℕ) → SpellsCall line call.now.number call.now.floor call.now.party → WantsCall line result }
+{
+    if call.floor > 63 {
+        return Wanted::NoFloor;
+    }
+    match Floor::new(call.floor as u8) {
+        Some(floor) => Wanted::Ask(Ask {
+            number: call.number,
+            body: Body::Call(floor, call.party),
+        }),
+        None => Wanted::NoFloor,
+    }
+}
+
+/// The lines of a kiosk.
+pub struct Kiosk;
+
+impl Dialect for Kiosk {
+    ghost use Rattle.lift_kiosk.specs.Kiosk.{calls_are_short};
+
+    ghost wants = { WantsCall };
+
+    ghost keeps = { keeps_letter };
+
+    fn read(line: &[u8]) -> Option<Wanted> {
+        match call_line(line) {
+            Some(call) => Some(wanted_by(&call)),
+            None => None,
+        }
+    }
+
+    fn keep(last: &LastLetter, number: Number, reply: &Reply) -> LastLetter {
+        match reply {
+            Reply::Car(letter) => {
+                if number.get() > last.number.get() {
+                    LastLetter {
+                        number,
+                        letter: Some(*letter),
+                    }
+                } else {
+                    *last
+                }
+            }
+            _ => *last,
+        }
+    }
+
+    ghost short = { calls_are_short };
+}
+
+/// A line asks for one thing at most.
+pub fn lines_ask_for_one_thing()
+    ensures { (line : List ℕ) (one other : WantedValue) → WantsCall line one → WantsCall line other → one ≡ other }
+{}
+
+/// A session of a kiosk. It greets with the last call that is known to be in, then reads lines `CALL <number> <floor> [party]`,
+/// asks each at the port, and answers it. It may call the reader as often as the limits say, beyond the calls that were
+/// made before.
+pub fn session<R: Read + Drop, W: Write + Drop, P: Port>(
+    reader: &mut Counted<R>,
+    writer: &mut Watched<W>,
+    port: &mut P,
+    last: LastLetter,
+    limits: Limits,
+) -> SessionEnd
+    requires countable { reader.old.calls < 2 ^ 62 }
+    ensures session { IsSession WantsCall keeps_letter limits result.end
+        (standing last (P.view port.old) (source_of R.remaining reader.old) (sink_of W.contents writer.old))
+        (standing result.last (P.view port.new) (source_of R.remaining reader.new) (sink_of W.contents writer.new)) }
+    ensures calls { reader.new.calls ≤ reader.old.calls + limits.reads }
+    ensures stays { P.place port.new ≡ P.place port.old }
+    ensures late { result.end ≡ End.Late → ((P.view port.new).pending ≢ None)
+        × ((P.view port.old).looks + limits.looks ≤ (P.view port.new).looks) }
+    ensures spent { result.end ≡ End.Spent → ((P.view port.new).spent ≡ true) × ((P.view port.new).pending ≡ None) }
+    ensures closed { result.end ≡ End.Closed → reader.new.ended ≡ true }
+    ensures unwritten { result.end ≡ End.WriteFault → writer.new.failed ≡ true }
+    ensures failed { result.end ≡ End.ReadFault → reader.new.failed ≡ true }
+{
+    converse::<Kiosk, R, W, P>(reader, writer, port, last, limits)
+}

@@ -1,0 +1,26 @@
+//! Sessions of kiosks: lines in, asks at a port, lines out. Nothing here takes memory, and nothing waits but a port's own rest.
+#![tactic(auto)]
+
+mod conversation;
+mod desk_port;
+mod dialect;
+mod kiosk;
+mod line;
+mod listening;
+mod outcome;
+mod output;
+mod port;
+mod reading;
+mod speaking;
+mod terms;
+
+pub use conversation::converse;
+pub use desk_port::DeskPort;
+pub use dialect::{Dialect, Wanted};
+pub use kiosk::{Kiosk, lines_ask_for_one_thing, session};
+pub use listening::{bring_in, carry_out};
+pub use outcome::{Opening, Outcome};
+pub use output::{Untaken, Watched};
+pub use port::Port;
+pub use reading::{number_of_word, words_in};
+pub use terms::{End, LastLetter, Limits, SessionEnd};

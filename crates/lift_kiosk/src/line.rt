@@ -1,0 +1,94 @@
+//! Lines, read one byte at a call, so that nothing behind a line is taken from the reader.
+
+ghost use Rattle.std.specs.Prelude.{◌≡◌, ℕ, List, ◌+◌, ◌≤◌, ◌<◌, ◌^◌, [], ◌∷◌, IfOk, Ok, Err, None, Some, IfSome, IfErr, ◌++◌};
+ghost use Rattle.lift_kiosk.specs.Lines.{Source, Gives, FindsEnd, Fails, GivesLine, GivesPart, Keeps65, source_of};
+
+use arrayvec::ArrayVec;
+use lift_base::text::{Counted, ReadFault};
+use std::io::Read;
+
+/// A line of more bytes, its end apart, is malformed.
+pub const MOST_BYTES: usize = 64;
+
+/// A line without its line feed: a byte more than a line may have, since a carriage return belongs to its end.
+#[derive(Drop)]
+pub(crate) struct Line {
+    pub bytes: ArrayVec<u8, 65>,
+    /// More bytes came than are kept.
+    pub is_longer: bool,
+}
+
+impl Line {
+    fn new() -> Line
+        ensures { Keeps65 [] result.bytes.items result.is_longer }
+    {
+        Line {
+            bytes: ArrayVec::new(),
+            is_longer: false,
+        }
+    }
+
+    fn push(&mut self, byte: u8)
+        ensures { (line : List ℕ) → Keeps65 line self.old.bytes.items self.old.is_longer
+            → Keeps65 (line ++ byte ∷ []) self.new.bytes.items self.new.is_longer }
+    {
+        if self.bytes.is_full() {
+            self.is_longer = true;
+        } else {
+            self.bytes.push(byte);
+        }
+    }
+}
+
+/// Why no line came.
+#[derive(Clone, Copy)]
+pub(crate) enum NoLine {
+    /// The reader was at its end.
+    AtEnd,
+    /// All calls of the reader were used.
+    NoCalls,
+    /// A call failed.
+    Fault,
+}
+
+/// One byte; none at the end.
+fn next_byte<R: Read + Drop>(reader: &mut Counted<R>) -> Result<Option<u8>, ReadFault>
+    requires countable { reader.old.calls < 2 ^ 63 }
+    ensures byte { IfOk result (λ found. IfSome found (λ byte. Gives (byte ∷ []) (source_of R.remaining reader.old) (source_of R.remaining reader.new))) }
+    ensures end { result ≡ Ok None → FindsEnd (source_of R.remaining reader.old) (source_of R.remaining reader.new) }
+    ensures fault { IfErr result (λ _. Fails (source_of R.remaining reader.old) (source_of R.remaining reader.new)) }
+{
+    let mut byte = [0u8; 1];
+    let count = reader.read(&mut byte)?;
+    if count == 0 {
+        Ok(None)
+    } else {
+        Ok(Some(byte[0]))
+    }
+}
+
+/// A line, where its line feed comes within so many calls of the reader.
+pub(crate) fn read_line<R: Read + Drop>(reader: &mut Counted<R>, calls: u64) -> Result<Line, NoLine>
+    requires countable { reader.old.calls + calls < 2 ^ 63 }
+    ensures line { IfOk result (λ found. (line : List ℕ) × Keeps65 line found.bytes.items found.is_longer
+        × GivesLine line (source_of R.remaining reader.old) (source_of R.remaining reader.new)) }
+    ensures closed { result ≡ Err NoLine.AtEnd → (part : List ℕ) × (mid : Source)
+        × GivesPart part (source_of R.remaining reader.old) mid × FindsEnd mid (source_of R.remaining reader.new) }
+    ensures fault { result ≡ Err NoLine.Fault → (part : List ℕ) × (mid : Source)
+        × GivesPart part (source_of R.remaining reader.old) mid × Fails mid (source_of R.remaining reader.new) }
+    ensures limit { result ≡ Err NoLine.NoCalls → (part : List ℕ)
+        × GivesPart part (source_of R.remaining reader.old) (source_of R.remaining reader.new)
+        × (reader.new.calls ≡ reader.old.calls + calls) }
+    ensures few_calls { reader.new.calls ≤ reader.old.calls + calls }
+{
+    let mut line = Line::new();
+    for _ in 0..calls {
+        match next_byte(reader) {
+            Ok(Some(b'\n')) => return Ok(line),
+            Ok(Some(byte)) => line.push(byte),
+            Ok(None) => return Err(NoLine::AtEnd),
+            Err(ReadFault) => return Err(NoLine::Fault),
+        }
+    }
+    Err(NoLine::NoCalls)
+}

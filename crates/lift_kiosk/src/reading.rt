@@ -1,0 +1,64 @@
+//! What a line that was read asks for.
+
+ghost use Rattle.std.specs.Prelude.{◌≡◌, ◌≢◌, ℕ, List, IfSome, IfNone, ◌≤◌, ◌<◌, length, map};
+ghost use Rattle.std.specs.Str.Lines.{strip_carriage_return};
+ghost use Rattle.std.specs.Fmt.{decimal};
+ghost use Rattle.lift_base.specs.Text.{AreWords};
+ghost use Rattle.lift_kiosk.specs.Lines.{AreAscii, Keeps65};
+ghost use Rattle.lift_kiosk.specs.declared.dialect.Wanted.{Wanted as WantedValue};
+
+use crate::dialect::{Dialect, Wanted};
+use crate::line::{Line, MOST_BYTES};
+use arrayvec::ArrayVec;
+use lift_base::Number;
+use lift_base::text::{MOST_WORDS, number_up_to, words_of};
+use std::str;
+
+/// A line without the carriage return before its line feed.
+fn without_return(bytes: &[u8]) -> &[u8]
+    ensures { result.now ≡ strip_carriage_return bytes.now }
+{
+    match bytes {
+        [front @ .., b'\r'] => front,
+        _ => bytes,
+    }
+}
+
+/// The number of a command, 0 to 16,777,215, that a word names.
+pub fn number_of_word(word: &str) -> Option<Number>
+    ensures some { IfSome result (λ number. (word.now ≡ decimal number) × (number < 16777216)) }
+    ensures none { IfNone result ((number : ℕ) → number < 16777216 → word.now ≢ decimal number) }
+{
+    match number_up_to(word, 16_777_215) {
+        Some(number) => Number::new(number),
+        None => None,
+    }
+}
+
+/// The words of a line of at most 64 bytes, none where it has more than six.
+pub fn words_in(line: &[u8]) -> Option<ArrayVec<&str, MOST_WORDS>>
+    ensures some { IfSome result (λ words. AreWords line.now (map (λ word. word.now) words.items) × (length line.now ≤ 64)) }
+    ensures none { IfNone result ((words : List (List ℕ)) → AreWords line.now words → AreAscii words
+        → length line.now ≤ 64 → 6 < length words) }
+{
+    if line.len() > MOST_BYTES {
+        return None;
+    }
+    match str::from_utf8(line) {
+        Ok(text) => words_of(text),
+        Err(_) => None,
+    }
+}
+
+/// What a line asks for; none where it is malformed.
+pub(crate) fn wanted_of<T: Dialect>(line: &Line) -> Option<Wanted>
+    ensures some { (bytes : List ℕ) → Keeps65 bytes line.now.bytes.items line.now.is_longer
+        → IfSome result (λ wanted. T.wants (strip_carriage_return bytes) wanted) }
+    ensures none { (bytes : List ℕ) → Keeps65 bytes line.now.bytes.items line.now.is_longer
+        → IfNone result ((wanted : WantedValue) → T.wants (strip_carriage_return bytes) wanted → ⊥) }
+{
+    if line.is_longer {
+        return None;
+    }
+    T::read(without_return(&line.bytes))
+}
