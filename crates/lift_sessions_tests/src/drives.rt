@@ -110,26 +110,25 @@ fn car_makes_its_stops(rt: HostRuntime) -> Result<(), Fail> {
     Ok(())
 }
 
-/// Each end of a drive, the last number and the number of asks.
+/// The answers, the last number and the asks allowed; how the drive ends, the last number then, and how many asks it made.
+type Row = ([Reply; 2], u32, u32, Ending, u32, usize);
+
+fn ends_so(alloc: Global, row: &Row) -> Result<bool, Fail> {
+    let (replies, last, lines, end, number_then, asks) = row;
+    let driven = driven(alloc, replies, *last, *lines)?;
+    let is_end = driven.end.end == *end && driven.end.last == number(*number_then);
+    Ok(is_end && driven.taken.len() == *asks)
+}
+
+/// A refusal and Unknown end a drive at once.
 #[test]
-fn drives_end(rt: HostRuntime) -> Result<(), Fail> {
-    let table = [
-        (
-            [Reply::Placed(next()), Reply::Refused(Reason::NotServed)],
-            4,
-            9,
-            Ending::Refused(Reason::NotServed),
-            4,
-            2,
-        ),
-        (
-            [Reply::Placed(next()), Reply::Unknown],
-            4,
-            9,
-            Ending::Unknown,
-            4,
-            2,
-        ),
+fn answers_end_a_drive(rt: HostRuntime) -> Result<(), Fail> {
+    let refused = Reply::Refused(Reason::NotServed);
+    let not_served = Ending::Refused(Reason::NotServed);
+    let placed = Reply::Placed(next());
+    let table: [Row; 3] = [
+        ([placed, refused], 4, 9, not_served, 4, 2),
+        ([placed, Reply::Unknown], 4, 9, Ending::Unknown, 4, 2),
         (
             [Reply::Unknown, Reply::Unknown],
             0,
@@ -138,45 +137,28 @@ fn drives_end(rt: HostRuntime) -> Result<(), Fail> {
             0,
             1,
         ),
-        (
-            [Reply::Placed(next()), Reply::Stopped(next())],
-            16_777_214,
-            9,
-            Ending::Limit,
-            16_777_215,
-            2,
-        ),
-        (
-            [Reply::Placed(next()), Reply::Unknown],
-            16_777_215,
-            9,
-            Ending::Limit,
-            16_777_215,
-            1,
-        ),
-        (
-            [Reply::Placed(next()), Reply::Stopped(next())],
-            0,
-            2,
-            Ending::Limit,
-            1,
-            2,
-        ),
-        (
-            [Reply::Car(Letter::default()), Reply::Placed(None)],
-            0,
-            2,
-            Ending::Limit,
-            0,
-            2,
-        ),
-        ([Reply::Unknown, Reply::Unknown], 0, 0, Ending::Limit, 0, 0),
     ];
-    for (replies, last, lines, end, number_then, asks) in &table {
-        let driven = driven(rt.alloc(), replies, *last, *lines)?;
-        assert!(rt; driven.end.end == *end);
-        assert!(rt; driven.end.last == number(*number_then));
-        assert!(rt; driven.taken.len() == *asks);
+    for row in &table {
+        assert!(rt; ends_so(rt.alloc(), row)?);
+    }
+    Ok(())
+}
+
+/// A drive ends where no number is left for its stop, and after all asks that it may make.
+#[test]
+fn limits_end_a_drive(rt: HostRuntime) -> Result<(), Fail> {
+    let (most, limit) = (16_777_215, Ending::Limit);
+    let (placed, stopped) = (Reply::Placed(next()), Reply::Stopped(next()));
+    let (car, idle) = (Reply::Car(Letter::default()), Reply::Placed(None));
+    let table: [Row; 5] = [
+        ([placed, stopped], most - 1, 9, limit, most, 2),
+        ([placed, Reply::Unknown], most, 9, limit, most, 1),
+        ([placed, stopped], 0, 2, limit, 1, 2),
+        ([car, idle], 0, 2, limit, 0, 2),
+        ([Reply::Unknown, Reply::Unknown], 0, 0, limit, 0, 0),
+    ];
+    for row in &table {
+        assert!(rt; ends_so(rt.alloc(), row)?);
     }
     Ok(())
 }

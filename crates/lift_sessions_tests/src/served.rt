@@ -29,7 +29,7 @@ pub struct Served<'d> {
 }
 
 impl<'d> Served<'d> {
-    pub fn new(
+    pub(crate) fn new(
         alloc: Global,
         desk: &'d Desk,
         seat: Seat,
@@ -52,7 +52,7 @@ impl<'d> Served<'d> {
     }
 
     /// What the clerk took.
-    pub fn into_taken(self) -> Vec<(Number, Body)> {
+    pub(crate) fn into_taken(self) -> Vec<(Number, Body)> {
         let Served {
             desk: _,
             port: _,
@@ -65,7 +65,7 @@ impl<'d> Served<'d> {
     }
 
     /// One turn of the clerk.
-    pub fn turn(&mut self)
+    pub(crate) fn turn(&mut self)
         ensures { self.new.port ≡ self.old.port }
     {
         let terminal = Terminal::default();
@@ -105,23 +105,23 @@ impl<'d> Port for Served<'d> {
     }
 }
 
-pub fn floor(number: u8) -> Floor {
+pub(crate) fn floor(number: u8) -> Floor {
     Floor::new(number).unwrap_or_default()
 }
 
-pub fn number(value: u32) -> Number {
+pub(crate) fn number(value: u32) -> Number {
     Number::new(value).unwrap_or_default()
 }
 
-pub fn call(to: u8, party: u8) -> Body {
+pub(crate) fn call(to: u8, party: u8) -> Body {
     Body::Call(floor(to), Party::new(party).unwrap_or_default())
 }
 
-pub fn car(index: u8) -> Letter {
+pub(crate) fn car(index: u8) -> Letter {
     Letter::new(index).unwrap_or_default()
 }
 
-pub fn stop(at: u8, dir: Dir) -> Stop {
+pub(crate) fn stop(at: u8, dir: Dir) -> Stop {
     Stop {
         floor: floor(at),
         dir,
@@ -129,7 +129,7 @@ pub fn stop(at: u8, dir: Dir) -> Stop {
 }
 
 /// A desk of one terminal, whose replies a test gives.
-pub fn open(alloc: Global) -> Result<DeskParts, AllocError>
+pub(crate) fn open(alloc: Global) -> Result<DeskParts, AllocError>
     ensures count { IfOk result (λ parts. (length parts.desk ≡ 1) × (vec_len parts.seats ≡ 1)) }
     ensures seats { IfOk result (λ parts. AreSeatsOf parts.desk parts.seats.items) }
     ensures clerk { IfOk result (λ parts. IsClerkOf parts.desk parts.clerk) }
@@ -140,7 +140,7 @@ pub fn open(alloc: Global) -> Result<DeskParts, AllocError>
     }
 }
 
-pub fn only_seat(_desk: &Desk, seats: &mut Vec<Seat>) -> Seat
+pub(crate) fn only_seat(_desk: &Desk, seats: &mut Vec<Seat>) -> Seat
     requires at { AreSeatsOf _desk.now seats.old.items }
     requires some { 0 < vec_len seats.old }
     ensures seat { IsSeatOf _desk.now result }
@@ -149,7 +149,7 @@ pub fn only_seat(_desk: &Desk, seats: &mut Vec<Seat>) -> Seat
 }
 
 /// More than any test uses.
-pub fn ample() -> Limits {
+pub(crate) fn ample() -> Limits {
     Limits {
         lines: 1000,
         looks: 10,
@@ -158,7 +158,7 @@ pub fn ample() -> Limits {
 }
 
 /// Nothing is known to be in.
-pub fn no_call() -> LastLetter {
+pub(crate) fn no_call() -> LastLetter {
     LastLetter {
         number: number(0),
         letter: None,
@@ -166,7 +166,7 @@ pub fn no_call() -> LastLetter {
 }
 
 /// The last call that is known to be in.
-pub fn called(last: u32, letter: u8) -> LastLetter {
+pub(crate) fn called(last: u32, letter: u8) -> LastLetter {
     LastLetter {
         number: number(last),
         letter: Some(car(letter)),
