@@ -83,18 +83,25 @@ fn party_among(
     u64::from(row.party.get()) * time
 }
 
-/// The times of all passengers of these calls, where their car makes these halts.
-fn total_among(building: &Building, position: &Position, halts: &[Halt], rows: &[Row]) -> u64
+/// The times of all passengers of these calls, where their car makes these halts at these moments.
+fn total_among(
+    building: &Building,
+    position: &Position,
+    halts: &[Halt],
+    moments: &[u64],
+    rows: &[Row],
+) -> u64
     requires halts { length halts.now ≤ 66 }
+    requires count { length halts.now ≤ length moments.now }
+    requires moments { moments.now ≡ arrivals_of building.now position.now.floor halts.now }
     requires rows { length rows.now ≤ 33 }
     ensures value { result ≡ sum_by (λ row. row.party * arrival_at building.now position.now.floor halts.now
         (halt_at position.now row row.to)) rows.now }
     ensures limit { result ≤ 33 * 653400000 }
 {
-    let moments = building.arrivals(*position, halts);
     let mut total = 0u64;
     for row in rows {
-        total += party_among(building, position, halts, &moments, row);
+        total += party_among(building, position, halts, moments, row);
     }
     total
 }
@@ -130,10 +137,11 @@ fn sums_among(
     ensures no_loss { result.without ≤ result.others }
     ensures limit { result.others + result.own ≤ 34 * 653400000 }
 {
-    let without = total_among(building, position, halts, rows);
-    let others = total_among(building, position, halts_with, rows);
-    let moments = building.arrivals(*position, halts_with);
-    let own = party_among(building, position, halts_with, &moments, &waiting_row(call));
+    let before = building.arrivals(*position, halts);
+    let after = building.arrivals(*position, halts_with);
+    let without = total_among(building, position, halts, &before, rows);
+    let others = total_among(building, position, halts_with, &after, rows);
+    let own = party_among(building, position, halts_with, &after, &waiting_row(call));
     Sums {
         without,
         others,

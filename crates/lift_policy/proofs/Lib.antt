@@ -1,6 +1,5 @@
 pub mod Runs
 pub mod Views
-pub mod Moments
 pub mod Letters
 pub mod Least
 pub mod Steps

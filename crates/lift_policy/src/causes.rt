@@ -7,7 +7,7 @@ ghost use Rattle.lift_policy.specs.Terminals.{has_car, has_kiosk, kiosk_floor};
 ghost use Rattle.lift_policy.specs.Step.{state_seen, floor_of, is_call, is_numbered, is_same, is_kept, call_at, lacks_car, first_cause};
 
 use crate::command::Command;
-use crate::eligible::Eligible;
+use crate::eligible::is_none_eligible;
 use crate::view::View;
 use lift_base::{Body, Content, Floor, Letter, Number, Party, Reason, Terminal};
 use lift_building::Building;
@@ -131,7 +131,7 @@ fn lacks_car(building: &Building, view: &View, terminal: Terminal, body: &Body) 
     match *body {
         Body::Call(to, party) => {
             let call = call_at(building, terminal, to, party);
-            Eligible::among(building, view, call).is_none()
+            is_none_eligible(building, view, &call)
         }
         _ => false,
     }

@@ -1,4 +1,4 @@
-ghost use Rattle.std.specs.Prelude.{◌≡◌, ◌↔◌, ◌<◌, ◌≤◌, [], ◌∷◌, if◌then◌else◌, length, IfSome, IsNone};
+ghost use Rattle.std.specs.Prelude.{◌≡◌, ◌↔◌, ◌<◌, ◌≤◌, ◌==◌, [], ◌∷◌, if◌then◌else◌, length, IfSome, IsNone};
 ghost use Rattle.std.specs.Option.{option_to_list};
 ghost use Rattle.lift_register.specs.Fits.{persons_of};
 ghost use Rattle.lift_policy.specs.Eligible.{can_take, is_eligible, eligible_cars, AreLetters};
@@ -86,6 +86,18 @@ fn eligible_at(building: &Building, view: &View, call: &NewCall, index: u8) -> O
     } else {
         None
     }
+}
+
+/// Whether no car may take a call now.
+pub(crate) fn is_none_eligible(building: &Building, view: &View, call: &NewCall) -> bool
+    ensures { result ≡ (length (eligible_cars building.now view.now call.now) == 0) }
+{
+    for letter in 0..16 {
+        if eligible_at(building, view, call, letter).is_some() {
+            return false;
+        }
+    }
+    true
 }
 
 /// The cars that may take a call, by rising letter.

@@ -11,7 +11,7 @@ returns c =
     let position = c.args.position.now in
     let own-is = c.party_among-own.ensures.value ∙ ap (λ (row : Row). row.party * arrival_at plan position.floor c.args.halts_with.now (halt_at position row row.to)) c.waiting_row.ensures in
     let sums : Sums plan position c.args.rows.now (waiting_row c.args.call.now) c.total_among-without.result c.total_among-others.result c.party_among-own.result =
-    sums_are plan position c.args.rows.now (waiting_row c.args.call.now) c.args.halts.now c.args.halts_with.now _ _ _ c.arrivals-moments.ensures.lawful c.requires.here c.requires.calls
+    sums_are plan position c.args.rows.now (waiting_row c.args.call.now) c.args.halts.now c.args.halts_with.now _ _ _ c.arrivals-after.ensures.lawful c.requires.here c.requires.calls
     c.requires.from c.requires.to c.requires.halts c.requires.halts_with c.total_among-without.ensures.value c.total_among-others.ensures.value own-is in
     let no_loss = sums.no_loss in
     let others = c.total_among-others.ensures.limit in
