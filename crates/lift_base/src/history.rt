@@ -1,6 +1,6 @@
 ghost use Rattle.std.specs.Prelude.{◌≡◌, ◌≢◌, ◌↔◌, IsTrue, IfSome, IfNone};
 ghost use Rattle.std.specs.Option.{option_to_list};
-ghost use Rattle.lift_base.specs.History.{terminal_of, number_of, record_of, dir_of, row_after, IsWithinLimits};
+ghost use Rattle.lift_base.specs.History.{record_of, dir_of, row_after, IsWithinLimits};
 
 use crate::checked::{Floor, Letter, Number, Party, Terminal};
 use crate::travel::{Dir, Stop};
@@ -32,27 +32,6 @@ impl Default for Entry {
             number: Number::default(),
             floor: Floor::default(),
             dir: Dir::default(),
-        }
-    }
-}
-
-impl Entry {
-    /// The terminal whose command this was.
-    pub fn terminal(&self) -> Terminal
-        ensures { result ≡ terminal_of self.now }
-    {
-        match *self {
-            Entry::Allot { kiosk, .. } => kiosk,
-            Entry::Stop { car, .. } => Terminal::of_car(car),
-        }
-    }
-
-    pub fn number(&self) -> Number
-        ensures { result ≡ number_of self.now }
-    {
-        match *self {
-            Entry::Allot { number, .. } => number,
-            Entry::Stop { number, .. } => number,
         }
     }
 }
@@ -243,6 +222,9 @@ impl Record {
         }
     }
 }
+
+/// The largest count of done calls: every call that all kiosks can number.
+pub const MOST_DONE: u32 = 788_529_105;
 
 /// The size of an installation: how many floors, cars and kiosks, and how many sectors in half of its disk.
 #[derive(Clone, Copy, Default, PartialEq, Eq)]

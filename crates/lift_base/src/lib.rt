@@ -10,6 +10,6 @@ mod travel;
 
 pub use checked::{Floor, Letter, Number, Party, Terminal};
 pub use command::{Body, Reason, Reply};
-pub use history::{Content, Entry, Last, Record, Row, Shape};
+pub use history::{Content, Entry, Last, MOST_DONE, Record, Row, Shape};
 pub use memory::Memory;
 pub use travel::{Dir, Halt, Pass, Position, Stop};

@@ -93,11 +93,6 @@ pub record RunsOn (old new : DiskState) : Type 0 where
   pub inert : new.is_inert ↔ old.is_inert
   pub told : (call : ℕ) → new.calls < call → new.fails_at call ↔ old.fails_at call
 
--- the same device: it has as many sectors, and is as honest
-pub record IsSameDevice (old new : DiskState) : Type 0 where
-  pub size : new.size ≡ old.size
-  pub honest : new.is_honest ↔ old.is_honest
-
 -- a fault is answered exactly where the count rose
 pub record HasCause {T E : Type 0} (result : Result T E) (old new : DiskState) : Type 0 where
   pub ok : OnOk result (new.failures ≡ old.failures)

@@ -14,7 +14,6 @@ use Rattle.lift_base.specs.declared.command.Reply.TheVariants.{Car, Stopped, Pla
 use Rattle.lift_building.specs.Plan.{Plan}
 use Rattle.lift_register.specs.Register.{last_of}
 use Rattle.lift_cost.specs.declared.call.NewCall.{NewCall}
-use Rattle.lift_policy.specs.declared.command.Command.{Command}
 use Rattle.lift_policy.specs.Terminals.{kiosk_floor}
 use Rattle.lift_policy.specs.View.{ViewState}
 use Rattle.lift_policy.specs.Choices.{first_least, total_cost_at, open_at, wait_at}
@@ -72,7 +71,3 @@ fewest_open_pick plan view call eligible = first_least (open_at view) eligible
 
 abbrev pub shortest_wait_pick : Pick
 shortest_wait_pick plan view call eligible = first_least (wait_at plan view call) eligible
-
--- the decision on a command by estimated times to destination
-abbrev pub etd_decision : Plan → State → Command → Decision
-etd_decision plan state c = decision_by etd_pick plan state c.terminal c.number c.body

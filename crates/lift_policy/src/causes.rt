@@ -68,22 +68,11 @@ pub fn car_at(building: &Building, terminal: Terminal) -> Letter
     }
 }
 
-/// The number of the terminal's last accepted command, 0 for none.
-fn last_number(register: &Register, terminal: Terminal) -> u32
-    ensures value { result ≡ last_number register.now terminal }
-    ensures limit { result < 16777216 }
-{
-    match register.last(terminal) {
-        Some(last) => last.number.get(),
-        None => 0,
-    }
-}
-
 /// Whether a number is the terminal's next.
 pub fn is_next(register: &Register, terminal: Terminal, number: Number) -> bool
     ensures { result ≡ (number == last_number register.now terminal + 1) }
 {
-    number.get() == last_number(register, terminal) + 1
+    number.get() == register.last_number(terminal) + 1
 }
 
 fn is_same(body: &Body, content: &Content) -> bool
@@ -145,7 +134,7 @@ fn is_other(register: &Register, command: &Command) -> bool
     let number = command.number.get();
     is_numbered(&command.body)
         && number >= 1
-        && number == last_number(register, command.terminal)
+        && number == register.last_number(command.terminal)
         && !is_kept(register, command.terminal, &command.body)
 }
 
@@ -154,7 +143,7 @@ fn is_old(register: &Register, command: &Command) -> bool
     ensures { result ≡ (is_numbered command.now.body && (command.now.number == 0 || nat_lt command.now.number (last_number register.now command.now.terminal))) }
 {
     let number = command.number.get();
-    is_numbered(&command.body) && (number == 0 || number < last_number(register, command.terminal))
+    is_numbered(&command.body) && (number == 0 || number < register.last_number(command.terminal))
 }
 
 /// Whether a command's number is above its terminal's next one, or a position's above 0.
@@ -163,7 +152,7 @@ fn is_beyond(register: &Register, command: &Command) -> bool
 {
     let number = command.number.get();
     if is_numbered(&command.body) {
-        number > last_number(register, command.terminal) + 1
+        number > register.last_number(command.terminal) + 1
     } else {
         number > 0
     }

@@ -1,28 +1,14 @@
 ghost use Rattle.std.specs.Prelude.{◌≡◌, ◌↔◌, ◌<◌, ◌≤◌, ◌==◌, [], ◌∷◌, if◌then◌else◌, length, IfSome, IsNone};
 ghost use Rattle.std.specs.Option.{option_to_list};
-ghost use Rattle.lift_register.specs.Fits.{persons_of};
 ghost use Rattle.lift_policy.specs.Eligible.{can_take, is_eligible, eligible_cars, AreLetters};
 
 use crate::view::View;
 use arrayvec::ArrayVec;
-use lift_base::{Letter, Row};
+use lift_base::Letter;
 use lift_building::Building;
 use lift_cost::NewCall;
-use lift_register::Register;
+use lift_register::{Register, persons};
 use std::marker::Model;
-
-/// How many persons these calls are for.
-pub(crate) fn persons(rows: &[Row]) -> u32
-    requires { length rows.now ≤ 32 }
-    ensures count { result ≡ persons_of rows.now }
-    ensures limit { result ≤ 480 }
-{
-    let mut count = 0;
-    for row in rows {
-        count += u32::from(row.party.get());
-    }
-    count
-}
 
 /// Whether the car serves both floors, and has places for the party beside the persons of its open calls.
 pub fn can_take(building: &Building, register: &Register, call: NewCall, car: Letter) -> bool

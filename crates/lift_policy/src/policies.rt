@@ -5,7 +5,7 @@ ghost use Rattle.lift_policy.specs.View.{ViewState, IsViewIn};
 ghost use Rattle.lift_policy.specs.Choices.{IsFirstLeast, cost_at, total_cost_at, wait_at, open_at, IsEtdChoice, IsFewestOpen, IsShortestWait};
 ghost use Rattle.lift_policy.specs.Least.{IsFirstLeastAt};
 
-use crate::eligible::{Eligible, persons};
+use crate::eligible::Eligible;
 use crate::policy::Policy;
 use crate::view::View;
 use crate::waits::wait_of;
@@ -13,6 +13,7 @@ use arrayvec::ArrayVec;
 use lift_base::Letter;
 use lift_building::Building;
 use lift_cost::{NewCall, cost_of};
+use lift_register::persons;
 
 /// Picks the car at which the call adds least to the times of all persons, its own party with them.
 #[derive(Clone, Copy)]

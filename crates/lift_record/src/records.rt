@@ -7,10 +7,9 @@ ghost use Rattle.lift_record.specs.Record.{IsSayable, record_bytes, dir_byte, ca
 ghost use Rattle.lift_record.specs.declared.version.Version.TheVariants.{Two};
 
 use crate::version::Version;
-use lift_base::{Content, Dir, Floor, Last, Letter, Number, Party, Record, Row, Terminal};
-
-/// The largest count of done calls: every call that all kiosks can number.
-const MOST_DONE: u32 = 788_529_105;
+use lift_base::{
+    Content, Dir, Floor, Last, Letter, MOST_DONE, Number, Party, Record, Row, Terminal,
+};
 
 fn is_lawful_call(kiosk: Terminal, number: Number, from: Floor, to: Floor) -> bool
     ensures { IsTrue result ↔ IsLawfulCall kiosk number from to }

@@ -9,3 +9,4 @@ mod rules;
 pub use joins::registers_join;
 pub use lift_base::{Content, Last};
 pub use registers::Register;
+pub use rules::persons;

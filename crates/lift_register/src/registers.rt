@@ -11,12 +11,11 @@ ghost use Rattle.lift_building.specs.Plan.{Plan};
 use crate::rows::{push_row, same_lasts, same_rows, serve_car};
 use crate::rules::{is_possible_call, is_possible_stop, last_fits, note_ranges, persons};
 use arrayvec::ArrayVec;
-use lift_base::{Content, Entry, Last, Letter, Party, Record, Row, Shape, Stop, Terminal};
+use lift_base::{
+    Content, Entry, Last, Letter, MOST_DONE, Party, Record, Row, Shape, Stop, Terminal,
+};
 use lift_building::Building;
 use std::marker::Model;
-
-/// The largest count of done calls: every call that all kiosks can number.
-const MOST_DONE: u32 = 788_529_105;
 
 /// The open calls of each car, each terminal's last accepted command, and the count of done calls.
 #[derive(Drop)]
@@ -109,7 +108,7 @@ impl Register {
     }
 
     /// The number of a terminal's last accepted command, 0 for none.
-    fn last_number(&self, terminal: Terminal) -> u32
+    pub fn last_number(&self, terminal: Terminal) -> u32
         ensures number { result ≡ last_number self.now terminal }
         ensures limit { result < 16777216 }
     {
