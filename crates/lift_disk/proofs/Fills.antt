@@ -1,7 +1,7 @@
 -- Filling or copying the loose sectors, one after another, and the zeros at the end of one.
-use Rattle.std.proofs.Common.{◌≡◌, ◌<◌, ◌≤◌, ◌+◌, ◌-◌, ℕ, Bool, List, ◌++◌, length, take, drop, replicate, slice_get, Some, sym, ◌∙◌, ap, ⊎_elim, arith}
+use Rattle.std.proofs.Common.{◌≡◌, ◌<◌, ◌≤◌, ◌+◌, ◌-◌, ℕ, zero, suc, Bool, true, false, List, [], ◌∷◌, ◌++◌, length, take, drop, replicate, get_or, slice_get, Some, refl, sym, ◌∙◌, ap, ⊎_elim, arith}
 use Rattle.std.specs.Option.{unwrap_or}
-use Rattle.std.proofs.lemmas.List.{same_lists, take-append-drop}
+use Rattle.std.proofs.lemmas.List.{same_lists, take-append-drop, length-replicate}
 use Rattle.std.proofs.lemmas.Bool.{cases_lt}
 use Rattle.std.proofs.lemmas.Option.{unwrap_or-slice_get}
 use Rattle.lift_disk.specs.Disk.{Image}
@@ -31,3 +31,29 @@ pub ends_blank : (bytes front : List ℕ) (n : ℕ) → length bytes ≡ 512 →
 ends_blank bytes front n size sum is blank =
     let e : 512 - length front ≡ n = omega (arith, size, sum) in
     ap (λ k. front ++ replicate k 0) e ∙ ap (λ (l : List ℕ). front ++ l) (sym blank) ∙ ap (λ (l : List ℕ). l ++ drop (length bytes - n) bytes) is ∙ take-append-drop (length bytes - n) bytes
+
+-- ---- flags
+
+-- of the flags below this number none is set, and the others are as they were
+pub record IsClearedTo (at : ℕ) (old new : List Bool) : Type 0 where
+  pub size : length new ≡ length old
+  pub below : (i : ℕ) → i < at → ¬ IsFlagged new i
+  pub others : (i : ℕ) → at ≤ i → slice_get new i ≡ slice_get old i
+
+not_set : (flags : List Bool) (i : ℕ) (d : Bool) → i < length flags → ¬ IsFlagged flags i → get_or flags i d ≡ false
+not_set [] i d within unset = absurd (omega arith)
+not_set (true ∷ flags) zero d within unset = absurd (unset refl)
+not_set (false ∷ flags) zero d within unset = refl
+not_set (flag ∷ flags) (suc i) d within unset = not_set flags i d (omega arith) unset
+
+get-replicate : (n i : ℕ) (d : Bool) → i < n → get_or (replicate n false) i d ≡ false
+get-replicate zero i d within = absurd (omega arith)
+get-replicate (suc n) zero d within = refl
+get-replicate (suc n) (suc i) d within = get-replicate n i d (omega arith)
+
+-- the last of the span is cleared, and none was set behind it
+pub all_cleared : (at end : ℕ) (old new : List Bool) → end ≤ at → ((i : ℕ) → IsFlagged old i → i < end) → IsClearedTo at old new → new ≡ replicate (length old) false
+all_cleared at end old new last ends cleared =
+    let none : (k : ℕ) → ¬ IsFlagged new k = λ k is. ⊎_elim (λ below. cleared.below k below is) (λ behind. let was : IsFlagged old k = sym (cleared.others k behind) ∙ is in omega (arith, behind, last, ends k was)) (cases_lt k at) in
+    same_lists new (replicate (length old) false) (cleared.size ∙ sym (length-replicate (length old) false))
+    (λ k d within. not_set new k d within (none k) ∙ sym (get-replicate (length old) k d (omega (arith, within, cleared.size))))

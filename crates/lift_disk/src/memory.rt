@@ -181,7 +181,7 @@ impl Disk for MemDisk {
         }
         self.calls = ProofCount::next(&self.calls);
         copy_flagged(&self.image, &self.loose, self.span, &mut self.synced);
-        clear(&mut self.loose);
+        clear(&mut self.loose, self.span);
         self.span = Span::none();
         self.is_steady = true;
         Ok(())

@@ -83,11 +83,15 @@ pub(crate) fn note_sync(
     Ok(())
 }
 
-/// No flag is set any more.
-pub(crate) fn clear(flags: &mut Vec<bool>)
+/// No flag is set any more. Outside of the span none was.
+pub(crate) fn clear(flags: &mut Vec<bool>, span: Span)
+    requires bound { span.end ≤ length flags.old.items }
+    requires spanned { (i : ℕ) → IsFlagged flags.old.items i → IsWithin span.from span.end i }
     ensures { flags.new.items ≡ replicate (length flags.old.items) false }
 {
-    flags.fill(false);
+    for i in span.from..span.end {
+        flags[i] = false;
+    }
 }
 
 /// Writes the flagged sectors over those of the same places. The others are the same already.
