@@ -32,13 +32,12 @@ fn text_of(batch: &[Record], number: u32) -> [u8; 1024]
     text
 }
 
-/// The two halves of a text.
-fn sectors_of(text: &[u8; 1024]) -> [[u8; 512]; 2]
-    ensures { result ≡ take 512 text.now ∷ drop 512 text.now ∷ [] }
+/// The two sectors of a text.
+pub fn sectors_of(text: &[u8; 1024]) -> &[[u8; 512]]
+    ensures length { length result.now ≡ 2 }
+    ensures cut { result.now ≡ take 512 text.now ∷ drop 512 text.now ∷ [] }
 {
-    let mut sectors = [[0; 512]; 2];
-    sectors[0].copy_from_slice(&text[..512]);
-    sectors[1].copy_from_slice(&text[512..]);
+    let (sectors, _) = text.as_chunks();
     sectors
 }
 
@@ -49,14 +48,13 @@ pub fn body_count(count: usize) -> usize
     if count < 32 { 1 } else { 2 }
 }
 
-/// The body of a batch of the second version: as many of these sectors as the batch takes.
-pub fn body_of(batch: &[Record], number: u32) -> [[u8; 512]; 2]
+/// The body of a batch of the second version: as many of its two sectors as the batch takes.
+pub fn body_of(batch: &[Record], number: u32) -> [u8; 1024]
     requires some { 1 ≤ length batch.now }
     requires few { length batch.now ≤ 63 }
     requires numbered { 1 ≤ number }
     requires lawful { All IsLawful batch.now }
-    ensures length { length result ≡ 2 }
-    ensures body { IsBody number (record { version = Two; records = batch.now }) (take (bodies (length batch.now)) result) }
+    ensures { IsBody number (record { version = Two; records = batch.now }) (take (bodies (length batch.now)) (take 512 result ∷ drop 512 result ∷ [])) }
 {
-    sectors_of(&text_of(batch, number))
+    text_of(batch, number)
 }

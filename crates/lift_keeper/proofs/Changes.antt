@@ -1,17 +1,15 @@
 -- What entries and schedules change.
-use Rattle.std.proofs.Common.{◌≡◌, ◌≢◌, ℕ, zero, suc, ◌+◌, ◌-◌, ◌<◌, ◌≤◌, List, [], ◌∷◌, ◌++◌, length, map, set, get_or, Option, Some, None, All, refl, sym, ap, subst, ◌∙◌, inl, inr, arith, option_map, get_or-set_other, get_or-set_same}
+use Rattle.std.proofs.Common.{◌≡◌, ◌≢◌, ℕ, zero, suc, ◌<◌, List, [], ◌∷◌, ◌++◌, length, set, get_or, Option, Some, None, refl, sym, ap, subst, ◌∙◌, inl, inr, arith, option_map, get_or-set_other}
 use Rattle.std.specs.List.{flat_map}
 use Rattle.std.specs.Option.{IfSome}
-use Rattle.std.proofs.Math.ListN.{length-set}
 use Rattle.std.proofs.Math.Seq.{map-set_same}
 use Rattle.std.proofs.lemmas.Bool.{cases_eq}
 use Rattle.std.proofs.lemmas.Grind.{get_or-set_at}
-use Rattle.std.proofs.lemmas.List.{map-set, set-set, get_or_default}
+use Rattle.std.proofs.lemmas.List.{map-set, get_or_default}
 use Rattle.lift_base.specs.History.{row_after}
 use Rattle.lift_base.specs.declared.travel.Dir.{Dir}
 use Rattle.lift_base.specs.declared.travel.Position.{Position}
 use Rattle.lift_base.specs.declared.history.Row.{Row}
-use Rattle.lift_base.specs.declared.history.Entry.{Entry}
 use Rattle.lift_base.specs.declared.history.Entry.TheVariants.{Allot, Stop}
 use Rattle.lift_register.specs.Register.{RegisterState, rows_of, register_of, waiting_row}
 use Rattle.lift_register.specs.WellFormed.{IsWellFormed}
@@ -57,15 +55,14 @@ own_after old new schedules car o inside others is own k t h = elim (cases_eq k 
   | inr other ↦ own k t (sym (get_or-set_other schedules car k o None other) ∙ h) ∙ sym (others k other)
 ]
 
--- a schedule that was taken out and is put in again changed
-pub own_again : (old new : RegisterState) (schedules : List (Option ScheduleState)) (i car : ℕ) (m o : Option ScheduleState) → i ≡ car → i < length schedules
+-- the same at that car's place
+pub own_again : (old new : RegisterState) (schedules : List (Option ScheduleState)) (i car : ℕ) (o : Option ScheduleState) → i ≡ car → i < length schedules
     → ((k : ℕ) → k ≢ car → rows_of new k ≡ rows_of old k) → ((s : ScheduleState) → o ≡ Some s → s.rows ≡ rows_of new car)
-    → AreSchedulesOf old schedules → AreSchedulesOf new (set (set schedules i m) i o)
-own_again old new schedules i car m o at inside others is own =
-    subst (λ (j : ℕ). AreSchedulesOf new (set (set schedules j m) j o)) (sym at)
-    (subst (AreSchedulesOf new) (sym (set-set schedules car m o)) (own_after old new schedules car o (omega (arith, at, inside)) others is own))
+    → AreSchedulesOf old schedules → AreSchedulesOf new (set schedules i o)
+own_again old new schedules i car o at inside others is own =
+    subst (λ (j : ℕ). AreSchedulesOf new (set schedules j o)) (sym at) (own_after old new schedules car o (omega (arith, at, inside)) others is own)
 
--- what was taken out has its car's rows
+-- the schedule at a car's place has the car's rows
 pub taken_rows : (register : RegisterState) (schedules : List (Option ScheduleState)) (i car : ℕ) (d o : Option ScheduleState) → i ≡ car → i < length schedules
     → o ≡ get_or schedules i d → AreSchedulesOf register schedules → (s : ScheduleState) → o ≡ Some s → s.rows ≡ rows_of register car
 taken_rows register schedules i car d o at inside is own s h =
@@ -75,14 +72,14 @@ pub if_some : {X : Type 0} (P : X → Type 0) (o : Option X) → ((x : X) → o 
 if_some P None h = tt
 if_some P (Some x) h = h x refl
 
-pub made_rows : (m s : ScheduleState) (p : Position) (rows : List Row) → m ≡ record { position = p; rows = rows } → Some m ≡ Some s → s.rows ≡ rows
-made_rows m s p rows is h = let e : m ≡ s = cc in ap (λ (x : ScheduleState). x.rows) (sym e) ∙ ap (λ (x : ScheduleState). x.rows) is
+pub made_rows : (o : Option ScheduleState) (s : ScheduleState) (p : Position) (rows : List Row) → o ≡ Some (record { position = p; rows = rows }) → o ≡ Some s → s.rows ≡ rows
+made_rows o s p rows is h = let e : s ≡ record { position = p; rows = rows } = cc in ap (λ (x : ScheduleState). x.rows) e
 
-pub positions_at : (schedules : List (Option ScheduleState)) (i car : ℕ) (m : Option ScheduleState) (s : ScheduleState) (p : Position) → i ≡ car → s.position ≡ p
-    → positions_of (set (set schedules i m) i (Some s)) ≡ set (positions_of schedules) car (Some p)
-positions_at schedules i car m s p at is =
-    ap positions_of (set-set schedules i m (Some s)) ∙ map-set (option_map (λ (x : ScheduleState). x.position)) schedules i (Some s)
-    ∙ ap (λ (j : ℕ). set (positions_of schedules) j (Some s.position)) at ∙ ap (λ (q : Position). set (positions_of schedules) car (Some q)) is
+pub positions_at : (schedules : List (Option ScheduleState)) (i car : ℕ) (o : Option ScheduleState) (p : Position) (rows : List Row) → i ≡ car
+    → o ≡ Some (record { position = p; rows = rows }) → positions_of (set schedules i o) ≡ set (positions_of schedules) car (Some p)
+positions_at schedules i car o p rows at is =
+    let f : Option ScheduleState → Option Position = option_map (λ (x : ScheduleState). x.position) in
+    map-set f schedules i o ∙ ap (λ (j : ℕ). set (positions_of schedules) j (f o)) at ∙ ap (λ (q : Option Position). set (positions_of schedules) car q) (ap f is)
 
 abbrev pub with_row : Row → Option ScheduleState → Option ScheduleState
 with_row row o = option_map (λ (s : ScheduleState). record s { rows = s.rows ++ row ∷ [] }) o
@@ -92,11 +89,11 @@ with_row-position row None = refl
 with_row-position row (Some s) = refl
 
 -- one call more moves no car
-pub positions_kept : (schedules : List (Option ScheduleState)) (i : ℕ) (m o taken d : Option ScheduleState) (row : Row) → o ≡ with_row row taken → taken ≡ get_or schedules i d
-    → positions_of (set (set schedules i m) i o) ≡ positions_of schedules
-positions_kept schedules i m o taken d row e is =
+pub positions_kept : (schedules : List (Option ScheduleState)) (i : ℕ) (o taken d : Option ScheduleState) (row : Row) → o ≡ with_row row taken → taken ≡ get_or schedules i d
+    → positions_of (set schedules i o) ≡ positions_of schedules
+positions_kept schedules i o taken d row e is =
     let f : Option ScheduleState → Option Position = option_map (λ (x : ScheduleState). x.position) in
-    ap positions_of (set-set schedules i m o) ∙ map-set_same f schedules i o d (ap f e ∙ with_row-position row taken ∙ ap f is)
+    map-set_same f schedules i o d (ap f e ∙ with_row-position row taken ∙ ap f is)
 
 pub with_row-rows : (row : Row) (o : Option ScheduleState) (rows : List Row) → ((s : ScheduleState) → o ≡ Some s → s.rows ≡ rows)
     → (t : ScheduleState) → with_row row o ≡ Some t → t.rows ≡ rows ++ row ∷ []

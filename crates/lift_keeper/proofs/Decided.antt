@@ -1,26 +1,21 @@
 -- What makes a decision a step of the rules.
-use Rattle.std.proofs.Common.{◌≡◌, ◌≢◌, ℕ, zero, suc, ◌+◌, ◌-◌, ◌<◌, ◌≤◌, ◌⊎◌, Bool, true, false, not, ◌&&◌, ◌||◌, cond, eqb, ltb, leb, List, [], ◌∷◌, ◌++◌, length, refl, sym, ap, subst, ◌∙◌, inl, inr, arith}
-use Rattle.std.specs.Prelude.{Contains, Option, Some, None, is_some, MatchOption, MatchBool}
+use Rattle.std.proofs.Common.{◌≡◌, ℕ, ◌<◌, Bool, true, false, not, refl, sym, subst}
+use Rattle.std.specs.Prelude.{Contains, Option, Some, None, MatchOption}
 use Rattle.std.proofs.lemmas.Bool.{and_parts, ltb-true, leb-true, leb-false, eqb-true, eqb-false}
 use Rattle.lift_base.specs.declared.travel.Dir.{Dir}
-use Rattle.lift_base.specs.declared.history.Entry.{Entry}
 use Rattle.lift_base.specs.declared.history.Entry.TheVariants.{Allot, Stop as Stopping}
-use Rattle.lift_base.specs.declared.history.Content.{Content}
-use Rattle.lift_base.specs.declared.history.Content.TheVariants.{Letter, Stopped as StoppedAt}
-use Rattle.lift_base.specs.declared.history.Last.{Last}
 use Rattle.lift_base.specs.declared.command.Body.{Body}
 use Rattle.lift_base.specs.declared.command.Body.TheVariants.{Call, Stop, Place}
 use Rattle.lift_base.specs.declared.command.Reason.{Reason}
 use Rattle.lift_base.specs.declared.command.Reply.{Reply}
-use Rattle.lift_base.specs.declared.command.Reply.TheVariants.{Car, Stopped, Placed, Refused}
-use Rattle.lift_building.specs.Plan.{Plan, IsBuilding, serves_floor}
+use Rattle.lift_base.specs.declared.command.Reply.TheVariants.{Refused}
+use Rattle.lift_building.specs.Plan.{Plan, IsBuilding}
 use Rattle.lift_building.proofs.Getters.{serves_within}
-use Rattle.lift_register.specs.Register.{last_of, last_number}
 use Rattle.lift_register.specs.Fits.{Fits}
 use Rattle.lift_policy.specs.Terminals.{has_car, has_kiosk, kiosk_floor}
-use Rattle.lift_policy.specs.Eligible.{Choice, is_eligible, can_take}
+use Rattle.lift_policy.specs.Eligible.{Choice}
 use Rattle.lift_policy.specs.Step.{State, Step, Proceeds, Allots, Repeats, view_of, call_at, cars_for, first_cause, has_cause, is_new, is_same, accepting, standing, stopping, next_from}
-use Rattle.lift_policy.proofs.Steps.{NoCause, no_cause, IsRepeat, repeated}
+use Rattle.lift_policy.proofs.Steps.{no_cause}
 use Rattle.lift_policy.proofs.Joins.{eligible_passes}
 
 pub step_refused : (plan : Plan) (choice : Choice) (state : State) (terminal number : ℕ) (body : Body) (reason : Reason)

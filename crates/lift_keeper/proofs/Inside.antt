@@ -1,5 +1,5 @@
 -- What changes keep.
-use Rattle.std.proofs.Common.{◌≡◌, ℕ, zero, suc, ◌+◌, ◌<◌, ◌≤◌, List, [], ◌∷◌, ◌++◌, length, set, get_or, Option, Some, None, All, refl, sym, ap, subst, ◌∙◌, arith}
+use Rattle.std.proofs.Common.{◌≡◌, ℕ, zero, suc, ◌<◌, List, [], ◌∷◌, ◌++◌, length, set, get_or, Option, Some, None, refl, sym, ap, subst, ◌∙◌, arith}
 use Rattle.std.proofs.Math.ListN.{length-set}
 use Rattle.std.proofs.lemmas.List.{length-append, length-map}
 use Rattle.std.specs.Prelude.{option_map}
@@ -74,27 +74,27 @@ batch_push entries entry is room written = record {
 }
 
 -- the state after a car stands somewhere, of its parts
-pub stood : (s : State) (r : RegisterState) (schedules : List (Option ScheduleState)) (b : List Entry) (i car : ℕ) (m : Option ScheduleState) (t : ScheduleState) (p : Position)
-    → state_of r schedules b ≡ s → i ≡ car → t.position ≡ p → state_of r (set (set schedules i m) i (Some t)) b ≡ standing s car p.floor p.dir
-stood s r schedules b i car m t p is at here =
-    subst (λ (x : State). state_of r (set (set schedules i m) i (Some t)) b ≡ standing x car p.floor p.dir) is
-    (same_state r r (positions_of (set (set schedules i m) i (Some t))) (set (positions_of schedules) car (Some p)) b b refl (positions_at schedules i car m t p at here) refl)
+pub stood : (s : State) (r : RegisterState) (schedules : List (Option ScheduleState)) (b : List Entry) (i car : ℕ) (o : Option ScheduleState) (p : Position) (rows : List Row)
+    → state_of r schedules b ≡ s → i ≡ car → o ≡ Some (record { position = p; rows = rows }) → state_of r (set schedules i o) b ≡ standing s car p.floor p.dir
+stood s r schedules b i car o p rows is at here =
+    subst (λ (x : State). state_of r (set schedules i o) b ≡ standing x car p.floor p.dir) is
+    (same_state r r (positions_of (set schedules i o)) (set (positions_of schedules) car (Some p)) b b refl (positions_at schedules i car o p rows at here) refl)
 
 -- and after an entry that its car's stop is
-pub accepted_stood : (s : State) (r q : RegisterState) (schedules : List (Option ScheduleState)) (b d : List Entry) (entry : Entry) (i car : ℕ) (m : Option ScheduleState) (t : ScheduleState) (p : Position)
-    → state_of r schedules b ≡ s → q ≡ register_of r (entry ∷ []) → d ≡ b ++ entry ∷ [] → i ≡ car → t.position ≡ p
-    → state_of q (set (set schedules i m) i (Some t)) d ≡ standing (accepting s entry) car p.floor p.dir
-accepted_stood s r q schedules b d entry i car m t p is e f at here =
-    subst (λ (x : State). state_of q (set (set schedules i m) i (Some t)) d ≡ standing (accepting x entry) car p.floor p.dir) is
-    (same_state q (register_of r (entry ∷ [])) (positions_of (set (set schedules i m) i (Some t))) (set (positions_of schedules) car (Some p)) d (b ++ entry ∷ []) e (positions_at schedules i car m t p at here) f)
+pub accepted_stood : (s : State) (r q : RegisterState) (schedules : List (Option ScheduleState)) (b d : List Entry) (entry : Entry) (i car : ℕ) (o : Option ScheduleState) (p : Position) (rows : List Row)
+    → state_of r schedules b ≡ s → q ≡ register_of r (entry ∷ []) → d ≡ b ++ entry ∷ [] → i ≡ car → o ≡ Some (record { position = p; rows = rows })
+    → state_of q (set schedules i o) d ≡ standing (accepting s entry) car p.floor p.dir
+accepted_stood s r q schedules b d entry i car o p rows is e f at here =
+    subst (λ (x : State). state_of q (set schedules i o) d ≡ standing (accepting x entry) car p.floor p.dir) is
+    (same_state q (register_of r (entry ∷ [])) (positions_of (set schedules i o)) (set (positions_of schedules) car (Some p)) d (b ++ entry ∷ []) e (positions_at schedules i car o p rows at here) f)
 
 -- and after one that is a new call
-pub accepted_with : (s : State) (r q : RegisterState) (schedules : List (Option ScheduleState)) (b d : List Entry) (entry : Entry) (i : ℕ) (m o taken default : Option ScheduleState) (row : Row)
+pub accepted_with : (s : State) (r q : RegisterState) (schedules : List (Option ScheduleState)) (b d : List Entry) (entry : Entry) (i : ℕ) (o taken default : Option ScheduleState) (row : Row)
     → state_of r schedules b ≡ s → q ≡ register_of r (entry ∷ []) → d ≡ b ++ entry ∷ [] → o ≡ with_row row taken → taken ≡ get_or schedules i default
-    → state_of q (set (set schedules i m) i o) d ≡ accepting s entry
-accepted_with s r q schedules b d entry i m o taken default row is e f with_it was =
-    subst (λ (x : State). state_of q (set (set schedules i m) i o) d ≡ accepting x entry) is
-    (same_state q (register_of r (entry ∷ [])) (positions_of (set (set schedules i m) i o)) (positions_of schedules) d (b ++ entry ∷ []) e (positions_kept schedules i m o taken default row with_it was) f)
+    → state_of q (set schedules i o) d ≡ accepting s entry
+accepted_with s r q schedules b d entry i o taken default row is e f with_it was =
+    subst (λ (x : State). state_of q (set schedules i o) d ≡ accepting x entry) is
+    (same_state q (register_of r (entry ∷ [])) (positions_of (set schedules i o)) (positions_of schedules) d (b ++ entry ∷ []) e (positions_kept schedules i o taken default row with_it was) f)
 
 -- each car has a place among the schedules
 pub room_at : (s : State) (r : RegisterState) (schedules : List (Option ScheduleState)) (b : List Entry) (i : ℕ) → state_of r schedules b ≡ s → length s.positions ≡ 16 → i < 16 → i < length schedules

@@ -1,5 +1,5 @@
 -- What a decider holds: the building that it decides for, and what decisions read and change.
-use Rattle.std.specs.Prelude.{◌≤◌, All, List, [], length, replicate, Option, Some, None}
+use Rattle.std.specs.Prelude.{◌≤◌, All, List, [], length, replicate, Option, None}
 use Rattle.lift_base.specs.History.{record_of}
 use Rattle.lift_base.specs.Records.{IsRecord}
 use Rattle.lift_base.specs.declared.history.Entry.{Entry}

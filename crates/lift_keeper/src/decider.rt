@@ -104,11 +104,19 @@ impl<'b> Decider<'b> {
         self.group.batch.len()
     }
 
-    /// The batch so far.
-    pub(crate) fn batch(&self) -> &ArrayVec<Entry, 63>
-        ensures { result.now.items ≡ self.now.state.batch }
+    /// The batch so far: each of its entries can be written.
+    pub fn batch(&self) -> &ArrayVec<Entry, 63>
+        ensures value { result.now.items ≡ self.now.state.batch }
+        ensures written { All (λ (e : EntryValue). IsRecord (record_of e)) result.now.items }
     {
         &self.group.batch
+    }
+
+    /// The batch begins anew. The register and the positions stay.
+    pub fn clear_batch(&mut self)
+        ensures { self.new ≡ record { plan = self.old.plan; state = record self.old.state { batch = [] } } }
+    {
+        self.group.clear_batch();
     }
 
     /// Gives the batch out, and keeps the register and the positions.

@@ -14,7 +14,7 @@ ghost use Rattle.lift_policy.specs.Step.{view_of, accepting, standing, next_from
 ghost use Rattle.lift_policy.specs.Laws.{IsStateIn};
 ghost use Rattle.lift_keeper.specs.Decider.{IsBatch, starting};
 
-use crate::schedules::{inserted, moved, served};
+use crate::schedules::{insert, serve, stand};
 use arrayvec::ArrayVec;
 use lift_base::{Content, Entry, Letter, Number, Position, Row, Stop, Terminal};
 use lift_building::Building;
@@ -105,6 +105,13 @@ impl Group {
         self.batch.take()
     }
 
+    /// The batch begins anew.
+    pub fn clear_batch(&mut self)
+        ensures { self.new ≡ record self.old { batch = [] } }
+    {
+        self.batch.clear();
+    }
+
     /// A new call goes to this car.
     pub fn allot(&mut self, building: &Building, command: &Command, call: &NewCall, car: Letter)
         requires fits { Fits building.now self.old.register (EntryValue.Allot command.now.terminal command.now.number call.now.from call.now.to car call.now.party) }
@@ -124,8 +131,7 @@ impl Group {
         prove!(command.terminal.get() < 63 && car.get() < 16);
         join(building, &mut self.register, &mut self.batch, &entry);
         let place = usize::from(car.get());
-        let schedule = self.schedules[place].take();
-        self.schedules[place] = inserted(schedule, &row_of(command, call, car));
+        insert(&mut self.schedules[place], &row_of(command, call, car));
     }
 
     /// A car stands at a position.
@@ -135,11 +141,8 @@ impl Group {
         ensures next { result ≡ next_from self.new car position.floor position.dir }
     {
         let place = usize::from(car.get());
-        let schedule = self.schedules[place].take();
-        let schedule = moved(&self.register, car, schedule, &position);
-        let next = schedule.next_stop();
-        self.schedules[place] = Some(schedule);
-        next
+        let schedule = &mut self.schedules[place];
+        stand(&self.register, car, schedule, &position)
     }
 
     /// A car made a stop of a new number.
@@ -166,11 +169,8 @@ impl Group {
         };
         join(building, &mut self.register, &mut self.batch, &entry);
         let place = usize::from(car.get());
-        let schedule = self.schedules[place].take();
-        let schedule = served(&self.register, car, schedule, stop);
-        let next = schedule.next_stop();
-        self.schedules[place] = Some(schedule);
-        next
+        let schedule = &mut self.schedules[place];
+        serve(&self.register, car, schedule, stop)
     }
 }
 

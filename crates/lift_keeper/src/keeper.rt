@@ -183,7 +183,7 @@ impl<'b, D: Disk> Keeper<'b, D> {
             (D.state self.old.writer.device) (D.state self.new.writer.device) }
     {
         self.writer.commit(self.decider.batch())?;
-        let _safe = self.decider.seal();
+        self.decider.clear_batch();
         Ok(())
     }
 
@@ -232,7 +232,7 @@ impl<'b, D: Disk> Keeper<'b, D> {
             writer,
         } = self;
         let _safe = writer.register();
-        let _dropped = decider.seal();
+        decider.clear_batch();
         (decider, writer)
     }
 

@@ -12,6 +12,9 @@ fn serve(rows: &mut ArrayVec<Row, 32>, stop: Stop) -> u32
     ensures ended { result + length rows.new.items ≡ length rows.old.items }
     ensures limit { length rows.old.items ≤ 32 }
 {
+    if rows.is_empty() {
+        return 0;
+    }
     let stop = &stop;
     let mut open = ArrayVec::new();
     let mut ended = 0;

@@ -1,3 +1,4 @@
 pub mod Records
+pub mod Spans
 pub mod Words
 pub mod Written

@@ -5,7 +5,6 @@ use Rattle.lift_base.specs.History.{record_of}
 use Rattle.lift_base.specs.Records.{IsRecord, IsLawful}
 use Rattle.lift_base.specs.declared.history.Entry.{Entry}
 use Rattle.lift_base.specs.declared.history.Entry.TheVariants.{Allot, Stop}
-use Rattle.lift_base.specs.declared.history.Record.{Record}
 use Rattle.lift_journal.specs.Order.{IsEntry}
 
 entry : (e : Entry) → IsEntry (record_of e)

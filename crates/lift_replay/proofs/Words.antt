@@ -1,12 +1,11 @@
 -- Words of a line, as texts.
-use Rattle.std.proofs.Common.{◌≡◌, ℕ, ◌≤◌, ◌<◌, ◌^◌, Bool, true, false, List, [], ◌∷◌, ◌-◌, length, get_or, take, drop, map, Bor, refl, sym, ap, subst, ◌∙◌, arith, inl, inr}
+use Rattle.std.proofs.Common.{◌≡◌, ℕ, ◌≤◌, ◌<◌, ◌^◌, true, false, List, [], ◌∷◌, ◌-◌, length, get_or, take, drop, map, Bor, refl, sym, ap, subst, ◌∙◌, arith, inl, inr}
 use Rattle.lift_base.specs.Text.{AreWords}
 use Rattle.std.proofs.lemmas.List.{take_all}
 use Rattle.std.specs.Fmt.{decimal}
-use Rattle.std.specs.Prelude.{Option, Some, None, IsSome, IfSome, IfNone, ◌↔◌}
-use Rattle.std.specs.Str.{bytes_eq}
+use Rattle.std.specs.Prelude.{Option, Some, None, IsSome, IfNone, ◌↔◌}
 use Rattle.std.proofs.lemmas.Fmt.{decimal_injective}
-use Rattle.lift_base.proofs.Words.{same_text, one_reading}
+use Rattle.lift_base.proofs.Words.{one_reading}
 use Rattle.lift_replay.specs.Grammar.{ArePartyWords, AskFor, IsInRange, Spells}
 use Rattle.lift_replay.specs.declared.line.ScriptLine.{ScriptLine}
 

@@ -1,5 +1,5 @@
 -- What each line of a script spells.
-use Rattle.std.specs.Prelude.{ℕ, ◌≡◌, ◌<◌, ◌≤◌, ◌⊎◌, ◌++◌, List, [], ◌∷◌, codes}
+use Rattle.std.specs.Prelude.{ℕ, ◌≡◌, ◌<◌, ◌≤◌, ◌⊎◌, List, [], ◌∷◌, codes}
 use Rattle.std.specs.Fmt.{decimal}
 use Rattle.lift_base.specs.Text.{AreWords, letter_text, dir_text}
 use Rattle.lift_replay.specs.declared.line.Cut.{Cut as Outcome}

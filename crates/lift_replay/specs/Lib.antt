@@ -1,3 +1,4 @@
+pub mod Asks
 pub mod Grammar
 pub mod Known
 pub mod Reading

@@ -79,25 +79,36 @@ impl<'b> Station<'b> {
         self.journal.short()
     }
 
-    /// Makes the batch safe. The answer is how many entries it had.
-    fn commit(&mut self) -> Result<usize, JournalFault>
-        ensures idle { length self.new.decider.state.batch ≡ 0 }
+    /// Makes the batch safe. The answer is how many entries it has.
+    fn store(&mut self) -> Result<usize, JournalFault>
+        ensures kept { self.new.decider ≡ self.old.decider }
+        ensures safe { IfOk result (λ count. count ≡ length self.old.decider.state.batch) }
     {
-        let batch = self.decider.seal();
         if self.fault.is_some() {
             return Err(JournalFault::Broken);
         }
-        if batch.is_empty() {
+        let count = self.decider.pending();
+        if count == 0 {
             return Ok(0);
         }
-        put_records(&batch, &mut self.records);
+        put_records(self.decider.batch(), &mut self.records);
         match self.journal.append(&self.records) {
-            Ok(()) => Ok(batch.len()),
+            Ok(()) => Ok(count),
             Err(fault) => {
                 self.fault = Some(fault);
                 Err(fault)
             }
         }
+    }
+
+    /// Makes the batch safe, and begins another. The answer is how many entries it had.
+    fn commit(&mut self) -> Result<usize, JournalFault>
+        ensures idle { length self.new.decider.state.batch ≡ 0 }
+        ensures safe { IfOk result (λ count. count ≡ length self.old.decider.state.batch) }
+    {
+        let stored = self.store();
+        self.decider.clear_batch();
+        stored
     }
 
     /// Puts a checkpoint in the place of all batches, where the largest batch might lack room behind them.
@@ -187,7 +198,7 @@ fn scan(decider: &mut Decider, is_broken: bool, asks: &Asks, answers: &mut Array
     ensures plan { decider.new.plan ≡ decider.old.plan }
 {
     answers.clear();
-    for index in 0..63u8 {
+    for index in asks.first()..asks.end() {
         let answer = answer_at(decider, is_broken, asks, Terminal::new(index));
         push_some(answers, answer);
     }

@@ -114,7 +114,20 @@ impl Schedule {
     pub fn serve(&mut self, stop: Stop)
         ensures { self.new ≡ record { position = position_after stop; rows = flat_map (row_after stop) self.old.rows } }
     {
-        let stop = &stop;
+        if self.rows.is_empty() {
+            self.replace_position(Position {
+                floor: stop.floor,
+                dir: stop.dir,
+            });
+        } else {
+            self.serve_rows(&stop);
+        }
+    }
+
+    /// The stop of a car with calls.
+    fn serve_rows(&mut self, stop: &Stop)
+        ensures { self.new ≡ record { position = position_after stop.now; rows = flat_map (row_after stop.now) self.old.rows } }
+    {
         let left = rows_after(&self.rows, stop);
         tally_served(&mut self.tally, &self.position, &self.rows, stop, &left);
         self.position = Position {

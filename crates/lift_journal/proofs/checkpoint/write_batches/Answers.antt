@@ -1,7 +1,8 @@
-use Rattle.std.proofs.Common.{◌≡◌, ◌+◌, ◌*◌, List, length, take, All, sym, ◌∙◌, ap, subst, arith}
+use Rattle.std.proofs.Common.{◌≡◌, ◌+◌, ◌*◌, [], ◌∷◌, List, length, take, drop, All, sym, ◌∙◌, ap, subst, arith}
 use Rattle.std.proofs.lemmas.Result.{err_from_is_err_and}
 use Rattle.lift_base.specs.declared.history.Record.{Record}
 use Rattle.lift_base.specs.Records.{IsLawful}
+use Rattle.lift_disk.specs.Disk.{Image}
 use Rattle.lift_record.specs.declared.version.Version.TheVariants.{Two}
 use Rattle.lift_register.specs.Base.{base_records}
 use Rattle.lift_journal.specs.Layout.{bodies, used, IsBody}
@@ -12,15 +13,15 @@ use Rattle.lift_journal.proofs.Checkpoints.{Drafted, drafted_touched, drafted_mo
 use Rattle.lift_journal.proofs.Telling.{fails_then, err_stops}
 use Rattle.lift_journal.proofs.checkpoint.write_batches.Goals as goal
 
-pub body_of-body-requires-clause-lawful : goal.body_of-body-requires-clause-lawful
-body_of-body-requires-clause-lawful g c =
+pub body_of-text-requires-clause-lawful : goal.body_of-text-requires-clause-lawful
+body_of-text-requires-clause-lawful g c =
     subst (All IsLawful) (sym (c.deref.ensures.0 ∙ c.base_batch-batch.ensures)) (lawful_part (63 * c.loop-index.index) (base_records c.args.register.now) c.base_len.ensures.records)
 
 pub write_open_batch-requires-clause-there : goal.write_open_batch-requires-clause-there
 write_open_batch-requires-clause-there g c =
     let items = c.base_batch-batch.result.items in
     let is : c.body_count-bodies.result ≡ bodies (length items) = c.body_count-bodies.ensures ∙ ap bodies c.len.ensures.value in
-    let long = next_size c.body_count-bodies.result items c.body_of-body.result is c.body_of-body.ensures.length in
+    let long = next_size c.body_count-bodies.result items c.sectors_of-body.result.now is c.sectors_of-body.ensures.length in
     let room = next_room c.args.start c.loop-index.gate c.loop-index.index c.body_count-bodies.result c.batches_for-index-end.result (base_records c.args.register.now) items c.loop-index.invariant.at c.loop-index-test.true c.batches_for-index-end.ensures.limit is in
     omega (arith, long, room, c.requires.there, c.loop-index.invariant.runs.size)
 
@@ -28,7 +29,7 @@ pub write_open_batch-requires-clause-fits : goal.write_open_batch-requires-claus
 write_open_batch-requires-clause-fits g c =
     let items = c.base_batch-batch.result.items in
     let is : c.body_count-bodies.result ≡ bodies (length items) = c.body_count-bodies.ensures ∙ ap bodies c.len.ensures.value in
-    let long = next_size c.body_count-bodies.result items c.body_of-body.result is c.body_of-body.ensures.length in
+    let long = next_size c.body_count-bodies.result items c.sectors_of-body.result.now is c.sectors_of-body.ensures.length in
     let room = next_room c.args.start c.loop-index.gate c.loop-index.index c.body_count-bodies.result c.batches_for-index-end.result (base_records c.args.register.now) items c.loop-index.invariant.at c.loop-index-test.true c.batches_for-index-end.ensures.limit is in
     omega (arith, long, room, c.requires.fits)
 
@@ -37,10 +38,10 @@ returns-in_err-write_open_batch-clause-touched g c =
     let items = c.base_batch-batch.result.items in
     let records = base_records c.args.register.now in
     let is : c.body_count-bodies.result ≡ bodies (length items) = c.body_count-bodies.ensures ∙ ap bodies c.len.ensures.value in
-    let long = next_size c.body_count-bodies.result items c.body_of-body.result is c.body_of-body.ensures.length in
+    let long = next_size c.body_count-bodies.result items c.sectors_of-body.result.now is c.sectors_of-body.ensures.length in
     let room = next_room c.args.start c.loop-index.gate c.loop-index.index c.body_count-bodies.result c.batches_for-index-end.result records items c.loop-index.invariant.at c.loop-index-test.true c.batches_for-index-end.ensures.limit is in
     drafted_touched (g.D.Disk.state c.args.disk.now) (g.D.Disk.state c.loop-index.disk) (g.D.Disk.state c.write_open_batch.new.disk) c.args.start c.loop-index.gate c.loop-index.index records c.loop-index.invariant
-    (length (take c.body_count-bodies.result c.body_of-body.result)) (omega (arith, long, room)) c.write_open_batch.ensures.touched
+    (length (take c.body_count-bodies.result c.sectors_of-body.result.now)) (omega (arith, long, room)) c.write_open_batch.ensures.touched
 
 pub overflow_add-gate-in-loop-index : goal.overflow_add-gate-in-loop-index
 overflow_add-gate-in-loop-index g c =
@@ -58,14 +59,14 @@ loop-index-preserved g c =
     let new = g.D.Disk.state c.write_open_batch.new.disk in
     let n = c.body_count-bodies.result in
     let k = c.loop-index.index in
-    let sectors = take n c.body_of-body.result in
+    let sectors = take n c.sectors_of-body.result.now in
     let is : n ≡ bodies (length items) = c.body_count-bodies.ensures ∙ ap bodies c.len.ensures.value in
-    let long = next_size n items c.body_of-body.result is c.body_of-body.ensures.length in
+    let long = next_size n items c.sectors_of-body.result.now is c.sectors_of-body.ensures.length in
     let room = next_room c.args.start c.loop-index.gate k n c.batches_for-index-end.result records items c.loop-index.invariant.at c.loop-index-test.true c.batches_for-index-end.ensures.limit is in
-    let written = subst (λ (l : List Record). IsBody (k + 1) (record { version = Two; records = l }) (take (bodies (length l)) c.body_of-body.result)) c.deref.ensures.0 c.body_of-body.ensures.body in
+    let written = subst (λ (s : Image). IsBody (k + 1) (record { version = Two; records = items }) (take (bodies (length items)) s)) (sym c.sectors_of-body.ensures.cut) (subst (λ (l : List Record). IsBody (k + 1) (record { version = Two; records = l }) (take (bodies (length l)) (take 512 c.body_of-text.result ∷ drop 512 c.body_of-text.result ∷ []))) c.deref.ensures.0 c.body_of-text.ensures) in
     subst (λ m. Drafted old new c.args.start (c.loop-index.gate + (m + 1)) (k + 1) records) long
     (drafted_more old now new c.args.start c.loop-index.gate k records c.loop-index.invariant sectors (omega (arith, long, room)) (long ∙ is ∙ ap (λ (l : List Record). bodies (length l)) c.base_batch-batch.ensures)
-    (next_body k n records items c.body_of-body.result c.base_batch-batch.ensures is written) (base_in_order c.args.register.now c.base_len.ensures.lawful)
+    (next_body k n records items c.sectors_of-body.result.now c.base_batch-batch.ensures is written) (base_in_order c.args.register.now c.base_len.ensures.lawful)
     c.write_open_batch.ensures.runs c.in_ok-write_open_batch.ensures.made.calls c.in_ok-write_open_batch.ensures.made.writes c.in_ok-write_open_batch.ensures.cause.ok c.in_ok-write_open_batch.ensures.told.ok c.write_open_batch.ensures.touched c.in_ok-write_open_batch.ensures.written (g.met.D.Disk.whole c.loop-index.disk))
 
 pub returns-clause-gate : goal.returns-clause-gate
@@ -93,7 +94,7 @@ returns-in_err-write_open_batch-clause-made g c =
     let records = base_records c.args.register.now in
     let fault = err_from_is_err_and c.from_residual.result c.from_residual.ensures.1 in
     let is : c.body_count-bodies.result ≡ bodies (length items) = c.body_count-bodies.ensures ∙ ap bodies c.len.ensures.value in
-    let long = next_size c.body_count-bodies.result items c.body_of-body.result is c.body_of-body.ensures.length in
+    let long = next_size c.body_count-bodies.result items c.sectors_of-body.result.now is c.sectors_of-body.ensures.length in
     let all : c.batches_for-index-end.result ≡ batch_count (length records) = c.batches_for-index-end.ensures.value ∙ ap batch_count c.base_len.ensures.value in
     let within = used_within c.loop-index.index c.batches_for-index-end.result c.body_count-bodies.result records items c.loop-index-test.true all (omega (arith, c.base_len.ensures.value, c.base_len.ensures.limit.0)) c.base_batch-batch.ensures is in
     let made = c.write_open_batch.ensures.made in

@@ -1,6 +1,6 @@
-use Rattle.std.proofs.Common.{◌≡◌, ◌⊎◌, ◌++◌, ◌+◌, false, nat_lt, inl, [], ◌∷◌, List, length, take, sym, ◌∙◌, ap, subst, arith}
+use Rattle.std.proofs.Common.{◌≡◌, ◌⊎◌, ◌++◌, ◌+◌, false, nat_lt, inl, [], ◌∷◌, List, length, take, drop, sym, ◌∙◌, ap, subst, arith}
 use Rattle.lift_base.specs.declared.history.Record.{Record}
-use Rattle.lift_disk.specs.Disk.{LeavesNow, LeavesOnly}
+use Rattle.lift_disk.specs.Disk.{Image, LeavesNow, LeavesOnly}
 use Rattle.lift_disk.proofs.Moments.{leaves_none}
 use Rattle.lift_record.specs.declared.version.Version.TheVariants.{Two}
 use Rattle.lift_journal.specs.Layout.{Batch, new_batch, bodies, size_of, start_of, IsBody, Holds, Picks}
@@ -21,11 +21,11 @@ returns-then-is_err-clause-any_moment g c =
     let items = c.args.batch.now.items in
     let batch : Batch = record { version = Two; records = items } in
     let is : c.body_count-bodies.result ≡ size_of batch = c.body_count-bodies.ensures ∙ ap bodies c.len.ensures.value in
-    let body = subst (λ (l : List Record). IsBody j.number (record { version = Two; records = l }) (take (bodies (length l)) c.body_of-body.result)) c.deref.ensures.0 c.body_of-body.ensures.body in
+    let body = subst (λ (s : Image). IsBody j.number batch (take (bodies (length items)) s)) (sym c.sectors_of-body.ensures.cut) (subst (λ (l : List Record). IsBody j.number (record { version = Two; records = l }) (take (bodies (length l)) (take 512 c.body_of-text.result ∷ drop 512 c.body_of-text.result ∷ []))) c.deref.ensures.0 c.body_of-text.ensures) in
     let stands = c.self.invariant.stands c.if-self.false in
     let leaves = append_leaves j.shape j.start j.gate j.number c.body_count-bodies.result old items new c.write_batch.ensures.runs stands c.requires.entries
     (λ honest. c.write_batch.ensures.any_moment j.shape (stands honest).batches batch
-    (λ _. ready j.shape j.start j.gate j.number c.body_count-bodies.result old items c.body_of-body.result (stands honest) is c.if-self-bodies.false c.body_of-body.ensures.length body c.requires.entries)) in
+    (λ _. ready j.shape j.start j.gate j.number c.body_count-bodies.result old items c.sectors_of-body.result.now (stands honest) is c.if-self-bodies.false c.sectors_of-body.ensures.length body c.requires.entries)) in
     subst (λ (v : JournalView g.row.D.Denot). (base entries : List Record) → StandsFor v.shape base entries (g.D.Disk.state v.device)
     → LeavesOnly (g.D.Disk.state v.device) new (λ left. ReadsAs v.shape base entries left ⊎ ReadsAs v.shape base (entries ++ items) left)) c.self.view_is leaves
 
@@ -37,7 +37,7 @@ invariant_of-self-2 g c =
     let items = c.args.batch.now.items in
     let batch : Batch = record { version = Two; records = items } in
     let is : c.body_count-bodies.result ≡ size_of batch = c.body_count-bodies.ensures ∙ ap bodies c.len.ensures.value in
-    let body = subst (λ (l : List Record). IsBody j.number (record { version = Two; records = l }) (take (bodies (length l)) c.body_of-body.result)) c.deref.ensures.0 c.body_of-body.ensures.body in
+    let body = subst (λ (s : Image). IsBody j.number batch (take (bodies (length items)) s)) (sym c.sectors_of-body.ensures.cut) (subst (λ (l : List Record). IsBody j.number (record { version = Two; records = l }) (take (bodies (length l)) (take 512 c.body_of-text.result ∷ drop 512 c.body_of-text.result ∷ []))) c.deref.ensures.0 c.body_of-text.ensures) in
     let few = bodies_few (length items) in
     let place = c.self.invariant.place in
     let quiet = open_ok c.write_batch.result (new.failures ≡ old.failures) (sym c.is_err.ensures.value ∙ c.if-is_err.false) c.write_batch.ensures.cause.ok in
@@ -58,7 +58,7 @@ invariant_of-self-2 g c =
           let stands = c.self.invariant.stands c.if-self.false honest in
           stands_then j.shape j.start j.gate j.number c.body_count-bodies.result old new batch stands is
           (open_ok c.write_batch.result _ (sym c.is_err.ensures.value ∙ c.if-is_err.false) c.write_batch.ensures.written j.shape stands.batches batch honest
-          (ready j.shape j.start j.gate j.number c.body_count-bodies.result old items c.body_of-body.result stands is c.if-self-bodies.false c.body_of-body.ensures.length body c.requires.entries)));
+          (ready j.shape j.start j.gate j.number c.body_count-bodies.result old items c.sectors_of-body.result.now stands is c.if-self-bodies.false c.sectors_of-body.ensures.length body c.requires.entries)));
     }
 
 pub returns-clause-acknowledged : goal.returns-clause-acknowledged
@@ -69,11 +69,11 @@ returns-clause-acknowledged g c =
     let items = c.args.batch.now.items in
     let batch : Batch = record { version = Two; records = items } in
     let is : c.body_count-bodies.result ≡ size_of batch = c.body_count-bodies.ensures ∙ ap bodies c.len.ensures.value in
-    let body = subst (λ (l : List Record). IsBody j.number (record { version = Two; records = l }) (take (bodies (length l)) c.body_of-body.result)) c.deref.ensures.0 c.body_of-body.ensures.body in
+    let body = subst (λ (s : Image). IsBody j.number batch (take (bodies (length items)) s)) (sym c.sectors_of-body.ensures.cut) (subst (λ (l : List Record). IsBody j.number (record { version = Two; records = l }) (take (bodies (length l)) (take 512 c.body_of-text.result ∷ drop 512 c.body_of-text.result ∷ []))) c.deref.ensures.0 c.body_of-text.ensures) in
     let stands = c.self.invariant.stands c.if-self.false in
     let stood = append_stands j.shape j.start j.gate j.number c.body_count-bodies.result old items new (start_of j.shape.half old.image) c.write_batch.ensures.runs stands c.requires.entries
     (λ honest. open_ok c.write_batch.result _ (sym c.is_err.ensures.value ∙ c.if-is_err.false) c.write_batch.ensures.written j.shape (stands honest).batches batch honest
-    (ready j.shape j.start j.gate j.number c.body_count-bodies.result old items c.body_of-body.result (stands honest) is c.if-self-bodies.false c.body_of-body.ensures.length body c.requires.entries)) in
+    (ready j.shape j.start j.gate j.number c.body_count-bodies.result old items c.sectors_of-body.result.now (stands honest) is c.if-self-bodies.false c.sectors_of-body.ensures.length body c.requires.entries)) in
     subst (λ (v : JournalView g.row.D.Denot). (base entries : List Record) → StandsFor v.shape base entries (g.D.Disk.state v.device) → StandsFor j.shape base (entries ++ items) new) c.self.view_is stood
 
 pub returns-clause-any_moment : goal.returns-clause-any_moment
@@ -84,11 +84,11 @@ returns-clause-any_moment g c =
     let items = c.args.batch.now.items in
     let batch : Batch = record { version = Two; records = items } in
     let is : c.body_count-bodies.result ≡ size_of batch = c.body_count-bodies.ensures ∙ ap bodies c.len.ensures.value in
-    let body = subst (λ (l : List Record). IsBody j.number (record { version = Two; records = l }) (take (bodies (length l)) c.body_of-body.result)) c.deref.ensures.0 c.body_of-body.ensures.body in
+    let body = subst (λ (s : Image). IsBody j.number batch (take (bodies (length items)) s)) (sym c.sectors_of-body.ensures.cut) (subst (λ (l : List Record). IsBody j.number (record { version = Two; records = l }) (take (bodies (length l)) (take 512 c.body_of-text.result ∷ drop 512 c.body_of-text.result ∷ []))) c.deref.ensures.0 c.body_of-text.ensures) in
     let stands = c.self.invariant.stands c.if-self.false in
     let leaves = append_leaves j.shape j.start j.gate j.number c.body_count-bodies.result old items new c.write_batch.ensures.runs stands c.requires.entries
     (λ honest. c.write_batch.ensures.any_moment j.shape (stands honest).batches batch
-    (λ _. ready j.shape j.start j.gate j.number c.body_count-bodies.result old items c.body_of-body.result (stands honest) is c.if-self-bodies.false c.body_of-body.ensures.length body c.requires.entries)) in
+    (λ _. ready j.shape j.start j.gate j.number c.body_count-bodies.result old items c.sectors_of-body.result.now (stands honest) is c.if-self-bodies.false c.sectors_of-body.ensures.length body c.requires.entries)) in
     subst (λ (v : JournalView g.row.D.Denot). (base entries : List Record) → StandsFor v.shape base entries (g.D.Disk.state v.device)
     → LeavesOnly (g.D.Disk.state v.device) new (λ left. ReadsAs v.shape base entries left ⊎ ReadsAs v.shape base (entries ++ items) left)) c.self.view_is leaves
 
@@ -100,10 +100,10 @@ returns-then-is_err-clause-any_moment_listed g c =
     let items = c.args.batch.now.items in
     let batch : Batch = record { version = Two; records = items } in
     let is : c.body_count-bodies.result ≡ size_of batch = c.body_count-bodies.ensures ∙ ap bodies c.len.ensures.value in
-    let body = subst (λ (l : List Record). IsBody j.number (record { version = Two; records = l }) (take (bodies (length l)) c.body_of-body.result)) c.deref.ensures.0 c.body_of-body.ensures.body in
+    let body = subst (λ (s : Image). IsBody j.number batch (take (bodies (length items)) s)) (sym c.sectors_of-body.ensures.cut) (subst (λ (l : List Record). IsBody j.number (record { version = Two; records = l }) (take (bodies (length l)) (take 512 c.body_of-text.result ∷ drop 512 c.body_of-text.result ∷ []))) c.deref.ensures.0 c.body_of-text.ensures) in
     let stands = c.self.invariant.stands c.if-self.false in
     let leaves = λ (batches : List Batch) (lists : LeavesNow old (Holds j.shape batches)). lists_leave j.shape j.start j.gate j.number old stands batches lists batch new c.write_batch.ensures.runs.honest
-    (λ honest. c.write_batch.ensures.any_moment j.shape (stands honest).batches batch (λ _. ready j.shape j.start j.gate j.number c.body_count-bodies.result old items c.body_of-body.result (stands honest) is c.if-self-bodies.false c.body_of-body.ensures.length body c.requires.entries)) in
+    (λ honest. c.write_batch.ensures.any_moment j.shape (stands honest).batches batch (λ _. ready j.shape j.start j.gate j.number c.body_count-bodies.result old items c.sectors_of-body.result.now (stands honest) is c.if-self-bodies.false c.sectors_of-body.ensures.length body c.requires.entries)) in
     subst (λ (v : JournalView g.row.D.Denot). (batches : List Batch) → LeavesNow (g.D.Disk.state v.device) (Holds v.shape batches)
     → LeavesOnly (g.D.Disk.state v.device) new (λ left. Holds v.shape batches left ⊎ Holds v.shape (batches ++ batch ∷ []) left)) c.self.view_is leaves
 
@@ -115,10 +115,10 @@ returns-clause-any_moment_listed g c =
     let items = c.args.batch.now.items in
     let batch : Batch = record { version = Two; records = items } in
     let is : c.body_count-bodies.result ≡ size_of batch = c.body_count-bodies.ensures ∙ ap bodies c.len.ensures.value in
-    let body = subst (λ (l : List Record). IsBody j.number (record { version = Two; records = l }) (take (bodies (length l)) c.body_of-body.result)) c.deref.ensures.0 c.body_of-body.ensures.body in
+    let body = subst (λ (s : Image). IsBody j.number batch (take (bodies (length items)) s)) (sym c.sectors_of-body.ensures.cut) (subst (λ (l : List Record). IsBody j.number (record { version = Two; records = l }) (take (bodies (length l)) (take 512 c.body_of-text.result ∷ drop 512 c.body_of-text.result ∷ []))) c.deref.ensures.0 c.body_of-text.ensures) in
     let stands = c.self.invariant.stands c.if-self.false in
     let leaves = λ (batches : List Batch) (lists : LeavesNow old (Holds j.shape batches)). lists_leave j.shape j.start j.gate j.number old stands batches lists batch new c.write_batch.ensures.runs.honest
-    (λ honest. c.write_batch.ensures.any_moment j.shape (stands honest).batches batch (λ _. ready j.shape j.start j.gate j.number c.body_count-bodies.result old items c.body_of-body.result (stands honest) is c.if-self-bodies.false c.body_of-body.ensures.length body c.requires.entries)) in
+    (λ honest. c.write_batch.ensures.any_moment j.shape (stands honest).batches batch (λ _. ready j.shape j.start j.gate j.number c.body_count-bodies.result old items c.sectors_of-body.result.now (stands honest) is c.if-self-bodies.false c.sectors_of-body.ensures.length body c.requires.entries)) in
     subst (λ (v : JournalView g.row.D.Denot). (batches : List Batch) → LeavesNow (g.D.Disk.state v.device) (Holds v.shape batches)
     → LeavesOnly (g.D.Disk.state v.device) new (λ left. Holds v.shape batches left ⊎ Holds v.shape (batches ++ batch ∷ []) left)) c.self.view_is leaves
 
@@ -130,12 +130,12 @@ returns-clause-listed g c =
     let items = c.args.batch.now.items in
     let batch : Batch = record { version = Two; records = items } in
     let is : c.body_count-bodies.result ≡ size_of batch = c.body_count-bodies.ensures ∙ ap bodies c.len.ensures.value in
-    let body = subst (λ (l : List Record). IsBody j.number (record { version = Two; records = l }) (take (bodies (length l)) c.body_of-body.result)) c.deref.ensures.0 c.body_of-body.ensures.body in
+    let body = subst (λ (s : Image). IsBody j.number batch (take (bodies (length items)) s)) (sym c.sectors_of-body.ensures.cut) (subst (λ (l : List Record). IsBody j.number (record { version = Two; records = l }) (take (bodies (length l)) (take 512 c.body_of-text.result ∷ drop 512 c.body_of-text.result ∷ []))) c.deref.ensures.0 c.body_of-text.ensures) in
     let stands = c.self.invariant.stands c.if-self.false in
     let stood = λ (batches : List Batch) (lists : LeavesNow old (Holds j.shape batches)). lists_stand j.shape j.start j.gate j.number old stands batches lists batch new c.write_batch.ensures.runs.honest
     (start_of j.shape.half old.image)
     (λ honest. open_ok c.write_batch.result _ (sym c.is_err.ensures.value ∙ c.if-is_err.false) c.write_batch.ensures.written j.shape (stands honest).batches batch honest
-    (ready j.shape j.start j.gate j.number c.body_count-bodies.result old items c.body_of-body.result (stands honest) is c.if-self-bodies.false c.body_of-body.ensures.length body c.requires.entries)) in
+    (ready j.shape j.start j.gate j.number c.body_count-bodies.result old items c.sectors_of-body.result.now (stands honest) is c.if-self-bodies.false c.sectors_of-body.ensures.length body c.requires.entries)) in
     subst (λ (v : JournalView g.row.D.Denot). (batches : List Batch) → LeavesNow (g.D.Disk.state v.device) (Holds v.shape batches) → LeavesNow new (Holds j.shape (batches ++ batch ∷ []))) c.self.view_is stood
 
 pub returns-then-self-bodies-clause-any_moment_listed : goal.returns-then-self-bodies-clause-any_moment_listed
@@ -152,11 +152,11 @@ returns-then-is_err-clause-stops g c _ =
     let items = c.args.batch.now.items in
     let batch : Batch = record { version = Two; records = items } in
     let is : c.body_count-bodies.result ≡ size_of batch = c.body_count-bodies.ensures ∙ ap bodies c.len.ensures.value in
-    let body = subst (λ (l : List Record). IsBody j.number (record { version = Two; records = l }) (take (bodies (length l)) c.body_of-body.result)) c.deref.ensures.0 c.body_of-body.ensures.body in
+    let body = subst (λ (s : Image). IsBody j.number batch (take (bodies (length items)) s)) (sym c.sectors_of-body.ensures.cut) (subst (λ (l : List Record). IsBody j.number (record { version = Two; records = l }) (take (bodies (length l)) (take 512 c.body_of-text.result ∷ drop 512 c.body_of-text.result ∷ []))) c.deref.ensures.0 c.body_of-text.ensures) in
     let stands = c.self.invariant.stands c.if-self.false in
     let made = λ (honest : old.is_honest) (inert : old.is_inert) (batches : List Batch) (lists : LeavesNow old (Holds j.shape batches)).
     (let at = stands honest in
-    let before = ready j.shape j.start j.gate j.number c.body_count-bodies.result old items c.body_of-body.result (stands honest) is c.if-self-bodies.false c.body_of-body.ensures.length body c.requires.entries in
+    let before = ready j.shape j.start j.gate j.number c.body_count-bodies.result old items c.sectors_of-body.result.now (stands honest) is c.if-self-bodies.false c.sectors_of-body.ensures.length body c.requires.entries in
     let stops = open_err c.write_batch.result _ (sym c.is_err.ensures.value ∙ c.if-is_err.true) c.write_batch.ensures.stops j.shape at.batches batch honest inert before in
     subst (λ (bs : List Batch). StopsShort j.shape bs batch (bodies (length items)) old new) (same_batches j.shape j.start j.gate j.number old stands batches lists honest)
     (subst (λ n. StopsShort j.shape at.batches batch n old new) before.size stops)) in
@@ -168,7 +168,7 @@ returns-then-is_err-clause-half g c =
     let j = c.self.inside in
     let old = g.D.Disk.state j.device in
     let new = g.D.Disk.state c.write_batch.new.disk in
-    let high = j.gate + length (take c.body_count-bodies.result c.body_of-body.result) + 2 in
+    let high = j.gate + length (take c.body_count-bodies.result c.sectors_of-body.result.now) + 2 in
     let made = append_picks j.shape j.start j.gate j.number high old new (gate_high old.size j.shape j.start j.gate j.number c.self.invariant.place) (c.self.invariant.stands c.if-self.false) c.write_batch.ensures.touched in
     subst (λ (v : JournalView g.row.D.Denot). v.is_broken ≡ false → LeavesOnly (g.D.Disk.state v.device) new (Picks v.is_second)) c.self.view_is (λ _. made)
 
@@ -177,7 +177,7 @@ returns-clause-half g c =
     let j = c.self.inside in
     let old = g.D.Disk.state j.device in
     let new = g.D.Disk.state c.write_batch.new.disk in
-    let high = j.gate + length (take c.body_count-bodies.result c.body_of-body.result) + 2 in
+    let high = j.gate + length (take c.body_count-bodies.result c.sectors_of-body.result.now) + 2 in
     let made = append_picks j.shape j.start j.gate j.number high old new (gate_high old.size j.shape j.start j.gate j.number c.self.invariant.place) (c.self.invariant.stands c.if-self.false) c.write_batch.ensures.touched in
     subst (λ (v : JournalView g.row.D.Denot). v.is_broken ≡ false → LeavesOnly (g.D.Disk.state v.device) new (Picks v.is_second)) c.self.view_is (λ _. made)
 

@@ -1,4 +1,4 @@
-use Rattle.std.proofs.Common.{◌≡◌, sym, subst}
+use Rattle.std.proofs.Common.{sym, subst}
 use Rattle.lift_policy.specs.Laws.{IsStateIn}
 use Rattle.lift_keeper.proofs.Inside.{starting_inside}
 use Rattle.lift_keeper.proofs.decider.Decider.of.Goals as goal

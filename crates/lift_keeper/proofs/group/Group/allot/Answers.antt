@@ -1,4 +1,4 @@
-use Rattle.std.proofs.Common.{◌≡◌, ◌∙◌, ◌<◌, ◌≤◌, ◌∷◌, ◌++◌, [], Some, List, length, refl, sym, ap, subst, arith}
+use Rattle.std.proofs.Common.{◌≡◌, ◌∙◌, ◌<◌, ◌≤◌, ◌∷◌, ◌++◌, [], get_or, List, length, refl, sym, ap, subst, arith}
 use Rattle.lift_base.specs.declared.history.Entry.TheVariants.{Allot}
 use Rattle.lift_base.specs.declared.history.Row.{Row}
 use Rattle.lift_register.specs.Register.{RegisterState, rows_of, register_of}
@@ -10,11 +10,11 @@ use Rattle.lift_keeper.proofs.Changes.{own_again, taken_rows, if_some, with_row-
 use Rattle.lift_keeper.proofs.Inside.{room_at, accepted_with, accepting_inside, batch_push}
 use Rattle.lift_keeper.proofs.group.Group.allot.Goals as goal
 
-pub inserted-requires : goal.inserted-requires
-inserted-requires c = record {
-  few = if_some (λ (s : ScheduleState). length s.rows ≤ 32) c.take-schedule.result
-      (λ s h. let e = taken_rows c.self.inside.register c.self.inside.schedules c.from-place.result c.args.car c.index-self-place.result c.take-schedule.result
-      (c.from-place.ensures ∙ c.get-2.ensures.value) (room_at c.args.self.now c.self.inside.register c.self.inside.schedules c.self.inside.batch.items c.from-place.result c.self.view_is c.requires.inside.cars (omega (arith, c.from-place.ensures, c.get-2.ensures.in_range))) c.take-schedule.ensures.value c.self.invariant.0 s h in
+pub insert-requires : goal.insert-requires
+insert-requires c = record {
+  few = if_some (λ (s : ScheduleState). length s.rows ≤ 32) (get_or c.self.inside.schedules c.from-place.result c.index-self-place.result)
+      (λ s h. let e = taken_rows c.self.inside.register c.self.inside.schedules c.from-place.result c.args.car c.index-self-place.result _
+      (c.from-place.ensures ∙ c.get-2.ensures.value) (room_at c.args.self.now c.self.inside.register c.self.inside.schedules c.self.inside.batch.items c.from-place.result c.self.view_is c.requires.inside.cars (omega (arith, c.from-place.ensures, c.get-2.ensures.in_range))) refl c.self.invariant.0 s h in
       omega (arith, ap (λ (rows : List Row). length rows) e, c.join.ensures.was.few_rows c.args.car));
 }
 
@@ -27,12 +27,12 @@ invariant_of-self c =
     let is_car : c.args.car < 16 = omega (arith, c.get-2.ensures.in_range, c.get-2.ensures.value) in
     let at : c.from-place.result ≡ c.args.car = c.from-place.ensures ∙ c.get-2.ensures.value in
     let bound : c.from-place.result < length c.self.inside.schedules = (room_at c.args.self.now c.self.inside.register c.self.inside.schedules c.self.inside.batch.items c.from-place.result c.self.view_is c.requires.inside.cars (omega (arith, c.from-place.ensures, c.get-2.ensures.in_range))) in (
-      own_again c.self.inside.register c.join.new.register c.self.inside.schedules c.from-place.result c.args.car _ c.inserted.result at bound
+      own_again c.self.inside.register c.join.new.register c.self.inside.schedules c.from-place.result c.args.car c.insert.new.schedule at bound
           (λ k other. ap (λ (r : RegisterState). rows_of r k) c.join.ensures.value
           ∙ rows_of-other_allot c.self.inside.register terminal number call.from call.to c.args.car call.party c.join.ensures.was is_kiosk is_car k other)
-          (λ s h. with_row-rows c.row_of.result c.take-schedule.result (rows_of c.self.inside.register c.args.car)
-          (taken_rows c.self.inside.register c.self.inside.schedules c.from-place.result c.args.car c.index-self-place.result c.take-schedule.result at bound c.take-schedule.ensures.value c.self.invariant.0)
-          s (sym c.inserted.ensures ∙ h)
+          (λ s h. with_row-rows c.row_of.result (get_or c.self.inside.schedules c.from-place.result c.index-self-place.result) (rows_of c.self.inside.register c.args.car)
+          (taken_rows c.self.inside.register c.self.inside.schedules c.from-place.result c.args.car c.index-self-place.result _ at bound refl c.self.invariant.0)
+          s (sym c.insert.ensures ∙ h)
           ∙ ap (λ (row : Row). rows_of c.self.inside.register c.args.car ++ row ∷ []) c.row_of.ensures
           ∙ sym (rows_of-allot c.self.inside.register terminal number call.from call.to c.args.car call.party c.join.ensures.was is_kiosk is_car)
           ∙ ap (λ (r : RegisterState). rows_of r c.args.car) (sym c.join.ensures.value)) c.self.invariant.0,
@@ -45,8 +45,8 @@ pub returns-clause-state : goal.returns-clause-state
 returns-clause-state c =
     let entry = Allot c.args.command.now.terminal c.args.command.now.number c.args.call.now.from c.args.call.now.to c.args.car c.args.call.now.party in
     accepted_with c.args.self.now c.self.inside.register c.join.new.register c.self.inside.schedules c.self.inside.batch.items c.join.new.batch.items
-    entry c.from-place.result _ c.inserted.result c.take-schedule.result c.index-self-place.result c.row_of.result
-    c.self.view_is c.join.ensures.value c.join.ensures.batch c.inserted.ensures c.take-schedule.ensures.value
+    entry c.from-place.result c.insert.new.schedule _ c.index-self-place.result c.row_of.result
+    c.self.view_is c.join.ensures.value c.join.ensures.batch c.insert.ensures refl
 
 pub returns-clause-inside : goal.returns-clause-inside
 returns-clause-inside c =

@@ -1,4 +1,4 @@
-use Rattle.std.proofs.Common.{◌≡◌, [], None, refl, ap}
+use Rattle.std.proofs.Common.{[], None, refl, ap}
 use Rattle.std.specs.Prelude.{replicate}
 use Rattle.lift_policy.specs.View.{positions_of}
 use Rattle.lift_keeper.proofs.Inside.{all_none, same_state}

@@ -1,4 +1,4 @@
-use Rattle.std.proofs.Common.{◌≡◌, ◌∙◌, ◌<◌, ◌∷◌, [], Some, List, length, refl, sym, ap, subst, arith}
+use Rattle.std.proofs.Common.{◌≡◌, ◌∙◌, ◌<◌, ◌∷◌, [], get_or, List, length, refl, sym, ap, subst, arith}
 use Rattle.std.specs.List.{flat_map}
 use Rattle.lift_base.specs.History.{row_after}
 use Rattle.lift_base.specs.declared.history.Entry.TheVariants.{Stop}
@@ -12,23 +12,23 @@ use Rattle.lift_keeper.proofs.Changes.{own_again, taken_rows, if_some, made_rows
 use Rattle.lift_keeper.proofs.Inside.{room_at, accepted_stood, accepting_inside, standing_inside, batch_push}
 use Rattle.lift_keeper.proofs.group.Group.serve.Goals as goal
 
-pub served-schedule-requires : goal.served-schedule-requires
-served-schedule-requires c = record {
-  own = if_some (λ (s : ScheduleState). flat_map (row_after c.args.stop) s.rows ≡ rows_of c.join.new.register c.args.car) c.take-schedule.result
+pub serve-requires : goal.serve-requires
+serve-requires c = record {
+  own = if_some (λ (s : ScheduleState). flat_map (row_after c.args.stop) s.rows ≡ rows_of c.join.new.register c.args.car) (get_or c.self.inside.schedules c.from-place.result c.index-self-place.result)
       (λ s h. ap (λ (rows : List Row). flat_map (row_after c.args.stop) rows)
-      (taken_rows c.self.inside.register c.self.inside.schedules c.from-place.result c.args.car c.index-self-place.result c.take-schedule.result
-      (c.from-place.ensures ∙ c.get.ensures.value) (room_at c.args.self.now c.self.inside.register c.self.inside.schedules c.self.inside.batch.items c.from-place.result c.self.view_is c.requires.inside.cars (omega (arith, c.from-place.ensures, c.get.ensures.in_range))) c.take-schedule.ensures.value c.self.invariant.0 s h)
+      (taken_rows c.self.inside.register c.self.inside.schedules c.from-place.result c.args.car c.index-self-place.result _
+      (c.from-place.ensures ∙ c.get.ensures.value) (room_at c.args.self.now c.self.inside.register c.self.inside.schedules c.self.inside.batch.items c.from-place.result c.self.view_is c.requires.inside.cars (omega (arith, c.from-place.ensures, c.get.ensures.in_range))) refl c.self.invariant.0 s h)
       ∙ sym (rows_of-stop c.self.inside.register c.args.car c.args.number c.args.stop.floor c.args.stop.dir c.join.ensures.was (omega (arith, c.get.ensures.in_range, c.get.ensures.value)))
       ∙ ap (λ (r : RegisterState). rows_of r c.args.car) (sym c.join.ensures.value));
 }
 
 pub invariant_of-self : goal.invariant_of-self
 invariant_of-self c = (
-  own_again c.self.inside.register c.join.new.register c.self.inside.schedules c.from-place.result c.args.car _ (Some c.served-schedule.result)
+  own_again c.self.inside.register c.join.new.register c.self.inside.schedules c.from-place.result c.args.car c.serve.new.schedule
       (c.from-place.ensures ∙ c.get.ensures.value) (room_at c.args.self.now c.self.inside.register c.self.inside.schedules c.self.inside.batch.items c.from-place.result c.self.view_is c.requires.inside.cars (omega (arith, c.from-place.ensures, c.get.ensures.in_range)))
       (λ k other. ap (λ (r : RegisterState). rows_of r k) c.join.ensures.value
       ∙ rows_of-other_stop c.self.inside.register c.args.car c.args.number c.args.stop.floor c.args.stop.dir c.join.ensures.was (omega (arith, c.get.ensures.in_range, c.get.ensures.value)) k other)
-      (λ s h. made_rows c.served-schedule.result s (position_after c.args.stop) (rows_of c.join.new.register c.args.car) c.served-schedule.ensures h) c.self.invariant.0,
+      (λ s h. made_rows c.serve.new.schedule s (position_after c.args.stop) (rows_of c.join.new.register c.args.car) c.serve.ensures.schedule h) c.self.invariant.0,
   subst IsBatch (sym c.join.ensures.batch)
       (batch_push c.self.inside.batch.items (Stop c.args.car c.args.number c.args.stop.floor c.args.stop.dir) c.self.invariant.1
       (subst (λ (s : State). length s.batch < 63) (sym c.self.view_is) c.requires.room) c.join.ensures.written),
@@ -37,8 +37,8 @@ invariant_of-self c = (
 pub returns-clause-state : goal.returns-clause-state
 returns-clause-state c =
     accepted_stood c.args.self.now c.self.inside.register c.join.new.register c.self.inside.schedules c.self.inside.batch.items c.join.new.batch.items
-    (Stop c.args.car c.args.number c.args.stop.floor c.args.stop.dir) c.from-place.result c.args.car _ c.served-schedule.result (position_after c.args.stop)
-    c.self.view_is c.join.ensures.value c.join.ensures.batch (c.from-place.ensures ∙ c.get.ensures.value) (ap (λ (s : ScheduleState). s.position) c.served-schedule.ensures)
+    (Stop c.args.car c.args.number c.args.stop.floor c.args.stop.dir) c.from-place.result c.args.car c.serve.new.schedule (position_after c.args.stop) (rows_of c.join.new.register c.args.car)
+    c.self.view_is c.join.ensures.value c.join.ensures.batch (c.from-place.ensures ∙ c.get.ensures.value) c.serve.ensures.schedule
 
 pub returns-clause-inside : goal.returns-clause-inside
 returns-clause-inside c lt =

@@ -10,10 +10,10 @@ invariant_of-self-2 g c =
     let decider = c.self.inside.decider in
     let writer = c.self.inside.writer in
     let after = c.commit.new.self in
-    let sealed = c.seal-safe.new.self in
-    let kept = c.seal-safe.ensures.kept in
+    let sealed = c.clear_batch.new.self in
+    let kept = c.clear_batch.ensures in
     let whole = not_true writer.is_broken (λ was. cc (c.commit.ensures.broken.1 was, c.in_ok-commit.was)) in
-    let batch = c.batch.ensures in
+    let batch = c.batch.ensures.value in
     let is : after.register ≡ register_of writer.register decider.state.batch = c.in_ok-commit.ensures.register ∙ ap (register_of writer.register) batch in
     settled_keeper after.plan sealed.state sealed.plan after.register after.is_broken
     (ap (λ (d : DeciderState). d.plan) kept ∙ c.self.invariant.of_building ∙ sym c.commit.ensures.same.0)
