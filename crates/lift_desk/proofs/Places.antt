@@ -4,7 +4,7 @@ use Rattle.std.specs.Prelude.{slice_get}
 use Rattle.std.specs.List.{refill}
 use Rattle.std.proofs.lemmas.List.{length-map, length-take, get_or-take, set-get_or, take_all}
 use Rattle.atomic_table.specs.Seated.{TableId}
-use Rattle.lift_desk.specs.Seats.{ClerkPlace, no_place, no_table, seats_from, clerk_of, ahead_from, view_at, clerk_with, placed_at, IsClerkOf, AreSeatsOf}
+use Rattle.lift_desk.specs.Seats.{ClerkPlace, no_place, no_table, seats_from, clerk_of, ahead_from, view_at, clerk_with, placed_at, IsClerkOf, AreSeatsOf, OwesNothing}
 use Rattle.lift_desk.specs.declared.view.ClerkView.{ClerkView}
 use Rattle.lift_desk.specs.Rule.{no_asks}
 
@@ -119,6 +119,12 @@ seats_at desk = seats_at_from 0 desk desk (λ i. ap (slice_get desk) (zero-add i
 pub clerk_at : (desk : List TableId) → IsClerkOf desk (clerk_of desk)
 clerk_at [] = refl
 clerk_at (z ∷ desk) = ap (λ l. z ∷ l) (clerk_at desk)
+
+-- nothing is owed where nothing was taken
+pub nothing_owed : (desk : List TableId) → OwesNothing (clerk_of desk)
+nothing_owed [] k d h owes = omega arith
+nothing_owed (z ∷ desk) zero d h owes = omega arith
+nothing_owed (z ∷ desk) (suc k) d h owes = nothing_owed desk k d (omega arith) owes
 
 pub ahead_seated : (clerk : List ClerkPlace) → AllSeated (ahead_from clerk)
 ahead_seated [] k h = absurd (omega arith)

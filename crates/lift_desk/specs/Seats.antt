@@ -63,6 +63,10 @@ Waits v = length v.heard < length v.asked
 abbrev pub Owes : ClerkView → Type 0
 Owes v = length v.answered < length v.taken
 
+-- the clerk has answered every ask that it took, of every terminal
+abbrev pub OwesNothing : List ClerkPlace → Type 0
+OwesNothing clerk = All (λ (p : ClerkPlace). ¬ Owes p.view) clerk
+
 -- what the terminal hears of the word loaded
 abbrev pub HearsOf : TerminalView → ℕ → Option Reply → Type 0
 HearsOf v word None = is_awaited v word ≡ false

@@ -4,7 +4,7 @@ ghost use Rattle.lift_desk.specs.Rule.{terminal_view, clerk_view};
 ghost use mathlib.Core.List.{IsPrefix};
 ghost use Rattle.lift_desk.specs.Words.{turn_of, last_of, number_of, ask_word, reply_word};
 ghost use Rattle.lift_desk.specs.Steps.{with_ask, with_answer, with_hearing, with_look, with_taking};
-ghost use Rattle.lift_desk.specs.Seats.{IsSeatOf, IsClerkOf, seat_with, clerk_with, view_at, Waits, Owes, HearsOf, TakesOf, seats_from, clerk_of, ahead_from, TakesAheadOf, AreSeatsOf};
+ghost use Rattle.lift_desk.specs.Seats.{IsSeatOf, IsClerkOf, seat_with, clerk_with, view_at, Waits, Owes, OwesNothing, HearsOf, TakesOf, seats_from, clerk_of, ahead_from, TakesAheadOf, AreSeatsOf};
 
 use crate::ahead::AheadPlace;
 use crate::place::Place;
@@ -113,6 +113,7 @@ impl Desk {
         ensures clerk { IfOk result (λ parts. parts.clerk ≡ clerk_of parts.desk) }
         ensures seats_at { IfOk result (λ parts. AreSeatsOf parts.desk parts.seats.items) }
         ensures clerk_at { IfOk result (λ parts. IsClerkOf parts.desk parts.clerk) }
+        ensures owes { IfOk result (λ parts. OwesNothing parts.clerk) }
     {
         let mut tables = Vec::with_capacity(alloc, terminals)?;
         let mut seats = Vec::with_capacity(alloc, terminals)?;

@@ -3,8 +3,8 @@ use Rattle.std.proofs.lemmas.List.{length-map, length_push}
 use mathlib.Core.List.{map-append}
 use Rattle.atomic_table.specs.Seated.{TableId}
 use Rattle.lift_desk.specs.Rule.{no_answers, no_asks}
-use Rattle.lift_desk.specs.Seats.{seats_from, clerk_of, placed_at, IsClerkOf, AreSeatsOf, TerminalSeat, ClerkPlace}
-use Rattle.lift_desk.proofs.Places.{seats_from-push, seats_at, clerk_at, clerk_seated, AllSeated, AllOfTwo, two_more}
+use Rattle.lift_desk.specs.Seats.{seats_from, clerk_of, placed_at, IsClerkOf, AreSeatsOf, OwesNothing, TerminalSeat, ClerkPlace}
+use Rattle.lift_desk.proofs.Places.{seats_from-push, seats_at, clerk_at, clerk_seated, nothing_owed, AllSeated, AllOfTwo, two_more}
 use Rattle.lift_desk.proofs.desk.Desk.open.Goals as goal
 
 pub loop-t-preserved : goal.loop-t-preserved
@@ -46,3 +46,8 @@ pub returns-clause-clerk_at : goal.returns-clause-clerk_at
 returns-clause-clerk_at c =
     let desk : List TableId = map (λ t. t.shared.table_id) c.loop-t.tables.items in
     subst (IsClerkOf desk) (sym c.loop-t.invariant.places) (clerk_at desk)
+
+pub returns-clause-owes : goal.returns-clause-owes
+returns-clause-owes c =
+    let desk : List TableId = map (λ t. t.shared.table_id) c.loop-t.tables.items in
+    subst OwesNothing (sym c.loop-t.invariant.places) (nothing_owed desk)

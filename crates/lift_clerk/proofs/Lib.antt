@@ -1,0 +1,4 @@
+pub mod Visiting
+pub mod Scanned
+pub mod Answered
+pub mod Turning

@@ -1,0 +1,113 @@
+-- A turn, of its scan, its commit and its answers.
+use Rattle.std.proofs.Common.{◌≡◌, ◌⊎◌, ⊎_elim, ◌<◌, Bool, true, false, List, [], ◌∷◌, length, refl, sym, ap, ◌∙◌, subst, arith}
+use Rattle.std.proofs.lemmas.List.{length-map}
+use Rattle.atomic_table.specs.Seated.{TableId}
+use Rattle.lift_base.specs.declared.history.Entry.{Entry}
+use Rattle.lift_base.specs.declared.command.Reply.{Reply}
+use Rattle.lift_building.specs.Plan.{Plan}
+use Rattle.lift_register.specs.Register.{register_of}
+use Rattle.lift_desk.specs.Seats.{ClerkPlace, IsClerkOf, OwesNothing}
+use Rattle.lift_policy.specs.declared.command.Command.{Command}
+use Rattle.lift_policy.specs.Eligible.{Choice}
+use Rattle.lift_policy.specs.Run.{Run}
+use Rattle.lift_policy.specs.Step.{State}
+use Rattle.lift_keeper.specs.Keeper.{KeeperView}
+use Rattle.lift_clerk.specs.declared.scan.Answer.{Answer}
+use Rattle.lift_clerk.specs.Visits.{Visit, commands_of, served, Serves}
+use Rattle.lift_clerk.specs.Clerk.{ClerkState}
+use Rattle.lift_clerk.specs.Scanning.{Decides, IsScanned, Scans, replies_in, replies_told}
+use Rattle.lift_clerk.specs.Turn.{IsFailedTurn, IsBrokenTurn}
+use Rattle.lift_clerk.proofs.Visiting.{nothing_owed}
+use Rattle.lift_clerk.proofs.Answered.{many-commands, told_unknown}
+
+-- each look is answered
+pub serves_all : (desk : List TableId) (places seat next : List ClerkPlace) (visits : List Visit) (answers : List Answer) (is_safe : Bool) → length visits ≡ length desk → IsClerkOf desk places
+    → IsScanned places visits seat answers → next ≡ served places visits (replies_told is_safe answers) → Serves places next visits (replies_told is_safe answers)
+serves_all desk places seat next visits answers is_safe count seated scanned is = record {
+  each_once = count ∙ sym (ap length seated) ∙ length-map places (λ (p : ClerkPlace). p.table);
+  finds = scanned.finds;
+  one_reply_each = length-map answers _ ∙ many-commands answers (commands_of 0 visits) scanned.terminals;
+  stored = is;
+}
+
+-- and then nothing is owed
+pub serves_rest : (old new : List ClerkPlace) (visits : List Visit) (replies : List Reply) → Serves old new visits replies → OwesNothing old → OwesNothing new
+serves_rest old new visits replies serves rests = subst OwesNothing (sym serves.stored) (nothing_owed 0 old visits replies serves.finds serves.one_reply_each rests)
+
+pub not_empty : {A : Type 0} (xs : List A) → (xs ≡ [] → ⊥) → 0 < length xs
+not_empty [] some = absurd (some refl)
+not_empty (x ∷ xs) some = omega arith
+
+pub is_whole : (b : Bool) → (b ≡ true → ⊥) → b ≡ false
+is_whole true not = absurd (not refl)
+is_whole false not = refl
+
+-- a scan while whole has decided by the rules
+pub run_of : (choice : Choice) (plan : Plan) (is_broken : Bool) (before after : State) (commands : List Command) (replies : List Reply) → is_broken ≡ false
+    → Decides is_broken plan choice before commands replies after → Run plan choice before commands replies after
+run_of choice plan true before after commands replies whole decides = absurd (cc)
+run_of choice plan false before after commands replies whole decides = decides
+
+-- and while broken has changed nothing
+pub rest_of : (choice : Choice) (plan : Plan) (is_broken : Bool) (before after : State) (commands : List Command) (replies : List Reply) → is_broken ≡ true
+    → Decides is_broken plan choice before commands replies after → after ≡ before
+rest_of choice plan true before after commands replies broken decides = decides.1
+rest_of choice plan false before after commands replies broken decides = absurd (cc)
+
+pub same_keeper : {D : Type 0} (k l : KeeperView D) → k.state ≡ l.state → k.writer ≡ l.writer → k ≡ l
+same_keeper k l states writers = λ i. record { state = states i; writer = writers i }
+
+pub nothing_waits : (batch : List Entry) (is_broken : Bool) → (batch ≡ []) ⊎ (is_broken ≡ true) → is_broken ≡ false → batch ≡ []
+nothing_waits batch is_broken settled whole = ⊎_elim (λ none. none) (λ broken. absurd (cc)) settled
+
+pub failed_turn : {D P : Type 0} (desk : List TableId) (choice : Choice) (old new : ClerkState D P) (seat : List ClerkPlace) (decided : State) (answers : List Answer)
+    → IsClerkOf desk old.seat
+    → (scans : Scans choice old.keeper.writer.plan old.keeper.writer.is_broken old.seat seat old.keeper.state decided answers (length desk))
+    → new.seat ≡ served old.seat scans.visits (replies_told false answers)
+    → (old.keeper.state.batch ≡ []) ⊎ (old.keeper.writer.is_broken ≡ true)
+    → old.keeper.writer.is_broken ≡ false
+    → new.keeper.state ≡ decided
+    → (decided.batch ≡ [] → ⊥)
+    → new.keeper.writer.doubt ≡ decided.batch
+    → decided.register ≡ register_of old.keeper.writer.register decided.batch
+    → IsFailedTurn choice old new
+failed_turn desk choice old new seat decided answers seated scans stored settled whole same some doubt register =
+    let commands = commands_of 0 scans.visits in
+    let many = many-commands answers commands scans.scanned.terminals in
+    record {
+      visits = scans.visits;
+      replies = replies_told false answers;
+      serves = serves_all desk old.seat seat new.seat scans.visits answers false scans.count seated scans.scanned stored;
+      begins = nothing_waits old.keeper.state.batch old.keeper.writer.is_broken settled whole;
+      run = (
+        (
+          replies_in answers,
+          subst (Run old.keeper.writer.plan choice old.keeper.state commands (replies_in answers)) (sym same)
+              (run_of choice old.keeper.writer.plan old.keeper.writer.is_broken old.keeper.state decided commands (replies_in answers) whole scans.decides),
+        ),
+        told_unknown answers commands many,
+      );
+      some = subst (λ (s : State). 0 < length s.batch) (sym same) (not_empty decided.batch some);
+      doubt = doubt ∙ ap (λ (s : State). s.batch) (sym same);
+      register = subst (λ (s : State). s.register ≡ register_of old.keeper.writer.register s.batch) (sym same) register;
+    }
+
+pub broken_turn : {D P : Type 0} (desk : List TableId) (choice : Choice) (old new : ClerkState D P) (seat : List ClerkPlace) (answers : List Answer) (between : KeeperView D)
+    → IsClerkOf desk old.seat
+    → (scans : Scans choice old.keeper.writer.plan old.keeper.writer.is_broken old.seat seat old.keeper.state between.state answers (length desk))
+    → new.seat ≡ served old.seat scans.visits (replies_told false answers)
+    → old.keeper.writer.is_broken ≡ true
+    → between.writer ≡ old.keeper.writer
+    → new.keeper ≡ between
+    → IsBrokenTurn old new
+broken_turn desk choice old new seat answers between seated scans stored broken writer same =
+    let commands = commands_of 0 scans.visits in
+    let many = many-commands answers commands scans.scanned.terminals in
+    let rests = rest_of choice old.keeper.writer.plan old.keeper.writer.is_broken old.keeper.state between.state commands (replies_in answers) broken scans.decides in
+    record {
+      visits = scans.visits;
+      replies = replies_told false answers;
+      serves = serves_all desk old.seat seat new.seat scans.visits answers false scans.count seated scans.scanned stored;
+      run = (told_unknown answers commands many, ap (λ k. k.state) same ∙ rests);
+      rests = same ∙ same_keeper between old.keeper rests writer;
+    }

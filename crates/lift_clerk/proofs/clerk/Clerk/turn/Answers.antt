@@ -1,0 +1,89 @@
+use Rattle.std.proofs.Common.{◌≡◌, ⊎_elim, inl, inr, true, false, sym, ap, ◌∙◌, subst}
+use Rattle.std.specs.Prelude.{Err}
+use Rattle.lift_register.specs.Register.{register_of}
+use Rattle.lift_policy.specs.Step.{State}
+use Rattle.lift_journal.specs.declared.fault.JournalFault.TheVariants.{Disk}
+use Rattle.lift_keeper.specs.declared.fault.KeeperFault.TheVariants.{Journal}
+use Rattle.lift_keeper.specs.Keeper.{KeeperView}
+use Rattle.lift_keeper.specs.Writer.{WriterView}
+use Rattle.lift_clerk.specs.Clerk.{ClerkState}
+use Rattle.lift_clerk.specs.Turn.{IsFailedTurn, IsBrokenTurn}
+use Rattle.lift_clerk.specs.Scanning.{replies_told}
+use Rattle.lift_clerk.proofs.Turning.{serves_all, serves_rest, is_whole, failed_turn, broken_turn}
+use Rattle.lift_clerk.proofs.clerk.Clerk.turn.Goals as goal
+
+pub returns-in-Ok-clause-answered : goal.returns-in-Ok-clause-answered
+returns-in-Ok-clause-answered g c =
+    let s = c.self.inside in
+    let scans = c.scan-answers.ensures.scans in
+    let answers = c.scan-answers.result.items in
+    let serves = serves_all s.desk.now s.seat c.scan-answers.new.seat c.answer_all.new.seat scans.visits answers true scans.count c.self.invariant.seated scans.scanned (c.answer_all.ensures.stored s.seat scans.visits scans.scanned) in
+    serves_rest s.seat c.answer_all.new.seat scans.visits (replies_told true answers) serves c.self.invariant.answered
+
+pub returns-in-Err-clause-answered : goal.returns-in-Err-clause-answered
+returns-in-Err-clause-answered g c =
+    let s = c.self.inside in
+    let scans = c.scan-answers.ensures.scans in
+    let answers = c.scan-answers.result.items in
+    let serves = serves_all s.desk.now s.seat c.scan-answers.new.seat c.answer_all-in-Err.new.seat scans.visits answers false scans.count c.self.invariant.seated scans.scanned (c.answer_all-in-Err.ensures.stored s.seat scans.visits scans.scanned) in
+    serves_rest s.seat c.answer_all-in-Err.new.seat scans.visits (replies_told false answers) serves c.self.invariant.answered
+
+pub invariant_of-self : goal.invariant_of-self
+invariant_of-self g c =
+    let s = c.self.inside in
+    let scans = c.scan-answers.ensures.scans in
+    let answers = c.scan-answers.result.items in
+    let serves = serves_all s.desk.now s.seat c.scan-answers.new.seat c.answer_all.new.seat scans.visits answers true scans.count c.self.invariant.seated scans.scanned (c.answer_all.ensures.stored s.seat scans.visits scans.scanned) in
+    record {
+      seated = c.answer_all.ensures.seated;
+      answered = serves_rest s.seat c.answer_all.new.seat scans.visits (replies_told true answers) serves c.self.invariant.answered;
+      settled = inl (ap (λ (t : State). t.batch) c.in-Ok.ensures.begins);
+    }
+
+pub invariant_of-self-in-Err : goal.invariant_of-self-in-Err
+invariant_of-self-in-Err g c =
+    let s = c.self.inside in
+    let scans = c.scan-answers.ensures.scans in
+    let answers = c.scan-answers.result.items in
+    let serves = serves_all s.desk.now s.seat c.scan-answers.new.seat c.answer_all-in-Err.new.seat scans.visits answers false scans.count c.self.invariant.seated scans.scanned (c.answer_all-in-Err.ensures.stored s.seat scans.visits scans.scanned) in
+    record {
+      seated = c.answer_all-in-Err.ensures.seated;
+      answered = serves_rest s.seat c.answer_all-in-Err.new.seat scans.visits (replies_told false answers) serves c.self.invariant.answered;
+      settled = inr (⊎_elim (λ of_disk. (c.in-Err.ensures.breaks (ap Err of_disk)).0)
+          (λ of_broken. (let was = c.in-Err.ensures.broken.0 (ap Err of_broken) in ap (λ (k : KeeperView g.row.D.Denot). k.writer.is_broken) (c.in-Err.ensures.rests was) ∙ was)) c.in-Err.ensures.causes);
+    }
+
+pub returns-in-Err-clause-fails : goal.returns-in-Err-clause-fails
+returns-in-Err-clause-fails g c = λ of_disk.
+    let s = c.self.inside in
+    let scans = c.scan-answers.ensures.scans in
+    let answers = c.scan-answers.result.items in
+    let between = c.scan-answers.new.keeper in
+    let writer = c.scan-answers.ensures.writer in
+    let commit = c.in-Err.ensures in
+    let old : ClerkState g.row.D.Denot g.row.P.Denot = record { desk = s.desk.now; seat = s.seat; keeper = s.keeper; policy = s.policy } in
+    let new : ClerkState g.row.D.Denot g.row.P.Denot = record { desk = s.desk.now; seat = c.answer_all-in-Err.new.seat; keeper = c.commit.new.self; policy = s.policy } in
+    let fault : c.in-Err.fault ≡ Journal Disk = cc in
+    let whole : between.writer.is_broken ≡ false = is_whole between.writer.is_broken (λ broken. let other = commit.broken.1 broken in cc) in
+    let shown = c.register-shown.ensures in
+    subst (λ (v : ClerkState g.row.D.Denot g.row.P.Denot). IsFailedTurn (g.P.Policy.chooses v.policy) v new) c.self.view_is
+    (failed_turn s.desk.now (g.P.Policy.chooses s.policy) old new c.scan-answers.new.seat between.state answers c.self.invariant.seated scans (c.answer_all-in-Err.ensures.stored s.seat scans.visits scans.scanned) c.self.invariant.settled
+    (sym (ap (λ (w : WriterView g.row.D.Denot). w.is_broken) writer) ∙ whole)
+    commit.unmoved.0
+    (λ none. let ok = (commit.empty whole none).0 in absurd (cc))
+    (commit.breaks (ap Err fault)).1
+    (sym shown.value ∙ shown.ahead whole ∙ ap (λ (w : WriterView g.row.D.Denot). register_of w.register between.state.batch) writer))
+
+pub returns-in-Err-clause-rests : goal.returns-in-Err-clause-rests
+returns-in-Err-clause-rests g c = λ was.
+    let s = c.self.inside in
+    let scans = c.scan-answers.ensures.scans in
+    let answers = c.scan-answers.result.items in
+    let between = c.scan-answers.new.keeper in
+    let writer = c.scan-answers.ensures.writer in
+    let old : ClerkState g.row.D.Denot g.row.P.Denot = record { desk = s.desk.now; seat = s.seat; keeper = s.keeper; policy = s.policy } in
+    let new : ClerkState g.row.D.Denot g.row.P.Denot = record { desk = s.desk.now; seat = c.answer_all-in-Err.new.seat; keeper = c.commit.new.self; policy = s.policy } in
+    let broken : s.keeper.writer.is_broken ≡ true = ap (λ (v : ClerkState g.row.D.Denot g.row.P.Denot). v.keeper.writer.is_broken) c.self.view_is ∙ was in
+    subst (λ (v : ClerkState g.row.D.Denot g.row.P.Denot). IsBrokenTurn v new) c.self.view_is
+    (broken_turn s.desk.now (g.P.Policy.chooses s.policy) old new c.scan-answers.new.seat answers between c.self.invariant.seated scans (c.answer_all-in-Err.ensures.stored s.seat scans.visits scans.scanned)
+    broken writer (c.in-Err.ensures.rests (ap (λ (w : WriterView g.row.D.Denot). w.is_broken) writer ∙ broken)))

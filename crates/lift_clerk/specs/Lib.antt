@@ -1,0 +1,4 @@
+pub mod Visits
+pub mod Clerk
+pub mod Turn
+pub mod Scanning

@@ -1,0 +1,46 @@
+-- A scan and its answers, as far as they have come.
+use Rattle.std.specs.Prelude.{ℕ, Bool, true, false, ◌≡◌, List, [], map, length, if◌then◌else◌}
+use Rattle.lift_base.specs.declared.command.Reply.{Reply}
+use Rattle.lift_base.specs.declared.command.Reply.TheVariants.{Unknown}
+use Rattle.lift_building.specs.Plan.{Plan}
+use Rattle.lift_desk.specs.Seats.{ClerkPlace}
+use Rattle.lift_policy.specs.declared.command.Command.{Command}
+use Rattle.lift_policy.specs.Eligible.{Choice}
+use Rattle.lift_policy.specs.Step.{State}
+use Rattle.lift_policy.specs.Run.{Run, RunWhileBroken}
+use Rattle.lift_clerk.specs.declared.scan.Answer.{Answer}
+use Rattle.lift_clerk.specs.Visits.{Visit, Finds, commands_of, served}
+
+abbrev pub terminals_in : List Answer → List ℕ
+terminals_in answers = map (λ (a : Answer). a.terminal) answers
+
+abbrev pub replies_in : List Answer → List Reply
+replies_in answers = map (λ (a : Answer). a.reply) answers
+
+abbrev pub terminals_of : List Command → List ℕ
+terminals_of commands = map (λ (c : Command). c.terminal) commands
+
+-- what is answered: what was decided where it is safe, else Unknown
+abbrev pub told : Bool → Reply → Reply
+told is_safe reply = if is_safe then reply else Unknown
+
+abbrev pub replies_told : Bool → List Answer → List Reply
+replies_told is_safe answers = map (λ (a : Answer). told is_safe a.reply) answers
+
+-- commands are decided by the rules, or answered Unknown
+abbrev pub Decides : Bool → Plan → Choice → State → List Command → List Reply → State → Type 0
+Decides true plan choice state commands replies next = RunWhileBroken state commands replies next
+Decides false plan choice state commands replies next = Run plan choice state commands replies next
+
+-- each place was looked at as far as these visits go, and each command found there has its answer, which isn't stored yet
+pub record IsScanned (places : List ClerkPlace) (visits : List Visit) (seat : List ClerkPlace) (answers : List Answer) : Type 0 where
+  pub finds : Finds places visits
+  pub looked : seat ≡ served places visits []
+  pub terminals : terminals_in answers ≡ terminals_of (commands_of 0 visits)
+
+-- the first n places were looked at, and what was found was decided
+pub record Scans (choice : Choice) (plan : Plan) (is_broken : Bool) (places seat : List ClerkPlace) (before after : State) (answers : List Answer) (n : ℕ) : Type 0 where
+  pub visits : List Visit
+  pub count : length visits ≡ n
+  pub scanned : IsScanned places visits seat answers
+  pub decides : Decides is_broken plan choice before (commands_of 0 visits) (replies_in answers) after
