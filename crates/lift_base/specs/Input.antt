@@ -1,6 +1,6 @@
 use Rattle.std.specs.Prelude.{ℕ, Bool}
 
--- a reader with what was seen of its calls
+-- a reader with what is known of its calls
 pub record InputState (R : Type 0) : Type 0 where
   pub reader : R
   pub calls : ℕ

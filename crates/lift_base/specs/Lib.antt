@@ -4,3 +4,4 @@ pub mod History
 pub mod Records
 pub mod Text
 pub mod Input
+pub mod Output

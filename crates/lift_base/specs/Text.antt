@@ -1,5 +1,5 @@
 -- The texts that scripts, reports and sessions share.
-use Rattle.std.specs.Prelude.{ℕ, ◌≡◌, ◌≢◌, ◌<◌, ◌+◌, ◌-◌, List, [], ◌∷◌, ◌++◌, codes, length, slice_index, Option, Some, None, nat_lt, if◌then◌else◌}
+use Rattle.std.specs.Prelude.{ℕ, ◌≡◌, ◌≢◌, ◌<◌, ◌+◌, ◌-◌, ◌⊎◌, List, [], ◌∷◌, ◌++◌, codes, length, slice_index, Option, Some, None, nat_lt, if◌then◌else◌}
 use Rattle.std.specs.Fmt.{decimal}
 use Rattle.std.specs.List.{AllByRecursion}
 use Rattle.lift_base.specs.Command.{reason_number}
@@ -37,6 +37,10 @@ letter_text car = (65 + car) ∷ []
 abbrev pub dir_text : Dir → List ℕ
 dir_text Up = codes "up"
 dir_text Down = codes "down"
+
+-- the last words of a call's line, its party: absent means 1
+abbrev pub ArePartyWords : List (List ℕ) → ℕ → Type 0
+ArePartyWords words party = (words ≡ decimal party ∷ []) ⊎ ((words ≡ []) × (party ≡ 1))
 
 -- and kiosks K0 to K46
 abbrev pub terminal_text : ℕ → List ℕ

@@ -3,6 +3,7 @@
 
 mod checked;
 mod command;
+mod count;
 mod history;
 mod memory;
 pub mod text;
@@ -10,6 +11,7 @@ mod travel;
 
 pub use checked::{Floor, Letter, Number, Party, Terminal};
 pub use command::{Body, Reason, Reply};
+pub use count::ProofCount;
 pub use history::{Content, Entry, Last, MOST_DONE, Record, Row, Shape};
 pub use memory::Memory;
 pub use travel::{Dir, Halt, Pass, Position, Stop};

@@ -8,7 +8,7 @@ mod output;
 mod words;
 
 pub use input::{Counted, ReadFault};
-pub use names::{dir_of_word, letter_of_word};
+pub use names::{dir_of_word, letter_of_word, number_of_word, party_of_words};
 pub use number::number_up_to;
-pub use output::{WriteFault, put_all};
+pub use output::{Watched, WriteFault, put_all};
 pub use words::{MOST_WORDS, words_of};

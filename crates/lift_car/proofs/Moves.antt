@@ -4,20 +4,21 @@ use Rattle.std.specs.Prelude.{Option, Some, None, IfSome, IfNone}
 use Rattle.std.specs.Str.{IsAscii}
 use Rattle.std.proofs.lemmas.Fmt.{IsAscii-decimal}
 use Rattle.std.proofs.lemmas.Str.Ascii.{IsAscii-nil}
+use Rattle.std.proofs.lemmas.Option.{IfSome_then}
 use Rattle.lift_base.specs.declared.travel.Dir.{Dir}
 use Rattle.lift_base.specs.declared.travel.Dir.TheVariants.{Up, Down}
 use Rattle.lift_base.specs.Text.{AreWords, dir_text}
 use Rattle.lift_base.proofs.Words.{one_reading}
+use Rattle.lift_base.proofs.Texts.{none_weaker}
 use Rattle.lift_kiosk.specs.Lines.{AreAscii}
 use Rattle.lift_kiosk.specs.declared.dialect.Wanted.{Wanted}
 use Rattle.lift_kiosk.specs.declared.dialect.Wanted.TheVariants.{Ask as Asks, NoFloor}
 use Rattle.lift_kiosk.proofs.Words.{ascii_with}
-use Rattle.lift_kiosk.proofs.Calls.{some_weaker, none_weaker}
 use Rattle.lift_car.specs.declared.lines.Move.{Move}
 use Rattle.lift_car.specs.Lines.{IsMove, IsNumber, SpellsMove, WantsMove, move_words}
 
 pub moves_alike : (r : Option Move) (words others : List (List ℕ)) → words ≡ others → IfSome r (λ found. IsMove others found) → IfSome r (λ found. IsMove words found)
-moves_alike r words others same found = some_weaker r _ _ (λ m is. subst (λ (w : List (List ℕ)). IsMove w m) (sym same) is) found
+moves_alike r words others same found = IfSome_then r found (λ m is. subst (λ (w : List (List ℕ)). IsMove w m) (sym same) is)
 
 pub no_move_line : {A : Type 0} (r : Option A) (line : List ℕ) (words : List (List ℕ)) → AreWords line words
     → IfNone r ((found : Move) → IsMove words found → ⊥) → IfNone r ((found : Move) → SpellsMove line found → ⊥)

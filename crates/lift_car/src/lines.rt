@@ -1,20 +1,18 @@
 //! What a car says in its sessions.
 
 ghost use Rattle.std.specs.Prelude.{◌≡◌, ◌≢◌, ℕ, ◌<◌, ◌≤◌, ◌+◌, ◌^◌, List, map, IfSome, IfNone, None, true, ◌∷◌, [], codes};
-ghost use Rattle.lift_kiosk.specs.Lines.{sink_of, source_of};
+ghost use Rattle.lift_base.specs.Output.{sink_of};
+ghost use Rattle.lift_kiosk.specs.Lines.{source_of};
 ghost use Rattle.lift_kiosk.specs.Session.{IsSession, standing};
 ghost use Rattle.lift_kiosk.specs.declared.dialect.Wanted.{Wanted as WantedValue};
 ghost use Rattle.lift_car.specs.declared.lines.Move.{Move as MoveValue};
 ghost use Rattle.lift_car.specs.Lines.{WantsMove, SpellsMove, IsMove, keeps_stop, stop_numbered};
 
 use crate::terms::CarEnd;
-use lift_base::text::{Counted, dir_of_word, number_up_to};
+use lift_base::text::{Counted, Watched, dir_of_word, number_of_word, number_up_to};
 use lift_base::{Body, Dir, Floor, Number, Reply};
 use lift_desk::Ask;
-use lift_kiosk::{
-    Dialect, End, LastLetter, Limits, Port, SessionEnd, Wanted, Watched, converse, number_of_word,
-    words_in,
-};
+use lift_kiosk::{Dialect, End, LastLetter, Limits, Port, SessionEnd, Wanted, converse, words_in};
 use std::io::{Read, Write};
 
 /// A move as its line spells it, to a floor up to 999.
@@ -168,7 +166,6 @@ pub fn session<R: Read + Drop, W: Write + Drop, P: Port>(
     last: Number,
     limits: Limits,
 ) -> CarEnd
-    requires countable { reader.old.calls < 2 ^ 62 }
     ensures session { IsSession WantsMove keeps_stop limits result.end
         (standing (stop_numbered last) (P.view port.old) (source_of R.remaining reader.old) (sink_of W.contents writer.old))
         (standing (stop_numbered result.last) (P.view port.new) (source_of R.remaining reader.new) (sink_of W.contents writer.new)) }

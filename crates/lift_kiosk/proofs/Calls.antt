@@ -1,24 +1,17 @@
 -- Which words spell a call.
 use Rattle.std.proofs.Common.{◌≡◌, ℕ, ◌≤◌, ◌<◌, List, [], ◌∷◌, length, codes, sym, subst, ◌∙◌, arith, inl, inr}
-use Rattle.std.specs.Prelude.{Option, Some, None, IfSome, IfNone}
+use Rattle.std.specs.Prelude.{Option, IfNone}
 use Rattle.std.specs.Str.{IsAscii}
 use Rattle.std.proofs.lemmas.Fmt.{IsAscii-decimal}
 use Rattle.std.proofs.lemmas.Str.Ascii.{IsAscii-nil}
-use Rattle.lift_base.specs.Text.{AreWords}
+use Rattle.lift_base.specs.Text.{AreWords, ArePartyWords}
 use Rattle.lift_base.proofs.Words.{one_reading}
+use Rattle.lift_base.proofs.Texts.{none_weaker}
 use Rattle.lift_kiosk.specs.Lines.{AreAscii}
 use Rattle.lift_kiosk.specs.declared.dialect.Wanted.{Wanted}
 use Rattle.lift_kiosk.specs.declared.dialect.Wanted.TheVariants.{Ask as Asks, NoFloor}
-use Rattle.lift_kiosk.specs.Kiosk.{ArePartyWords, AreCallWords, SpellsCall, WantsCall}
+use Rattle.lift_kiosk.specs.Kiosk.{AreCallWords, SpellsCall, WantsCall}
 use Rattle.lift_kiosk.proofs.Words.{ascii_with}
-
-pub some_weaker : {A : Type 0} (r : Option A) (P Q : A → Type 0) → ((x : A) → P x → Q x) → IfSome r P → IfSome r Q
-some_weaker None P Q f p = tt
-some_weaker (Some x) P Q f p = f x p
-
-pub none_weaker : {A : Type 0} (r : Option A) (P Q : Type 0) → (P → Q) → IfNone r P → IfNone r Q
-none_weaker None P Q f p = f p
-none_weaker (Some x) P Q f p = tt
 
 pub no_call_among : {A : Type 0} (r : Option A) (all rest : List (List ℕ)) → all ≡ codes "CALL" ∷ rest
     → IfNone r ((number floor party : ℕ) → AreCallWords rest number floor party → ⊥)

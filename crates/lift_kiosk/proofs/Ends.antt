@@ -98,5 +98,5 @@ pub unwritten_lines : (wants : List ℕ → Wanted → Type 0) (keeps : LastLett
 unwritten_lines wants keeps limits calls end before after lines failed =
     elim lines.ends [
       | inl all ↦ absurd (let both = sym all.1 ∙ failed in cc)
-      | inr step ↦ (let last = subst (λ e. LastStep wants keeps limits calls e lines.answered after) failed step.1 in last.3.failed)
+      | inr step ↦ (let last = subst (λ e. LastStep wants keeps limits calls e lines.answered after) failed step.1 in last.4.failed)
     ]

@@ -3,12 +3,13 @@ use Rattle.std.proofs.Common.{◌≡◌, ℕ, ◌≤◌, List, [], ◌∷◌, co
 use Rattle.std.specs.Fmt.{decimal}
 use Rattle.std.proofs.lemmas.Fmt.{decimal_injective}
 use Rattle.lift_base.proofs.Words.{one_reading}
+use Rattle.lift_base.specs.Text.{ArePartyWords}
 use Rattle.lift_base.specs.declared.command.Body.{Body}
 use Rattle.lift_base.specs.declared.command.Body.TheVariants.{Call}
 use Rattle.lift_desk.specs.declared.words.Ask.{Ask}
 use Rattle.lift_kiosk.specs.declared.dialect.Wanted.{Wanted}
 use Rattle.lift_kiosk.specs.declared.dialect.Wanted.TheVariants.{Ask as Asks, NoFloor}
-use Rattle.lift_kiosk.specs.Kiosk.{ArePartyWords, SpellsCall, WantsCall}
+use Rattle.lift_kiosk.specs.Kiosk.{SpellsCall, WantsCall}
 
 same_party : (words others : List (List ℕ)) (party other : ℕ) → words ≡ others → party ≤ 15 → other ≤ 15 → ArePartyWords words party → ArePartyWords others other → party ≡ other
 same_party words others party other same few small (inl one) (inl two) =

@@ -1,17 +1,13 @@
 -- What a kiosk's lines ask for, and which answers it keeps.
-use Rattle.std.specs.Prelude.{ℕ, ◌≡◌, ◌<◌, ◌≤◌, ◌⊎◌, List, [], ◌∷◌, codes, length, Some, nat_lt, if◌then◌else◌}
+use Rattle.std.specs.Prelude.{ℕ, ◌≡◌, ◌<◌, ◌≤◌, List, ◌∷◌, codes, length, Some, nat_lt, if◌then◌else◌}
 use Rattle.std.specs.Fmt.{decimal}
-use Rattle.lift_base.specs.Text.{AreWords}
+use Rattle.lift_base.specs.Text.{AreWords, ArePartyWords}
 use Rattle.lift_base.specs.declared.command.Body.TheVariants.{Call}
 use Rattle.lift_base.specs.declared.command.Reply.{Reply}
 use Rattle.lift_base.specs.declared.command.Reply.TheVariants.{Car, Stopped, Placed, Refused, Unknown}
 use Rattle.lift_kiosk.specs.declared.terms.LastLetter.{LastLetter}
 use Rattle.lift_kiosk.specs.declared.dialect.Wanted.{Wanted}
 use Rattle.lift_kiosk.specs.declared.dialect.Wanted.TheVariants.{Ask as Asks, NoFloor}
-
--- the last word, the party: absent means 1
-abbrev pub ArePartyWords : List (List ℕ) → ℕ → Type 0
-ArePartyWords words party = (words ≡ decimal party ∷ []) ⊎ ((words ≡ []) × (party ≡ 1))
 
 -- the words behind CALL: a number up to 16,777,215, a floor up to 999, and a party of 1 to 15
 pub record AreCallWords (words : List (List ℕ)) (number floor party : ℕ) : Type 0 where

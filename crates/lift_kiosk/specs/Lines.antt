@@ -7,7 +7,7 @@ use Rattle.lift_kiosk.specs.declared.line.NoLine.{NoLine}
 use Rattle.lift_kiosk.specs.declared.line.NoLine.TheVariants.{AtEnd, NoCalls, Fault}
 use Rattle.lift_kiosk.specs.declared.terms.End.{End}
 use Rattle.lift_kiosk.specs.declared.terms.End.TheVariants.{Closed, Limit, ReadFault}
-use Rattle.std.specs.Io.KnownBytes.{Appends, Consumes, IsAtEnd, Keeps}
+use Rattle.std.specs.Io.KnownBytes.{Consumes, IsAtEnd, Keeps}
 
 -- a reader: how often it was called, whether a call failed or found the end, and what it has left, where it tells that
 pub record Source : Type 0 where
@@ -15,30 +15,6 @@ pub record Source : Type 0 where
   pub failed : Bool
   pub ended : Bool
   pub left : Option (List ℕ)
-
--- a writer: whether a call failed or took nothing, and what was written, where it tells that
-pub record Sink : Type 0 where
-  pub failed : Bool
-  pub written : Option (List ℕ)
-
--- all of these bytes were written
-pub record Takes (bytes : List ℕ) (before after : Sink) : Type 0 where
-  pub failed : after.failed ≡ before.failed
-  pub written : Appends before.written after.written bytes
-
--- a call failed or took nothing, and only a front of these bytes was written
-pub record TakesFront (bytes : List ℕ) (before after : Sink) : Type 0 where
-  pub count : ℕ
-  pub failed : after.failed ≡ true
-  pub written : Appends before.written after.written (take count bytes)
-
--- a writer with what was seen of its calls
-pub record OutputState (W : Type 0) : Type 0 where
-  pub writer : W
-  pub failed : Bool
-
-abbrev pub sink_of : {W : Type 0} → (contents : W → Option (List ℕ)) → OutputState W → Sink
-sink_of contents output = record { failed = output.failed; written = contents output.writer }
 
 -- these bytes came, one at each call
 pub record Gives (bytes : List ℕ) (before after : Source) : Type 0 where

@@ -4,6 +4,7 @@ use Rattle.std.specs.Prelude.{◌≡◌, ◌≢◌, ℕ, ◌+◌, ◌<◌, ◌�
 use Rattle.std.specs.Fmt.{decimal}
 use Rattle.std.specs.Str.Lines.{strip_carriage_return}
 use Rattle.lift_base.specs.Text.{letter_text, reply_text}
+use Rattle.lift_base.specs.Output.{Sink, Takes, TakesFront}
 use Rattle.lift_base.specs.declared.command.Reply.{Reply}
 use Rattle.lift_desk.specs.declared.words.Ask.{Ask}
 use Rattle.lift_kiosk.specs.declared.terms.LastLetter.{LastLetter}
@@ -18,7 +19,7 @@ use Rattle.lift_kiosk.specs.declared.outcome.Outcome.{Outcome}
 use Rattle.lift_kiosk.specs.declared.outcome.Outcome.TheVariants.{Malformed, OffFloors, Answered, NotAnswered, Refused}
 use Rattle.lift_kiosk.specs.Port.{PortView, AsksOne}
 use Rattle.lift_kiosk.specs.Hearing.{Waits}
-use Rattle.lift_kiosk.specs.Lines.{Source, Sink, Takes, TakesFront, GivesLine, GivesPart, FindsEnd, Fails}
+use Rattle.lift_kiosk.specs.Lines.{Source, GivesLine, GivesPart, FindsEnd, Fails}
 
 -- where a session stands: the last command that it knows, its port, its reader and its writer
 pub record Standing : Type 0 where
@@ -145,7 +146,7 @@ opening_line last opening = opening_text last opening ++ 10 ∷ []
 abbrev pub EndsAtOnce : (keeps : LastLetter → ℕ → Reply → LastLetter) → Limits → End → (before after : Standing) → Type 0
 EndsAtOnce keeps limits Late before after = Opens keeps limits StillWaits before after × Takes (opening_line after.last StillWaits) before.sink after.sink
 EndsAtOnce keeps limits WriteFault before after =
-    (opening : Opening) × Opens keeps limits opening before after × TakesFront (opening_line after.last opening) before.sink after.sink
+    (opening : Opening) × Opens keeps limits opening before after × (count : ℕ) × TakesFront count (opening_line after.last opening) before.sink after.sink
 EndsAtOnce keeps limits Closed before after = ⊥
 EndsAtOnce keeps limits Limit before after = ⊥
 EndsAtOnce keeps limits Spent before after = ⊥
@@ -169,7 +170,8 @@ LastStep wants keeps limits calls Late before after =
 LastStep wants keeps limits calls Spent before after =
     (line : List ℕ) × (ask : Ask) × Answers wants keeps limits line (Refused ask) before after
 LastStep wants keeps limits calls WriteFault before after =
-    (line : List ℕ) × (outcome : Outcome) × Exchanges wants keeps limits line outcome before after × TakesFront (answer_line outcome) before.sink after.sink
+    (line : List ℕ) × (outcome : Outcome) × Exchanges wants keeps limits line outcome before after × (count : ℕ)
+    × TakesFront count (answer_line outcome) before.sink after.sink
 
 -- It answered these lines, and ended since these were all that it may answer, or by its last step.
 pub record EndsLines (wants : List ℕ → Wanted → Type 0) (keeps : LastLetter → ℕ → Reply → LastLetter) (limits : Limits) (calls : ℕ) (end : End) (before after : Standing) : Type 0 where

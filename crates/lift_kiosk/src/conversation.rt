@@ -2,7 +2,8 @@
 
 ghost use Rattle.std.specs.Prelude.{◌≡◌, ◌≢◌, ℕ, List, ◌+◌, ◌≤◌, ◌<◌, ◌^◌, OnOk, IfErr, IfSome, IfNone, Err, None, true};
 ghost use Rattle.std.specs.Str.Lines.{strip_carriage_return};
-ghost use Rattle.lift_kiosk.specs.Lines.{Keeps65, sink_of, source_of, IsEndWithoutLine};
+ghost use Rattle.lift_base.specs.Output.{sink_of};
+ghost use Rattle.lift_kiosk.specs.Lines.{Keeps65, source_of, IsEndWithoutLine};
 ghost use Rattle.lift_kiosk.specs.Session.{Means, PortDid, GoesOn, EndsWith, Answers, LastStep, EndsLines, IsSession, standing, last_after, last_opened};
 ghost use Rattle.lift_kiosk.specs.declared.outcome.Outcome.{Outcome as OutcomeValue};
 
@@ -10,12 +11,11 @@ use crate::dialect::{Dialect, Wanted};
 use crate::line::{Line, NoLine, read_line};
 use crate::listening::{bring_in, carry_out};
 use crate::outcome::{Opening, Outcome};
-use crate::output::Watched;
 use crate::port::Port;
 use crate::reading::wanted_of;
 use crate::speaking::{answer_of, opening_of};
 use crate::terms::{End, LastLetter, Limits, SessionEnd};
-use lift_base::text::Counted;
+use lift_base::text::{Counted, Watched};
 use std::io::{Read, Write};
 
 /// What comes of a line.
@@ -76,30 +76,29 @@ fn end_without_line(no_line: NoLine) -> End
     }
 }
 
-/// One line: it is read, carried out and answered. An `Err` ends the session.
+/// One line: it is read, within the calls of the reader that are left, carried out and answered. An `Err` ends the
+/// session.
 fn exchange<T: Dialect, R: Read + Drop, W: Write + Drop, P: Port>(
     reader: &mut Counted<R>,
     writer: &mut Watched<W>,
     port: &mut P,
     last: &mut LastLetter,
     limits: &Limits,
-    calls: u64,
+    left: &mut u32,
 ) -> Result<(), End>
     requires free { (P.view port.old).pending ≡ None }
-    requires few { reader.old.calls ≤ calls }
-    requires countable { calls < 2 ^ 63 }
     ensures ok { OnOk result ((line : List ℕ) × (outcome : OutcomeValue) × GoesOn outcome
         × Answers T.wants T.keeps limits.now line outcome
         (standing last.old (P.view port.old) (source_of R.remaining reader.old) (sink_of W.contents writer.old))
         (standing last.new (P.view port.new) (source_of R.remaining reader.new) (sink_of W.contents writer.new))) }
-    ensures end { IfErr result (λ end. LastStep T.wants T.keeps limits.now calls end
+    ensures end { IfErr result (λ end. LastStep T.wants T.keeps limits.now (reader.old.calls + left.old) end
         (standing last.old (P.view port.old) (source_of R.remaining reader.old) (sink_of W.contents writer.old))
         (standing last.new (P.view port.new) (source_of R.remaining reader.new) (sink_of W.contents writer.new))) }
     ensures free { OnOk result ((P.view port.new).pending ≡ None) }
-    ensures calls { reader.new.calls ≤ calls }
+    ensures calls { reader.new.calls + left.new ≡ reader.old.calls + left.old }
     ensures stays { P.place port.new ≡ P.place port.old }
 {
-    let line = match read_line(reader, calls - reader.calls()) {
+    let line = match read_line(reader, left) {
         Ok(line) => line,
         Err(no_line) => return Err(end_without_line(no_line)),
     };
@@ -122,19 +121,17 @@ fn answer_lines<T: Dialect, R: Read + Drop, W: Write + Drop, P: Port>(
     port: &mut P,
     last: &mut LastLetter,
     limits: &Limits,
-    calls: u64,
 ) -> End
     requires free { (P.view port.old).pending ≡ None }
-    requires few { reader.old.calls ≤ calls }
-    requires countable { calls < 2 ^ 63 }
-    ensures ends { EndsLines T.wants T.keeps limits.now calls result
+    ensures ends { EndsLines T.wants T.keeps limits.now (reader.old.calls + limits.now.reads) result
         (standing last.old (P.view port.old) (source_of R.remaining reader.old) (sink_of W.contents writer.old))
         (standing last.new (P.view port.new) (source_of R.remaining reader.new) (sink_of W.contents writer.new)) }
-    ensures calls { reader.new.calls ≤ calls }
+    ensures calls { reader.new.calls ≤ reader.old.calls + limits.now.reads }
     ensures stays { P.place port.new ≡ P.place port.old }
 {
+    let mut left = limits.reads;
     for _ in 0..limits.lines {
-        match exchange::<T, R, W, P>(reader, writer, port, last, limits, calls) {
+        match exchange::<T, R, W, P>(reader, writer, port, last, limits, &mut left) {
             Ok(()) => {}
             Err(end) => return end,
         }
@@ -151,7 +148,6 @@ pub fn converse<T: Dialect, R: Read + Drop, W: Write + Drop, P: Port>(
     last: LastLetter,
     limits: Limits,
 ) -> SessionEnd
-    requires countable { reader.old.calls < 2 ^ 62 }
     ensures session { IsSession T.wants T.keeps limits result.end
         (standing last (P.view port.old) (source_of R.remaining reader.old) (sink_of W.contents writer.old))
         (standing result.last (P.view port.new) (source_of R.remaining reader.new) (sink_of W.contents writer.new)) }
@@ -179,7 +175,6 @@ pub fn converse<T: Dialect, R: Read + Drop, W: Write + Drop, P: Port>(
             end: End::Late,
         };
     }
-    let calls = reader.calls() + u64::from(limits.reads);
-    let end = answer_lines::<T, R, W, P>(reader, writer, port, &mut last, &limits, calls);
+    let end = answer_lines::<T, R, W, P>(reader, writer, port, &mut last, &limits);
     SessionEnd { last, end }
 }

@@ -1,18 +1,18 @@
 //! What a kiosk says in its sessions.
 
 ghost use Rattle.std.specs.Prelude.{◌≡◌, ◌≢◌, ℕ, ◌<◌, ◌≤◌, List, map, ◌+◌, ◌^◌, IfSome, IfNone, None, true, ◌∷◌, codes};
-ghost use Rattle.lift_kiosk.specs.Lines.{sink_of, source_of};
+ghost use Rattle.lift_base.specs.Output.{sink_of};
+ghost use Rattle.lift_kiosk.specs.Lines.{source_of};
 ghost use Rattle.lift_kiosk.specs.Session.{IsSession, standing};
-ghost use Rattle.lift_kiosk.specs.Kiosk.{ArePartyWords, AreCallWords, SpellsCall, WantsCall, keeps_letter};
+ghost use Rattle.lift_kiosk.specs.Kiosk.{AreCallWords, SpellsCall, WantsCall, keeps_letter};
 ghost use Rattle.lift_kiosk.specs.declared.dialect.Wanted.{Wanted as WantedValue};
 
 use crate::conversation::converse;
 use crate::dialect::{Dialect, Wanted};
-use crate::output::Watched;
 use crate::port::Port;
-use crate::reading::{number_of_word, words_in};
+use crate::reading::words_in;
 use crate::terms::{End, LastLetter, Limits, SessionEnd};
-use lift_base::text::{Counted, number_up_to};
+use lift_base::text::{Counted, Watched, number_of_word, number_up_to, party_of_words};
 use lift_base::{Body, Floor, Number, Party, Reply};
 use lift_desk::Ask;
 use std::io::{Read, Write};
@@ -23,23 +23,6 @@ struct CallLine {
     number: Number,
     floor: u32,
     party: Party,
-}
-
-/// The party that the last words name: absent means 1.
-fn party_of(words: &[&str]) -> Option<Party>
-    ensures some { IfSome result (λ party.
-        ArePartyWords (map (λ word. word.now) words.now) party × (1 ≤ party) × (party ≤ 15)) }
-    ensures none { IfNone result ((party : ℕ) → 1 ≤ party → party ≤ 15
-        → ArePartyWords (map (λ word. word.now) words.now) party → ⊥) }
-{
-    match words {
-        [] => Some(Party::default()),
-        [word] => match number_up_to(word, 15) {
-            Some(number) => Party::new(number as u8),
-            None => None,
-        },
-        _ => None,
-    }
 }
 
 /// The call that the words behind CALL spell.
@@ -53,7 +36,7 @@ fn call_of(words: &[&str]) -> Option<CallLine>
         [number, floor, party @ ..] => {
             let number = number_of_word(number)?;
             let floor = number_up_to(floor, 999)?;
-            let party = party_of(party)?;
+            let party = party_of_words(party)?;
             Some(CallLine {
                 number,
                 floor,
@@ -161,7 +144,6 @@ pub fn session<R: Read + Drop, W: Write + Drop, P: Port>(
     last: LastLetter,
     limits: Limits,
 ) -> SessionEnd
-    requires countable { reader.old.calls < 2 ^ 62 }
     ensures session { IsSession WantsCall keeps_letter limits result.end
         (standing last (P.view port.old) (source_of R.remaining reader.old) (sink_of W.contents writer.old))
         (standing result.last (P.view port.new) (source_of R.remaining reader.new) (sink_of W.contents writer.new)) }

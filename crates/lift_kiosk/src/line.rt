@@ -53,7 +53,6 @@ pub(crate) enum NoLine {
 
 /// One byte; none at the end.
 fn next_byte<R: Read + Drop>(reader: &mut Counted<R>) -> Result<Option<u8>, ReadFault>
-    requires countable { reader.old.calls < 2 ^ 63 }
     ensures byte { IfOk result (λ found. IfSome found (λ byte. Gives (byte ∷ []) (source_of R.remaining reader.old) (source_of R.remaining reader.new))) }
     ensures end { result ≡ Ok None → FindsEnd (source_of R.remaining reader.old) (source_of R.remaining reader.new) }
     ensures fault { IfErr result (λ _. Fails (source_of R.remaining reader.old) (source_of R.remaining reader.new)) }
@@ -67,9 +66,11 @@ fn next_byte<R: Read + Drop>(reader: &mut Counted<R>) -> Result<Option<u8>, Read
     }
 }
 
-/// A line, where its line feed comes within so many calls of the reader.
-pub(crate) fn read_line<R: Read + Drop>(reader: &mut Counted<R>, calls: u64) -> Result<Line, NoLine>
-    requires countable { reader.old.calls + calls < 2 ^ 63 }
+/// A line, where its line feed comes within the calls of the reader that are left.
+pub(crate) fn read_line<R: Read + Drop>(
+    reader: &mut Counted<R>,
+    left: &mut u32,
+) -> Result<Line, NoLine>
     ensures line { IfOk result (λ found. (line : List ℕ) × Keeps65 line found.bytes.items found.is_longer
         × GivesLine line (source_of R.remaining reader.old) (source_of R.remaining reader.new)) }
     ensures closed { result ≡ Err NoLine.AtEnd → (part : List ℕ) × (mid : Source)
@@ -78,11 +79,12 @@ pub(crate) fn read_line<R: Read + Drop>(reader: &mut Counted<R>, calls: u64) -> 
         × GivesPart part (source_of R.remaining reader.old) mid × Fails mid (source_of R.remaining reader.new) }
     ensures limit { result ≡ Err NoLine.NoCalls → (part : List ℕ)
         × GivesPart part (source_of R.remaining reader.old) (source_of R.remaining reader.new)
-        × (reader.new.calls ≡ reader.old.calls + calls) }
-    ensures few_calls { reader.new.calls ≤ reader.old.calls + calls }
+        × (left.new ≡ 0) }
+    ensures calls { reader.new.calls + left.new ≡ reader.old.calls + left.old }
 {
     let mut line = Line::new();
-    for _ in 0..calls {
+    while *left > 0 {
+        *left -= 1;
         match next_byte(reader) {
             Ok(Some(b'\n')) => return Ok(line),
             Ok(Some(byte)) => line.push(byte),

@@ -1,8 +1,7 @@
 //! What a line that was read asks for.
 
-ghost use Rattle.std.specs.Prelude.{◌≡◌, ◌≢◌, ℕ, List, IfSome, IfNone, ◌≤◌, ◌<◌, length, map};
+ghost use Rattle.std.specs.Prelude.{◌≡◌, ℕ, List, IfSome, IfNone, ◌≤◌, ◌<◌, length, map};
 ghost use Rattle.std.specs.Str.Lines.{strip_carriage_return};
-ghost use Rattle.std.specs.Fmt.{decimal};
 ghost use Rattle.lift_base.specs.Text.{AreWords};
 ghost use Rattle.lift_kiosk.specs.Lines.{AreAscii, Keeps65};
 ghost use Rattle.lift_kiosk.specs.declared.dialect.Wanted.{Wanted as WantedValue};
@@ -10,8 +9,7 @@ ghost use Rattle.lift_kiosk.specs.declared.dialect.Wanted.{Wanted as WantedValue
 use crate::dialect::{Dialect, Wanted};
 use crate::line::{Line, MOST_BYTES};
 use arrayvec::ArrayVec;
-use lift_base::Number;
-use lift_base::text::{MOST_WORDS, number_up_to, words_of};
+use lift_base::text::{MOST_WORDS, words_of};
 use std::str;
 
 /// A line without the carriage return before its line feed.
@@ -21,17 +19,6 @@ fn without_return(bytes: &[u8]) -> &[u8]
     match bytes {
         [front @ .., b'\r'] => front,
         _ => bytes,
-    }
-}
-
-/// The number of a command, 0 to 16,777,215, that a word names.
-pub fn number_of_word(word: &str) -> Option<Number>
-    ensures some { IfSome result (λ number. (word.now ≡ decimal number) × (number < 16777216)) }
-    ensures none { IfNone result ((number : ℕ) → number < 16777216 → word.now ≢ decimal number) }
-{
-    match number_up_to(word, 16_777_215) {
-        Some(number) => Number::new(number),
-        None => None,
     }
 }
 

@@ -1,10 +1,10 @@
 //! Sessions of cars.
 use crate::served::{Served, ample, floor, number, only_seat, open, stop};
-use lift_base::text::Counted;
+use lift_base::text::{Counted, Watched};
 use lift_base::{Body, Dir, Number, Reason, Reply};
 use lift_car::{CarEnd, session};
 use lift_desk::DeskParts;
-use lift_kiosk::{End, Watched};
+use lift_kiosk::End;
 use std::alloc::{AllocError, Global};
 use std::test::Fail;
 

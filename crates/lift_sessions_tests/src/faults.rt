@@ -1,10 +1,10 @@
 //! Sessions whose reader or writer fails, or never ends.
 use crate::served::{Served, ample, call, called, car, no_call, number, only_seat, open};
 use crate::streams::{Endless, Narrow};
-use lift_base::text::Counted;
+use lift_base::text::{Counted, Watched};
 use lift_base::{Number, Reply};
 use lift_desk::DeskParts;
-use lift_kiosk::{End, Limits, Port, SessionEnd, Watched, session};
+use lift_kiosk::{End, Limits, Port, SessionEnd, session};
 use std::alloc::{AllocError, Global};
 use std::io::{Read, Write};
 use std::test::Fail;

@@ -1,8 +1,8 @@
 use crate::served::{Served, ample, call, called, car, no_call, number, only_seat, open};
-use lift_base::text::Counted;
+use lift_base::text::{Counted, Watched};
 use lift_base::{Body, Number, Reason, Reply};
 use lift_desk::DeskParts;
-use lift_kiosk::{DeskPort, End, LastLetter, Limits, Port, SessionEnd, Watched, session};
+use lift_kiosk::{DeskPort, End, LastLetter, Limits, Port, SessionEnd, session};
 use std::alloc::{AllocError, Global};
 use std::test::Fail;
 

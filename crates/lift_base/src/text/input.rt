@@ -1,8 +1,9 @@
 //! A reader whose calls are counted.
 
-ghost use Rattle.std.specs.Prelude.{◌≡◌, ◌==◌, ◌+◌, ◌≤◌, ◌<◌, ◌^◌, if◌then◌else◌, length, take, true, false, OnOk, OnErr, IfOk};
+ghost use Rattle.std.specs.Prelude.{◌≡◌, ◌==◌, ◌+◌, ◌≤◌, ◌<◌, if◌then◌else◌, length, take, true, false, OnOk, OnErr, IfOk};
 ghost use Rattle.std.specs.Io.KnownBytes.{Consumes, IsAtEnd, Keeps};
 
+use crate::count::ProofCount;
 use std::io::Read;
 use std::marker::Model;
 
@@ -10,12 +11,12 @@ use std::marker::Model;
 #[derive(Clone, Copy, PartialEq, Eq)]
 pub struct ReadFault;
 
-/// A reader with the number of its calls, whether one of them failed, and whether one of them found the end. The only
-/// way to the reader is `read`, so the count binds.
+/// A reader with the number of its calls, which only proofs read, whether one of them failed, and whether one of them
+/// found the end. The only way to the reader is `read`, so the count binds.
 #[derive(Drop)]
 pub struct Counted<R: Drop> {
     reader: R,
-    calls: u64,
+    calls: ProofCount,
     failed: bool,
     ended: bool,
 }
@@ -25,7 +26,7 @@ impl<R: Drop> Model for Counted<R> {
 
     ghost Value = { InputState R };
 
-    ghost view = { λ c. record { reader = c.reader; calls = c.calls; failed = c.failed; ended = c.ended } };
+    ghost view = { λ c. record { reader = c.reader; calls = c.calls.count; failed = c.failed; ended = c.ended } };
 }
 
 impl<R: Drop> Counted<R> {
@@ -35,17 +36,10 @@ impl<R: Drop> Counted<R> {
     {
         Counted {
             reader,
-            calls: 0,
+            calls: ProofCount::new(),
             failed: false,
             ended: false,
         }
-    }
-
-    /// How often the reader was called.
-    pub fn calls(&self) -> u64
-        ensures { result ≡ self.now.calls }
-    {
-        self.calls
     }
 
     /// Whether a call failed.
@@ -60,7 +54,6 @@ impl<R: Read + Drop> Counted<R> {
     /// One call of the reader. The answer is how many bytes came; 0 into a buffer with room is the end. A call that
     /// fails, also one that was only interrupted, is a fault.
     pub fn read(&mut self, buffer: &mut [u8]) -> Result<usize, ReadFault>
-        requires countable { self.old.calls < 2 ^ 63 }
         ensures calls { self.new.calls ≡ self.old.calls + 1 }
         ensures bound { IfOk result (λ count. count ≤ length buffer.new) }
         ensures same_room { length buffer.new ≡ length buffer.old }
@@ -72,7 +65,7 @@ impl<R: Read + Drop> Counted<R> {
         ensures failed { OnErr result ((self.new.failed ≡ true) × (self.new.ended ≡ self.old.ended)) }
         ensures keeps { OnErr result (Keeps (R.remaining self.old.reader) (R.remaining self.new.reader)) }
     {
-        self.calls += 1;
+        self.calls = ProofCount::next(&self.calls);
         match self.reader.read(buffer) {
             Ok(count) => {
                 if count == 0 {

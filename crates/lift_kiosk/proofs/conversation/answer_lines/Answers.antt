@@ -9,7 +9,7 @@ loop-preserved g c =
     let done = c.in-Ok.ensures.ok in
     record {
       free = c.in-Ok.ensures.free;
-      calls = c.in-Ok.ensures.calls;
+      calls = c.in-Ok.ensures.calls ∙ c.loop.invariant.calls;
       stays = c.in-Ok.ensures.stays ∙ c.loop.invariant.stays;
       run = (
         _,

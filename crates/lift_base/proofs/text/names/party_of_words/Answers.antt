@@ -1,6 +1,6 @@
 use Rattle.std.proofs.Common.{ap, ◌∙◌, ◌∷◌, []}
-use Rattle.lift_kiosk.proofs.Words.{alone, party_none}
-use Rattle.lift_kiosk.proofs.kiosk.party_of.Goals as goal
+use Rattle.lift_base.proofs.Texts.{alone, party_none}
+use Rattle.lift_base.proofs.text.names.party_of_words.Goals as goal
 
 pub returns-in-Some-clause-none : goal.returns-in-Some-clause-none
 returns-in-Some-clause-none c =

@@ -1,0 +1,27 @@
+-- What a writer took.
+use Rattle.std.specs.Prelude.{ℕ, ◌≡◌, ◌<◌, Bool, true, Option, List, length, take}
+use Rattle.std.specs.Io.KnownBytes.{Appends}
+
+-- a writer with what was seen of its calls
+pub record OutputState (W : Type 0) : Type 0 where
+  pub writer : W
+  pub failed : Bool
+
+-- a writer: whether a call failed or took nothing, and what was written, where it tells that
+pub record Sink : Type 0 where
+  pub failed : Bool
+  pub written : Option (List ℕ)
+
+abbrev pub sink_of : {W : Type 0} → (contents : W → Option (List ℕ)) → OutputState W → Sink
+sink_of contents output = record { failed = output.failed; written = contents output.writer }
+
+-- all of these bytes were written
+pub record Takes (bytes : List ℕ) (before after : Sink) : Type 0 where
+  pub failed : after.failed ≡ before.failed
+  pub written : Appends before.written after.written bytes
+
+-- a call failed or took nothing, and only so many of these bytes were written, never all
+pub record TakesFront (count : ℕ) (bytes : List ℕ) (before after : Sink) : Type 0 where
+  pub short : count < length bytes
+  pub failed : after.failed ≡ true
+  pub written : Appends before.written after.written (take count bytes)
