@@ -1,15 +1,11 @@
 -- What each line of a script spells.
-use Rattle.std.specs.Prelude.{ℕ, ◌≡◌, ◌<◌, ◌≤◌, ◌⊎◌, List, [], ◌∷◌, codes}
+use Rattle.std.specs.Prelude.{ℕ, ◌≡◌, ◌<◌, ◌≤◌, List, [], ◌∷◌, codes}
 use Rattle.std.specs.Fmt.{decimal}
-use Rattle.lift_base.specs.Text.{AreWords, letter_text, dir_text}
+use Rattle.lift_base.specs.Text.{AreWords, ArePartyWords, letter_text, dir_text}
 use Rattle.lift_replay.specs.declared.line.Cut.{Cut as Outcome}
 use Rattle.lift_replay.specs.declared.line.Cut.TheVariants.{Keep, Lose, Fill}
 use Rattle.lift_replay.specs.declared.line.ScriptLine.{ScriptLine}
 use Rattle.lift_replay.specs.declared.line.ScriptLine.TheVariants.{Place, Call, Stop, Turn, Stops, Cost, Rows, Fuse, Cut}
-
--- the last word, the party: absent means 1
-abbrev pub ArePartyWords : List (List ℕ) → ℕ → Type 0
-ArePartyWords words party = (words ≡ decimal party ∷ []) ⊎ ((words ≡ []) × (party ≡ 1))
 
 -- how the power cut's outcome is written
 abbrev pub outcome_words : Outcome → List (List ℕ)

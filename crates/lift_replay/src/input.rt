@@ -36,7 +36,6 @@ fn read_some<R: Read + Drop>(
 ) -> Result<bool, InputFault>
     requires room { vec_len bytes.old ≤ most }
     requires limit { most < 2 ^ 63 }
-    requires few_calls { input.old.calls < 2 ^ 63 }
     ensures calls { input.new.calls ≡ input.old.calls + 1 }
     ensures gave { OnOk result ((more : List ℕ) × (bytes.new.items ≡ bytes.old.items ++ more)
         × Consumes (R.remaining input.old.reader) (R.remaining input.new.reader) more) }

@@ -3,13 +3,15 @@
 ghost use Rattle.std.specs.Prelude.{◌≡◌, ◌≢◌, ◌<◌, ◌≤◌, ◌⊎◌, ◌∷◌, [], ℕ, List, map, IfSome, IfNone, codes};
 ghost use Rattle.std.specs.Fmt.{decimal};
 ghost use Rattle.lift_base.specs.Text.{letter_text, dir_text};
-ghost use Rattle.lift_replay.specs.Grammar.{Spells, AskFor, ArePartyWords, outcome_words, IsOutcomeInRange, IsInRange};
+ghost use Rattle.lift_replay.specs.Grammar.{Spells, AskFor, outcome_words, IsOutcomeInRange, IsInRange};
 ghost use Rattle.lift_replay.specs.declared.line.Cut.{Cut as Outcome};
 ghost use Rattle.lift_replay.specs.declared.line.ScriptLine.{ScriptLine as Wanted};
 
 use crate::line::{Cut, ScriptLine};
-use lift_base::text::{dir_of_word, letter_of_word, number_up_to, words_of};
-use lift_base::{Floor, Number, Party};
+use lift_base::Floor;
+use lift_base::text::{
+    dir_of_word, letter_of_word, number_of_word, number_up_to, party_of_words, words_of,
+};
 
 /// The floor, 0 to 63, that a word names.
 fn floor_of(word: &str) -> Option<Floor>
@@ -22,17 +24,6 @@ fn floor_of(word: &str) -> Option<Floor>
     }
 }
 
-/// The number, 0 to 16,777,215, that a word names.
-fn number_of(word: &str) -> Option<Number>
-    ensures some { IfSome result (λ number. (word.now ≡ decimal number) × (number < 16777216)) }
-    ensures none { IfNone result ((number : ℕ) → number < 16777216 → word.now ≢ decimal number) }
-{
-    match number_up_to(word, 16_777_215) {
-        Some(number) => Number::new(number),
-        None => None,
-    }
-}
-
 /// The kiosk, 0 to 46, that a word names.
 fn kiosk_of(word: &str) -> Option<u8>
     ensures some { IfSome result (λ kiosk. (word.now ≡ decimal kiosk) × (kiosk < 47)) }
@@ -41,23 +32,6 @@ fn kiosk_of(word: &str) -> Option<u8>
     match number_up_to(word, 46) {
         Some(number) => Some(number as u8),
         None => None,
-    }
-}
-
-/// The party, 1 to 15, that the last words name: absent means 1.
-fn party_of(words: &[&str]) -> Option<Party>
-    ensures some { IfSome result (λ party.
-        ArePartyWords (map (λ word. word.now) words.now) party × (1 ≤ party) × (party ≤ 15)) }
-    ensures none { IfNone result ((party : ℕ) → 1 ≤ party → party ≤ 15
-        → ArePartyWords (map (λ word. word.now) words.now) party → ⊥) }
-{
-    match words {
-        [] => Some(Party::default()),
-        [word] => match number_up_to(word, 15) {
-            Some(number) => Party::new(number as u8),
-            None => None,
-        },
-        _ => None,
     }
 }
 
@@ -116,9 +90,9 @@ fn call_of(words: &[&str]) -> Option<ScriptLine>
     match words {
         [kiosk, number, floor, party @ ..] => {
             let kiosk = kiosk_of(kiosk)?;
-            let number = number_of(number)?;
+            let number = number_of_word(number)?;
             let floor = floor_of(floor)?;
-            let party = party_of(party)?;
+            let party = party_of_words(party)?;
             Some(ScriptLine::Call {
                 kiosk,
                 number,
@@ -139,7 +113,7 @@ fn stop_of(words: &[&str]) -> Option<ScriptLine>
     match words {
         [car, number, floor, dir] => {
             let car = letter_of_word(car)?;
-            let number = number_of(number)?;
+            let number = number_of_word(number)?;
             let floor = floor_of(floor)?;
             let dir = dir_of_word(dir)?;
             Some(ScriptLine::Stop {
@@ -178,7 +152,7 @@ fn cost_of(words: &[&str]) -> Option<ScriptLine>
         [kiosk, floor, party @ ..] => {
             let kiosk = kiosk_of(kiosk)?;
             let floor = floor_of(floor)?;
-            let party = party_of(party)?;
+            let party = party_of_words(party)?;
             Some(ScriptLine::Cost {
                 kiosk,
                 floor,

@@ -1,5 +1,6 @@
 use Rattle.std.proofs.Common.{ap, sym, ◌∙◌}
-use Rattle.lift_replay.proofs.Words.{first_and_others, none_weaker, one_line, texts}
+use Rattle.lift_base.proofs.Texts.{first_and_others, none_weaker, texts}
+use Rattle.lift_replay.proofs.Words.{one_line}
 use Rattle.lift_replay.proofs.parsing.parse.Goals as goal
 
 pub returns-in-len1-up-clause-none : goal.returns-in-len1-up-clause-none

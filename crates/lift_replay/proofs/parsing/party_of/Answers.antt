@@ -1,7 +1,0 @@
-use Rattle.std.proofs.Common.{ap, ◌∙◌, ◌∷◌, []}
-use Rattle.lift_replay.proofs.Words.{alone, party_none}
-use Rattle.lift_replay.proofs.parsing.party_of.Goals as goal
-
-pub returns-in-Some-clause-none : goal.returns-in-Some-clause-none
-returns-in-Some-clause-none c =
-    party_none c.new.result _ c.in-Some.number (alone c.args.words.now _ c.in-len1.len_at_least c.in-len1.len_below ∙ ap (λ w. w ∷ []) c.in-Some.ensures.some) c.in-Some.ensures.limit c.new.ensures.valid
