@@ -1,5 +1,5 @@
 -- What a journal that isn't broken stands for.
-use Rattle.std.proofs.Common.{◌≡◌, ◌⊎◌, ◌↔◌, ◌≤◌, ◌+◌, ◌-◌, inl, inr, ⊎_elim, ℕ, Bool, true, false, cond, nat_lt, List, [], ◌∷◌, ◌++◌, None, unwrap_or, length, take, All, sym, ◌∙◌, ap, subst, arith, append_assoc, length-append, length-take}
+use Rattle.std.proofs.Common.{◌≡◌, ◌⊎◌, ◌↔◌, ◌≤◌, ◌<◌, ◌+◌, ◌-◌, inl, inr, ⊎_elim, ℕ, Bool, true, false, cond, nat_lt, List, [], ◌∷◌, ◌++◌, None, unwrap_or, length, take, All, refl, sym, ◌∙◌, ap, subst, arith, append_assoc, length-append, length-take}
 use Rattle.std.proofs.lemmas.List.Elements.{All-append, All-from_recursion}
 use Rattle.lift_base.specs.declared.history.Record.{Record}
 use Rattle.lift_base.specs.declared.history.Shape.{Shape}
@@ -9,7 +9,7 @@ use Rattle.lift_disk.proofs.Moments.{leaves_weaker, leaves_if_honest, changes_no
 use Rattle.lift_journal.specs.Order.{IsEntry, IsOfBase}
 use Rattle.lift_journal.specs.Layout.{Batch, records_of, size_of, IsBody, is_marked, picks_second, Picks, start_of, Holds, used}
 use Rattle.lift_journal.specs.Steps.{IsInRange, IsReady, IsSettled, ReadsOnly}
-use Rattle.lift_journal.specs.Journal.{ReadsAs, StandsFor, HasPlace, StandsAt}
+use Rattle.lift_journal.specs.Journal.{ReadsAs, StandsFor, HasPlace, StandsAt, IsJournal}
 use Rattle.lift_journal.specs.Opening.{Opens}
 use Rattle.lift_journal.specs.Told.{NoneFails}
 use Rattle.lift_journal.proofs.Unique.{holds_unique, stamp_unique}
@@ -203,3 +203,35 @@ stands_then shape start gate number n old new batch stands is settled = record {
   at = omega (arith, stands.at, settled.from, used_more stands.batches batch, is);
   counts = omega (arith, stands.counts, length-append stands.batches (batch ∷ []));
 }
+
+-- Where it stood before calls that wrote nothing, none of which failed or of which it is told, it stands still.
+pub stands_again : (shape : Shape) (start gate number : ℕ) (now_broken before_broken is_broken : Bool) (opened : ℕ) (old new : DiskState)
+    → IsJournal shape start gate number before_broken opened old → ReadsOnly old new
+    → (now_broken ≡ false → new.is_honest → IsSynced new) → (now_broken ≡ true → old.failures < new.failures)
+    → (now_broken ≡ true → is_broken ≡ true) → (now_broken ≡ false → is_broken ≡ before_broken)
+    → IsJournal shape start gate number is_broken opened new
+stands_again shape start gate number now_broken before_broken is_broken opened old new was only safe failed breaks stays = record {
+  place = subst (λ n. HasPlace n shape start gate number) (sym only.runs.size) was.place;
+  counted = omega (arith, was.counted, only.runs.failures);
+  failed = by_state now_broken refl;
+  stands = λ whole honest_new. still now_broken refl whole honest_new;
+}
+  where
+    by_state : (b : Bool) → now_broken ≡ b → is_broken ≡ true → opened < new.failures
+    by_state true is broken = omega (arith, was.counted, failed is)
+    by_state false is broken = omega (arith, was.failed (sym (stays is) ∙ broken), only.runs.failures)
+
+    still : (b : Bool) → now_broken ≡ b → is_broken ≡ false → new.is_honest → StandsAt shape start gate number new
+    still true is whole honest_new = absurd (cc (breaks is, whole))
+    still false is whole honest_new =
+        let honest = only.runs.honest.0 honest_new in
+        let at = was.stands (sym (stays is) ∙ whole) honest in
+        let same : new.image ≡ old.image = all_same old.is_loose old.image new.image at.synced.none_loose (only.touched.within honest) in
+        record {
+          batches = at.batches;
+          synced = safe is honest_new;
+          holds = subst (Holds shape at.batches) (sym same) at.holds;
+          starts = at.starts ∙ ap (start_of shape.half) (sym same);
+          at = at.at ∙ ap (λ (i : Image). start_of shape.half i + used at.batches) (sym same);
+          counts = at.counts;
+        }

@@ -25,6 +25,7 @@ use lift_base::{Record, Shape};
 use lift_disk::{Arm, Disk, DiskFault};
 use lift_register::Register;
 use std::marker::Model;
+use std::mem::replace;
 use std::snapshot::Snapshot;
 
 /// A journal over a device.
@@ -72,6 +73,29 @@ impl Model for Cursor {
     ghost invariant = { λ c. (c.skipped < 1000000) × (c.given ≤ c.skipped) };
 
     ghost inverse = { λ c. record { skipped = c.skipped; given = c.given } };
+}
+
+/// Where a journal stood before it was opened again, for [`Journal::return_to`]: all of it but the device.
+#[derive(Drop)]
+pub struct FormerPlace<D: Disk> {
+    shape: Shape,
+    start: u32,
+    gate: u32,
+    number: u32,
+    is_broken: bool,
+    opened: Snapshot<D>,
+    device: Snapshot<D>,
+}
+
+impl<D: Disk> Model for FormerPlace<D> {
+    ghost use Rattle.std.specs.Prelude.{◌-◌, nat_lt};
+    ghost use Rattle.lift_journal.specs.Journal.{JournalView, IsJournal};
+
+    ghost Value = { JournalView D };
+
+    ghost view = { λ f. record { device = f.device.value; shape = f.shape; is_second = nat_lt 2 f.start; used = f.gate - f.start; opened = (D.state f.opened.value).failures; is_broken = f.is_broken } };
+
+    ghost invariant = { λ f. IsJournal f.shape f.start f.gate f.number f.is_broken (D.state f.opened.value).failures (D.state f.device.value) };
 }
 
 impl<D: Disk> Journal<D> {
@@ -330,15 +354,45 @@ impl<D: Disk> Journal<D> {
         ensures same { OnErr result ((self.new.shape ≡ self.old.shape) × (self.new.used ≡ self.old.used) × (self.new.opened ≡ self.old.opened)) }
         ensures second { OnErr result (self.new.is_second ≡ self.old.is_second) }
     {
+        match self.reopen_from() {
+            Ok(_former) => Ok(()),
+            Err(fault) => Err(fault),
+        }
+    }
+
+    /// Opens it again as [`Journal::reopen`] does, and gives where it stood, for a caller who may yet refuse what it finds.
+    pub fn reopen_from(&mut self) -> Result<FormerPlace<D>, JournalFault>
+        ensures former { IfOk result (λ former. former ≡ self.old) }
+        ensures reads { ReadsOnly (D.state self.old.device) (D.state self.new.device) }
+        ensures opens { OnOk result (Opens (D.state self.old.device) (D.state self.new.device) self.new.shape self.new.used) }
+        ensures whole { OnOk result (self.new.is_broken ≡ false) }
+        ensures opened { OnOk result (self.new.opened ≡ (D.state self.new.device).failures) }
+        ensures half { OnOk result (LeavesNow (D.state self.new.device) (Picks self.new.is_second)) }
+        ensures refused { IfErr result (λ fault. Refuses (D.state self.old.device) (D.state self.new.device) fault) }
+        ensures breaks { IsErrOf result JournalFault.Disk → self.new.is_broken ≡ true }
+        ensures stays { IfErr result (λ fault. (fault ≡ JournalFault.Disk) ⊎ (self.new.is_broken ≡ self.old.is_broken)) }
+        ensures same { OnErr result ((self.new.shape ≡ self.old.shape) × (self.new.used ≡ self.old.used) × (self.new.opened ≡ self.old.opened)) }
+        ensures second { OnErr result (self.new.is_second ≡ self.old.is_second) }
+    {
+        let device = Snapshot::of(&self.device);
         match find_place(&mut self.device) {
             Ok(place) => {
+                let opened = replace(&mut self.opened, Snapshot::of(&self.device));
+                let former = FormerPlace {
+                    shape: self.shape,
+                    start: self.start,
+                    gate: self.gate,
+                    number: self.number,
+                    is_broken: self.is_broken,
+                    opened,
+                    device,
+                };
                 self.shape = place.shape;
                 self.start = place.start;
                 self.gate = place.gate;
                 self.number = place.number;
                 self.is_broken = false;
-                self.opened = Snapshot::of(&self.device);
-                Ok(())
+                Ok(former)
             }
             Err(fault) => {
                 if fault.is_of_disk() {
@@ -347,6 +401,25 @@ impl<D: Disk> Journal<D> {
                 Err(fault)
             }
         }
+    }
+
+    /// Goes back to where it stood before [`Journal::reopen_from`], as if that had been refused. It makes no device call.
+    pub fn return_to(&mut self, former: FormerPlace<D>)
+        requires reads { ReadsOnly (D.state former.device) (D.state self.old.device) }
+        requires safe { self.old.is_broken ≡ false → (D.state self.old.device).is_honest → IsSynced (D.state self.old.device) }
+        requires failed { self.old.is_broken ≡ true → (D.state former.device).failures < (D.state self.old.device).failures }
+        ensures device { self.new.device ≡ self.old.device }
+        ensures same { (self.new.shape ≡ former.shape) × (self.new.used ≡ former.used) × (self.new.opened ≡ former.opened) }
+        ensures second { self.new.is_second ≡ former.is_second }
+        ensures breaks { self.old.is_broken ≡ true → self.new.is_broken ≡ true }
+        ensures stays { self.old.is_broken ≡ false → self.new.is_broken ≡ former.is_broken }
+    {
+        self.shape = former.shape;
+        self.start = former.start;
+        self.gate = former.gate;
+        self.number = former.number;
+        self.is_broken = self.is_broken || former.is_broken;
+        self.opened = former.opened;
     }
 }
 

@@ -18,4 +18,4 @@ mod walk;
 
 pub use fault::JournalFault;
 pub use formatting::format;
-pub use journal::{Cursor, Journal};
+pub use journal::{Cursor, FormerPlace, Journal};

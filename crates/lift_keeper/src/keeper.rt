@@ -188,7 +188,8 @@ impl<'b, D: Disk> Keeper<'b, D> {
     }
 
     /// Opens it again, also after a fault: no car has told where it is, and the batch is empty. It writes nothing, and gives
-    /// the register that was safe, or that with the batch in doubt. A refusal leaves it as it was, and a failed call broken.
+    /// the register that was safe, or that with the batch in doubt. A refusal leaves it as it was, but that a failed call
+    /// leaves it broken: a later batch goes where it would have gone before.
     pub fn reopen(&mut self) -> Result<(), KeeperFault>
         ensures opens { OnOk result (Reopens self.old.writer.plan (D.state self.old.writer.device) (D.state self.new.writer.device) self.new.writer.register self.new.writer.half self.new.writer.is_second self.new.writer.used) }
         ensures state { OnOk result (self.new.state ≡ starting self.new.writer.register) }
@@ -205,6 +206,7 @@ impl<'b, D: Disk> Keeper<'b, D> {
         ensures stays { IfErr result (λ fault. (fault ≡ KeeperFault.Journal JournalFault.Disk) ⊎ (self.new.writer.is_broken ≡ self.old.writer.is_broken)) }
         ensures unmoved { OnErr result ((self.new.state ≡ self.old.state) × (self.new.writer.register ≡ self.old.writer.register) × (self.new.writer.doubt ≡ self.old.writer.doubt)
             × (self.new.writer.opened ≡ self.old.writer.opened)) }
+        ensures place { OnErr result ((self.new.writer.half ≡ self.old.writer.half) × (self.new.writer.is_second ≡ self.old.writer.is_second) × (self.new.writer.used ≡ self.old.writer.used)) }
         ensures plan { self.new.writer.plan ≡ self.old.writer.plan }
     {
         self.writer.reopen()?;

@@ -173,8 +173,8 @@ impl<'b, D: Disk> Writer<'b, D> {
     }
 
     /// Opens it again, also after a fault. It writes nothing, and gives the register that was safe, or that with the batch
-    /// in doubt. An honest device is refused for a failed call alone. A failed call leaves it broken, another refusal as
-    /// it was.
+    /// in doubt. An honest device is refused for a failed call alone. A refusal leaves it as it was, but that a failed call
+    /// leaves it broken: a later batch goes where it would have gone before.
     pub fn reopen(&mut self) -> Result<(), KeeperFault>
         ensures opens { OnOk result (Reopens self.old.plan (D.state self.old.device) (D.state self.new.device) self.new.register self.new.half self.new.is_second self.new.used) }
         ensures one_of { OnOk result ((D.state self.old.device).is_honest
@@ -188,6 +188,7 @@ impl<'b, D: Disk> Writer<'b, D> {
         ensures breaks { result ≡ Err (KeeperFault.Journal JournalFault.Disk) → self.new.is_broken ≡ true }
         ensures stays { IfErr result (λ fault. (fault ≡ KeeperFault.Journal JournalFault.Disk) ⊎ (self.new.is_broken ≡ self.old.is_broken)) }
         ensures unmoved { OnErr result ((self.new.register ≡ self.old.register) × (self.new.doubt ≡ self.old.doubt) × (self.new.opened ≡ self.old.opened)) }
+        ensures place { OnErr result ((self.new.half ≡ self.old.half) × (self.new.is_second ≡ self.old.is_second) × (self.new.used ≡ self.old.used)) }
         ensures plan { self.new.plan ≡ self.old.plan }
     {
         match reopened(&mut self.journal, self.building) {
@@ -235,16 +236,24 @@ impl<'b, D: Arm> Writer<'b, D> {
     }
 }
 
-/// Opens a journal again, and recovers its register.
+/// Opens a journal again, and recovers its register. A refused journal stands where it stood.
 fn reopened<D: Disk>(journal: &mut Journal<D>, building: &Building) -> Result<Register, KeeperFault>
     ensures opens { IfOk result (λ register. Reopens building.now (D.state journal.old.device) (D.state journal.new.device) register journal.new.shape.half journal.new.is_second journal.new.used) }
     ensures guards { IfOk result (λ register. Guards building.now journal.new.shape journal.new.is_second journal.new.used register (D.state journal.new.device)) }
     ensures whole { OnOk result (journal.new.is_broken ≡ false) }
     ensures refused { IfErr result (λ fault. RefusesReopening building.now (D.state journal.old.device) (D.state journal.new.device) fault) }
-    ensures stays { IfErr result (λ fault. (fault ≡ KeeperFault.Journal JournalFault.Disk) ⊎ (journal.new.is_broken ≡ journal.old.is_broken) ⊎ (journal.new.is_broken ≡ false)) }
+    ensures stays { IfErr result (λ fault. (fault ≡ KeeperFault.Journal JournalFault.Disk) ⊎ (journal.new.is_broken ≡ journal.old.is_broken)) }
+    ensures unmoved { OnErr result ((journal.new.shape ≡ journal.old.shape) × (journal.new.is_second ≡ journal.old.is_second) × (journal.new.used ≡ journal.old.used)) }
 {
-    match journal.reopen() {
-        Ok(()) => recover(journal, building),
-        Err(fault) => Err(KeeperFault::Journal(fault)),
+    let former = match journal.reopen_from() {
+        Ok(former) => former,
+        Err(fault) => return Err(KeeperFault::Journal(fault)),
+    };
+    match recover(journal, building) {
+        Ok(register) => Ok(register),
+        Err(fault) => {
+            journal.return_to(former);
+            Err(fault)
+        }
     }
 }

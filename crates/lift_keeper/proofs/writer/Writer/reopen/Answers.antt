@@ -19,7 +19,7 @@ invariant_of-self-else-is_of_disk g c =
     refused_opening c.self.inside.building.now c.self.inside.journal c.self.inside.register c.self.inside.doubt.value.items (g.D.Disk.state c.self.inside.opened.value.device).failures c.self.inside.is_broken
     (g.D.Disk.state c.self.inside.journal.device) c.self.invariant c.reopened.new.journal (g.D.Disk.state c.reopened.new.journal.device) c.in-Err.fault c.in-Err.ensures.refused
     (g.met.D.Disk.counts_now c.reopened.new.journal.device) (λ is. cc (c.is_of_disk.ensures.1 is, c.if-is_of_disk.false))
-    (λ whole. ⊎_elim (λ is. absurd (cc (c.is_of_disk.ensures.1 is, c.if-is_of_disk.false))) (⊎_elim (λ same. same ∙ c.self.invariant.whole whole) (λ sound. sound)) c.in-Err.ensures.stays)
+    (λ whole. ⊎_elim (λ is. absurd (cc (c.is_of_disk.ensures.1 is, c.if-is_of_disk.false))) (λ same. same ∙ c.self.invariant.whole whole) c.in-Err.ensures.stays)
 
 pub returns-in-Ok-clause-one_of : goal.returns-in-Ok-clause-one_of
 returns-in-Ok-clause-one_of g c =

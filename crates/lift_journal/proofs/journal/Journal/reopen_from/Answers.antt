@@ -1,10 +1,11 @@
-use Rattle.std.proofs.Common.{◌-◌, subst}
+use Rattle.std.proofs.Common.{◌≡◌, ◌-◌, ◌∙◌, refl, sym, ap, subst}
 use Rattle.lift_journal.specs.Journal.{JournalView}
 use Rattle.lift_journal.specs.Opening.{Opens, Refuses}
 use Rattle.lift_journal.proofs.Looking.{cause_told}
 use Rattle.lift_journal.proofs.Refusals.{good_refusal}
 use Rattle.lift_journal.proofs.Standing.{opens, picks_synced}
-use Rattle.lift_journal.proofs.journal.Journal.reopen.Goals as goal
+use Rattle.lift_journal.proofs.journal.Journal.reopen_from.Goals.{then-is_of_disk, else-is_of_disk}
+use Rattle.lift_journal.proofs.journal.Journal.reopen_from.Goals as goal
 
 pub returns-in-Ok-clause-opens : goal.returns-in-Ok-clause-opens
 returns-in-Ok-clause-opens g c =
@@ -20,8 +21,8 @@ returns-in-Ok-clause-half g c =
     picks_synced place.shape place.start place.gate place.number (g.D.Disk.state c.find_place.new.disk)
     (λ honest_new. c.in-Ok.ensures.stands (c.find_place.ensures.only.runs.honest.0 honest_new))
 
-pub returns-else-is_of_disk-clause-refused : goal.returns-else-is_of_disk-clause-refused
-returns-else-is_of_disk-clause-refused g c =
+pub returns-after-is_of_disk-clause-refused : goal.returns-after-is_of_disk-clause-refused
+returns-after-is_of_disk-clause-refused g c =
     let old = g.D.Disk.state c.self.inside.device in
     let new = g.D.Disk.state c.find_place.new.disk in
     let made : Refuses old new c.in-Err.fault = record {
@@ -34,4 +35,8 @@ returns-else-is_of_disk-clause-refused g c =
       told = cause_told c.in-Err.fault old new c.in-Err.ensures.cause;
       good = good_refusal c.in-Err.fault old new c.in-Err.ensures.refused;
     } in
-    subst (λ (v : JournalView g.row.D.Denot). Refuses (g.D.Disk.state v.device) new c.in-Err.fault) c.self.view_is made
+    let seen : Refuses (g.D.Disk.state c.args.self.now.device) new c.in-Err.fault =
+    subst (λ (v : JournalView g.row.D.Denot). Refuses (g.D.Disk.state v.device) new c.in-Err.fault) c.self.view_is made in
+    let after : (v : JournalView g.row.D.Denot) → c.if-is_of_disk.self ≡ v → v.device ≡ c.find_place.new.disk → Refuses (g.D.Disk.state c.args.self.now.device) (g.D.Disk.state c.if-is_of_disk.self.device) c.in-Err.fault =
+    λ v is same. subst (λ (d : g.row.D.Denot). Refuses (g.D.Disk.state c.args.self.now.device) (g.D.Disk.state d) c.in-Err.fault) (sym (ap (λ (w : JournalView g.row.D.Denot). w.device) is ∙ same)) seen in
+    elim c.if-is_of_disk.branch [ then-is_of_disk w ↦ after _ w.self-is refl | else-is_of_disk w ↦ after _ w.self-is refl ]
