@@ -41,11 +41,12 @@ pub fn other_half(start: u32, half: u32) -> (u32, [u8; 512])
     }
 }
 
-/// The record at this place of a register's checkpoint, if it has so many.
-fn record_at(register: &Register, place: usize) -> Option<Record>
+/// The record at this place of a register's checkpoint of so many records, if there is one.
+fn record_at(register: &Register, count: usize, place: usize) -> Option<Record>
+    requires { count ≡ length (base_records register.now) }
     ensures { result ≡ slice_get (base_records register.now) place }
 {
-    if place < register.base_len() {
+    if place < count {
         Some(register.base_record(place))
     } else {
         None
@@ -67,9 +68,10 @@ fn base_batch(register: &Register, from: usize) -> ArrayVec<Record, 63>
     requires { from ≤ 576 }
     ensures { result.items ≡ take 63 (drop from (base_records register.now)) }
 {
+    let count = register.base_len();
     let mut batch = ArrayVec::new();
     for place in 0..BATCH_RECORDS {
-        push_some(&mut batch, record_at(register, from + place));
+        push_some(&mut batch, record_at(register, count, from + place));
     }
     batch
 }
