@@ -1,7 +1,8 @@
 //! A seat that looks ahead of the clerk at one table: it takes asks and answers none.
-ghost use Rattle.std.specs.Prelude.{◌≡◌, ℕ, true, false, []};
+ghost use Rattle.std.specs.Prelude.{◌≡◌, ℕ, IfSome, true, false, []};
 ghost use Rattle.lift_desk.specs.Words.{turn_of, last_of};
 ghost use Rattle.lift_desk.specs.Steps.{with_taking};
+ghost use Rattle.lift_desk.specs.Spelled.{IsAsk};
 ghost use Rattle.lift_desk.specs.Seats.{ClerkPlace, placed_at, TakesAheadOf};
 
 use crate::seat::{Chair, DeskTable};
@@ -59,8 +60,9 @@ impl AheadPlace {
     pub(crate) fn take(&mut self, table: &DeskTable) -> Option<Ask>
         requires table { (self.old.table ≡ table.now.shared.table_id) × (table.now.shared.table_id.words ≡ 2) }
         requires seated { self.old.seated ≡ true }
-        ensures { (word : ℕ) × (self.new ≡ placed_at self.old.table (with_taking self.old.view word))
+        ensures looked { (word : ℕ) × (self.new ≡ placed_at self.old.table (with_taking self.old.view word))
             × TakesAheadOf self.old.view word result }
+        ensures in_range { IfSome result IsAsk }
     {
         let badge = mem::replace(&mut self.badge, Badge::blank());
         let mut seat = badge.into_seat::<()>();

@@ -4,6 +4,7 @@ ghost use Rattle.lift_desk.specs.Rule.{terminal_view, clerk_view};
 ghost use mathlib.Core.List.{IsPrefix};
 ghost use Rattle.lift_desk.specs.Words.{turn_of, last_of, number_of, ask_word, reply_word};
 ghost use Rattle.lift_desk.specs.Steps.{with_ask, with_answer, with_hearing, with_look, with_taking};
+ghost use Rattle.lift_desk.specs.Spelled.{IsAsk};
 ghost use Rattle.lift_desk.specs.Seats.{IsSeatOf, IsClerkOf, seat_with, clerk_with, view_at, Waits, Owes, OwesNothing, HearsOf, TakesOf, seats_from, clerk_of, ahead_from, TakesAheadOf, AreSeatsOf};
 
 use crate::ahead::AheadPlace;
@@ -180,6 +181,8 @@ impl Desk {
             → length (view_at clerk.old terminal).answered ≡ length (view_at clerk.old terminal).taken }
         ensures owes { IfSome result (λ ask. Owes (view_at clerk.new terminal)
             × (number_of (last_of (view_at clerk.new terminal).taken) ≡ ask.number)) }
+        // So the word has no other reading.
+        ensures in_range { IfSome result IsAsk }
         ensures stays { IsClerkOf self.now clerk.new }
     {
         let at = usize::from(terminal.get());
@@ -248,6 +251,7 @@ impl Desk {
         ensures looked { (word : ℕ)
             × (ahead.new ≡ clerk_with ahead.old terminal (with_taking (view_at ahead.old terminal) word))
             × TakesAheadOf (view_at ahead.old terminal) word result }
+        ensures in_range { IfSome result IsAsk }
         ensures stays { IsClerkOf self.now ahead.new }
     {
         let at = usize::from(terminal.get());

@@ -4,6 +4,7 @@ ghost use mathlib.Core.List.{IsPrefix};
 ghost use Rattle.lift_desk.specs.Words.{turn_of, last_of, number_of, reply_word};
 ghost use Rattle.lift_desk.specs.Rule.{clerk_view, no_answers};
 ghost use Rattle.lift_desk.specs.Steps.{with_answer, with_taking};
+ghost use Rattle.lift_desk.specs.Spelled.{IsAsk};
 ghost use Rattle.lift_desk.specs.Seats.{ClerkPlace, placed_at, taken_only, Owes, TakesOf};
 
 use crate::ahead::AheadPlace;
@@ -74,6 +75,7 @@ impl Place {
             × TakesOf self.old.view word result }
         ensures even { IsSome result → length self.old.view.answered ≡ length self.old.view.taken }
         ensures owes { IfSome result (λ ask. Owes self.new.view × (number_of (last_of self.new.view.taken) ≡ ask.number)) }
+        ensures in_range { IfSome result IsAsk }
     {
         let badge = mem::replace(&mut self.badge, Badge::blank());
         let mut seat = badge.into_seat::<()>();

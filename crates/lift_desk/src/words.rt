@@ -4,6 +4,7 @@ ghost use Rattle.lift_base.specs.declared.command.Body.{Body};
 ghost use Rattle.lift_base.specs.declared.command.Reply.{Reply};
 ghost use Rattle.lift_base.specs.declared.travel.Dir.{Dir};
 ghost use Rattle.lift_desk.specs.Words.{turn_of, number_of, dir_bit, body_bits, ask_word, stop_bits, reply_bits, reply_word, IsBody, IsNext, IsReply, IsAskWord, IsReplyWord};
+ghost use Rattle.lift_desk.specs.Spelled.{IsAsk};
 
 use lift_base::{Body, Dir, Floor, Letter, Number, Party, Reason, Reply, Stop};
 
@@ -95,6 +96,7 @@ pub fn read_ask(word: u64) -> Option<Ask>
     ensures valid { IsSome result ↔ IsAskWord word }
     ensures value { IfSome result (λ ask. word ≡ ask_word (turn_of word) ask.number ask.body) }
     ensures number { IfSome result (λ ask. number_of word ≡ ask.number) }
+    ensures in_range { IfSome result IsAsk }
 {
     if turn_of(word) == 0 {
         return None;

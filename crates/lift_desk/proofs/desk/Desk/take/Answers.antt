@@ -5,7 +5,7 @@ use Rattle.lift_desk.proofs.Places.{seated_refill, stays_refill, table_at}
 use Rattle.lift_desk.proofs.desk.Desk.take.Goals as goal
 
 pub invariant_of-ahead : goal.invariant_of-ahead
-invariant_of-ahead c = seated_refill _ _ _ _ c.deref_mut.ensures.value (ap (λ p. p.seated) c.take.ensures.1) c.ahead.invariant
+invariant_of-ahead c = seated_refill _ _ _ _ c.deref_mut.ensures.value (ap (λ p. p.seated) c.take.ensures.looked.1) c.ahead.invariant
 
 pub take-requires-clause-table : goal.take-requires-clause-table
 take-requires-clause-table c =
@@ -21,4 +21,4 @@ take-requires-clause-table c =
 
 pub returns-clause-stays : goal.returns-clause-stays
 returns-clause-stays c =
-    stays_refill _ _ _ _ _ _ c.deref_mut.ensures.value c.index-deref_mut-at.is (ap (λ (p : ClerkPlace). p.table) c.take.ensures.1 ∙ ap (λ (p : ClerkPlace). p.table) (sym c.index-deref_mut-at.is)) (ap (map (λ (p : ClerkPlace). p.table)) c.ahead.view_is ∙ c.requires.ahead)
+    stays_refill _ _ _ _ _ _ c.deref_mut.ensures.value c.index-deref_mut-at.is (ap (λ (p : ClerkPlace). p.table) c.take.ensures.looked.1 ∙ ap (λ (p : ClerkPlace). p.table) (sym c.index-deref_mut-at.is)) (ap (map (λ (p : ClerkPlace). p.table)) c.ahead.view_is ∙ c.requires.ahead)
