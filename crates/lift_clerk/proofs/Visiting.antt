@@ -6,6 +6,7 @@ use Rattle.lift_base.specs.declared.command.Reply.{Reply}
 use Rattle.lift_desk.specs.declared.view.ClerkView.{ClerkView}
 use Rattle.lift_desk.specs.declared.words.Ask.{Ask}
 use Rattle.lift_desk.specs.Words.{last_of, number_of, reply_word}
+use Rattle.lift_desk.specs.Spelled.{IsAsk}
 use Rattle.lift_desk.specs.Steps.{is_new, with_taking, with_answer}
 use Rattle.lift_desk.specs.Seats.{ClerkPlace, no_place, view_at, clerk_with, placed_at, TakesOf, Owes, OwesNothing}
 use Rattle.lift_desk.proofs.WordLists.{last_of-push}
@@ -67,9 +68,10 @@ taken-old view word old = rw old
 
 -- what a look finds, of what its call says
 pub finds-at : (place : ClerkPlace) (word : ℕ) (found : Option Ask) → TakesOf place.view word found → (IsSome found → length place.view.answered ≡ length place.view.taken)
-    → IfSome found (λ (ask : Ask). number_of (last_of (with_taking place.view word).taken) ≡ ask.number) → FindsAt place (record { word = word; found = found })
-finds-at place word None reads even number = record { reads = reads; even = even; number = tt }
-finds-at place word (Some ask) reads even number = record {
+    → IfSome found (λ (ask : Ask). number_of (last_of (with_taking place.view word).taken) ≡ ask.number) → IfSome found IsAsk → FindsAt place (record { word = word; found = found })
+finds-at place word None reads even number in_range = record { reads = reads; even = even; number = tt; in_range = tt }
+finds-at place word (Some ask) reads even number in_range = record {
+  in_range = in_range;
   reads = reads;
   even = even;
   number = ap number_of (sym (last_of-push place.view.taken word)) ∙ ap (λ l. number_of (last_of l)) (sym (taken-new place.view word reads.0)) ∙ number;

@@ -4,6 +4,7 @@ use Rattle.lift_base.specs.declared.command.Reply.{Reply}
 use Rattle.lift_desk.specs.declared.view.ClerkView.{ClerkView}
 use Rattle.lift_desk.specs.declared.words.Ask.{Ask}
 use Rattle.lift_desk.specs.Words.{number_of, reply_word}
+use Rattle.lift_desk.specs.Spelled.{IsAsk}
 use Rattle.lift_desk.specs.Steps.{with_taking, with_answer}
 use Rattle.lift_desk.specs.Seats.{ClerkPlace, placed_at, TakesOf}
 use Rattle.lift_policy.specs.declared.command.Command.{Command}
@@ -18,6 +19,7 @@ pub record FindsAt (place : ClerkPlace) (visit : Visit) : Type 0 where
   pub reads : TakesOf place.view visit.word visit.found
   pub even : IsSome visit.found → length place.view.answered ≡ length place.view.taken
   pub number : IfSome visit.found (λ (ask : Ask). number_of visit.word ≡ ask.number)
+  pub in_range : IfSome visit.found IsAsk
 
 -- these looks are at the first places, one at each, in their order
 abbrev pub Finds : List ClerkPlace → List Visit → Type 0
