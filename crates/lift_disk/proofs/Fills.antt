@@ -32,6 +32,13 @@ ends_blank bytes front n size sum is blank =
     let e : 512 - length front ≡ n = omega (arith, size, sum) in
     ap (λ k. front ++ replicate k 0) e ∙ ap (λ (l : List ℕ). front ++ l) (sym blank) ∙ ap (λ (l : List ℕ). l ++ drop (length bytes - n) bytes) is ∙ take-append-drop (length bytes - n) bytes
 
+-- where each is zero
+pub all_zero : (bytes : List ℕ) (n : ℕ) → length bytes ≡ n → ((i : ℕ) → get_or bytes i 0 ≡ 0) → bytes ≡ replicate n 0
+all_zero [] zero long each = refl
+all_zero [] (suc n) long each = absurd (omega arith)
+all_zero (b ∷ bytes) zero long each = absurd (omega arith)
+all_zero (b ∷ bytes) (suc n) long each = ap (λ c. c ∷ bytes) (each 0) ∙ ap (λ (l : List ℕ). 0 ∷ l) (all_zero bytes n (omega arith) (λ i. each (suc i)))
+
 -- ---- flags
 
 -- of the flags below this number none is set, and the others are as they were

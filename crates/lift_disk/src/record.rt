@@ -1,5 +1,5 @@
 //! The work on the fields of a device in memory.
-ghost use Rattle.std.specs.Prelude.{◌≡◌, ◌≤◌, ◌↔◌, ◌++◌, [], ◌∷◌, ℕ, length, replicate, slice_get, Some, false, OnOk, OnErr, IfOk};
+ghost use Rattle.std.specs.Prelude.{◌≡◌, ◌≤◌, ◌↔◌, ◌++◌, [], ◌∷◌, ℕ, length, replicate, slice_get, slice_index_or, Some, true, false, OnOk, OnErr, IfOk};
 ghost use Rattle.lift_disk.specs.Disk.{ChangesWithin};
 ghost use Rattle.lift_disk.specs.Memory.{IsFlagged, IsFlaggedFrom, IsWithin, LeavesBy, with_zeros, front_bytes, flag_list};
 ghost use Rattle.lift_disk.specs.declared.call.Call.TheVariants.{Write, Sync};
@@ -9,27 +9,35 @@ use crate::call::{Call, Flags, Front};
 use crate::span::Span;
 use std::alloc::{AllocError, Global};
 
-/// Zeros at the end of a sector that aren't recorded.
-const BLANK: [u8; 480] = [0; 480];
+/// Where the zeros at the end of a sector begin that aren't recorded.
+const FRONT: usize = 32;
 
 /// So many flags are recorded in the call itself.
 const FEW: usize = 8;
+
+/// Whether all of these are zeros. It looks at all of them at once, so that no branch depends on one.
+fn is_blank(bytes: &[u8]) -> bool
+    ensures { result ≡ true → (i : ℕ) → slice_index_or bytes.now i 0 ≡ 0 }
+{
+    let mut most = 0;
+    for byte in bytes {
+        most = most.max(*byte);
+    }
+    most == 0
+}
 
 /// What is recorded of a sector.
 fn front_of(alloc: Global, bytes: &[u8; 512]) -> Result<Front, AllocError>
     ensures { IfOk result (λ front. with_zeros (front_bytes front) ≡ bytes.now) }
 {
-    match bytes.strip_suffix(&BLANK) {
-        Some(front) => {
-            let mut short = [0; 32];
-            short.copy_from_slice(front);
-            Ok(Front::Short(short))
-        }
-        None => {
-            let long = bytes.to_vec(alloc)?;
-            Ok(Front::Long(long))
-        }
+    let (front, rest) = bytes.split_at(FRONT);
+    if is_blank(rest) {
+        let mut short = [0; FRONT];
+        short.copy_from_slice(front);
+        return Ok(Front::Short(short));
     }
+    let long = bytes.to_vec(alloc)?;
+    Ok(Front::Long(long))
 }
 
 /// What is recorded of the loose sectors.

@@ -1,14 +1,16 @@
-use Rattle.std.proofs.Common.{◌≡◌, ◌-◌, length, drop, replicate, refl, sym, ap, ◌∙◌, rules}
-use Rattle.std.proofs.lemmas.Slice.Eq.{slice_eq-Decides}
-use Rattle.std.proofs.lemmas.Bool.Decides.{Decides-eqb}
-use Rattle.lift_disk.specs.Memory.{with_zeros}
-use Rattle.lift_disk.proofs.Fills.{ends_blank}
+use Rattle.std.proofs.Common.{◌≡◌, ◌-◌, length, take, drop, replicate, sym, ap, ◌∙◌, rules, arith, length-take-le, length-drop}
+use Rattle.lift_disk.proofs.Fills.{ends_blank, all_zero}
 use Rattle.lift_disk.proofs.record.front_of.Goals as goal
 
-pub returns-in-Some : goal.returns-in-Some
-returns-in-Some c =
+pub returns-then-is_blank : goal.returns-then-is_blank
+returns-then-is_blank c =
     let bytes = c.args.bytes.now in
+    let rest = c.split_at.result.1.now in
     let whole : length bytes ≡ 512 = search rules in
-    let blank : drop (length bytes - 480) bytes ≡ replicate 480 0 = (slice_eq-Decides Decides-eqb _ _ _ (sym c.in-Some.ensures.cases.0)).0 refl in
-    let same : c.copy_from_slice.new.self ≡ c.in-Some.front.now = search rules in
-    ap with_zeros same ∙ ends_blank bytes c.in-Some.front.now 480 whole c.in-Some.ensures.cases.2 c.in-Some.ensures.cases.1 blank
+    let at : length bytes - 480 ≡ 32 = omega (arith, whole) in
+    let same : c.copy_from_slice.new.self ≡ take 32 bytes = c.copy_from_slice.ensures.after ∙ c.split_at.ensures.front in
+    let long : length c.copy_from_slice.new.self ≡ 32 = ap length same ∙ length-take-le 32 bytes (omega (arith, whole)) in
+    let count : length rest ≡ 480 = ap length c.split_at.ensures.back ∙ length-drop 32 bytes ∙ omega (arith, whole) in
+    let blank : rest ≡ replicate 480 0 = all_zero rest 480 count (c.is_blank.ensures c.if-is_blank.true) in
+    ends_blank bytes c.copy_from_slice.new.self 480 whole (omega (arith, long, whole)) (same ∙ ap (λ n. take n bytes) (sym at))
+    (ap (λ n. drop n bytes) at ∙ sym c.split_at.ensures.back ∙ blank)
