@@ -40,6 +40,7 @@ impl FileDisk {
     pub fn open<R: Files<File = File>>(rt: &R, path: &str) -> Result<FileDisk, FileFault>
         ensures failures { IfOk result (λ disk. (file_state_of disk).failures ≡ 0) }
         ensures calls { IfOk result (λ disk. (file_state_of disk).calls ≡ 0) }
+        ensures writes { IfOk result (λ disk. (file_state_of disk).writes ≡ 0) }
     {
         if !fs::metadata(rt, path).map_err(FileFault::System)?.is_file() {
             return Err(FileFault::NotAFile);
@@ -63,6 +64,7 @@ impl FileDisk {
         ensures size { IfOk result (λ disk. (file_state_of disk).size ≡ sectors) }
         ensures failures { IfOk result (λ disk. (file_state_of disk).failures ≡ 0) }
         ensures calls { IfOk result (λ disk. (file_state_of disk).calls ≡ 0) }
+        ensures writes { IfOk result (λ disk. (file_state_of disk).writes ≡ 0) }
     {
         if let Ok(there) = fs::metadata(rt, path) {
             if !there.is_file() {
@@ -85,6 +87,7 @@ impl FileDisk {
         ensures size { (file_state_of result).size ≡ sectors }
         ensures failures { (file_state_of result).failures ≡ 0 }
         ensures calls { (file_state_of result).calls ≡ 0 }
+        ensures writes { (file_state_of result).writes ≡ 0 }
     {
         FileDisk {
             file,
