@@ -18,6 +18,7 @@ SpoilsSector None old new = TouchesNothing old new × StaysLoose old new × (new
 pub record SpoilsAt (sector : Option ℕ) (old new : DiskState) : Type 0 where
   pub goes_on : GoesOn old new
   pub counted : new.failures ≡ old.failures + 1
+  pub unsteady : ¬ new.is_steady
   pub touched : SpoilsSector sector old new
   pub image : new.image ≡ old.image
   pub synced : new.synced ≡ old.synced
@@ -27,6 +28,7 @@ pub record SpoilsAt (sector : Option ℕ) (old new : DiskState) : Type 0 where
 pub record RunsShortAt (sector : Option ℕ) (old new : DiskState) : Type 0 where
   pub goes_on : GoesOn old new
   pub counted : new.failures ≡ old.failures + 1
+  pub unsteady : ¬ new.is_steady
   pub touched : SpoilsSector sector old new
   pub image : new.image ≡ old.image
   pub synced : new.synced ≡ old.synced

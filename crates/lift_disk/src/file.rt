@@ -1,5 +1,5 @@
 //! A device on a file of the operating system.
-ghost use Rattle.std.specs.Prelude.{◌≡◌, IfOk};
+ghost use Rattle.std.specs.Prelude.{◌≡◌, ◌*◌, IfOk};
 
 use crate::count::ProofCount;
 use crate::{Disk, DiskFault};
@@ -29,7 +29,9 @@ pub struct FileDisk {
 }
 
 /// Where a sector begins, in bytes.
-fn offset_of(sector: u32) -> u64 {
+fn offset_of(sector: u32) -> u64
+    ensures { result ≡ sector * 512 }
+{
     u64::from(sector) * SECTOR_BYTES
 }
 
