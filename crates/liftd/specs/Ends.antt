@@ -2,6 +2,7 @@
 use Rattle.std.specs.Prelude.{ℕ, ◌≡◌, ◌⊎◌, ◌+◌, ◌*◌, List, [], ◌∷◌, ◌++◌, Option, Some, None, IfSome, true, false}
 use Rattle.clap.specs.Words.{Text}
 use Rattle.lift_base.specs.Input.{InputState}
+use Rattle.lift_base.specs.Output.{OutputState}
 use Rattle.lift_building.specs.Gives.{IsFirstFault}
 use Rattle.lift_disk.specs.Files.{file_state_of}
 use Rattle.lift_disk.specs.declared.file.FileDisk.{FileDisk}
@@ -9,7 +10,7 @@ use Rattle.lift_journal.specs.declared.fault.JournalFault.TheVariants.{Disk}
 use Rattle.lift_replay.specs.declared.lines.Verdict.TheVariants.{Good, Bad}
 use Rattle.lift_replay.specs.Reading.{IsRead}
 use Rattle.liftd.specs.Faults.{fault_text, usage_text}
-use Rattle.liftd.specs.Output.{OutputState, IsTold}
+use Rattle.liftd.specs.Output.{IsTold}
 use Rattle.liftd.specs.Words.{Asks}
 use Rattle.liftd.specs.declared.fault.Fault.{Fault}
 use Rattle.liftd.specs.declared.fault.Fault.TheVariants.{Building, Journal, File, Memory}

@@ -1,7 +1,7 @@
 //! Tests: words, and what they come to where no file is made.
 
-use crate::output::Output;
 use crate::start::start;
+use lift_base::text::Watched;
 use std::io;
 use std::io::{Read, Write};
 
@@ -43,7 +43,7 @@ impl Run {
             words,
             reader,
             &mut report,
-            &mut Output::new(&mut errors),
+            &mut Watched::new(&mut errors),
         );
         Run {
             status,
@@ -159,13 +159,13 @@ fn streams_that_fail(rt: HostRuntime) {
         replay.as_slice(),
         b"".as_slice(),
         &mut Failing,
-        &mut Output::new(&mut errors),
+        &mut Watched::new(&mut errors),
     );
     assert!(rt; status == 1 && errors.as_slice() == b"liftd: file\n".as_slice());
     for (word, wanted) in [("other", 2), ("replay", 1)] {
         let words = [word];
         let mut report = Vec::new(rt.alloc());
-        let mut errors = Output::new(Failing);
+        let mut errors = Watched::new(Failing);
         let status = start(
             &rt,
             rt.alloc(),

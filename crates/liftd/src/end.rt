@@ -5,7 +5,8 @@ ghost use Rattle.liftd.specs.Ends.{line_of, status_of};
 ghost use Rattle.liftd.specs.Output.{IsTold};
 
 use crate::fault::Fault;
-use crate::output::Output;
+use crate::output::tell;
+use lift_base::text::Watched;
 use lift_disk::FileDisk;
 use lift_replay::Verdict;
 use std::io::Write;
@@ -38,7 +39,7 @@ impl End {
     }
 
     /// Writes the line of a fault, or of other words. Where it can't be written, the status alone tells.
-    pub fn tell<E: Write + Drop>(&self, errors: &mut Output<E>)
+    pub fn tell<E: Write + Drop>(&self, errors: &mut Watched<E>)
         ensures told { IfSome (line_of self.now) (IsTold E.contents errors.old errors.new) }
         ensures quiet { line_of self.now ≡ None → errors.new ≡ errors.old }
     {
@@ -46,7 +47,7 @@ impl End {
             End::Replayed(_) => {}
             End::Formatted(_) => {}
             End::Failed(fault) => fault.tell(errors),
-            End::OtherWords => errors.put(b"liftd: usage\n"),
+            End::OtherWords => tell(errors, b"liftd: usage\n"),
         }
     }
 }

@@ -8,9 +8,10 @@ ghost use Rattle.liftd.specs.Faults.{building_text, journal_text, fault_text, of
 ghost use Rattle.liftd.specs.Output.{IsTold};
 ghost use Rattle.liftd.specs.declared.fault.Fault.TheVariants.{Memory as NoMemory};
 
-use crate::output::Output;
+use crate::output::tell;
 use arrayvec::ArrayString;
 use itoa::Buffer;
+use lift_base::text::Watched;
 use lift_building::BuildingFault;
 use lift_journal::JournalFault;
 use lift_replay::ReplayFault;
@@ -157,12 +158,12 @@ impl Fault {
     }
 
     /// Writes its line.
-    pub fn tell<E: Write + Drop>(&self, errors: &mut Output<E>)
+    pub fn tell<E: Write + Drop>(&self, errors: &mut Watched<E>)
         ensures { IsTold E.contents errors.old errors.new (fault_text self.now ++ 10 ∷ []) }
     {
         let mut line = self.line();
         line.push_str("\n");
-        errors.put(line.as_str().as_bytes());
+        tell(errors, line.as_str().as_bytes());
     }
 }
 

@@ -1,7 +1,7 @@
 //! Tests: journals made on real files, and what is refused before and while one is made.
 
-use crate::output::Output;
 use crate::start::start;
+use lift_base::text::Watched;
 use std::fs;
 use std::test::Fail;
 
@@ -37,7 +37,7 @@ fn formatted(rt: &HostRuntime, words: &[&str]) -> (u8, Vec<u8>) {
         words,
         b"".as_slice(),
         &mut report,
-        &mut Output::new(&mut errors),
+        &mut Watched::new(&mut errors),
     );
     (status, errors)
 }

@@ -13,7 +13,7 @@ mod replay;
 mod start;
 mod words;
 
-use crate::output::Output;
+use lift_base::text::Watched;
 use std::process::ExitCode;
 use std::{env, io};
 
@@ -24,7 +24,7 @@ fn given(rt: &HostRuntime) -> io::Result<Vec<String>> {
 }
 
 fn main(rt: HostRuntime) -> ExitCode {
-    let mut errors = Output::new(rt.stderr());
+    let mut errors = Watched::new(rt.stderr());
     let status = match given(&rt) {
         Ok(words) => start::start(
             &rt,

@@ -12,10 +12,9 @@ ghost use Rattle.liftd.specs.declared.words.Request.TheVariants.{Replay};
 use crate::end::End;
 use crate::fault::Fault;
 use crate::format::format;
-use crate::output::Output;
 use crate::replay::replay;
 use crate::words::{Request, request_of};
-use lift_base::text::Counted;
+use lift_base::text::{Counted, Watched};
 use std::alloc::Global;
 use std::convert::AsStr;
 use std::fs::{File, Files};
@@ -58,7 +57,7 @@ fn done<F: Files<File = File>, R: Read + Drop, W: Write>(
 }
 
 /// Why the words weren't given: for want of memory, or since one of them is no text.
-pub fn not_given<E: Write + Drop>(error: io::Error, errors: &mut Output<E>) -> End
+pub fn not_given<E: Write + Drop>(error: io::Error, errors: &mut Watched<E>) -> End
     ensures memory { error_kind error ≡ ErrorKind.OutOfMemory → result ≡ End.Failed Fault.Memory }
     ensures other { error_kind error ≢ ErrorKind.OutOfMemory → result ≡ End.OtherWords }
     ensures told { IfSome (line_of result) (IsTold E.contents errors.old errors.new) }
@@ -80,7 +79,7 @@ fn carry_out<F: Files<File = File>, S: AsStr, R: Read + Drop, W: Write, E: Write
     words: &[S],
     input: &mut Counted<R>,
     writer: &mut W,
-    errors: &mut Output<E>,
+    errors: &mut Watched<E>,
 ) -> End
     requires fresh { input.old.calls ≡ 0 }
     requires unhurt { input.old.failed ≡ false }
@@ -118,7 +117,7 @@ pub fn start<F: Files<File = File>, S: AsStr, R: Read + Drop, W: Write, E: Write
     words: &[S],
     reader: R,
     writer: &mut W,
-    errors: &mut Output<E>,
+    errors: &mut Watched<E>,
 ) -> u8
     // It is the status of an end that the words come to, and which is told,
     ensures status { IsStatusFor E.contents (map S.text words.now) errors.old errors.new result }
