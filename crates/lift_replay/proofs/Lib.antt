@@ -1,3 +1,4 @@
+pub mod CarTexts
 pub mod Records
 pub mod Spans
 pub mod Words

@@ -1,6 +1,7 @@
 -- The lines of a report.
 use Rattle.std.specs.Prelude.{ℕ, ◌≡◌, ◌≢◌, ◌⊎◌, Bool, true, false, List, [], ◌∷◌, ◌++◌, codes, nat_lt, if◌then◌else◌, Option}
 use Rattle.std.specs.Fmt.{decimal}
+use Rattle.std.specs.List.{flat_map}
 use Rattle.std.specs.Io.KnownBytes.{Appends}
 use Rattle.lift_base.specs.Travel.{pass_number}
 use Rattle.lift_base.specs.Text.{letter_text, terminal_text, reply_text}
@@ -9,6 +10,8 @@ use Rattle.lift_base.specs.declared.travel.Halt.{Halt}
 use Rattle.lift_base.specs.Command.{reason_number}
 use Rattle.lift_base.specs.declared.command.Reply.{Reply}
 use Rattle.lift_base.specs.declared.command.Reason.{Reason}
+use Rattle.lift_register.specs.Balanced.{open_count}
+use Rattle.lift_register.specs.Register.{RegisterState, rows_of, cars}
 use Rattle.lift_building.specs.Text.{fault_number}
 use Rattle.lift_building.specs.declared.fault.BuildingFault.{BuildingFault}
 use Rattle.lift_building.specs.declared.fault.BuildingFault.TheVariants.{NotToml, Missing, WrongType, OutOfRange, TableShape, Detour, Memory}
@@ -31,6 +34,14 @@ row_text row =
 -- the head of the open calls: how many are open, and how many are done
 abbrev pub rows_text : (calls done : ℕ) → List ℕ
 rows_text calls done = codes "rows " ++ decimal calls ++ 32 ∷ decimal done ++ 10 ∷ []
+
+-- the open calls of a car, a line each
+abbrev pub car_text : RegisterState → ℕ → List ℕ
+car_text register car = flat_map row_text (rows_of register car)
+
+-- the open calls of a register by rising car, in each in order of allotment, behind how many are open and how many are done
+abbrev pub register_text : RegisterState → List ℕ
+register_text register = rows_text (open_count register) register.done ++ flat_map (car_text register) cars
 
 -- a halt, as a stop list shows it
 abbrev pub halt_text : Halt → List ℕ

@@ -10,8 +10,8 @@ use crate::asks::Ask;
 use crate::line::ScriptLine;
 use crate::parsing::parse;
 use crate::report::{
-    push_bad, push_cost, push_fault, push_halt, push_heard, push_refused, push_row, push_rows_head,
-    push_turn, push_waiting,
+    push_bad, push_cost, push_fault, push_halt, push_heard, push_refused, push_rows, push_turn,
+    push_waiting,
 };
 use crate::station::{Answer, Station};
 use lift_base::{Body, Floor, Halt, Letter, Number, Party, Reason, Reply, Terminal};
@@ -19,7 +19,6 @@ use lift_building::Building;
 use lift_cost::NewCall;
 use lift_journal::JournalFault;
 use lift_policy::{Eligible, Etd, View};
-use lift_register::Register;
 use std::alloc::AllocError;
 use std::fmt::Write;
 
@@ -172,25 +171,6 @@ fn push_costs_between(
         push_costs(report, building, view, call)?;
     }
     report.push('\n')
-}
-
-/// The open calls of a car.
-fn push_rows_of(report: &mut String, register: &Register, car: Letter) -> Result<(), AllocError> {
-    for row in register.open_rows(car) {
-        push_row(report, row)?;
-    }
-    Ok(())
-}
-
-/// The open calls by rising car, with their number and that of the done ones before them.
-fn push_rows(report: &mut String, register: &Register) -> Result<(), AllocError> {
-    push_rows_head(report, register.open_count() as usize, register.done())?;
-    for index in 0..16u8 {
-        if let Some(car) = Letter::new(index) {
-            push_rows_of(report, register, car)?;
-        }
-    }
-    Ok(())
 }
 
 /// Whether the building has the car or the kiosk that a line names. Fuses and power cuts are for a clerk that can be

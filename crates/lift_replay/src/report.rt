@@ -1,10 +1,11 @@
 //! The lines of a report.
 
 ghost use Rattle.std.specs.Prelude.{◌≡◌, ◌++◌, OnOk, string_bytes};
-ghost use Rattle.lift_replay.specs.Report.{status_text, party_text, row_text, rows_text, halt_text, heard_text, waiting_text, turn_text, cost_text, bad_text, fault_text, refused_text, building_text, detour_text};
+ghost use Rattle.lift_replay.specs.Report.{status_text, party_text, row_text, rows_text, car_text, register_text, halt_text, heard_text, waiting_text, turn_text, cost_text, bad_text, fault_text, refused_text, building_text, detour_text};
 
 use lift_base::{Floor, Halt, Letter, Number, Party, Reason, Reply, Row, Terminal};
 use lift_building::BuildingFault;
+use lift_register::Register;
 use std::alloc::AllocError;
 use std::fmt::Write;
 
@@ -46,6 +47,30 @@ pub fn push_rows_head(report: &mut String, calls: usize, done: u32) -> Result<()
     ensures { OnOk result (string_bytes report.new ≡ string_bytes report.old ++ rows_text calls done) }
 {
     writeln!(report, "rows {calls} {done}")
+}
+
+/// Adds the open calls of a car, a line each.
+fn push_rows_of(report: &mut String, register: &Register, car: Letter) -> Result<(), AllocError>
+    ensures { OnOk result (string_bytes report.new ≡ string_bytes report.old ++ car_text register.now car) }
+{
+    for row in register.open_rows(car) {
+        push_row(report, row)?;
+    }
+    Ok(())
+}
+
+/// Adds the open calls by rising car, with their number and that of the done ones before them.
+pub fn push_rows(report: &mut String, register: &Register) -> Result<(), AllocError>
+    ensures { OnOk result (string_bytes report.new ≡ string_bytes report.old ++ register_text register.now) }
+{
+    push_rows_head(report, register.open_count() as usize, register.done())?;
+    for index in 0..16u8 {
+        match Letter::new(index) {
+            Some(car) => push_rows_of(report, register, car)?,
+            None => unreachable!(),
+        }
+    }
+    Ok(())
 }
 
 /// Adds a halt to the line of a stop list.

@@ -1,6 +1,6 @@
 -- What the program's grammar takes, and what its matches say.
 use Rattle.std.specs.Prelude.{IfSome, IfNone}
-use Rattle.std.proofs.Common.{◌≡◌, ◌≢◌, true, Option, Some, None, List, [], ap, sym, subst, ◌∙◌, refl, inl, inr}
+use Rattle.std.proofs.Common.{◌≡◌, ◌≢◌, Bool, true, false, ◌||◌, Option, Some, None, List, [], ap, ap₂, sym, subst, ◌∙◌, refl, inl, inr}
 use Rattle.clap.specs.Words.{App, HasMatchesOf, Text, HasKind, IsAmong, fault_of, is_simple, is_simple_and_free, subcommand_of, subcommand_rows_of, kind_of}
 use Rattle.clap.specs.declared.error.Error.{Error}
 use Rattle.clap.specs.declared.error.kind.ErrorKind.TheVariants.{OutOfMemory}
@@ -16,6 +16,10 @@ liftd_is_simple = refl
 liftd_is_free : is_simple_and_free liftd_app ≡ true
 unfolding clap_on_literals
 liftd_is_free = refl
+
+-- what was added is no global option either
+pub still_local : (old added new : Bool) → new ≡ (old || added) → old ≡ false → added ≡ false → new ≡ false
+still_local old added new is local too = is ∙ ap₂ (λ (x y : Bool). x || y) local too
 
 -- the words that are taken, and what was found in them
 taken : (app : App) (words : List Text) → app ≡ liftd_app → (is_simple_and_free app ≡ true → fault_of app words ≡ []) → fault_of liftd_app words ≡ []

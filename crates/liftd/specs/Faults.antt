@@ -1,12 +1,13 @@
 -- What the program says of a fault, and of words that it doesn't know.
-use Rattle.std.specs.Prelude.{ℕ, List, ◌∷◌, ◌++◌, codes}
+use Rattle.std.specs.Prelude.{ℕ, List, [], ◌∷◌, ◌++◌, codes}
 use Rattle.std.specs.Fmt.{decimal}
 use Rattle.lift_building.specs.Text.{fault_number as building_number}
 use Rattle.lift_building.specs.declared.fault.BuildingFault.{BuildingFault}
 use Rattle.lift_building.specs.declared.fault.BuildingFault.TheVariants.{Detour, Memory as NoRoom}
-use Rattle.lift_journal.specs.Fault.{fault_number as journal_number}
-use Rattle.lift_journal.specs.declared.fault.JournalFault.{JournalFault}
-use Rattle.lift_journal.specs.declared.fault.JournalFault.TheVariants.{Damaged}
+use Rattle.lift_journal.specs.declared.fault.JournalFault.TheVariants.{Disk, NotFormatted, Damaged, Full, Broken}
+use Rattle.lift_keeper.specs.Fault.{fault_number as journal_number}
+use Rattle.lift_keeper.specs.declared.fault.KeeperFault.{KeeperFault}
+use Rattle.lift_keeper.specs.declared.fault.KeeperFault.TheVariants.{Journal as OfJournal, OtherBuilding, BadEntry}
 use Rattle.lift_replay.specs.declared.script.ReplayFault.{ReplayFault}
 use Rattle.lift_replay.specs.declared.script.ReplayFault.TheVariants.{Memory as NoMemory, Read, Write}
 use Rattle.liftd.specs.declared.fault.Fault.{Fault}
@@ -17,10 +18,19 @@ abbrev pub building_text : BuildingFault → List ℕ
 building_text (Detour from by to) = codes "liftd: building 6 " ++ decimal from ++ 32 ∷ decimal by ++ 32 ∷ decimal to
 building_text fault = codes "liftd: building " ++ decimal (building_number fault)
 
--- a journal's fault by its number, damage with its sector
-abbrev pub journal_text : JournalFault → List ℕ
-journal_text (Damaged sector) = codes "liftd: journal 3 " ++ decimal sector
-journal_text fault = codes "liftd: journal " ++ decimal (journal_number fault)
+-- where in the journal a fault was found: damage has its sector, a record that doesn't fit its place
+abbrev pub place_text : KeeperFault → List ℕ
+place_text (OfJournal Disk) = []
+place_text (OfJournal NotFormatted) = []
+place_text (OfJournal (Damaged sector)) = 32 ∷ decimal sector
+place_text (OfJournal Full) = []
+place_text (OfJournal Broken) = []
+place_text OtherBuilding = []
+place_text (BadEntry place) = 32 ∷ decimal place
+
+-- a journal's fault by its number, and where it was found
+abbrev pub journal_text : KeeperFault → List ℕ
+journal_text fault = codes "liftd: journal " ++ decimal (journal_number fault) ++ place_text fault
 
 -- the line of a fault, without its end
 abbrev pub fault_text : Fault → List ℕ

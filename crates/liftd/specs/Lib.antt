@@ -1,4 +1,5 @@
 pub mod Ends
 pub mod Faults
 pub mod Output
+pub mod Showing
 pub mod Words

@@ -3,7 +3,7 @@ use Rattle.std.specs.Prelude.{◌≡◌, ◌≤◌, ◌⊎◌, ℕ, true, List, 
 use Rattle.std.specs.Fmt.{decimal}
 use Rattle.clap.specs.Words.{App, Row, Rule, Text, new_app, new_rule, with_rule, with_subcommand, first_of, subcommand_of, fault_of}
 use Rattle.liftd.specs.declared.words.Request.{Request}
-use Rattle.liftd.specs.declared.words.Request.TheVariants.{Replay, Format}
+use Rattle.liftd.specs.declared.words.Request.TheVariants.{Replay, Format, Show}
 
 -- a plain word that has to be there
 abbrev pub word_rule : Text → Rule
@@ -13,10 +13,17 @@ word_rule name = record (new_rule name) { required = true }
 abbrev pub option_rule : Text → Rule
 option_rule name = record (new_rule name) { long = Some name }
 
+-- a command over an image and a building: `<name> <image> <building>`
+abbrev pub app_on : Text → App
+app_on name = with_rule (with_rule (new_app name) (word_rule (codes "image"))) (word_rule (codes "building"))
+
 -- `format <image> <building> [--half n]`
 abbrev pub format_app : App
-format_app = with_rule (with_rule (with_rule (new_app (codes "format")) (word_rule (codes "image")))
-    (word_rule (codes "building"))) (option_rule (codes "half"))
+format_app = with_rule (app_on (codes "format")) (option_rule (codes "half"))
+
+-- `show <image> <building>`
+abbrev pub show_app : App
+show_app = app_on (codes "show")
 
 -- the program by itself, whose first word is not its name
 abbrev pub bare_app : App
@@ -24,7 +31,7 @@ bare_app = record (new_app (codes "liftd")) { top = record (new_app (codes "lift
 
 -- the program with its commands
 abbrev pub liftd_app : App
-liftd_app = with_subcommand (with_subcommand bare_app (new_app (codes "replay")).top) format_app.top
+liftd_app = with_subcommand (with_subcommand (with_subcommand bare_app (new_app (codes "replay")).top) format_app.top) show_app.top
 
 -- the sectors in a half: 64, or what the option's word spells, 64 to 1,000,000
 abbrev pub IsHalf : Option Text → ℕ → Type 0
@@ -37,12 +44,20 @@ IsFormat rows Replay = ⊥
 IsFormat rows (Format image building half) = (first_of (codes "image") rows ≡ Some image.now)
     × (first_of (codes "building") rows ≡ Some building.now)
     × IsHalf (first_of (codes "half") rows) half
+IsFormat rows (Show image building) = ⊥
+
+-- what the words behind `show` ask for
+abbrev pub IsShow : List Row → Request → Type 0
+IsShow rows Replay = ⊥
+IsShow rows (Format image building half) = ⊥
+IsShow rows (Show image building) = (first_of (codes "image") rows ≡ Some image.now) × (first_of (codes "building") rows ≡ Some building.now)
 
 -- what a command asks for; without one a script is carried out
 abbrev pub IsFor : Option (Text × List Row) → Request → Type 0
 IsFor None request = request ≡ Replay
 IsFor (Some command) request = ((command.0 ≡ codes "replay") × (request ≡ Replay))
-    ⊎ ((command.0 ≡ codes "format") × IsFormat command.1 request)
+    ⊎ (((command.0 ≡ codes "format") × IsFormat command.1 request)
+    ⊎ ((command.0 ≡ codes "show") × IsShow command.1 request))
 
 -- The grammar of the commands takes the words, and they ask for this.
 abbrev pub Asks : List Text → Request → Type 0
@@ -52,3 +67,4 @@ Asks words request = (fault_of liftd_app words ≡ []) × IsFor (subcommand_of l
 abbrev pub IsInRange : Request → Type 0
 IsInRange Replay = Unit {0}
 IsInRange (Format image building half) = (64 ≤ half) × (half ≤ 1000000)
+IsInRange (Show image building) = Unit {0}

@@ -18,6 +18,8 @@ pub enum End {
     Replayed(Verdict),
     /// An empty journal was made on this file.
     Formatted(FileDisk),
+    /// The open calls of the journal on this file were written.
+    Shown(FileDisk),
     /// The work is undone.
     Failed(Fault),
     /// The words are those of no command.
@@ -33,6 +35,7 @@ impl End {
             End::Replayed(Verdict::Good) => 0,
             End::Replayed(Verdict::Bad) => 1,
             End::Formatted(_) => 0,
+            End::Shown(_) => 0,
             End::Failed(_) => 1,
             End::OtherWords => 2,
         }
@@ -46,6 +49,7 @@ impl End {
         match self {
             End::Replayed(_) => {}
             End::Formatted(_) => {}
+            End::Shown(_) => {}
             End::Failed(fault) => fault.tell(errors),
             End::OtherWords => tell(errors, b"liftd: usage\n"),
         }

@@ -14,6 +14,7 @@ use itoa::Buffer;
 use lift_base::text::Watched;
 use lift_building::BuildingFault;
 use lift_journal::JournalFault;
+use lift_keeper::KeeperFault;
 use lift_replay::ReplayFault;
 use std::alloc::AllocError;
 use std::io::{ErrorKind, Write};
@@ -25,8 +26,8 @@ use thiserror::Error;
 pub enum Fault {
     /// The building's text is no building.
     Building(BuildingFault),
-    /// The journal refused.
-    Journal(JournalFault),
+    /// The journal, or the recovery from it, refused.
+    Journal(KeeperFault),
     /// A file, the standard input or the standard output.
     File,
     /// A growth was refused.
@@ -78,6 +79,16 @@ fn push_number(line: &mut Line, number: u32)
     line.push_str(digits.format(number));
 }
 
+/// Adds a space, and where in the journal the fault was found.
+fn push_place(line: &mut Line, place: u32)
+    requires { array_string_len line.old + 11 ≤ 64 }
+    ensures text { line.new.bytes ≡ line.old.bytes ++ 32 ∷ decimal place }
+    ensures bound { array_string_len line.new ≤ array_string_len line.old + 11 }
+{
+    line.push_str(" ");
+    push_number(line, place);
+}
+
 /// A line that has no number.
 fn plain_line(text: &str) -> Line
     requires { length text.now ≤ 63 }
@@ -113,22 +124,18 @@ fn building_line(fault: BuildingFault) -> Line
 }
 
 /// The line of a journal's fault, without its end.
-fn journal_line(fault: JournalFault) -> Line
+fn journal_line(fault: KeeperFault) -> Line
     ensures text { result.bytes ≡ journal_text fault }
     ensures short { array_string_len result ≤ 63 }
 {
+    let mut line = plain_line("liftd: journal ");
+    push_number(&mut line, u32::from(fault.number()));
     match fault {
-        JournalFault::Damaged(sector) => {
-            let mut line = plain_line("liftd: journal 3 ");
-            push_number(&mut line, sector);
-            line
-        }
-        _ => {
-            let mut line = plain_line("liftd: journal ");
-            push_number(&mut line, u32::from(fault.number()));
-            line
-        }
+        KeeperFault::Journal(JournalFault::Damaged(sector)) => push_place(&mut line, sector),
+        KeeperFault::BadEntry(place) => push_place(&mut line, place),
+        _ => {}
     }
+    line
 }
 
 impl Fault {

@@ -1,15 +1,17 @@
-//! The program `liftd`: it carries out scripts, and makes journals on files.
+//! The program `liftd`: it carries out scripts, makes journals on files, and shows what they hold.
 #![tactic(auto)]
 
 #[cfg(test)]
 mod command_lines;
 mod end;
 mod fault;
+mod files;
 mod format;
 #[cfg(test)]
 mod images;
 mod output;
 mod replay;
+mod show;
 mod start;
 mod words;
 

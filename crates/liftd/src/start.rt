@@ -2,17 +2,18 @@
 
 ghost use Rattle.std.specs.Prelude.{◌≡◌, ◌≢◌, None, false, true, map, IfSome};
 ghost use Rattle.std.specs.IoError.{error_kind};
-ghost use Rattle.lift_replay.specs.Report.{AppendsBadReport};
-ghost use Rattle.lift_replay.specs.declared.lines.Verdict.TheVariants.{Good, Bad};
-ghost use Rattle.liftd.specs.Ends.{IsEndFor, IsEndOf, IsReadOrFailed, IsStatusFor, line_of};
+ghost use Rattle.lift_replay.specs.declared.lines.Verdict.TheVariants.{Good};
+ghost use Rattle.liftd.specs.Ends.{IsEndFor, IsEndOf, IsReadOrFailed, IsReport, IsStatusFor, IsUnwritten, line_of};
 ghost use Rattle.liftd.specs.Output.{IsTold};
 ghost use Rattle.liftd.specs.Words.{Asks, IsInRange};
+ghost use Rattle.liftd.specs.declared.words.Request.{Request as Wanted};
 ghost use Rattle.liftd.specs.declared.words.Request.TheVariants.{Replay};
 
 use crate::end::End;
 use crate::fault::Fault;
 use crate::format::format;
 use crate::replay::replay;
+use crate::show::show;
 use crate::words::{Request, request_of};
 use lift_base::text::{Counted, Watched};
 use std::alloc::Global;
@@ -34,9 +35,9 @@ fn done<F: Files<File = File>, R: Read + Drop, W: Write>(
     requires unhurt { input.old.failed ≡ false }
     requires before_end { input.old.ended ≡ false }
     ensures end { IsEndFor request.entry result }
-    ensures unwritten { request.entry ≢ Replay → W.contents writer.new ≡ W.contents writer.old }
+    ensures report { IsReport result (W.contents writer.old) (W.contents writer.new) }
+    ensures unwritten { IsUnwritten request.entry → W.contents writer.new ≡ W.contents writer.old }
     ensures good { result ≡ End.Replayed Good → input.new.ended ≡ true }
-    ensures bad { result ≡ End.Replayed Bad → AppendsBadReport (W.contents writer.old) (W.contents writer.new) }
     ensures cause { request.entry ≡ Replay → result ≡ End.Failed Fault.File
         → IsReadOrFailed R.remaining input.old input.new }
 {
@@ -51,6 +52,10 @@ fn done<F: Files<File = File>, R: Read + Drop, W: Write>(
             half,
         } => match format(rt, alloc, image, building, half) {
             Ok(disk) => End::Formatted(disk),
+            Err(fault) => End::Failed(fault),
+        },
+        Request::Show { image, building } => match show(rt, alloc, image, building, writer) {
+            Ok(disk) => End::Shown(disk),
             Err(fault) => End::Failed(fault),
         },
     }
@@ -90,12 +95,13 @@ fn carry_out<F: Files<File = File>, S: AsStr, R: Read + Drop, W: Write, E: Write
     ensures told { IfSome (line_of result) (IsTold E.contents errors.old errors.new) }
     // and what was done tells nothing.
     ensures quiet { line_of result ≡ None → errors.new ≡ errors.old }
-    // Only a replay writes a report.
-    ensures unwritten { (Asks (map S.text words.now) Replay → ⊥) → W.contents writer.new ≡ W.contents writer.old }
+    // The report of a bad script tells the cause, and a journal's are its open calls.
+    ensures report { IsReport result (W.contents writer.old) (W.contents writer.new) }
+    // Nothing is reported where neither was asked for.
+    ensures unwritten { ((request : Wanted) → Asks (map S.text words.now) request → IsUnwritten request)
+        → W.contents writer.new ≡ W.contents writer.old }
     // A good script was read to its end,
     ensures good { result ≡ End.Replayed Good → input.new.ended ≡ true }
-    // the report of a bad one tells the cause,
-    ensures bad { result ≡ End.Replayed Bad → AppendsBadReport (W.contents writer.old) (W.contents writer.new) }
     // and one that is undone for a file was read, or could not be.
     ensures cause { Asks (map S.text words.now) Replay → result ≡ End.Failed Fault.File
         → IsReadOrFailed R.remaining input.old input.new }
@@ -119,10 +125,11 @@ pub fn start<F: Files<File = File>, S: AsStr, R: Read + Drop, W: Write, E: Write
     writer: &mut W,
     errors: &mut Watched<E>,
 ) -> u8
-    // It is the status of an end that the words come to, and which is told,
-    ensures status { IsStatusFor E.contents (map S.text words.now) errors.old errors.new result }
-    // and only a replay writes a report.
-    ensures unwritten { (Asks (map S.text words.now) Replay → ⊥) → W.contents writer.new ≡ W.contents writer.old }
+    // It is the status of an end that the words come to, with its report, and which is told,
+    ensures status { IsStatusFor E.contents (map S.text words.now) (W.contents writer.old) (W.contents writer.new) errors.old errors.new result }
+    // and nothing is reported where neither a replay nor a journal's open calls were asked for.
+    ensures unwritten { ((request : Wanted) → Asks (map S.text words.now) request → IsUnwritten request)
+        → W.contents writer.new ≡ W.contents writer.old }
 {
     let mut input = Counted::new(reader);
     let end = carry_out(rt, alloc, words, &mut input, writer, errors);

@@ -1,8 +1,8 @@
 //! What the program's words ask for.
 
-ghost use Rattle.std.specs.Prelude.{◌≡◌, ◌≤◌, ℕ, map, option_map, IfOk, IfSome, IfNone};
-ghost use Rattle.clap.specs.Words.{app_of, rows_of, found_of, subcommand_rows_of};
-ghost use Rattle.liftd.specs.Words.{liftd_app, Asks, IsFor, IsFormat, IsHalf, IsInRange};
+ghost use Rattle.std.specs.Prelude.{◌≡◌, ◌≤◌, ℕ, false, map, option_map, IfOk, IfSome, IfNone};
+ghost use Rattle.clap.specs.Words.{app_of, rule_of, rows_of, found_of, subcommand_rows_of};
+ghost use Rattle.liftd.specs.Words.{liftd_app, word_rule, option_rule, Asks, IsFor, IsFormat, IsShow, IsHalf, IsInRange};
 ghost use Rattle.liftd.specs.declared.words.Request.{Request as Wanted};
 
 use clap::error::ErrorKind;
@@ -23,28 +23,50 @@ pub enum Request<'a> {
         /// The sectors of half of it, 64 to 1,000,000.
         half: u32,
     },
+    /// Show the open calls of the journal in the file `image`, which is of the building in the file `building`.
+    Show {
+        image: &'a str,
+        building: &'a str,
+    },
 }
 
 const LEAST_HALF: u32 = 64;
 
 const MOST_HALF: u32 = 1_000_000;
 
+/// A plain word that has to be there.
+fn word<'a>(alloc: Global, name: &'a str) -> Arg<'a>
+    ensures rule { rule_of result ≡ word_rule name.now }
+    ensures local { result.global ≡ false }
+{
+    Arg::new(alloc, name).required(true)
+}
+
+/// An option, with its value in the next word or behind `=`.
+fn option<'a>(alloc: Global, name: &'a str) -> Arg<'a>
+    ensures rule { rule_of result ≡ option_rule name.now }
+    ensures local { result.global ≡ false }
+{
+    Arg::new(alloc, name).long(name)
+}
+
 /// The commands and their arguments.
 fn grammar<'a>(alloc: Global) -> Result<Command<'a>, AllocError>
     ensures { IfOk result (λ command. app_of command ≡ liftd_app) }
 {
-    let image = Arg::new(alloc, "image").required(true);
-    let building = Arg::new(alloc, "building").required(true);
-    let half = Arg::new(alloc, "half").long("half");
-    let format = Command::new(alloc, "format")
-        .arg(image)?
-        .arg(building)?
-        .arg(half)?;
     let replay = Command::new(alloc, "replay");
+    let format = Command::new(alloc, "format")
+        .arg(word(alloc, "image"))?
+        .arg(word(alloc, "building"))?
+        .arg(option(alloc, "half"))?;
+    let show = Command::new(alloc, "show")
+        .arg(word(alloc, "image"))?
+        .arg(word(alloc, "building"))?;
     Command::new(alloc, "liftd")
         .no_binary_name(true)
         .subcommand(replay)?
-        .subcommand(format)
+        .subcommand(format)?
+        .subcommand(show)
 }
 
 /// The sectors that a word names; 64 where it is absent.
@@ -76,6 +98,17 @@ fn format_of<'a>(matches: &ArgMatches<'a>) -> Option<Request<'a>>
     })
 }
 
+/// What the words behind `show` ask for.
+fn show_of<'a>(matches: &ArgMatches<'a>) -> Option<Request<'a>>
+    ensures some { IfSome result (λ request. IsShow (rows_of (found_of matches.now)) request) }
+    ensures range { IfSome result (λ request. IsInRange request) }
+    ensures none { IfNone result ((request : Wanted) → IsShow (rows_of (found_of matches.now)) request → ⊥) }
+{
+    let image = matches.get_str("image")?;
+    let building = matches.get_str("building")?;
+    Some(Request::Show { image, building })
+}
+
 /// What the words ask for, by the command among them.
 fn found_in<'a>(matches: &ArgMatches<'a>) -> Option<Request<'a>>
     ensures some { IfSome result (λ request. IsFor (subcommand_rows_of matches.now) request) }
@@ -89,6 +122,8 @@ fn found_in<'a>(matches: &ArgMatches<'a>) -> Option<Request<'a>>
                 Some(Request::Replay)
             } else if name == "format" {
                 format_of(matches)
+            } else if name == "show" {
+                show_of(matches)
             } else {
                 None
             }
