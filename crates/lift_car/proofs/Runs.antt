@@ -11,7 +11,7 @@ use Rattle.lift_kiosk.specs.Session.{PortOpened}
 use Rattle.lift_kiosk.proofs.Ends.{IsLate, looks_grow, opening_grows, not_answered}
 use Rattle.lift_car.specs.declared.terms.Ending.{Ending}
 use Rattle.lift_car.specs.declared.terms.Ending.TheVariants.{Late, Spent}
-use Rattle.lift_car.specs.Drive.{Standing, LastAsk, ask_at, Errand, GoesOn, Run, Moves, Tells, stop_in, last_stop, later_stop}
+use Rattle.lift_car.specs.Drive.{Standing, LastAsk, ask_at, Errand, GoesOn, Run, Moves, Rests, Tells, stop_in, last_stop, later_stop}
 
 -- a run goes on by an errand
 pub run_more : {C : Type 0} (told : C → Position) (goes : C → StopAt → C → Type 0) (looks : ℕ) (replies : List Reply) (reply : Reply) (before mid after : Standing C)
@@ -37,13 +37,18 @@ pub tells_along : {C : Type 0} (told : C → Position) (before mid after : C) (s
 tells_along told before mid after None tells stays = stays ∙ tells
 tells_along told before mid after (Some stop) tells stays = ap told stays ∙ tells
 
+rests_look : (stop : Option StopAt) (before after : PortView) → Rests stop before after → after.looks ≡ before.looks
+rests_look None before after rests = ap (λ (v : PortView). v.looks) rests
+rests_look (Some stop) before after rests = ap (λ (v : PortView). v.looks) rests
+
 run_grows : {C : Type 0} (told : C → Position) (goes : C → StopAt → C → Type 0) (looks : ℕ) (replies : List Reply) (before after : Standing C)
     → Run told goes looks replies before after → before.port.looks ≤ after.port.looks
 run_grows told goes looks [] before after run = omega (arith, ap (λ s. s.port.looks) run)
 run_grows told goes looks (reply ∷ replies) before after run =
     omega (
       arith,
-      looks_grow looks before.port (Answered (ask_at before.arrived before.last (told before.car)) reply) run.0.port run.1.port,
+      looks_grow looks before.port (Answered (ask_at before.arrived before.last (told before.car)) reply) run.1.answered run.1.port,
+      rests_look (stop_in reply) run.1.answered run.0.port run.1.rests,
       run_grows told goes looks replies run.0 after run.3,
     )
 

@@ -11,6 +11,7 @@ use Rattle.lift_kiosk.specs.declared.outcome.Opening.{Opening}
 use Rattle.lift_kiosk.specs.declared.outcome.Opening.TheVariants.{Free, BroughtIn, StillWaits}
 use Rattle.lift_kiosk.specs.declared.outcome.Outcome.TheVariants.{Answered, NotAnswered, Refused as NotTaken}
 use Rattle.lift_kiosk.specs.Port.{PortView}
+use Rattle.lift_kiosk.specs.Hearing.{rested}
 use Rattle.lift_kiosk.specs.Session.{PortDid, PortOpened}
 use Rattle.lift_car.specs.declared.terms.Ending.{Ending}
 use Rattle.lift_car.specs.declared.terms.Ending.TheVariants.{Limit, Late, Spent, Refused as EndRefused, Unknown as EndUnknown}
@@ -59,6 +60,11 @@ abbrev pub Moves : {C : Type 0} → (told : C → Position) → (goes : C → St
 Moves told goes before None after = after ≡ before
 Moves told goes before (Some stop) after = goes before stop after × (told after ≡ position_at stop)
 
+-- Where no stop was heard the port rests once.
+abbrev pub Rests : Option StopAt → (before after : PortView) → Type 0
+Rests None before after = after ≡ rested before
+Rests (Some stop) before after = after ≡ before
+
 -- a refusal and Unknown end the drive
 abbrev pub GoesOn : Reply → Type 0
 GoesOn (Car car) = Unit {0}
@@ -75,10 +81,12 @@ EndsWith (Placed next) end = ⊥
 EndsWith (Refused reason) end = end ≡ EndRefused reason
 EndsWith Unknown end = end ≡ EndUnknown
 
--- It asks, hears this answer, and goes to the answer's stop.
+-- It asks, hears this answer, and goes to the answer's stop, or rests.
 pub record Errand {C : Type 0} (told : C → Position) (goes : C → StopAt → C → Type 0) (looks : ℕ) (reply : Reply) (before after : Standing C) : Type 0 where
   pub room : before.arrived ≡ true → before.last < 16777215
-  pub port : PortDid looks before.port (Answered (ask_at before.arrived before.last (told before.car)) reply) after.port
+  pub answered : PortView
+  pub port : PortDid looks before.port (Answered (ask_at before.arrived before.last (told before.car)) reply) answered
+  pub rests : Rests (stop_in reply) answered after.port
   pub last : after.last ≡ last_after before.last (ask_at before.arrived before.last (told before.car)).number reply
   pub moves : Moves told goes before.car (stop_in reply) after.car
   pub arrived : after.arrived ≡ has_stop (stop_in reply)

@@ -1,7 +1,7 @@
 //! An agent that drives a car through its stops.
 
 ghost use Rattle.std.specs.Prelude.{◌≡◌, ◌≢◌, ◌+◌, ◌<◌, ◌≤◌, OnOk, IfOk, IfErr, IfSome, IfNone, Err, Bool, None, false, true};
-ghost use Rattle.lift_car.specs.Drive.{ask_at, stop_in, last_after, last_opened, Moves, GoesOn, EndsWith, Errand, LastAsk, IsDrive, standing};
+ghost use Rattle.lift_car.specs.Drive.{ask_at, stop_in, last_after, last_opened, Moves, Rests, GoesOn, EndsWith, Errand, LastAsk, IsDrive, standing};
 ghost use Rattle.lift_base.specs.declared.command.Reply.{Reply as ReplyValue};
 
 use crate::car::Car;
@@ -73,7 +73,8 @@ fn stop_of(reply: &Reply) -> Result<Option<Stop>, Ending>
 /// Goes to a stop that was heard; rests where none was.
 fn move_on<C: Car, P: Port>(car: &mut C, port: &mut P, stop: &Option<Stop>)
     ensures moves { Moves C.told C.goes car.old stop.now car.new }
-    ensures port { P.view port.new ≡ P.view port.old }
+    ensures rests { Rests stop.now (P.view port.old) (P.view port.new) }
+    ensures pending { (P.view port.new).pending ≡ (P.view port.old).pending }
     ensures stays { P.place port.new ≡ P.place port.old }
 {
     match stop {

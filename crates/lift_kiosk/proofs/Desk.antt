@@ -24,17 +24,17 @@ hearing v word = record { asked = v.asked; heard = v.heard ++ word ∷ []; looks
 heard_at : (v : TerminalView) (word : ℕ) → is_awaited v word ≡ true → with_hearing v word ≡ hearing v word
 heard_at v word awaited = rw awaited refl
 
-abbrev port_as : TerminalView → Option ℕ → List Reply → ℕ → PortView
-port_as v pending replies looks = record (port_view v) { pending = pending; heard = replies; looks = looks }
+abbrev port_as : TerminalView → ℕ → Option ℕ → List Reply → ℕ → PortView
+port_as v rests pending replies looks = record (port_view v rests) { pending = pending; heard = replies; looks = looks }
 
-pub hears_reply : (v new : TerminalView) (word : ℕ) (reply : Reply) → new ≡ with_hearing v word → HearsOf v word (Some reply) → IsReply reply → (Waits new → ⊥) → port_view new ≡ heard (port_view v) reply 1
-hears_reply v new word reply is hears range rests =
+pub hears_reply : (v new : TerminalView) (rests_now word : ℕ) (reply : Reply) → new ≡ with_hearing v word → HearsOf v word (Some reply) → IsReply reply → (Waits new → ⊥) → port_view new rests_now ≡ heard (port_view v rests_now) reply
+hears_reply v new rests_now word reply is hears range rests =
     let same : new ≡ hearing v word = is ∙ heard_at v word hears.0 in
     let pending : pending_of (hearing v word) ≡ None = ap pending_of (sym same) ∙ rests_at new rests in
     let last : reply_of word ≡ reply = ap reply_of hears.1 ∙ reply_back (length v.asked) (number_of (last_of v.asked)) reply range in
     let answers : map reply_of (v.heard ++ word ∷ []) ≡ map reply_of v.heard ++ reply ∷ [] = map-append reply_of v.heard (word ∷ []) ∙ ap (λ (r : Reply). map reply_of v.heard ++ r ∷ []) last in
     let looks : suc v.looks ≡ v.looks + 1 = omega arith in
-    ap port_view same
-    ∙ ap (λ (p : Option ℕ). port_as v p (map reply_of (v.heard ++ word ∷ [])) (suc v.looks)) pending
-    ∙ ap (λ (replies : List Reply). port_as v None replies (suc v.looks)) answers
-    ∙ ap (λ (n : ℕ). port_as v None (map reply_of v.heard ++ reply ∷ []) n) looks
+    ap (λ (s : TerminalView). port_view s rests_now) same
+    ∙ ap (λ (p : Option ℕ). port_as v rests_now p (map reply_of (v.heard ++ word ∷ [])) (suc v.looks)) pending
+    ∙ ap (λ (replies : List Reply). port_as v rests_now None replies (suc v.looks)) answers
+    ∙ ap (λ (n : ℕ). port_as v rests_now None (map reply_of v.heard ++ reply ∷ []) n) looks

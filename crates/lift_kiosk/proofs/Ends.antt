@@ -19,7 +19,7 @@ use Rattle.lift_kiosk.specs.Session.{Standing, PortDid, PortOpened, Run, LastSte
 pub looks_grow : (looks : ℕ) (before : PortView) (outcome : Outcome) (after : PortView) → PortDid looks before outcome after → before.looks ≤ after.looks
 looks_grow looks before Malformed after did = omega (arith, ap (λ (v : PortView). v.looks) did)
 looks_grow looks before OffFloors after did = omega (arith, ap (λ (v : PortView). v.looks) did)
-looks_grow looks before (Answered ask reply) after did = omega (arith, did.1.looks, ap (λ (v : PortView). v.looks) did.2.3)
+looks_grow looks before (Answered ask reply) after did = omega (arith, did.1.looks, ap (λ (v : PortView). v.looks) did.2.2)
 looks_grow looks before (NotAnswered ask) after did = omega (arith, did.1.looks, ap (λ (v : PortView). v.looks) did.2)
 looks_grow looks before (Refused ask) after did = omega (arith, ap (λ (v : PortView). v.looks) did.2)
 
@@ -31,7 +31,7 @@ run_grows wants keeps limits (x ∷ xs) before after run =
 
 pub opening_grows : (looks : ℕ) (before : PortView) (opening : Opening) (after : PortView) → PortOpened looks before opening after → before.looks ≤ after.looks
 opening_grows looks before Free after did = omega (arith, ap (λ (v : PortView). v.looks) did.1)
-opening_grows looks before (BroughtIn number reply) after did = omega (arith, ap (λ (v : PortView). v.looks) did.1.3)
+opening_grows looks before (BroughtIn number reply) after did = omega (arith, ap (λ (v : PortView). v.looks) did.1.2)
 opening_grows looks before StillWaits after did = omega (arith, ap (λ (v : PortView). v.looks) did.1)
 
 -- an answer is awaited, and all looks for it were made

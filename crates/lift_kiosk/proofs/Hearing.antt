@@ -1,15 +1,13 @@
--- An answer that comes after looks without one.
-use Rattle.std.proofs.Common.{◌≡◌, ℕ, ◌+◌, ◌<◌, None, [], ◌∷◌, ◌++◌, ap, ◌∙◌, arith}
-use Rattle.std.specs.Prelude.{Some}
-use Rattle.lift_base.specs.declared.command.Reply.{Reply}
+-- Looks without an answer, and a rest behind each.
+use Rattle.std.proofs.Common.{◌≡◌, ℕ, ◌+◌, ap, ◌∙◌, arith}
 use Rattle.lift_kiosk.specs.Port.{PortView}
-use Rattle.lift_kiosk.specs.Hearing.{looked, heard, Waits}
+use Rattle.lift_kiosk.specs.Hearing.{missed, rested, looked}
 
-heard_later : (before : PortView) (reply : Reply) (looks : ℕ) → heard (looked before looks) reply 1 ≡ heard before reply (looks + 1)
-heard_later before reply looks =
-    let counts : before.looks + looks + 1 ≡ before.looks + (looks + 1) = omega arith in
-    ap (λ (n : ℕ). record before { pending = None; heard = before.heard ++ reply ∷ []; looks = n }) counts
+looked_more : (before : PortView) (looks : ℕ) → rested (missed (looked before looks)) ≡ looked before (looks + 1)
+looked_more before looks =
+    let l : before.looks + looks + 1 ≡ before.looks + (looks + 1) = omega arith in
+    let r : before.rests + looks + 1 ≡ before.rests + (looks + 1) = omega arith in
+    ap (λ (n : ℕ). record before { looks = n; rests = before.rests + looks + 1 }) l ∙ ap (λ (n : ℕ). record before { looks = before.looks + (looks + 1); rests = n }) r
 
-pub heard_at_last : (before mid after : PortView) (reply : Reply) (looks limit : ℕ) → mid ≡ looked before looks → after ≡ heard mid reply 1 → looks < limit → Waits limit before (Some reply) after
-heard_at_last before mid after reply looks limit so_far now few =
-    (looks + 1, omega arith, omega arith, now ∙ ap (λ v. heard v reply 1) so_far ∙ heard_later before reply looks)
+pub looks_once_more : (before mid found after : PortView) (looks : ℕ) → mid ≡ looked before looks → found ≡ missed mid → after ≡ rested found → after ≡ looked before (looks + 1)
+looks_once_more before mid found after looks so_far look rest = rest ∙ ap rested look ∙ ap (λ (v : PortView). rested (missed v)) so_far ∙ looked_more before looks

@@ -64,13 +64,14 @@ pending_of v = if nat_lt (length v.heard) (length v.asked) then Some (number_of 
 
 -- what a port at the desk knows: its asks and answers are the words asked and heard, its looks are those of its seat, and
 -- it is spent when all turns of a word were used
-abbrev pub port_view : TerminalView → PortView
-port_view v = record { pending = pending_of v; spent = length v.asked == 1048575; asked = map ask_of v.asked; heard = map reply_of v.heard; looks = v.looks }
+abbrev pub port_view : TerminalView → (rests : ℕ) → PortView
+port_view v rests = record { pending = pending_of v; spent = length v.asked == 1048575; asked = map ask_of v.asked; heard = map reply_of v.heard; looks = v.looks; rests = rests }
 
--- a port at the desk: the desk's tables, and the seat of its terminal
+-- a port at the desk: the desk's tables, the seat of its terminal, and how often it rested
 pub record DeskPortState : Type 0 where
   pub desk : List TableId
   pub seat : TerminalSeat
+  pub rests : ℕ
 
 abbrev pub place_of : DeskPortState → PortPlace
 place_of port = record { desk = port.desk; table = port.seat.table; terminal = port.seat.terminal }

@@ -16,6 +16,7 @@ pub record PortView : Type 0 where
   pub asked : List Ask  -- every ask that was stored
   pub heard : List Reply  -- every answer that was heard
   pub looks : ℕ  -- how often it looked for one
+  pub rests : ℕ  -- how often it rested
 
 -- one ask more was stored, and waits for its answer
 pub record AsksOne (before : PortView) (ask : Ask) (after : PortView) : Type 0 where
@@ -23,3 +24,4 @@ pub record AsksOne (before : PortView) (ask : Ask) (after : PortView) : Type 0 w
   pub asked : after.asked ≡ before.asked ++ ask ∷ []
   pub heard : after.heard ≡ before.heard
   pub looks : after.looks ≡ before.looks
+  pub rests : after.rests ≡ before.rests

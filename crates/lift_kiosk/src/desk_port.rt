@@ -5,7 +5,7 @@ ghost use Rattle.lift_desk.specs.Seats.{IsSeatOf};
 ghost use Rattle.lift_desk.specs.Words.{IsBody, IsReply};
 
 use crate::port::Port;
-use lift_base::{Body, Number, Reply};
+use lift_base::{Body, Number, ProofCount, Reply};
 use lift_desk::{AskRefusal, Desk, Seat};
 use std::marker::Model;
 use std::thread;
@@ -15,6 +15,7 @@ use std::thread;
 pub struct DeskPort<'d> {
     desk: &'d Desk,
     seat: Seat,
+    rests: ProofCount,
 }
 
 impl<'d> Model for DeskPort<'d> {
@@ -23,7 +24,7 @@ impl<'d> Model for DeskPort<'d> {
 
     ghost Value = { DeskPortState };
 
-    ghost view = { λ p. record { desk = p.desk.now; seat = p.seat } };
+    ghost view = { λ p. record { desk = p.desk.now; seat = p.seat; rests = p.rests.count } };
 
     ghost invariant = { λ p. IsSeatOf p.desk.now p.seat };
 }
@@ -32,9 +33,13 @@ impl<'d> DeskPort<'d> {
     /// The port of a seat of this desk.
     pub fn new(desk: &'d Desk, seat: Seat) -> Self
         requires { IsSeatOf desk.now seat }
-        ensures { result ≡ record { desk = desk.now; seat = seat } }
+        ensures { result ≡ record { desk = desk.now; seat = seat; rests = 0 } }
     {
-        DeskPort { desk, seat }
+        DeskPort {
+            desk,
+            seat,
+            rests: ProofCount::new(),
+        }
     }
 
     /// The seat, for the next session.
@@ -42,7 +47,11 @@ impl<'d> DeskPort<'d> {
         ensures seat { result ≡ self.entry.seat }
         ensures stays { IsSeatOf self.entry.desk result }
     {
-        let DeskPort { desk: _, seat } = self;
+        let DeskPort {
+            desk: _,
+            seat,
+            rests: _,
+        } = self;
         seat
     }
 }
@@ -82,7 +91,7 @@ fn reply_fits(reply: &Reply)
 impl<'d> Port for DeskPort<'d> {
     ghost use Rattle.lift_kiosk.specs.Desk.{port_view, place_of};
 
-    ghost view = { λ p. port_view p.seat.view };
+    ghost view = { λ p. port_view p.seat.view p.rests };
 
     ghost place = { place_of };
 
@@ -103,6 +112,7 @@ impl<'d> Port for DeskPort<'d> {
     }
 
     fn rest(&mut self) {
+        self.rests = ProofCount::next(&self.rests);
         thread::yield_now();
     }
 }

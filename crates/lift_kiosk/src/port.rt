@@ -2,7 +2,7 @@
 
 ghost use Rattle.std.specs.Prelude.{◌≡◌, ◌↔◌, ◌≢◌, IsSome, IfSome, IfNone, OnOk, OnErr, None, Err, true};
 ghost use Rattle.lift_kiosk.specs.Port.{PortView, PortPlace, AsksOne};
-ghost use Rattle.lift_kiosk.specs.Hearing.{looked, heard};
+ghost use Rattle.lift_kiosk.specs.Hearing.{missed, rested, heard};
 
 use lift_base::{Body, Number, Reply};
 use lift_desk::AskRefusal;
@@ -29,12 +29,12 @@ pub trait Port {
     /// Looks once for the answer, and gives it once.
     fn hear(&mut self) -> Option<Reply>
         ensures awaited { IsSome result → (view self.old).pending ≢ None }
-        ensures some { IfSome result (λ reply. view self.new ≡ heard (view self.old) reply 1) }
-        ensures none { IfNone result (view self.new ≡ looked (view self.old) 1) }
+        ensures some { IfSome result (λ reply. view self.new ≡ heard (view self.old) reply) }
+        ensures none { IfNone result (view self.new ≡ missed (view self.old)) }
         ensures stays { place self.new ≡ place self.old };
 
     /// Between two looks. It asks and hears nothing.
     fn rest(&mut self)
-        ensures view { view self.new ≡ view self.old }
+        ensures view { view self.new ≡ rested (view self.old) }
         ensures stays { place self.new ≡ place self.old };
 }

@@ -80,7 +80,7 @@ impl<'d> Served<'d> {
 impl<'d> Port for Served<'d> {
     ghost use Rattle.lift_kiosk.specs.Desk.{port_view, place_of};
 
-    ghost view = { λ s. port_view s.port.seat.view };
+    ghost view = { λ s. port_view s.port.seat.view s.port.rests };
 
     ghost place = { λ s. place_of s.port };
 
@@ -97,6 +97,7 @@ impl<'d> Port for Served<'d> {
     }
 
     fn rest(&mut self) {
+        self.port.rest();
         if self.idle > 0 {
             self.idle -= 1;
         } else {
