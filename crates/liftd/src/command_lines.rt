@@ -7,7 +7,7 @@ use std::io::{Read, Write};
 
 /// A stream whose calls all fail.
 #[derive(Drop)]
-struct Failing;
+pub(crate) struct Failing;
 
 impl Read for Failing {
     fn read(&mut self, _buf: &mut [u8]) -> io::Result<usize> {
@@ -27,14 +27,14 @@ impl Write for Failing {
 
 /// What a run came to.
 #[derive(Drop)]
-struct Run {
+pub(crate) struct Run {
     status: u8,
     report: Vec<u8>,
     errors: Vec<u8>,
 }
 
 impl Run {
-    fn of<R: Read + Drop>(rt: &HostRuntime, words: &[&str], reader: R) -> Run {
+    pub(crate) fn of<R: Read + Drop>(rt: &HostRuntime, words: &[&str], reader: R) -> Run {
         let mut report = Vec::new(rt.alloc());
         let mut errors = Vec::new(rt.alloc());
         let status = start(
@@ -52,7 +52,7 @@ impl Run {
         }
     }
 
-    fn is(&self, status: u8, report: &str, errors: &str) -> bool {
+    pub(crate) fn is(&self, status: u8, report: &str, errors: &str) -> bool {
         self.status == status
             && self.report.as_slice() == report.as_bytes()
             && self.errors.as_slice() == errors.as_bytes()
@@ -87,6 +87,14 @@ fn other_words(rt: HostRuntime) {
             "format", "image", "building", "--half", "64", "--half", "64",
         ]
         .as_slice(),
+        ["Show", "image", "building"].as_slice(),
+        ["show"].as_slice(),
+        ["show", "image"].as_slice(),
+        ["show", "image", "building", "image"].as_slice(),
+        ["show", "image", "building", "--half", "64"].as_slice(),
+        ["show", "-x", "building"].as_slice(),
+        ["show", "--help"].as_slice(),
+        ["image", "show", "building"].as_slice(),
     ] {
         assert!(rt;
             Run::of(&rt, words, Failing).is(2, "", "liftd: usage\n"),
@@ -130,6 +138,9 @@ fn options_anywhere(rt: HostRuntime) {
         ["format", "no/image", "no/building", "--half=64"].as_slice(),
         ["format", "--half=64", "--", "no/image", "no/building"].as_slice(),
         ["format", "", ""].as_slice(),
+        ["show", "no/image", "no/building"].as_slice(),
+        ["show", "--", "no/image", "no/building"].as_slice(),
+        ["show", "", ""].as_slice(),
     ] {
         assert!(rt;
             Run::of(&rt, words, Failing).is(1, "", "liftd: file\n"),

@@ -5,7 +5,7 @@ use lift_base::text::Watched;
 use std::fs;
 use std::test::Fail;
 
-const DEMO: &str = "floors = 10
+pub(crate) const DEMO: &str = "floors = 10
 door_ms = 6000
 kiosks = [0, 5]
 flight = [

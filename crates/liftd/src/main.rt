@@ -12,6 +12,8 @@ mod images;
 mod output;
 mod replay;
 mod show;
+#[cfg(test)]
+mod shows;
 mod start;
 mod words;
 
