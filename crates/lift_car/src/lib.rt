@@ -4,10 +4,12 @@
 
 mod car;
 mod driving;
+mod laws;
 mod lines;
 mod terms;
 
 pub use car::{Car, ModelCar};
 pub use driving::drive;
+pub use laws::sessions_are_determined;
 pub use lines::{CarLines, lines_ask_for_one_thing, session};
 pub use terms::{CarEnd, DriveEnd, Ending};

@@ -8,3 +8,4 @@ pub mod Ends
 pub mod Spelled
 pub mod Desk
 pub mod Single
+pub mod Determined

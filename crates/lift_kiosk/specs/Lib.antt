@@ -4,3 +4,4 @@ pub mod Lines
 pub mod Session
 pub mod Kiosk
 pub mod Desk
+pub mod Determined

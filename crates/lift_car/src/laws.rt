@@ -1,0 +1,13 @@
+//! What sessions of cars do follows from what comes to them.
+
+ghost use Rattle.lift_kiosk.specs.Determined.{LineDetermines, LinesDetermine, OutcomesAreWritten};
+ghost use Rattle.lift_car.specs.Lines.{WantsMove, keeps_stop};
+
+/// Sessions are determined: what comes of a line follows from it and from what the port gives for it, so that the same
+/// lines and answers of the port lead to the same outcomes and the same last command; what is written for the lines
+/// follows from these outcomes.
+pub fn sessions_are_determined()
+    ensures line { LineDetermines WantsMove }
+    ensures lines { LinesDetermine WantsMove keeps_stop }
+    ensures written { OutcomesAreWritten WantsMove keeps_stop }
+{}
