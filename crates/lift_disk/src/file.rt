@@ -1,8 +1,8 @@
 //! A device on a file of the operating system.
 ghost use Rattle.std.specs.Prelude.{◌≡◌, ◌*◌, IfOk};
 
-use crate::count::ProofCount;
 use crate::{Disk, DiskFault};
+use lift_base::ProofCount;
 use std::fs::{File, Files, OpenFile, OpenOptions};
 use std::os::unix::fs::FileExt;
 use std::{fs, io};

@@ -2,7 +2,6 @@
 #![tactic(auto)]
 
 mod call;
-mod count;
 mod countdown;
 mod disk;
 mod file;

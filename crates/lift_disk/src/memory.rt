@@ -5,11 +5,10 @@ ghost use Rattle.lift_disk.specs.Disk.{ChangesWithin, IsSynced, IsUnarmed};
 ghost use Rattle.lift_disk.specs.Memory.{IsFlagged, IsWithin, image_after, no_other};
 
 use crate::call::Call;
-use crate::count::ProofCount;
 use crate::record::{clear, copy, copy_flagged, leave, no_flags, note_sync, note_write, zeros};
 use crate::span::Span;
 use crate::{Disk, DiskFault, Outcome};
-use lift_base::Memory;
+use lift_base::{Memory, ProofCount};
 use std::alloc::Global;
 
 #[derive(Drop)]

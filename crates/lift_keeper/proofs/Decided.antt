@@ -12,7 +12,7 @@ use Rattle.lift_base.specs.declared.command.Reply.TheVariants.{Refused}
 use Rattle.lift_building.specs.Plan.{Plan, IsBuilding}
 use Rattle.lift_building.proofs.Getters.{serves_within}
 use Rattle.lift_register.specs.Fits.{Fits}
-use Rattle.lift_policy.specs.Terminals.{has_car, has_kiosk, kiosk_floor}
+use Rattle.lift_policy.specs.Terminals.{kiosk_floor}
 use Rattle.lift_policy.specs.Eligible.{Choice}
 use Rattle.lift_policy.specs.Step.{State, Step, Proceeds, Allots, Repeats, view_of, call_at, cars_for, first_cause, has_cause, is_new, is_same, accepting, standing, stopping, next_from}
 use Rattle.lift_policy.proofs.Steps.{no_cause}
@@ -31,16 +31,6 @@ step_proceeds plan choice state terminal number body reply next h is =
 not_both : {b : Bool} → not b ≡ false → b ≡ true
 not_both {b = true} h = refl
 not_both {b = false} h = cc
-
--- the terminal of a command without a cause is known
-pub is_car : (plan : Plan) (state : State) (terminal number : ℕ) (body : Body) → first_cause plan state terminal number body ≡ None → Rattle.lift_policy.specs.Step.is_call body ≡ false
-    → has_car plan terminal ≡ true
-is_car plan state terminal number (Call to party) h not_call = cc
-is_car plan state terminal number (Stop floor dir) h not_call = not_both (no_cause plan state terminal number (Stop floor dir) h).kind
-is_car plan state terminal number (Place floor dir) h not_call = not_both (no_cause plan state terminal number (Place floor dir) h).kind
-
-pub is_kiosk : (plan : Plan) (state : State) (terminal number to party : ℕ) → first_cause plan state terminal number (Call to party) ≡ None → has_kiosk plan terminal ≡ true
-is_kiosk plan state terminal number to party h = not_both (no_cause plan state terminal number (Call to party) h).kind
 
 -- the floor of a command without a cause is in the building
 pub is_inside : (plan : Plan) (state : State) (terminal number : ℕ) (body : Body) → first_cause plan state terminal number body ≡ None
