@@ -9,3 +9,5 @@ mod keeping;
 mod openings;
 #[cfg(test)]
 mod recoveries;
+#[cfg(test)]
+mod replaced;
