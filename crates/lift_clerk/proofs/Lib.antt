@@ -2,3 +2,14 @@ pub mod Visiting
 pub mod Scanned
 pub mod Answered
 pub mod Turning
+pub mod Lists
+pub mod Served
+pub mod Standing
+pub mod Words
+pub mod Asked
+pub mod Turned
+pub mod Doubts
+pub mod Reopened
+pub mod Crashes
+pub mod Terminals
+pub mod Moved

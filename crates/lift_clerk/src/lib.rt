@@ -4,7 +4,12 @@
 
 mod clerk;
 mod counts;
+mod machine;
 mod scan;
 
 pub use clerk::Clerk;
 pub use counts::Counts;
+pub use machine::{
+    crashes_are_the_machines, reopening_moves_the_machine, reopenings_are_the_machines,
+    turn_moves_the_machine, turns_are_the_machines,
+};

@@ -1,6 +1,6 @@
 -- Terminals that were answered can ask again, and then their asks stand.
-use Rattle.std.proofs.Common.{ℕ, ◌≡◌, ◌≢◌, ◌+◌, ◌≤◌, Bool, true, false, cond, eqb, List, [], ◌∷◌, ◌++◌, length, replicate, Option, Some, None, refl, sym, ap, subst, ◌∙◌, arith, append_assoc}
-use Rattle.std.specs.Prelude.{filter, find, reverse, count_by, slice_get}
+use Rattle.std.proofs.Common.{ℕ, zero, suc, ◌≡◌, ◌≢◌, ◌+◌, ◌≤◌, Bool, true, false, cond, eqb, List, [], ◌∷◌, ◌++◌, length, replicate, Option, Some, None, refl, sym, ap, subst, ◌∙◌, arith, append_assoc}
+use Rattle.std.specs.Prelude.{filter, find, reverse, count_by, slice_get, IsTrue}
 use Rattle.std.specs.List.{AllByRecursion}
 use Rattle.std.proofs.lemmas.Bool.{ne_eqb, eq-eqb}
 use Rattle.std.proofs.lemmas.List.{append-nil, reverse-append}
@@ -13,6 +13,7 @@ use Rattle.lift_world.specs.declared.event.Event.{Event}
 use Rattle.lift_world.specs.declared.event.Event.TheVariants.{Ask, Hear}
 use Rattle.lift_world.specs.World.{World, is_off, is_answer_to, asks}
 use Rattle.lift_world.specs.Next.{goes, hearing, asking, unanswered}
+use Rattle.lift_world.specs.Beside.{is_of_terminals}
 use Rattle.lift_world.specs.Headline.{HearsInOrder}
 use Rattle.lift_world.specs.Turns.{AreFound}
 use Rattle.lift_world.specs.Asking.{AreAnswered, asked_on, AsksStand}
@@ -48,10 +49,23 @@ module _ (terminal : ℕ) where
       ∙ hears_all rest (hearing w a) on (heard_one a rest w.heard w.answered e)
       ∙ ap (λ (xs : List Answer). Some (record w { heard = xs })) (append_assoc w.heard (a ∷ []) rest)
 
+-- events of terminals alone
+abbrev AreTheirs : List Event → Type 0
+AreTheirs events = AllByRecursion (λ (e : Event). IsTrue (is_of_terminals e)) events
+
+theirs_both : (events later : List Event) → AreTheirs events → AreTheirs later → AreTheirs (events ++ later)
+theirs_both [] later h k = k
+theirs_both (e ∷ events) later h k = (h.0, theirs_both events later h.1 k)
+
+hears_theirs : (terminal n : ℕ) → AreTheirs (replicate n (Hear terminal))
+hears_theirs terminal zero = tt
+hears_theirs terminal (suc n) = (refl, hears_theirs terminal n)
+
 -- and then it asks
 pub record Asks (w : World) (command : Command) : Type 0 where
   pub events : List Event
   pub heard : List Answer
+  pub theirs : AreTheirs events
   pub is : goes events w ≡ Some (record w { asked = w.asked ++ command ∷ []; heard = heard })
 
 asks_next : (w : World) (command : Command) → is_off w.power ≡ false → HearsInOrder w → count_by (asks command.terminal) w.asked ≡ count_by (is_answer_to command.terminal) w.answered → Asks w command
@@ -66,6 +80,7 @@ asks_next w command on hears same =
     record {
       events = replicate (length rest) (Hear terminal) ++ ask ∷ [];
       heard = w.heard ++ rest;
+      theirs = theirs_both (replicate (length rest) (Hear terminal)) (ask ∷ []) (hears_theirs terminal (length rest)) (refl, tt);
       is = joined (replicate (length rest) (Hear terminal)) (ask ∷ []) w w1 (hears_all terminal rest w on (hears terminal).1)
           ∙ one ask [] w1 (asking w1 command) ((asks_once_heard w1).heard_all terminal command.number command.body on counts);
     }
@@ -92,10 +107,11 @@ answered_still w c heard (d ∷ commands) apart k = (count_other d.terminal c w.
 pub record AllAsk (w : World) (commands : List Command) : Type 0 where
   pub events : List Event
   pub heard : List Answer
+  pub theirs : AreTheirs events
   pub is : goes events w ≡ Some (asked_on w commands heard)
 
 all_ask : (commands : List Command) (w : World) → is_off w.power ≡ false → HearsInOrder w → AreAnswered w commands → AllAsk w commands
-all_ask [] w on hears k = record { events = []; heard = w.heard; is = ap (λ (xs : List Command). Some (record w { asked = xs })) (sym (append-nil w.asked)) }
+all_ask [] w on hears k = record { events = []; heard = w.heard; theirs = tt; is = ap (λ (xs : List Command). Some (record w { asked = xs })) (sym (append-nil w.asked)) }
 all_ask (c ∷ commands) w on hears k =
     let first = asks_next w c on hears k.0 in
     let w1 : World = record w { asked = w.asked ++ c ∷ []; heard = first.heard } in
@@ -104,6 +120,7 @@ all_ask (c ∷ commands) w on hears k =
     record {
       events = first.events ++ rest.events;
       heard = rest.heard;
+      theirs = theirs_both first.events rest.events first.theirs rest.theirs;
       is = joined first.events rest.events w w1 first.is ∙ rest.is
           ∙ ap (λ (xs : List Command). Some (record w { asked = xs; heard = rest.heard })) (append_assoc w.asked (c ∷ []) commands);
     }
@@ -171,4 +188,4 @@ pub asks_stand : (w : World) → AsksStand w
 asks_stand w commands on few hears k =
     let a = all_ask commands w on hears k in
     let v : World = asked_on w commands a.heard in
-    (a.events, a.heard, a.is, stand_from v w.asked commands refl on few (answered_before v w.asked w.asked commands (λ terminal. omega arith) k))
+    (a.events, a.heard, a.theirs, a.is, stand_from v w.asked commands refl on few (answered_before v w.asked w.asked commands (λ terminal. omega arith) k))

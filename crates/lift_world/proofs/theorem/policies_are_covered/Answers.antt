@@ -3,6 +3,6 @@ use Rattle.lift_world.proofs.theorem.policies_are_covered.Goals as goal
 
 pub returns : goal.returns
 returns g c = record {
-  steps = λ plan. steps_are_any (g.P.Policy.chooses c.args.policy.now) plan;
-  runs = λ plan. runs_are_any (g.P.Policy.chooses c.args.policy.now) plan;
+  steps = λ policy plan. steps_are_any (g.P.Policy.chooses policy) plan;
+  runs = λ policy plan. runs_are_any (g.P.Policy.chooses policy) plan;
 }

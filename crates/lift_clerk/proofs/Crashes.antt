@@ -1,0 +1,228 @@
+-- What crashes leave, and the letters that it shows.
+use Rattle.std.proofs.Common.{ℕ, suc, zero, ◌≡◌, ◌-◌, ◌+◌, ◌<◌, ◌≤◌, ◌⊎◌, inl, inr, Bool, true, false, List, [], ◌∷◌, ◌++◌, length, take, drop, replicate, Option, Some, refl, sym, ap, subst, ◌∙◌, arith}
+use Rattle.std.specs.Prelude.{IsTrue, option_and_then}
+use Rattle.std.proofs.Math.Seq.{take-length, drop-length}
+use Rattle.std.proofs.lemmas.Bool.{false≢true}
+use Rattle.std.proofs.lemmas.List.{length-append}
+use Rattle.lift_base.specs.declared.command.Reply.{Reply}
+use Rattle.lift_base.specs.declared.history.Entry.{Entry}
+use Rattle.lift_building.specs.Plan.{Plan}
+use Rattle.lift_disk.specs.Disk.{Image}
+use Rattle.lift_keeper.specs.Images.{IsImageOf, IsInDoubt}
+use Rattle.lift_register.specs.Register.{RegisterState, register_of}
+use Rattle.lift_policy.specs.Eligible.{Choice, any_eligible}
+use Rattle.lift_policy.specs.Step.{State}
+use Rattle.lift_policy.specs.Run.{Run}
+use Rattle.lift_policy.specs.declared.command.Command.{Command}
+use Rattle.lift_world.specs.declared.event.Event.{Event}
+use Rattle.lift_world.specs.declared.event.Event.TheVariants.{Seal, Pull, Body as BodyWrite, FirstSync, Gate}
+use Rattle.lift_world.specs.declared.event.Kept.TheVariants.{Safe, WithBatch}
+use Rattle.lift_world.specs.declared.event.Phase.TheVariants.{Writing, Synced, GateWritten}
+use Rattle.lift_world.specs.declared.event.Power.{Power}
+use Rattle.lift_world.specs.declared.event.Power.TheVariants.{Running, Broken, Off}
+use Rattle.lift_world.specs.declared.event.Taken.{Taken}
+use Rattle.lift_world.specs.World.{World, Batch, is_running, is_off, state_of, safe_list, batch_of, outcome, may_keep, register_after}
+use Rattle.lift_world.specs.Next.{next, goes, in_phase, writes_of, bodies}
+use Rattle.lift_world.specs.Asking.{asked_on}
+use Rattle.lift_world.specs.Headline.{RecoversAcknowledged, RecoversLetters}
+use Rattle.lift_world.specs.Policies.{RunsAreAny}
+use Rattle.lift_world.specs.Turns.{IsAtRest, scanned, take_events, with_replies}
+use Rattle.lift_clerk.specs.Clerk.{ClerkState}
+use Rattle.lift_clerk.specs.Turn.{IsEither}
+use Rattle.lift_clerk.specs.Visits.{commands_of}
+use Rattle.lift_clerk.specs.Machine.{IsMachineOf, IsReached, ShowsWhole, ShowsBroken, IsKept, IsKeptAtGate, events_to_gate, CrashesAreCuts, CrashesWithinTurns, CrashesWithinFailures, CutsShowLetters}
+use Rattle.lift_clerk.specs.Laws.{Laws}
+use Rattle.lift_clerk.proofs.Served.{all_apart}
+use Rattle.lift_clerk.proofs.Standing.{fresh}
+use Rattle.lift_clerk.proofs.Asked.{Asked, ask, reaches, rests, goes_behind, run_in}
+use Rattle.lift_clerk.proofs.Turned.{splits, register_with, safe_all}
+use Rattle.lift_clerk.proofs.Doubts.{was_safe, in_doubt}
+use Rattle.lift_clerk.proofs.Reopened.{with_nothing}
+
+kept_safe : (w : World) (plan : Plan) (register : RegisterState) (left : Image) → w.building ≡ plan → register_after (safe_list w) ≡ register → IsImageOf plan register left → IsKept w left
+kept_safe w plan register left b r reads = record {
+  kept = Safe;
+  may_be_kept = refl;
+  reads = subst (λ (p : Plan). IsImageOf p (register_after (safe_list w)) left) (sym b) (subst (λ (x : RegisterState). IsImageOf plan x left) (sym r) reads);
+}
+
+kept_with_batch : (w : World) (plan : Plan) (register : RegisterState) (left : Image) → w.building ≡ plan → IsTrue (may_keep w WithBatch) → register_after (safe_list w ++ batch_of w) ≡ register
+    → IsImageOf plan register left → IsKept w left
+kept_with_batch w plan register left b may r reads = record {
+  kept = WithBatch;
+  may_be_kept = may;
+  reads = subst (λ (p : Plan). IsImageOf p (register_after (safe_list w ++ batch_of w)) left) (sym b) (subst (λ (x : RegisterState). IsImageOf plan x left) (sym r) reads);
+}
+
+module _ {D P : Type 0} (laws : Laws) (w : World) (clerk : ClerkState D P) (left : Image) (m : IsMachineOf w clerk) where
+  abbrev plan : Plan
+  plan = clerk.keeper.writer.plan
+
+  by_doubt : (br : ShowsBroken w clerk.keeper) (doubt : List Entry) → clerk.keeper.writer.doubt ≡ doubt → IsInDoubt plan clerk.keeper.writer.register clerk.keeper.writer.doubt left → IsKept w left
+  by_doubt br doubt d (inl reads) = kept_safe w plan clerk.keeper.writer.register left m.building br.safe reads
+  by_doubt br [] d (inr reads) =
+      kept_safe w plan (register_of clerk.keeper.writer.register clerk.keeper.writer.doubt) left m.building
+      (sym (with_nothing laws.registers (safe_list w)) ∙ ap (λ (x : RegisterState). register_of x []) br.safe ∙ ap (register_of clerk.keeper.writer.register) (sym d)) reads
+  by_doubt br (x ∷ xs) d (inr reads) =
+      kept_with_batch w plan (register_of clerk.keeper.writer.register clerk.keeper.writer.doubt) left m.building
+      (br.may_be_kept (λ none. let wrong : x ∷ xs ≡ [] = sym d ∙ none in cc))
+      (ap (λ (ys : List Entry). register_after (safe_list w ++ ys)) br.doubt ∙ register_with laws.registers w clerk.keeper.writer.doubt clerk.keeper.writer.register br.safe) reads
+
+  by_state : (b : Bool) → clerk.keeper.writer.is_broken ≡ b → (clerk.keeper.writer.is_broken ≡ false → IsImageOf plan clerk.keeper.writer.register left)
+      → (clerk.keeper.writer.is_broken ≡ true → IsInDoubt plan clerk.keeper.writer.register clerk.keeper.writer.doubt left) → IsKept w left
+  by_state false e whole broken = kept_safe w plan clerk.keeper.writer.register left m.building (m.whole e).safe (whole e)
+  by_state true e whole broken = by_doubt (m.broken e) clerk.keeper.writer.doubt refl (broken e)
+
+pub crashes_are_cuts : {D P : Type 0} → Laws → CrashesAreCuts D P
+crashes_are_cuts laws w clerk left m whole broken = by_state laws w clerk left m clerk.keeper.writer.is_broken refl whole broken
+
+-- a batch on its way to its gate
+once : (w v : World) (e : Event) (es : List Event) → next w e ≡ Some v → goes (e ∷ es) w ≡ goes es v
+once w v e es q = ap (option_and_then (goes es)) q
+
+runs : (p : Power) → is_running p ≡ true → p ≡ Running
+runs Running h = refl
+runs Broken h = absurd (false≢true h)
+runs (Off kept) h = absurd (false≢true h)
+
+module _ (laws : Laws) (v : World) (on : v.power ≡ Running) where
+  writes : (n m : ℕ) (events : List Event) → m + n ≤ writes_of v → goes (replicate n BodyWrite ++ events) (in_phase v (Writing m)) ≡ goes events (in_phase v (Writing (m + n)))
+  writes zero m events le = ap (λ (k : ℕ). goes events (in_phase v (Writing k))) (omega arith)
+  writes (suc n) m events le =
+      once (in_phase v (Writing m)) (in_phase v (Writing (m + 1))) BodyWrite (replicate n BodyWrite ++ events) ((laws.calls (in_phase v (Writing m))).writes m on refl (omega arith))
+      ∙ writes n (m + 1) events (omega arith) ∙ ap (λ (k : ℕ). goes events (in_phase v (Writing k))) (omega arith)
+
+  to_gate : goes (replicate (writes_of v) BodyWrite ++ FirstSync ∷ Gate ∷ []) (in_phase v (Writing 0)) ≡ Some (in_phase v GateWritten)
+  to_gate =
+      writes (writes_of v) 0 (FirstSync ∷ Gate ∷ []) (omega arith)
+      ∙ ap (λ (k : ℕ). goes (FirstSync ∷ Gate ∷ []) (in_phase v (Writing k))) (let n : ℕ = writes_of v in let same : 0 + n ≡ n = omega arith in same)
+      ∙ once (in_phase v (Writing (writes_of v))) (in_phase v Synced) FirstSync (Gate ∷ []) ((laws.calls (in_phase v (Writing (writes_of v)))).syncs on refl)
+      ∙ once (in_phase v Synced) (in_phase v GateWritten) Gate [] ((laws.calls (in_phase v Synced)).writes_gate on refl)
+
+module _ (laws : Laws) (w : World) (reached : IsReached w) (rest : IsAtRest w) (c : Command) (cs : List Command) (reply : Reply) (rs : List Reply) (state : State)
+    (a : Asked w (c ∷ cs)) (r : Run w.building any_eligible (state_of w) (c ∷ cs) (reply ∷ rs) state) (some : 0 < length state.batch) where
+  abbrev w1 : World
+  w1 = asked_on w (fresh w (c ∷ cs)) a.heard
+
+  abbrev scan : (letters : List (Option ℕ)) × (goes (take_events (c ∷ cs) letters) w1 ≡ Some (scanned w1 (c ∷ cs) (reply ∷ rs) state))
+  scan = laws.scans w1 (c ∷ cs) (reply ∷ rs) state (let s = rest.all_sealed in omega arith) a.found r
+
+  abbrev w2 : World
+  w2 = scanned w1 (c ∷ cs) (reply ∷ rs) state
+
+  abbrev batch : Batch
+  batch = record { commands = w2.taken; upto = length w2.accepted }
+
+  abbrev w3 : World
+  w3 = record w2 { queue = w2.queue ++ batch ∷ []; sealed = length w2.accepted; taken = [] }
+
+  abbrev w4 : World
+  w4 = record w3 { queue = []; flight = batch; phase = Writing 0 }
+
+  accepted : w2.accepted ≡ w.accepted ++ state.batch
+  accepted = ap (λ (n : ℕ). take n w.accepted ++ state.batch) rest.all_sealed ∙ ap (λ (xs : List Entry). xs ++ state.batch) (take-length w.accepted)
+
+  running : w.power ≡ Running
+  running = runs w.power rest.running
+
+  sealed : next w2 Seal ≡ Some w3
+  sealed =
+      (laws.seals w2).seals (ap is_off running)
+      (λ none. let wrong : with_replies (c ∷ cs) (reply ∷ rs) ≡ [] = ap (λ (ts : List Taken). ts ++ with_replies (c ∷ cs) (reply ∷ rs)) (sym rest.nothing_taken) ∙ none in cc)
+
+  pulled : next w3 Pull ≡ Some w4
+  pulled =
+      let l : length w2.accepted ≡ length (w.accepted ++ state.batch) = ap length accepted in
+      let both = length-append w.accepted state.batch in
+      let safe = rest.all_safe in
+      (laws.pulls w3).flies batch [] running rest.idle (ap (λ (q : List Batch). q ++ batch ∷ []) rest.nothing_queued) (omega arith)
+
+  batch_is : batch_of w4 ≡ state.batch
+  batch_is = ap (λ (xs : List Entry). take (length xs - w.safe) (drop w.safe xs)) accepted ∙ in_doubt w state.batch rest
+
+  safe_is : safe_list w4 ≡ w.accepted
+  safe_is = ap (take w.safe) accepted ∙ was_safe w state.batch rest
+
+  abbrev there : World
+  there = in_phase w4 GateWritten
+
+  count : writes_of w4 ≡ bodies (length state.batch) + 1
+  count = ap (λ (xs : List Entry). bodies (length xs) + 1) batch_is
+
+  written : goes (replicate (bodies (length state.batch) + 1) BodyWrite ++ FirstSync ∷ Gate ∷ []) w4 ≡ Some there
+  written = subst (λ (n : ℕ). goes (replicate n BodyWrite ++ FirstSync ∷ Gate ∷ []) w4 ≡ Some there) count (to_gate laws w4 running)
+
+  possible : goes (a.events ++ events_to_gate (c ∷ cs) scan.0 (length state.batch)) w ≡ Some there
+  possible =
+      let calls : List Event = replicate (bodies (length state.batch) + 1) BodyWrite ++ FirstSync ∷ Gate ∷ [] in
+      goes_behind a.events (take_events (c ∷ cs) scan.0 ++ (Seal ∷ Pull ∷ calls)) w w1 a.possible
+      ∙ goes_behind (take_events (c ∷ cs) scan.0) (Seal ∷ Pull ∷ calls) w1 w2 scan.1
+      ∙ once w2 w3 Seal (Pull ∷ calls) sealed ∙ once w3 w4 Pull calls pulled ∙ written
+
+  pub at_gate : (plan : Plan) (register : RegisterState) (left : Image) → w.building ≡ plan → register_after (w.accepted ++ state.batch) ≡ register → IsImageOf plan register left
+      → IsKeptAtGate w (c ∷ cs) (length state.batch) left
+  at_gate plan register left b q reads = record {
+    before = a.events;
+    of_terminals = a.theirs;
+    letters = scan.0;
+    there = there;
+    possible = possible;
+    given_is = refl;
+    reached = reaches laws w reached (a.events ++ events_to_gate (c ∷ cs) scan.0 (length state.batch)) there possible refl;
+    keeps = kept_with_batch there plan register left b refl
+        (ap (λ (xs : List Entry). register_after (xs ++ batch_of w4)) safe_is ∙ ap (λ (xs : List Entry). register_after (w.accepted ++ xs)) batch_is ∙ q) reads;
+  }
+
+module _ (laws : Laws) (w : World) (reached : IsReached w) (rest : IsAtRest w) (plan : Plan) (old : RegisterState) (left : Image) (building : w.building ≡ plan)
+    (safe : register_after (safe_list w) ≡ old) where
+  by_batch : (cs : List Command) (rs : List Reply) (state : State) → Asked w cs → Run w.building any_eligible (state_of w) cs rs state → (batch : List Entry) → state.batch ≡ batch
+      → state.register ≡ register_of old state.batch → IsImageOf plan state.register left → IsKept w left ⊎ IsKeptAtGate w cs (length state.batch) left
+  by_batch cs rs state a r [] e q reads =
+      inl (kept_safe w plan state.register left building
+      (sym (with_nothing laws.registers (safe_list w)) ∙ ap (λ (x : RegisterState). register_of x []) safe ∙ ap (register_of old) (sym e) ∙ sym q) reads)
+  by_batch [] [] state a r (x ∷ xs) e q reads =
+      let none : state.batch ≡ [] = ap (λ (s : State). s.batch) r ∙ ap (λ (n : ℕ). drop n w.accepted) rest.all_sealed ∙ drop-length w.accepted in
+      let wrong : x ∷ xs ≡ [] = sym e ∙ none in
+      cc
+  by_batch [] (reply ∷ rs) state a r (x ∷ xs) e q reads = absurd r
+  by_batch (c ∷ cs) [] state a r (x ∷ xs) e q reads = absurd r
+  by_batch (c ∷ cs) (reply ∷ rs) state a r (x ∷ xs) e q reads =
+      let l : length state.batch ≡ suc (length xs) = ap length e in
+      inr (at_gate laws w reached rest c cs reply rs state a r (omega arith) plan state.register left building
+      (ap (λ (ys : List Entry). register_after (ys ++ state.batch)) (sym (safe_all w rest)) ∙ register_with laws.registers w state.batch old safe ∙ sym q) reads)
+
+  within : (cs : List Command) (rs : List Reply) (state : State) → Asked w cs → Run w.building any_eligible (state_of w) cs rs state
+      → state.register ≡ register_of old state.batch → IsEither plan old state.register left → IsKept w left ⊎ IsKeptAtGate w cs (length state.batch) left
+  within cs rs state a r q (inl reads) = inl (kept_safe w plan old left building safe reads)
+  within cs rs state a r q (inr reads) = by_batch cs rs state a r state.batch refl q reads
+
+pub crashes_within_turns : {D P : Type 0} → Laws → (choice : Choice) → RunsAreAny choice → CrashesWithinTurns D P choice
+crashes_within_turns laws choice any w before after counts left t m agree either =
+    let cs : List Command = commands_of 0 t.turn.visits in
+    let state : State = t.turn.decided in
+    let wh : ShowsWhole w before.keeper = m.whole t.was_whole in
+    let a : Asked w cs = ask laws w m.reached (splits laws w before after m) (rests w wh.at_rest) cs agree (all_apart 0 t.turn.visits) in
+    let run : Run w.building any_eligible (state_of w) cs t.turn.replies state =
+    run_in choice any w before.keeper.writer.plan before.keeper.state cs t.turn.replies state m.building wh.state t.turn.run in
+    within laws w m.reached wh.at_rest before.keeper.writer.plan before.keeper.writer.register left m.building wh.safe cs t.turn.replies state a run t.turn.safe
+    (subst (λ (s : State). IsEither before.keeper.writer.plan before.keeper.writer.register s.register left) t.turn.after either)
+
+pub crashes_within_failures : {D P : Type 0} → Laws → (choice : Choice) → RunsAreAny choice → CrashesWithinFailures D P choice
+crashes_within_failures laws choice any w before after left t m agree either =
+    let cs : List Command = commands_of 0 t.turn.visits in
+    let state : State = after.keeper.state in
+    let rs : List Reply = t.turn.run.0.0 in
+    let wh : ShowsWhole w before.keeper = m.whole t.was_whole in
+    let a : Asked w cs = ask laws w m.reached (splits laws w before after m) (rests w wh.at_rest) cs agree (all_apart 0 t.turn.visits) in
+    let run : Run w.building any_eligible (state_of w) cs rs state =
+    run_in choice any w before.keeper.writer.plan before.keeper.state cs rs state m.building wh.state t.turn.run.0.1 in
+    within laws w m.reached wh.at_rest before.keeper.writer.plan before.keeper.writer.register left m.building wh.safe cs rs state a run t.turn.register either
+
+-- each letter
+pub cuts_show_letters : Laws → CutsShowLetters
+cuts_show_letters laws w left sound reached k = record {
+  entries = outcome w k.kept;
+  reads = k.reads;
+  holds = subst (λ (v : World). RecoversAcknowledged v) reached.1 (laws.acknowledged w.building reached.0 sound) k.kept k.may_be_kept;
+  letters = subst (λ (v : World). RecoversLetters v) reached.1 (laws.letters w.building reached.0 sound) k.kept k.may_be_kept;
+}

@@ -1,0 +1,115 @@
+//! What the machine of events is while a clerk runs.
+
+ghost use Rattle.std.specs.Prelude.{◌≡◌, ◌⊎◌, true, Err, IfOk, IfErr, OnOk, OnErr};
+ghost use Rattle.lift_clerk.specs.Turn.{IsBrokenTurn};
+ghost use Rattle.lift_clerk.specs.Laws.{Laws};
+ghost use Rattle.lift_clerk.specs.Machine.{TurnsAreTurns, FailuresAreFailures, BrokenTurnsAreBroken, TerminalsKeepIt};
+ghost use Rattle.lift_clerk.specs.Machine.{ReopeningsAreReopenings, FailedReopeningsAreFaults, NothingIsNoEvent, BeginsAtStart, BeginsAfterCut};
+ghost use Rattle.lift_clerk.specs.Machine.{CrashesAreCuts, CrashesWithinTurns, CrashesWithinFailures, CutsShowLetters, Moves, Turns, Fails, Reopens, Stays};
+
+use crate::clerk::Clerk;
+use crate::counts::Counts;
+use lift_disk::Disk;
+use lift_journal::JournalFault;
+use lift_keeper::KeeperFault;
+use lift_policy::Policy;
+use lift_register::registers_join;
+use lift_world::{
+    events_are_possible, every_run, parts_interleave, policies_are_covered, terminals_pass,
+    turns_are_events, turns_end_at_rest,
+};
+
+// What is proved of the machine, whatever runs it.
+fn machine_laws()
+    ensures { Laws }
+{
+    every_run();
+    events_are_possible();
+    turns_are_events();
+    turns_end_at_rest();
+    parts_interleave();
+    terminals_pass();
+    registers_join();
+}
+
+/// A clerk's group is in some world of the machine between any two calls. Each turn is a list of possible events, with just
+/// its commands and their replies, and leads to the group's next world: a turn that answers Ok, one that the device failed,
+/// and one while broken. What terminals ask and hear between two calls leads to such a world too.
+pub fn turns_are_the_machines<D: Disk, P: Policy>()
+    ensures turns { (policy : P) → TurnsAreTurns D P (P.chooses policy) }
+    ensures failures { (policy : P) → FailuresAreFailures D P (P.chooses policy) }
+    ensures broken { BrokenTurnsAreBroken D P }
+    ensures terminals { TerminalsKeepIt D P }
+{
+    policies_are_covered::<P>();
+    machine_laws();
+}
+
+/// So is each reopening: it keeps what the register tells that it kept, and one that the device failed is a fault. Where
+/// nothing of a clerk changed there was no event. A clerk at a new desk begins in the machine's first world over an empty
+/// journal, and after a crash in the one that a power cut and its recovery leave.
+pub fn reopenings_are_the_machines<D: Disk, P: Policy>()
+    ensures reopenings { ReopeningsAreReopenings D P }
+    ensures faults { FailedReopeningsAreFaults D P }
+    ensures nothing { NothingIsNoEvent D P }
+    ensures start { BeginsAtStart D P }
+    ensures recovery { BeginsAfterCut D P }
+{
+    machine_laws();
+}
+
+/// Whatever a crash may leave, between two calls or at any moment within a turn, is what some power cut of the machine keeps.
+/// So it holds every entry that was acknowledged, and shows each letter that was given.
+pub fn crashes_are_the_machines<D: Disk, P: Policy>()
+    ensures between { CrashesAreCuts D P }
+    ensures within { (policy : P) → CrashesWithinTurns D P (P.chooses policy) }
+    ensures within_failed { (policy : P) → CrashesWithinFailures D P (P.chooses policy) }
+    ensures letters { CutsShowLetters }
+{
+    policies_are_covered::<P>();
+    machine_laws();
+}
+
+// One turn, with what its contract gives of the machine's turns.
+fn turn_once<D: Disk, P: Policy + Drop>(
+    clerk: &mut Clerk<'_, '_, D, P>,
+) -> Result<Counts, KeeperFault>
+    ensures turns { IfOk result (λ counts. Turns (P.chooses clerk.old.policy) clerk.old clerk.new counts) }
+    ensures fails { result ≡ Err (KeeperFault.Journal JournalFault.Disk) → Fails (P.chooses clerk.old.policy) clerk.old clerk.new }
+    ensures rests { result ≡ Err (KeeperFault.Journal JournalFault.Broken) → IsBrokenTurn clerk.old clerk.new }
+    ensures broken { result ≡ Err (KeeperFault.Journal JournalFault.Broken) → clerk.old.keeper.writer.is_broken ≡ true }
+    ensures causes { IfErr result (λ fault. (fault ≡ KeeperFault.Journal JournalFault.Disk) ⊎ (fault ≡ KeeperFault.Journal JournalFault.Broken)) }
+{
+    clerk.turn()
+}
+
+// One reopening likewise.
+fn reopen_once<D: Disk, P: Policy + Drop>(
+    clerk: &mut Clerk<'_, '_, D, P>,
+) -> Result<(), KeeperFault>
+    ensures opens { OnOk result ((D.state clerk.old.keeper.writer.device).is_honest → Reopens clerk.old clerk.new) }
+    ensures stays { OnErr result (Stays clerk.old clerk.new) }
+    ensures same { OnErr result ((clerk.new.keeper.writer.is_broken ≡ true) ⊎ (clerk.new.keeper.writer.is_broken ≡ clerk.old.keeper.writer.is_broken)) }
+{
+    clerk.reopen()
+}
+
+/// One turn. Whatever world the group was in, with no ask waiting there, possible events lead to the one that it is in then.
+pub fn turn_moves_the_machine<D: Disk, P: Policy + Drop>(
+    clerk: &mut Clerk<'_, '_, D, P>,
+) -> Result<Counts, KeeperFault>
+    ensures { Moves clerk.old clerk.new }
+{
+    turns_are_the_machines::<D, P>();
+    turn_once(clerk)
+}
+
+/// One reopening, on an honest device.
+pub fn reopening_moves_the_machine<D: Disk, P: Policy + Drop>(
+    clerk: &mut Clerk<'_, '_, D, P>,
+) -> Result<(), KeeperFault>
+    ensures { (D.state clerk.old.keeper.writer.device).is_honest → Moves clerk.old clerk.new }
+{
+    reopenings_are_the_machines::<D, P>();
+    reopen_once(clerk)
+}
