@@ -30,14 +30,14 @@ use Rattle.lift_world.specs.Turns.{IsAtRest, scanned, take_events, with_replies}
 use Rattle.lift_clerk.specs.Clerk.{ClerkState}
 use Rattle.lift_clerk.specs.Turn.{IsEither}
 use Rattle.lift_clerk.specs.Visits.{commands_of}
-use Rattle.lift_clerk.specs.Machine.{IsMachineOf, IsReached, ShowsWhole, ShowsBroken, IsKept, IsKeptAtGate, events_to_gate, CrashesAreCuts, CrashesWithinTurns, CrashesWithinFailures, CutsShowLetters}
+use Rattle.lift_clerk.specs.Machine.{IsMachineOf, IsReached, ShowsWhole, ShowsBroken, IsKept, IsKeptAtGate, events_to_gate, CrashesAreCuts, CrashesWithinTurns, CrashesWithinFailures, CutsShowLetters, BeginsAfterCrash}
 use Rattle.lift_clerk.specs.Laws.{Laws}
 use Rattle.lift_clerk.proofs.Served.{all_apart}
 use Rattle.lift_clerk.proofs.Standing.{fresh}
 use Rattle.lift_clerk.proofs.Asked.{Asked, ask, reaches, rests, goes_behind, run_in}
 use Rattle.lift_clerk.proofs.Turned.{splits, register_with, safe_all}
 use Rattle.lift_clerk.proofs.Doubts.{was_safe, in_doubt}
-use Rattle.lift_clerk.proofs.Reopened.{with_nothing}
+use Rattle.lift_clerk.proofs.Reopened.{with_nothing, begins_after_cut}
 
 kept_safe : (w : World) (plan : Plan) (register : RegisterState) (left : Image) → w.building ≡ plan → register_after (safe_list w) ≡ register → IsImageOf plan register left → IsKept w left
 kept_safe w plan register left b r reads = record {
@@ -226,3 +226,9 @@ cuts_show_letters laws w left sound reached k = record {
   holds = subst (λ (v : World). RecoversAcknowledged v) reached.1 (laws.acknowledged w.building reached.0 sound) k.kept k.may_be_kept;
   letters = subst (λ (v : World). RecoversLetters v) reached.1 (laws.letters w.building reached.0 sound) k.kept k.may_be_kept;
 }
+
+pub begins_after_crash : {D P : Type 0} → Laws → BeginsAfterCrash D P
+begins_after_crash laws w clerk image reached building begins k only =
+    let reads : IsImageOf clerk.keeper.writer.plan (register_after (outcome w k.kept)) image = subst (λ (p : Plan). IsImageOf p (register_after (outcome w k.kept)) image) building k.reads in
+    let b = begins_after_cut laws w clerk k.kept reached building k.may_be_kept begins (sym (only (register_after (outcome w k.kept)) reads)) in
+    (k.kept, b.0, b.1, b.2, b.3)

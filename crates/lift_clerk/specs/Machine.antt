@@ -4,7 +4,7 @@ use Rattle.std.specs.List.{AllByRecursion}
 use Rattle.lift_base.specs.declared.history.Entry.{Entry}
 use Rattle.lift_building.specs.Plan.{IsBuilding}
 use Rattle.lift_disk.specs.Disk.{Image}
-use Rattle.lift_register.specs.Register.{register_of, empty}
+use Rattle.lift_register.specs.Register.{RegisterState, register_of, empty}
 use Rattle.lift_desk.specs.declared.view.ClerkView.{ClerkView}
 use Rattle.lift_desk.specs.declared.words.Ask.{Ask}
 use Rattle.lift_desk.specs.Words.{reply_word}
@@ -221,6 +221,13 @@ pub record IsKept (w : World) (left : Image) : Type 0 where
   pub kept : Kept
   pub may_be_kept : IsTrue (may_keep w kept)
   pub reads : IsImageOf w.building (register_after (outcome w kept)) left
+
+-- Over a device whose image is such a one, and reads as no other register than the keeper's, a clerk at a new desk is in the
+-- world which that power cut and its recovery leave.
+abbrev pub BeginsAfterCrash : (D P : Type 0) → Type 0
+BeginsAfterCrash D P = (w : World) (clerk : ClerkState D P) (image : Image) → IsReached w → w.building ≡ clerk.keeper.writer.plan → Begins clerk → IsKept w image
+    → ((other : RegisterState) → IsImageOf clerk.keeper.writer.plan other image → other ≡ clerk.keeper.writer.register)
+    → (kept : Kept) × (after : World) × (goes (Cut kept ∷ Reopen kept ∷ []) w ≡ Some after) × (after.given ≡ w.given) × IsMachineOf after clerk
 
 -- What a crash may leave between two calls, a power cut of the machine keeps.
 abbrev pub CrashesAreCuts : (D P : Type 0) → Type 0

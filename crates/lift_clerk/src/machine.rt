@@ -5,7 +5,7 @@ ghost use Rattle.lift_clerk.specs.Turn.{IsBrokenTurn};
 ghost use Rattle.lift_clerk.specs.Laws.{Laws};
 ghost use Rattle.lift_clerk.specs.Machine.{TurnsAreTurns, FailuresAreFailures, BrokenTurnsAreBroken, TerminalsKeepIt};
 ghost use Rattle.lift_clerk.specs.Machine.{ReopeningsAreReopenings, FailedReopeningsAreFaults, NothingIsNoEvent, BeginsAtStart, BeginsAfterCut};
-ghost use Rattle.lift_clerk.specs.Machine.{CrashesAreCuts, CrashesWithinTurns, CrashesWithinFailures, CutsShowLetters, Moves, Turns, Fails, Reopens, Stays};
+ghost use Rattle.lift_clerk.specs.Machine.{CrashesAreCuts, CrashesWithinTurns, CrashesWithinFailures, CutsShowLetters, BeginsAfterCrash, Moves, Turns, Fails, Reopens, Stays};
 
 use crate::clerk::Clerk;
 use crate::counts::Counts;
@@ -59,11 +59,13 @@ pub fn reopenings_are_the_machines<D: Disk, P: Policy>()
 }
 
 /// Whatever a crash may leave, between two calls or at any moment within a turn, is what some power cut of the machine keeps.
-/// So it holds every entry that was acknowledged, and shows each letter that was given.
+/// A clerk over a keeper that opens it goes on from there. So it holds every entry that was acknowledged, and shows each letter
+/// that was given.
 pub fn crashes_are_the_machines<D: Disk, P: Policy>()
     ensures between { CrashesAreCuts D P }
     ensures within { (policy : P) → CrashesWithinTurns D P (P.chooses policy) }
     ensures within_failed { (policy : P) → CrashesWithinFailures D P (P.chooses policy) }
+    ensures recovery { BeginsAfterCrash D P }
     ensures letters { CutsShowLetters }
 {
     policies_are_covered::<P>();
