@@ -39,10 +39,11 @@ line_of (Shown disk) = None
 line_of (Failed fault) = Some (fault_text fault ++ 10 ∷ [])
 line_of OtherWords = Some (usage_text ++ 10 ∷ [])
 
--- A journal with so many sectors in a half was made on the device: by five calls, of which none failed.
+-- A journal with so many sectors in a half was made on the device: by five calls, three of them writes, of which none failed.
 pub record IsMadeWith (half : ℕ) (disk : FileDisk) : Type 0 where
   pub size : (file_state_of disk).size ≡ 2 + 2 * half
   pub calls : (file_state_of disk).calls ≡ 5
+  pub writes : (file_state_of disk).writes ≡ 3
   pub failures : (file_state_of disk).failures ≡ 0
 
 -- the journal that was asked for

@@ -37,6 +37,7 @@ pub fn image_at<F: Files<File = File>>(rt: &F, path: &str, sectors: u32) -> Resu
     ensures size { IfOk result (λ disk. (file_state_of disk).size ≡ sectors) }
     ensures failures { IfOk result (λ disk. (file_state_of disk).failures ≡ 0) }
     ensures calls { IfOk result (λ disk. (file_state_of disk).calls ≡ 0) }
+    ensures writes { IfOk result (λ disk. (file_state_of disk).writes ≡ 0) }
     ensures fault { IfErr result IsFileFault }
 {
     FileDisk::create(rt, path, sectors).map_err(refused)
