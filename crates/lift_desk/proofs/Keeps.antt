@@ -190,7 +190,7 @@ pub looks_keep : (slots id : ℕ) (me : M) → me.0.answers ≡ true → me.0.lo
 looks_keep slots id me may not_ahead s r _ at _ =
     let n : ℕ = get_or s.words 0 0 in
     let so = looks_so s r id me.0 may not_ahead at (nat_lt (turn_of (last_of me.0.clerk.taken)) (turn_of n)) refl in
-    (at_clerk me.0 (with_taking me.0.clerk n), keeps, tt, so.0, (refl, so.1))
+    (at_clerk me.0 (with_taking me.0.clerk n), keeps, tt, so.0, (refl, refl, so.1))
 
 pub answers_keep : (slots id : ℕ) (me : M) (word : ℕ) → me.0.answers ≡ true → length me.0.clerk.taken ≡ suc (length me.0.clerk.answered)
     → stamp_of word ≡ stamp_of (last_of me.0.clerk.taken) → IsReplyWord word
@@ -356,6 +356,7 @@ meets_keep slots id me may s r _ at _ =
         views = fit_set r.terminal r.clerk l s.views id w mine (λ j u apart e. r.views j u e);
       },
       (
+        refl,
         refl,
         λ as_long.
             let long : length l.answered ≤ length v.told = let t : turn_of n ≡ length l.answered = ap turn_of n_is ∙ c.answered in omega arith in

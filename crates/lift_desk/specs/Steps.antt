@@ -50,10 +50,11 @@ Asked step before found after = after ≡ (at_terminal before.0 (with_ask before
 abbrev pub Answered : Step (Unit {0}) → Seated → ℕ → Seated → Type 0
 Answered step before found after = after ≡ (at_clerk before.0 (with_answer before.0.clerk step.first), before.1)
 
--- an ask that is taken is spelled, and all before it was answered
+-- it is the ask word that is loaded; an ask that is taken is spelled, and all before it was answered
 abbrev pub Looked : Step (Unit {0}) → Seated → ℕ → Seated → Type 0
 Looked step before found after =
-    (after ≡ (at_clerk before.0 (with_taking before.0.clerk found), before.1))
+    (step.word ≡ 0)
+    × (after ≡ (at_clerk before.0 (with_taking before.0.clerk found), before.1))
     × (is_new before.0.clerk found ≡ true → IsAskWord found × (turn_of found ≡ suc (length before.0.clerk.taken)) × (length before.0.clerk.answered ≡ length before.0.clerk.taken))
 
 -- an ask that is taken ahead of the answers is spelled
@@ -68,8 +69,9 @@ Heard step before found after =
     (after ≡ (at_terminal before.0 (with_hearing before.0.terminal found), before.1))
     × (is_awaited before.0.terminal found ≡ true → IsReplyWord found × (turn_of found ≡ length before.0.terminal.asked) × (number_of found ≡ number_of (last_of before.0.terminal.asked)))
 
--- where the word is the last of those that the terminal was told, these begin with what it has heard
+-- it is the answer word that is loaded; where it is the last of those that the terminal was told, these begin with what it has heard
 abbrev pub Met : Step (Unit {0}) → Seated → ℕ → Seated → Type 0
 Met step before found after =
-    (after ≡ (at_terminal before.0 (with_look before.0.terminal found), before.1))
+    (step.word ≡ 1)
+    × (after ≡ (at_terminal before.0 (with_look before.0.terminal found), before.1))
     × (turn_of found ≡ length before.0.told → IsPrefix before.0.terminal.heard before.0.told)
