@@ -160,6 +160,8 @@ impl<'d, 'b, D: Disk, P: Policy + Drop> Clerk<'d, 'b, D, P> {
             ⊎ (self.new.keeper.writer.is_broken ≡ self.old.keeper.writer.is_broken)) }
         ensures unmoved { OnErr result ((self.new.keeper.state ≡ self.old.keeper.state) × (self.new.keeper.writer.register ≡ self.old.keeper.writer.register)
             × (self.new.keeper.writer.doubt ≡ self.old.keeper.writer.doubt) × (self.new.keeper.writer.opened ≡ self.old.keeper.writer.opened)) }
+        ensures place { OnErr result ((self.new.keeper.writer.half ≡ self.old.keeper.writer.half) × (self.new.keeper.writer.is_second ≡ self.old.keeper.writer.is_second)
+            × (self.new.keeper.writer.used ≡ self.old.keeper.writer.used)) }
         ensures plan { self.new.keeper.writer.plan ≡ self.old.keeper.writer.plan }
     {
         self.keeper.reopen()

@@ -60,7 +60,7 @@ pub fn reopenings_are_the_machines<D: Disk, P: Policy>()
 
 /// Whatever a crash may leave, between two calls or at any moment within a turn, is what some power cut of the machine keeps.
 /// A clerk over a keeper that opens it goes on from there. So it holds every entry that was acknowledged, and shows each letter
-/// that was given.
+/// that was given before that call.
 pub fn crashes_are_the_machines<D: Disk, P: Policy>()
     ensures between { CrashesAreCuts D P }
     ensures within { (policy : P) → CrashesWithinTurns D P (P.chooses policy) }
@@ -100,7 +100,12 @@ fn reopen_once<D: Disk, P: Policy + Drop>(
 pub fn turn_moves_the_machine<D: Disk, P: Policy + Drop>(
     clerk: &mut Clerk<'_, '_, D, P>,
 ) -> Result<Counts, KeeperFault>
-    ensures { Moves clerk.old clerk.new }
+    ensures turns { IfOk result (λ counts. Turns (P.chooses clerk.old.policy) clerk.old clerk.new counts) }
+    ensures fails { result ≡ Err (KeeperFault.Journal JournalFault.Disk) → Fails (P.chooses clerk.old.policy) clerk.old clerk.new }
+    ensures rests { result ≡ Err (KeeperFault.Journal JournalFault.Broken) → IsBrokenTurn clerk.old clerk.new }
+    ensures broken { result ≡ Err (KeeperFault.Journal JournalFault.Broken) → clerk.old.keeper.writer.is_broken ≡ true }
+    ensures causes { IfErr result (λ fault. (fault ≡ KeeperFault.Journal JournalFault.Disk) ⊎ (fault ≡ KeeperFault.Journal JournalFault.Broken)) }
+    ensures moves { Moves clerk.old clerk.new }
 {
     turns_are_the_machines::<D, P>();
     turn_once(clerk)
@@ -110,7 +115,10 @@ pub fn turn_moves_the_machine<D: Disk, P: Policy + Drop>(
 pub fn reopening_moves_the_machine<D: Disk, P: Policy + Drop>(
     clerk: &mut Clerk<'_, '_, D, P>,
 ) -> Result<(), KeeperFault>
-    ensures { (D.state clerk.old.keeper.writer.device).is_honest → Moves clerk.old clerk.new }
+    ensures opens { OnOk result ((D.state clerk.old.keeper.writer.device).is_honest → Reopens clerk.old clerk.new) }
+    ensures stays { OnErr result (Stays clerk.old clerk.new) }
+    ensures same { OnErr result ((clerk.new.keeper.writer.is_broken ≡ true) ⊎ (clerk.new.keeper.writer.is_broken ≡ clerk.old.keeper.writer.is_broken)) }
+    ensures moves { (D.state clerk.old.keeper.writer.device).is_honest → Moves clerk.old clerk.new }
 {
     reopenings_are_the_machines::<D, P>();
     reopen_once(clerk)
