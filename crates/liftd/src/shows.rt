@@ -2,8 +2,8 @@
 
 use crate::command_lines::{Failing, Run};
 use crate::images::DEMO;
-use crate::output::Output;
 use crate::start::start;
+use lift_base::text::Watched;
 use lift_base::{Body, Dir, Floor, Letter, Number, Party, Reply, Terminal};
 use lift_building::Building;
 use lift_disk::FileDisk;
@@ -295,7 +295,7 @@ fn an_output_that_fails(rt: HostRuntime) -> Result<(), Fail> {
         words.as_slice(),
         Failing,
         &mut Failing,
-        &mut Output::new(&mut errors),
+        &mut Watched::new(&mut errors),
     );
     assert!(rt; status == 1 && errors.as_slice() == b"liftd: file\n".as_slice());
     fs::remove_file(&rt, image)?;
