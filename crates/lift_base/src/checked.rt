@@ -1,3 +1,4 @@
+//! Numbers that are always in range.
 ghost use Rattle.std.specs.Prelude.{◌≡◌, ℕ, ◌+◌, ◌-◌, ◌<◌, ◌≤◌, ◌↔◌, IsTrue, IsSome, IfSome};
 
 use std::marker::Model;
@@ -19,6 +20,7 @@ impl Model for Floor {
 }
 
 impl Floor {
+    /// The floor with this number; none above 63.
     pub fn new(number: u8) -> Option<Self>
         ensures valid { IsSome result ↔ (number < 64) }
         ensures value { IfSome result (λ floor. floor ≡ number) }
@@ -30,6 +32,7 @@ impl Floor {
         }
     }
 
+    /// Its number, 0 to 63.
     pub fn get(self) -> u8
         ensures value { result ≡ self }
         ensures in_range { result < 64 }
@@ -63,6 +66,7 @@ impl Model for Letter {
 }
 
 impl Letter {
+    /// The car with this index, counted from 0; none above 15.
     pub fn new(index: u8) -> Option<Self>
         ensures valid { IsSome result ↔ (index < 16) }
         ensures value { IfSome result (λ letter. letter ≡ index) }
@@ -74,6 +78,7 @@ impl Letter {
         }
     }
 
+    /// Its index, 0 to 15.
     pub fn get(self) -> u8
         ensures value { result ≡ self }
         ensures in_range { result < 16 }
@@ -107,6 +112,7 @@ impl Model for Terminal {
 }
 
 impl Terminal {
+    /// The terminal with this index, counted from 0; none above 62.
     pub fn new(index: u8) -> Option<Self>
         ensures valid { IsSome result ↔ (index < 63) }
         ensures value { IfSome result (λ terminal. terminal ≡ index) }
@@ -118,6 +124,7 @@ impl Terminal {
         }
     }
 
+    /// Its index, 0 to 62.
     pub fn get(self) -> u8
         ensures value { result ≡ self }
         ensures in_range { result < 63 }
@@ -145,6 +152,7 @@ impl Terminal {
         }
     }
 
+    /// Whether it is a kiosk's, 16 to 62.
     pub fn is_kiosk(self) -> bool
         ensures { IsTrue result ↔ (16 ≤ self) }
     {
@@ -197,6 +205,7 @@ impl Model for Number {
 }
 
 impl Number {
+    /// This number; none above 16,777,215.
     pub fn new(value: u32) -> Option<Self>
         ensures valid { IsSome result ↔ (value < 16777216) }
         ensures value { IfSome result (λ number. number ≡ value) }
@@ -208,6 +217,7 @@ impl Number {
         }
     }
 
+    /// Its value, 0 to 16,777,215.
     pub fn get(self) -> u32
         ensures value { result ≡ self }
         ensures in_range { result < 16777216 }

@@ -1,3 +1,4 @@
+//! What terminals ask, and what they are answered.
 ghost use Rattle.std.specs.Prelude.{◌≡◌, ◌↔◌, IsSome, IfSome};
 ghost use Rattle.lift_base.specs.Command.{reason_number, IsReasonNumber};
 
@@ -63,6 +64,7 @@ impl Reason {
         }
     }
 
+    /// The reason with this number; none for 0, 9, 10 and above 11.
     pub fn from_number(number: u8) -> Option<Self>
         ensures valid { IsSome result ↔ IsReasonNumber number }
         ensures value { IfSome result (λ reason. reason_number reason ≡ number) }

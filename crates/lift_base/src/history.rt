@@ -1,3 +1,4 @@
+//! Entries, open calls, and the records that keep them.
 ghost use Rattle.std.specs.Prelude.{◌≡◌, ◌≢◌, ◌↔◌, IsTrue, IfSome, IfNone};
 ghost use Rattle.std.specs.Option.{option_to_list};
 ghost use Rattle.lift_base.specs.History.{record_of, dir_of, row_after, IsWithinLimits};
@@ -8,6 +9,7 @@ use crate::travel::{Dir, Stop};
 /// A command that was accepted and is kept: a call allotted to a car, or a stop of a car.
 #[derive(Clone, Copy, PartialEq, Eq)]
 pub enum Entry {
+    /// A kiosk's call, and the car that takes it.
     Allot {
         kiosk: Terminal,
         number: Number,
@@ -16,6 +18,7 @@ pub enum Entry {
         car: Letter,
         party: Party,
     },
+    /// A stop of a car.
     Stop {
         car: Letter,
         number: Number,
@@ -39,12 +42,19 @@ impl Default for Entry {
 /// An open call: it was allotted to a car, and its passengers wait or are aboard.
 #[derive(Clone, Copy, Default, PartialEq, Eq)]
 pub struct Row {
+    /// Where it was asked.
     pub kiosk: Terminal,
+    /// Its number at that kiosk, from 1.
     pub number: Number,
+    /// The floor where its passengers wait.
     pub from: Floor,
+    /// The floor that they go to.
     pub to: Floor,
+    /// The car whose letter they were given.
     pub car: Letter,
+    /// How many they are.
     pub party: Party,
+    /// Whether they ride; else they wait.
     pub aboard: bool,
 }
 
@@ -81,12 +91,14 @@ impl Row {
 /// What a terminal's last accepted command said, with the letter that a call was answered.
 #[derive(Clone, Copy, PartialEq, Eq)]
 pub enum Content {
+    /// A kiosk's last call, and the car that it was answered.
     Letter {
         from: Floor,
         to: Floor,
         car: Letter,
         party: Party,
     },
+    /// A car's last stop.
     Stopped {
         floor: Floor,
         dir: Dir,
@@ -106,13 +118,16 @@ impl Default for Content {
 /// The last accepted command of a terminal.
 #[derive(Clone, Copy, Default, PartialEq, Eq)]
 pub struct Last {
+    /// Its number, from 1.
     pub number: Number,
+    /// What it said, and for a call also what was answered.
     pub content: Content,
 }
 
 /// One record of the journal: an entry, or a part of a checkpoint.
 #[derive(Clone, Copy, PartialEq, Eq)]
 pub enum Record {
+    /// A call that was allotted.
     Allot {
         kiosk: Terminal,
         number: Number,
@@ -121,6 +136,7 @@ pub enum Record {
         car: Letter,
         party: Party,
     },
+    /// A stop of a car.
     Stop {
         car: Letter,
         number: Number,
@@ -229,13 +245,18 @@ pub const MOST_DONE: u32 = 788_529_105;
 /// The size of an installation: how many floors, cars and kiosks, and how many sectors in half of its disk.
 #[derive(Clone, Copy, Default, PartialEq, Eq)]
 pub struct Shape {
+    /// 2 to 64.
     pub floors: u8,
+    /// 1 to 16.
     pub cars: u8,
+    /// 1 to 47.
     pub kiosks: u8,
+    /// Sectors in a half, 64 to 1,000,000.
     pub half: u32,
 }
 
 impl Shape {
+    /// Whether the controller is made for these sizes.
     pub fn is_within_limits(&self) -> bool
         ensures { IsTrue result ↔ IsWithinLimits self.now }
     {

@@ -1,3 +1,4 @@
+//! Want of memory.
 ghost use Rattle.std.specs.Prelude.{◌≡◌};
 
 use std::alloc::AllocError;

@@ -1,3 +1,4 @@
+//! What a turn did.
 /// What one turn did.
 #[derive(Clone, Copy, PartialEq, Eq)]
 pub struct Counts {

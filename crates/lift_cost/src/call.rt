@@ -1,3 +1,4 @@
+//! New calls.
 ghost use Rattle.std.specs.Prelude.{◌≡◌, ◌≤◌, length};
 ghost use Rattle.lift_cost.specs.Cost.{waiting_row, with_call};
 
@@ -7,8 +8,11 @@ use lift_base::{Floor, Letter, Number, Party, Row, Terminal};
 /// A call that no car has taken yet, for a party of passengers.
 #[derive(Clone, Copy)]
 pub struct NewCall {
+    /// Where it is asked.
     pub from: Floor,
+    /// Where its passengers go.
     pub to: Floor,
+    /// How many they are.
     pub party: Party,
 }
 

@@ -1,3 +1,4 @@
+//! Devices that fail calls.
 use crate::calls::{call, get, holds, put};
 use lift_disk::{Arm, Disk, FlakyDisk, FuseDisk, MemDisk, Outcome};
 use std::process::Abort;

@@ -1,3 +1,4 @@
+//! A device on a file.
 use crate::calls::{get, holds, put};
 use lift_disk::{Disk, FileDisk, FileFault};
 use std::fs;

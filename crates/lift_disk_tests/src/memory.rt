@@ -1,3 +1,4 @@
+//! A device in memory, and what a cut leaves.
 use crate::calls::{get, holds, put};
 use lift_disk::{Disk, MemDisk, Outcome};
 use std::process::Abort;

@@ -1,3 +1,4 @@
+//! A batch as it was read.
 use arrayvec::ArrayVec;
 use lift_base::Record;
 use lift_record::Version;

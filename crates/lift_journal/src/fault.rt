@@ -1,3 +1,4 @@
+//! Why a call of the journal is refused.
 ghost use Rattle.std.specs.Prelude.{◌≡◌, ◌↔◌, IsTrue};
 ghost use Rattle.lift_journal.specs.declared.fault.JournalFault.TheVariants.{Disk};
 ghost use Rattle.lift_journal.specs.Fault.{fault_number};

@@ -44,7 +44,7 @@ fn put_stamp<D: Disk>(disk: &mut D, shape: &Shape) -> Result<(), DiskFault>
 }
 
 /// Makes an empty journal of this shape, over whatever the device holds. The other sectors stay as they are.
-/// After a fault the device is synced, and then it is begun again.
+/// After a fault: sync the device, then format it again.
 pub fn format<D: Disk>(disk: &mut D, shape: Shape) -> Result<(), DiskFault>
     requires within { IsWithinLimits shape }
     requires room { 2 * shape.half + 2 ≤ (D.state disk.old).size }

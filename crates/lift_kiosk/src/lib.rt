@@ -1,4 +1,5 @@
-//! Sessions of kiosks: lines in, asks at a port, lines out. Nothing here takes memory, and nothing waits but a port's own rest.
+//! Sessions of kiosks: lines in, asks at a port, lines out. Nothing here takes memory, and
+//! nothing waits but calls of the reader and the writer, and a port's rest.
 #![tactic(auto)]
 
 mod conversation;

@@ -1,3 +1,4 @@
+//! Which cars may take a call.
 ghost use Rattle.std.specs.Prelude.{◌≡◌, ◌↔◌, ◌<◌, ◌≤◌, ◌==◌, [], ◌∷◌, if◌then◌else◌, length, IfSome, IsNone};
 ghost use Rattle.std.specs.Option.{option_to_list};
 ghost use Rattle.lift_policy.specs.Eligible.{can_take, is_eligible, eligible_cars, AreLetters};

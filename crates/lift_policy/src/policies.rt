@@ -1,3 +1,4 @@
+//! The three policies.
 ghost use Rattle.std.specs.Prelude.{ℕ, ◌≡◌, ◌<◌, length};
 ghost use Rattle.lift_building.specs.Plan.{Plan};
 ghost use Rattle.lift_cost.specs.declared.call.NewCall.{NewCall as Call};

@@ -1,3 +1,4 @@
+//! One of the three policies.
 ghost use Rattle.std.specs.Prelude.{ℕ, List, Contains};
 ghost use Rattle.lift_building.specs.Plan.{Plan};
 ghost use Rattle.lift_cost.specs.declared.call.NewCall.{NewCall as Call};
@@ -15,8 +16,11 @@ use lift_cost::NewCall;
 /// One of the three policies.
 #[derive(Clone, Copy)]
 pub enum Shipped {
+    /// The least total cost.
     Etd(Etd),
+    /// The fewest persons with open calls.
     FewestOpen(FewestOpen),
+    /// The earliest arrival at the call's floor.
     ShortestWait(ShortestWait),
 }
 

@@ -1,3 +1,4 @@
+//! What a policy sees.
 ghost use Rattle.std.specs.Prelude.{◌≡◌, ◌≤◌, length, option_map};
 ghost use Rattle.lift_base.specs.declared.travel.Position.{Position as PositionValue};
 ghost use Rattle.lift_register.specs.Register.{rows_of};

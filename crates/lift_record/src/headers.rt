@@ -1,3 +1,4 @@
+//! Headers of batches.
 ghost use Rattle.std.specs.Prelude.{◌≡◌, ◌≤◌, ◌↔◌, Some};
 ghost use Rattle.lift_record.specs.Header.{header_bytes, IsHeaderSpelling};
 ghost use Rattle.lift_record.specs.declared.version.Version.TheVariants.{Two};
@@ -8,8 +9,11 @@ use crate::version::Version;
 /// in its chain, counted from 1.
 #[derive(Clone, Copy)]
 pub struct Header {
+    /// That of its records.
     pub version: Version,
+    /// How many records it has, 1 to 63.
     pub count: u16,
+    /// Its place in the half, from 1.
     pub number: u32,
 }
 

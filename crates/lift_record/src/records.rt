@@ -1,3 +1,4 @@
+//! Records and their bytes.
 ghost use Rattle.std.specs.Prelude.{◌≡◌, ◌<◌, ◌≤◌, ◌↔◌, ℕ, IsTrue, IsSome, IfSome, Some};
 ghost use Rattle.lift_base.specs.declared.history.Content.{Content as ContentValue};
 ghost use Rattle.lift_base.specs.declared.history.Record.{Record as RecordValue};

@@ -1,3 +1,4 @@
+//! The versions of the format.
 ghost use Rattle.std.specs.Prelude.{◌≡◌};
 ghost use Rattle.lift_record.specs.Version.{version_number};
 

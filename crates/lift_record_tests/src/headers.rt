@@ -1,3 +1,4 @@
+//! Headers and their bytes.
 use lift_record::{Version, decode_header, encode_header};
 
 /// Headers are written in the second version and read in both.

@@ -1,3 +1,4 @@
+//! Records and their bytes, in both versions.
 use crate::parts::{allot, last_call, last_stop, row, stop};
 use lift_base::{Dir, Record};
 use lift_record::{Version, decode, encode, is_lawful};

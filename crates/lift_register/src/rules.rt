@@ -1,3 +1,4 @@
+//! What a building allows.
 ghost use Rattle.std.specs.Prelude.{◌≡◌, ◌↔◌, ◌<◌, ◌≤◌, ◌+◌, IsTrue, length};
 ghost use Rattle.lift_register.specs.Fits.{IsPossibleCall, IsPossibleStop, IsPossibleLast, persons_of};
 ghost use Rattle.lift_base.specs.Records.{IsTypedCommand, IsTypedCall, IsTypedContent, IsTyped, IsLawfulLast};

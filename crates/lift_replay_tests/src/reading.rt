@@ -1,3 +1,4 @@
+//! Readers that never end, fail or give a byte at a time.
 use lift_base::text::Counted;
 use lift_replay::{InputFault, read_all};
 use std::io;

@@ -1,3 +1,4 @@
+//! The lines of a report.
 use lift_base::{
     Dir, Floor, Halt, Letter, Number, Party, Pass, Reason, Reply, Row, Stop, Terminal,
 };

@@ -1,3 +1,4 @@
+//! Sessions of kiosks.
 use crate::served::{Served, ample, call, called, car, no_call, number, only_seat, open};
 use lift_base::text::{Counted, Watched};
 use lift_base::{Body, Number, Reason, Reply};

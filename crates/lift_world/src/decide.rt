@@ -1,3 +1,4 @@
+//! One decision.
 ghost use Rattle.std.specs.Prelude.{◌≡◌, ◌<◌, ◌==◌, ◌+◌, ◌++◌, [], List, Option, Some, None, true, option_map, slice_set};
 ghost use Rattle.lift_base.specs.declared.history.Entry.{Entry as EntryValue};
 ghost use Rattle.lift_base.specs.declared.command.Reply.{Reply as ReplyValue};

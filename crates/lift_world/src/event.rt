@@ -1,3 +1,4 @@
+//! What can happen.
 use lift_base::{Body, Letter, Number, Reply, Terminal};
 
 /// What a power cut, or a fault, leaves of the batch in flight.

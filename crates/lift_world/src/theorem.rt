@@ -1,3 +1,4 @@
+//! What holds of the machine.
 ghost use Rattle.std.specs.Prelude.{ℕ, List};
 ghost use Rattle.std.specs.List.{AllByRecursion};
 ghost use Rattle.lift_building.specs.Plan.{Plan, IsBuilding};
@@ -33,7 +34,7 @@ use lift_policy::Policy;
 /// refused for no entry. All that was accepted fits, one entry after another, and is a record of the journal where asks are
 /// as their types hold them. What is acknowledged or shown is read from what was given, and each stored answer is that of
 /// a command given. Each terminal asks one by one, and hears what it was answered, in order and each once. At most five
-/// batches are queued, none of more commands than there are terminals, nor, while running, of more entries; between batches
+/// batches are queued, and where asks are of the 63 terminals none of more than 63 commands, nor, while running, of more entries; between batches
 /// none is in flight, and a reopening while nothing failed unplaces the cars alone; a cut leaves no command on its way; and
 /// what is sealed is a front of what is accepted, which a scan's law asks for.
 pub fn every_run()
