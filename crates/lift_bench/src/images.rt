@@ -1,11 +1,11 @@
 //! Journals on files, and the plain calls beside them.
-ghost use Rattle.std.specs.Prelude.{◌≡◌, ◌≤◌, ◌<◌, ◌++◌, ◌∷◌, [], All, length};
+ghost use Rattle.std.specs.Prelude.{◌≡◌, ◌≤◌, All, length};
 ghost use Rattle.lift_base.specs.Records.{IsLawful};
 ghost use Rattle.lift_journal.specs.Order.{IsEntry};
 
 use crate::fault::Fault;
 use arrayvec::ArrayVec;
-use lift_base::{Dir, Floor, Letter, Number, Record, Shape};
+use lift_base::{Dir, Floor, Letter, Number, Record, Shape, push_some};
 use lift_disk::{Disk, FileDisk};
 use lift_journal::Journal;
 use std::fs::{File, Files};
@@ -23,13 +23,6 @@ fn stop() -> Record
     }
 }
 
-fn push_copy<T: Copy>(list: &mut ArrayVec<T, 63>, item: &T)
-    requires { length list.old.items < 63 }
-    ensures { list.new.items ≡ list.old.items ++ item.now ∷ [] }
-{
-    list.push(*item);
-}
-
 /// So many stops.
 fn stops(count: usize) -> ArrayVec<Record, 63>
     requires { count ≤ 63 }
@@ -40,7 +33,7 @@ fn stops(count: usize) -> ArrayVec<Record, 63>
     let record = &stop();
     let mut batch = ArrayVec::new();
     for _place in 0..count {
-        push_copy(&mut batch, record);
+        push_some(&mut batch, Some(*record));
     }
     batch
 }

@@ -1,6 +1,6 @@
 //! One scan of the desk's terminals, and the answers to what it found.
 
-ghost use Rattle.std.specs.Prelude.{◌≡◌, ◌<◌, ◌≤◌, ◌+◌, ◌++◌, [], length, true, false};
+ghost use Rattle.std.specs.Prelude.{◌≡◌, ◌<◌, ◌≤◌, ◌+◌, [], length, true, false};
 ghost use Rattle.std.specs.Option.{option_to_list};
 ghost use Rattle.lift_base.specs.declared.command.Reply.{Reply as ReplyValue};
 ghost use Rattle.lift_desk.specs.Seats.{ClerkPlace, IsClerkOf};
@@ -9,7 +9,7 @@ ghost use Rattle.lift_clerk.specs.Visits.{Visit, command_at, served};
 ghost use Rattle.lift_clerk.specs.Scanning.{Decides, IsScanned, Scans, terminals_in, terminals_of, replies_in, replies_told, told};
 
 use arrayvec::ArrayVec;
-use lift_base::{Reply, Terminal};
+use lift_base::{Reply, Terminal, push_some};
 use lift_desk::{Ask, ClerkSeat, Desk};
 use lift_disk::Disk;
 use lift_keeper::Keeper;
@@ -28,16 +28,6 @@ impl Answer {
         ensures { result ≡ told is_safe self.reply }
     {
         if is_safe { self.reply } else { Reply::Unknown }
-    }
-}
-
-/// Adds an item, if there is one.
-fn push_some<T: Copy>(list: &mut ArrayVec<T, 63>, item: Option<T>)
-    requires { length list.old.items < 63 }
-    ensures { list.new.items ≡ list.old.items ++ option_to_list item }
-{
-    if let Some(item) = item {
-        list.push(item);
     }
 }
 

@@ -1,6 +1,5 @@
 //! The steps of a checkpoint: a register's records are written into the half that isn't picked, which is then picked.
-ghost use Rattle.std.specs.Prelude.{◌≡◌, ◌≤◌, ◌<◌, ◌+◌, ◌^◌, ◌⊎◌, ℕ, length, take, drop, slice_get, ◌++◌, slice_set, OnOk, OnErr, IfOk};
-ghost use Rattle.std.specs.Option.{option_to_list};
+ghost use Rattle.std.specs.Prelude.{◌≡◌, ◌≤◌, ◌<◌, ◌+◌, ◌^◌, ◌⊎◌, ℕ, length, take, drop, slice_get, slice_set, OnOk, OnErr, IfOk};
 ghost use Rattle.lift_disk.specs.Disk.{HasCause, LooseWithin, TouchesOnly, LeavesOnly, ChangesWithin, IsSteadyAt, IsSynced, RunsOn};
 ghost use Rattle.lift_register.specs.Base.{base_records};
 ghost use Rattle.lift_journal.specs.Layout.{sector_at};
@@ -14,7 +13,7 @@ ghost use Rattle.lift_journal.specs.Told.{StopsAsTold};
 use crate::body::{body_count, body_of, sectors_of};
 use crate::device::{mark, write_sectors};
 use arrayvec::ArrayVec;
-use lift_base::Record;
+use lift_base::{Record, push_some};
 use lift_disk::{Disk, DiskFault};
 use lift_register::Register;
 
@@ -50,16 +49,6 @@ fn record_at(register: &Register, count: usize, place: usize) -> Option<Record>
         Some(register.base_record(place))
     } else {
         None
-    }
-}
-
-/// Adds an item, if there is one.
-fn push_some<T: Copy>(list: &mut ArrayVec<T, 63>, item: Option<T>)
-    requires { length list.old.items < 63 }
-    ensures { list.new.items ≡ list.old.items ++ option_to_list item }
-{
-    if let Some(item) = item {
-        list.push(item);
     }
 }
 

@@ -1,7 +1,6 @@
 //! Registers copied, and batches taken into them.
 
-ghost use Rattle.std.specs.Prelude.{◌≡◌, ◌<◌, ◌++◌, length, All, map};
-ghost use Rattle.std.specs.Option.{option_to_list};
+ghost use Rattle.std.specs.Prelude.{◌≡◌, length, All, map};
 ghost use Rattle.lift_base.specs.declared.history.Entry.{Entry as EntryValue};
 ghost use Rattle.lift_base.specs.History.{record_of};
 ghost use Rattle.lift_base.specs.Records.{IsLawful};
@@ -13,7 +12,7 @@ ghost use Rattle.lift_register.specs.WellFormed.{IsWellFormed};
 ghost use Rattle.lift_journal.specs.Order.{IsEntry};
 
 use arrayvec::ArrayVec;
-use lift_base::{Entry, Record};
+use lift_base::{Entry, Record, push_some};
 use lift_building::Building;
 use lift_register::Register;
 
@@ -44,16 +43,6 @@ pub fn apply_all(register: &mut Register, building: &Building, entries: &[Entry]
     let _done = register.done();
     for entry in entries {
         register.apply(building, entry);
-    }
-}
-
-/// Adds an item, if there is one.
-fn push_some<T: Copy>(list: &mut ArrayVec<T, 63>, item: Option<T>)
-    requires { length list.old.items < 63 }
-    ensures { list.new.items ≡ list.old.items ++ option_to_list item }
-{
-    if let Some(item) = item {
-        list.push(item);
     }
 }
 
