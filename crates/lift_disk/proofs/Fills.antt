@@ -5,7 +5,8 @@ use Rattle.std.proofs.lemmas.List.{same_lists, take-append-drop, length-replicat
 use Rattle.std.proofs.lemmas.Bool.{cases_lt}
 use Rattle.std.proofs.lemmas.Option.{unwrap_or-slice_get}
 use Rattle.lift_disk.specs.Disk.{Image}
-use Rattle.lift_disk.specs.Memory.{IsFlagged, with_zeros}
+use Rattle.lift_disk.specs.Calls.{with_zeros}
+use Rattle.lift_disk.specs.Memory.{IsFlagged}
 
 -- those below this number are filled
 pub record IsFilledTo (byte end : ℕ) (loose : List Bool) (old new : Image) : Type 0 where

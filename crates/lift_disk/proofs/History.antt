@@ -3,23 +3,21 @@ use Rattle.std.specs.Result.{is_err}
 use Rattle.std.proofs.Common.{Result, Ok, Err, OnOk}
 use Rattle.std.proofs.Common.{◌≡◌, ◌≢◌, ◌⊎◌, ◌↔◌, ◌<◌, ◌≤◌, ◌+◌, inl, inr, ⊎_elim, ℕ, zero, suc, Bool, true, false, List, [], ◌∷◌, ◌++◌, length, take, replicate, slice_get, slice_set, Option, Some, refl, sym, ◌∙◌, ap, subst, arith, length-append}
 use Rattle.std.proofs.lemmas.List.{take-append-le, take_all, length-set}
-use Rattle.lift_disk.specs.declared.call.Front.{Front}
-use Rattle.lift_disk.specs.declared.call.Flags.{Flags}
 use Rattle.lift_disk.specs.Disk.{DiskState, Image, ChangesWithin, GoesOn}
-use Rattle.lift_disk.specs.Memory.{image_after, with_zeros, front_bytes, flag_list, IsFlagged, IsFlaggedFrom, WasLeft, memory_state}
+use Rattle.lift_disk.specs.Memory.{image_after, IsFlagged, IsFlaggedFrom, WasLeft, memory_state}
 use Rattle.lift_disk.specs.Outcomes.{SpoilsSector}
 use Rattle.lift_disk.proofs.Moments.{changes_more, changes_nothing}
-use Rattle.lift_disk.specs.declared.call.Call.{Call}
-use Rattle.lift_disk.specs.declared.call.Call.TheVariants.{Write, Sync}
+use Rattle.lift_disk.specs.Calls.{Call}
+use Rattle.lift_disk.specs.Calls.Call.{Write, Sync}
 
 pub image_after-push : (calls : List Call) (call : Call) (image : Image) → image_after (calls ++ call ∷ []) image ≡ image_after (call ∷ []) (image_after calls image)
 image_after-push [] call image = refl
-image_after-push (Write sector front ∷ calls) call image = image_after-push calls call (slice_set image sector (with_zeros (front_bytes front)))
+image_after-push (Write sector bytes ∷ calls) call image = image_after-push calls call (slice_set image sector bytes)
 image_after-push (Sync from loose ∷ calls) call image = image_after-push calls call image
 
 pub length-image_after : (calls : List Call) (image : Image) → length (image_after calls image) ≡ length image
 length-image_after [] image = refl
-length-image_after (Write sector front ∷ calls) image = length-image_after calls (slice_set image sector (with_zeros (front_bytes front))) ∙ length-set image sector (with_zeros (front_bytes front))
+length-image_after (Write sector bytes ∷ calls) image = length-image_after calls (slice_set image sector bytes) ∙ length-set image sector bytes
 length-image_after (Sync from loose ∷ calls) image = length-image_after calls image
 
 pub set_other : {X : Type 0} (xs : List X) (i k : ℕ) (x : X) → k ≢ i → slice_get (slice_set xs i x) k ≡ slice_get xs k
@@ -86,19 +84,19 @@ was_early first calls call since left was =
       loose = was.loose;
       late = was.late;
       synced = get_early calls call (Sync was.from was.loose) was.at was.synced;
-      within = subst (λ (l : List Call). ChangesWithin (IsFlaggedFrom was.from (flag_list was.loose)) (image_after l first) left) (sym (take-append-le was.at calls (call ∷ []) (omega arith))) was.within;
+      within = subst (λ (l : List Call). ChangesWithin (IsFlaggedFrom was.from was.loose) (image_after l first) left) (sym (take-append-le was.at calls (call ∷ []) (omega arith))) was.within;
     }
 
 -- no sync more
-still_early : (first : Image) (calls : List Call) (sector : ℕ) (front : Front) (since : ℕ) (left : Image) → WasLeft first (calls ++ Write sector front ∷ []) since left → WasLeft first calls since left
-still_early first calls sector front since left was = ⊎_elim (λ early. record {
+still_early : (first : Image) (calls : List Call) (sector : ℕ) (bytes : List ℕ) (since : ℕ) (left : Image) → WasLeft first (calls ++ Write sector bytes ∷ []) since left → WasLeft first calls since left
+still_early first calls sector bytes since left was = ⊎_elim (λ early. record {
   at = was.at;
   from = was.from;
   loose = was.loose;
   late = was.late;
   synced = early.1;
-  within = subst (λ (l : List Call). ChangesWithin (IsFlaggedFrom was.from (flag_list was.loose)) (image_after l first) left) (take-append-le was.at calls (Write sector front ∷ []) (omega (arith, early.0))) was.within;
-}) (λ last. absurd (cc (last.1))) (get_pushed calls (Write sector front) (Sync was.from was.loose) was.at was.synced)
+  within = subst (λ (l : List Call). ChangesWithin (IsFlaggedFrom was.from was.loose) (image_after l first) left) (take-append-le was.at calls (Write sector bytes ∷ []) (omega (arith, early.0))) was.within;
+}) (λ last. absurd (cc (last.1))) (get_pushed calls (Write sector bytes) (Sync was.from was.loose) was.at was.synced)
 
 -- a write
 pub write_within : (now : Image) (loose : List Bool) (sector : ℕ) (bytes : List ℕ) → sector < length loose → ChangesWithin (IsFlagged (slice_set loose sector true)) now (slice_set now sector bytes)
@@ -118,9 +116,9 @@ module _ (first : Image) (calls : List Call) (now synced : Image) (loose : List 
   abbrev old : DiskState
   old = memory_state first calls now synced loose steady short failures made writes
 
-  pub write_goes_on : (sector : ℕ) (bytes : List ℕ) (front : Front) (later : List Call) (made2 writes2 : ℕ) → sector < length loose → later ≡ calls ++ Write sector front ∷ [] → made2 ≡ made + 1
+  pub write_goes_on : (sector : ℕ) (bytes : List ℕ) (later : List Call) (made2 writes2 : ℕ) → sector < length loose → later ≡ calls ++ Write sector bytes ∷ [] → made2 ≡ made + 1
       → GoesOn old (memory_state first later (slice_set now sector bytes) synced (slice_set loose sector true) steady short failures made2 writes2)
-  write_goes_on sector bytes front later made2 writes2 there is one = subst (λ (l : List Call). GoesOn old (memory_state first l (slice_set now sector bytes) synced (slice_set loose sector true) steady short failures made2 writes2)) (sym is) (record {
+  write_goes_on sector bytes later made2 writes2 there is one = subst (λ (l : List Call). GoesOn old (memory_state first l (slice_set now sector bytes) synced (slice_set loose sector true) steady short failures made2 writes2)) (sym is) (record {
     size = length-set now sector bytes;
     calls = one;
     failures = omega arith;
@@ -128,11 +126,11 @@ module _ (first : Image) (calls : List Call) (now synced : Image) (loose : List 
     inert = (λ h. h, λ h. h);
     told = λ call later. (λ no. no, λ no. no);
     time = λ _. record {
-      later = omega (arith, length-append calls (Write sector front ∷ []));
-      nothing_else = λ t left le since. ⊎_elim (λ is. inr is) (λ was. inl (inr (still_early first calls sector front t left was))) since;
+      later = omega (arith, length-append calls (Write sector bytes ∷ []));
+      nothing_else = λ t left le since. ⊎_elim (λ is. inr is) (λ was. inl (inr (still_early first calls sector bytes t left was))) since;
       keeps = λ t left le since. ⊎_elim
           (λ is. inl (kept_write now left loose sector bytes there is))
-          (λ was. inr (was_early first calls (Write sector front) t left was)) since;
+          (λ was. inr (was_early first calls (Write sector bytes) t left was)) since;
     };
   })
 
@@ -166,7 +164,7 @@ module _ (first : Image) (calls : List Call) (now synced : Image) (loose : List 
   )
 
   -- a sync
-  pub sync_goes_on : (from : ℕ) (v : Flags) (later : List Call) (saved : Image) (flags : List Bool) (calm : Bool) (made2 : ℕ) → ((i : ℕ) → IsFlaggedFrom from (flag_list v) i ↔ IsFlagged loose i) → image_after calls first ≡ now → later ≡ calls ++ Sync from v ∷ [] → made2 ≡ made + 1
+  pub sync_goes_on : (from : ℕ) (v : List Bool) (later : List Call) (saved : Image) (flags : List Bool) (calm : Bool) (made2 : ℕ) → ((i : ℕ) → IsFlaggedFrom from v i ↔ IsFlagged loose i) → image_after calls first ≡ now → later ≡ calls ++ Sync from v ∷ [] → made2 ≡ made + 1
       → ((i : ℕ) → ¬ IsFlagged flags i) → GoesOn old (memory_state first later now saved flags calm short failures made2 writes)
   sync_goes_on from v later saved flags calm made2 same recorded is one none = subst (λ (l : List Call). GoesOn old (memory_state first l now saved flags calm short failures made2 writes)) (sym is) (record {
     size = refl;
@@ -192,16 +190,16 @@ module _ (first : Image) (calls : List Call) (now synced : Image) (loose : List 
         loose = v;
         late = le;
         synced = get_last calls (Sync from v);
-        within = subst (λ (l : Image). ChangesWithin (IsFlaggedFrom from (flag_list v)) l left) (sym whole) (changes_more (IsFlagged loose) (IsFlaggedFrom from (flag_list v)) now left (λ i. (same i).1) is);
+        within = subst (λ (l : Image). ChangesWithin (IsFlaggedFrom from v) l left) (sym whole) (changes_more (IsFlagged loose) (IsFlaggedFrom from v) now left (λ i. (same i).1) is);
       }
 
       last_was : (t : ℕ) (left : Image) (was : WasLeft first (calls ++ Sync from v ∷ []) t left) → was.at ≡ length calls → Sync from v ≡ Sync was.from was.loose → ChangesWithin (IsFlagged loose) now left
       last_was t left was at one =
           let from_is : from ≡ was.from = cc one in
           let v_is : v ≡ was.loose = cc one in
-          let left_now = subst (λ (l : Image). ChangesWithin (IsFlaggedFrom was.from (flag_list was.loose)) l left) (ap (λ k. image_after (take k (calls ++ Sync from v ∷ [])) first) at ∙ whole) was.within in
-          changes_more (IsFlaggedFrom was.from (flag_list was.loose)) (IsFlagged loose) now left
-          (λ i is. (same i).0 (subst (λ (k : ℕ). IsFlaggedFrom k (flag_list v) i) (sym from_is) (subst (λ (w : Flags). IsFlaggedFrom was.from (flag_list w) i) (sym v_is) is)))
+          let left_now = subst (λ (l : Image). ChangesWithin (IsFlaggedFrom was.from was.loose) l left) (ap (λ k. image_after (take k (calls ++ Sync from v ∷ [])) first) at ∙ whole) was.within in
+          changes_more (IsFlaggedFrom was.from was.loose) (IsFlagged loose) now left
+          (λ i is. (same i).0 (subst (λ (k : ℕ). IsFlaggedFrom k v i) (sym from_is) (subst (λ (w : List Bool). IsFlaggedFrom was.from w i) (sym v_is) is)))
           left_now
 
       earlier : (t : ℕ) (left : Image) → WasLeft first (calls ++ Sync from v ∷ []) t left → ChangesWithin (IsFlagged loose) now left ⊎ WasLeft first calls t left
@@ -211,7 +209,7 @@ module _ (first : Image) (calls : List Call) (now synced : Image) (loose : List 
         loose = was.loose;
         late = was.late;
         synced = early.1;
-        within = subst (λ (l : List Call). ChangesWithin (IsFlaggedFrom was.from (flag_list was.loose)) (image_after l first) left) (take-append-le was.at calls (Sync from v ∷ []) (omega (arith, early.0))) was.within;
+        within = subst (λ (l : List Call). ChangesWithin (IsFlaggedFrom was.from was.loose) (image_after l first) left) (take-append-le was.at calls (Sync from v ∷ []) (omega (arith, early.0))) was.within;
       })) (λ last. inl (last_was t left was last.0 last.1)) (get_pushed calls (Sync from v) (Sync was.from was.loose) was.at was.synced)
 
 pub ok_items : {T E P : Type 0} (r : Result T E) {b : Bool} → b ≡ is_err r → b ≡ false → OnOk r P → P

@@ -1,4 +1,5 @@
 pub mod Moments
+pub mod Calls
 pub mod History
 pub mod Fills
 pub mod Cuts

@@ -1,4 +1,5 @@
 pub mod Disk
+pub mod Calls
 pub mod Memory
 pub mod Outcomes
 pub mod Faults

@@ -1,35 +1,17 @@
 -- A device in memory, by the calls that it has recorded.
-use Rattle.std.specs.Prelude.{◌≡◌, ◌⊎◌, ◌≤◌, ◌<◌, ◌-◌, ◌++◌, ℕ, Bool, true, List, [], ◌∷◌, length, take, replicate, slice_get, slice_set, Some, zero, suc}
+use Rattle.std.specs.Prelude.{◌≡◌, ◌⊎◌, ◌≤◌, ◌<◌, ◌-◌, ℕ, Bool, true, List, [], ◌∷◌, length, take, replicate, slice_get, slice_set, Some, zero, suc}
 use Rattle.std.proofs.Common.{arith}
 use mathlib.Core.Logic.{inl, inr}
 use Rattle.lift_disk.specs.Disk.{DiskState, Image, ChangesWithin}
 use Rattle.lift_disk.specs.declared.outcome.Outcome.{Outcome}
 use Rattle.lift_disk.specs.declared.outcome.Outcome.TheVariants.{Keep, Lose, Fill}
-use Rattle.lift_disk.specs.declared.call.Front.{Front}
-use Rattle.lift_disk.specs.declared.call.Front.TheVariants.{Short, Long}
-use Rattle.lift_disk.specs.declared.call.Flags.{Flags}
-use Rattle.lift_disk.specs.declared.call.Flags.TheVariants.{Few, Many}
-use Rattle.lift_disk.specs.declared.call.Call.{Call}
-use Rattle.lift_disk.specs.declared.call.Call.TheVariants.{Write, Sync}
-
--- a sector that begins with these bytes, with zeros behind them
-abbrev pub with_zeros : List ℕ → List ℕ
-with_zeros front = front ++ replicate (512 - length front) 0
-
--- what is recorded of a sector
-abbrev pub front_bytes : Front → List ℕ
-front_bytes (Short bytes) = bytes
-front_bytes (Long bytes) = bytes.items
-
--- what is recorded of the loose sectors
-abbrev pub flag_list : Flags → List Bool
-flag_list (Few flags) = flags
-flag_list (Many flags) = flags.items
+use Rattle.lift_disk.specs.Calls.{Call}
+use Rattle.lift_disk.specs.Calls.Call.{Write, Sync}
 
 -- the image after these calls
 abbrev pub image_after : List Call → Image → Image
 image_after [] image = image
-image_after (Write sector front ∷ calls) image = image_after calls (slice_set image sector (with_zeros (front_bytes front)))
+image_after (Write sector bytes ∷ calls) image = image_after calls (slice_set image sector bytes)
 image_after (Sync from loose ∷ calls) image = image_after calls image
 
 abbrev pub IsFlagged : List Bool → ℕ → Type 0
@@ -47,10 +29,10 @@ IsWithin from end i = (from ≤ i) × (i < end)
 pub record WasLeft (first : Image) (calls : List Call) (since : ℕ) (left : Image) : Type 0 where
   pub at : ℕ
   pub from : ℕ
-  pub loose : Flags
+  pub loose : List Bool
   pub late : since ≤ at
   pub synced : slice_get calls at ≡ Some (Sync from loose)
-  pub within : ChangesWithin (IsFlaggedFrom from (flag_list loose)) (image_after (take at calls) first) left
+  pub within : ChangesWithin (IsFlaggedFrom from loose) (image_after (take at calls) first) left
 
 -- What is said of a device in memory that was told nothing. Its calls by now are counted, and those that change what a crash leaves are recorded.
 abbrev pub memory_state : Image → List Call → Image → Image → List Bool → Bool → Bool → ℕ → ℕ → ℕ → DiskState

@@ -7,7 +7,7 @@ use Rattle.lift_disk.specs.declared.outcome.Outcome.{Outcome}
 use Rattle.lift_disk.specs.declared.outcome.Outcome.TheVariants.{Keep, Lose, Fill}
 
 abbrev pub state_of : MemDisk → DiskState
-state_of m = memory_state m.first.items m.history.items m.image.items m.synced.items m.loose.items m.is_steady m.is_short m.failures.count m.calls.count m.writes.count
+state_of m = memory_state m.first.items m.history m.image.items m.synced.items m.loose.items m.is_steady m.is_short m.failures.count m.calls.count m.writes.count
 
 -- which sector a failed call makes loose
 abbrev pub SpoilsSector : Option ℕ → DiskState → DiskState → Type 0

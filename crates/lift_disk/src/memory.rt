@@ -4,8 +4,8 @@ ghost use Rattle.std.proofs.Common.{inl};
 ghost use Rattle.lift_disk.specs.Disk.{ChangesWithin, IsSynced, IsUnarmed};
 ghost use Rattle.lift_disk.specs.Memory.{IsFlagged, IsWithin, image_after, no_other};
 
-use crate::call::Call;
-use crate::record::{clear, copy, copy_flagged, leave, no_flags, note_sync, note_write, zeros};
+use crate::call::History;
+use crate::record::{clear, copy, copy_flagged, leave, no_flags, zeros};
 use crate::span::Span;
 use crate::{Disk, DiskFault, Outcome};
 use lift_base::{Memory, ProofCount};
@@ -15,7 +15,7 @@ use std::alloc::Global;
 pub struct MemDisk {
     alloc: Global,
     first: Vec<[u8; 512]>,
-    history: Vec<Call>,
+    history: History,
     image: Vec<[u8; 512]>,
     synced: Vec<[u8; 512]>,
     loose: Vec<bool>,
@@ -31,7 +31,7 @@ pub struct MemDisk {
     ghost spanned: { (i : ℕ) → IsFlagged loose.items i → IsWithin span.from span.end i },
     ghost order: { span.from ≤ span.end },
     ghost bound: { span.end ≤ length image.items },
-    ghost recorded: { image_after history.items first.items ≡ image.items },
+    ghost recorded: { image_after history first.items ≡ image.items },
     ghost kept: { ChangesWithin (IsFlagged loose.items) image.items synced.items },
 }
 
@@ -54,7 +54,7 @@ impl MemDisk {
         Ok(MemDisk {
             alloc,
             first: zeros(alloc, sectors)?,
-            history: Vec::new(alloc),
+            history: History::new(alloc),
             image: zeros(alloc, sectors)?,
             synced: zeros(alloc, sectors)?,
             loose: no_flags(alloc, sectors)?,
@@ -146,7 +146,7 @@ impl Disk for MemDisk {
 
     ghost counts_now = { λ m _ t left le now. inl now };
 
-    ghost only_now = { λ m _ left since. no_other m.first.items m.history.items m.image.items m.loose.items left since };
+    ghost only_now = { λ m _ left since. no_other m.first.items m.history m.image.items m.loose.items left since };
 
     ghost may_lose = { λ m _. m.kept };
 
@@ -161,7 +161,7 @@ impl Disk for MemDisk {
     }
 
     fn write(&mut self, sector: u32, bytes: &[u8; 512]) -> Result<(), DiskFault> {
-        if note_write(self.alloc, &mut self.history, sector, bytes).is_err() {
+        if self.history.note_write(self.alloc, sector, bytes).is_err() {
             self.fail_short(Some(sector));
             return Err(DiskFault);
         }
@@ -174,7 +174,11 @@ impl Disk for MemDisk {
     }
 
     fn sync(&mut self) -> Result<(), DiskFault> {
-        if note_sync(self.alloc, &mut self.history, &self.loose, self.span).is_err() {
+        if self
+            .history
+            .note_sync(self.alloc, &self.loose, self.span)
+            .is_err()
+        {
             self.fail_short(None);
             return Err(DiskFault);
         }

@@ -1,95 +1,11 @@
 //! The work on the fields of a device in memory.
-ghost use Rattle.std.specs.Prelude.{◌≡◌, ◌≤◌, ◌↔◌, ◌++◌, [], ◌∷◌, ℕ, length, replicate, slice_get, slice_index_or, Some, true, false, OnOk, OnErr, IfOk};
+ghost use Rattle.std.specs.Prelude.{◌≡◌, ◌≤◌, ℕ, length, replicate, slice_get, Some, false, IfOk};
 ghost use Rattle.lift_disk.specs.Disk.{ChangesWithin};
-ghost use Rattle.lift_disk.specs.Memory.{IsFlagged, IsFlaggedFrom, IsWithin, LeavesBy, with_zeros, front_bytes, flag_list};
-ghost use Rattle.lift_disk.specs.declared.call.Call.TheVariants.{Write, Sync};
+ghost use Rattle.lift_disk.specs.Memory.{IsFlagged, IsWithin, LeavesBy};
 
 use crate::Outcome;
-use crate::call::{Call, Flags, Front};
 use crate::span::Span;
 use std::alloc::{AllocError, Global};
-
-/// Where the zeros at the end of a sector begin that aren't recorded.
-const FRONT: usize = 32;
-
-/// So many flags are recorded in the call itself.
-const FEW: usize = 8;
-
-/// Whether all of these are zeros. It looks at all of them at once, so that no branch depends on one.
-fn is_blank(bytes: &[u8]) -> bool
-    ensures { result ≡ true → (i : ℕ) → slice_index_or bytes.now i 0 ≡ 0 }
-{
-    let mut most = 0;
-    for byte in bytes {
-        most = most.max(*byte);
-    }
-    most == 0
-}
-
-/// What is recorded of a sector.
-fn front_of(alloc: Global, bytes: &[u8; 512]) -> Result<Front, AllocError>
-    ensures { IfOk result (λ front. with_zeros (front_bytes front) ≡ bytes.now) }
-{
-    let (front, rest) = bytes.split_at(FRONT);
-    if is_blank(rest) {
-        let mut short = [0; FRONT];
-        short.copy_from_slice(front);
-        return Ok(Front::Short(short));
-    }
-    let long = bytes.to_vec(alloc)?;
-    Ok(Front::Long(long))
-}
-
-/// What is recorded of the loose sectors.
-fn flags_of(alloc: Global, loose: &[bool], span: Span) -> Result<Flags, AllocError>
-    requires order { span.from ≤ span.end }
-    requires bound { span.end ≤ length loose.now }
-    requires spanned { (i : ℕ) → IsFlagged loose.now i → IsWithin span.from span.end i }
-    ensures { IfOk result (λ flags. (i : ℕ) → IsFlaggedFrom span.from (flag_list flags) i ↔ IsFlagged loose.now i) }
-{
-    if span.end - span.from <= FEW && FEW <= loose.len() - span.from {
-        // behind the span none is loose
-        let mut few = [false; FEW];
-        few.copy_from_slice(&loose[span.from..span.from + FEW]);
-        return Ok(Flags::Few(few));
-    }
-    let many = loose[span.from..span.end].to_vec(alloc)?;
-    Ok(Flags::Many(many))
-}
-
-/// Records a write.
-pub(crate) fn note_write(
-    alloc: Global,
-    calls: &mut Vec<Call>,
-    sector: u32,
-    bytes: &[u8; 512],
-) -> Result<(), AllocError>
-    ensures ok { OnOk result ((v : _) × (with_zeros (front_bytes v) ≡ bytes.now) × (calls.new.items ≡ calls.old.items ++ Write sector v ∷ [])) }
-    ensures err { OnErr result (calls.new.items ≡ calls.old.items) }
-{
-    let front = front_of(alloc, bytes)?;
-    calls.push(Call::Write(sector, front))?;
-    Ok(())
-}
-
-/// Records a sync, with the sectors that were loose until then.
-pub(crate) fn note_sync(
-    alloc: Global,
-    calls: &mut Vec<Call>,
-    loose: &[bool],
-    span: Span,
-) -> Result<(), AllocError>
-    requires order { span.from ≤ span.end }
-    requires bound { span.end ≤ length loose.now }
-    requires spanned { (i : ℕ) → IsFlagged loose.now i → IsWithin span.from span.end i }
-    ensures ok { OnOk result ((v : _) × ((i : ℕ) → IsFlaggedFrom span.from (flag_list v) i ↔ IsFlagged loose.now i)
-        × (calls.new.items ≡ calls.old.items ++ Sync span.from v ∷ [])) }
-    ensures err { OnErr result (calls.new.items ≡ calls.old.items) }
-{
-    let flags = flags_of(alloc, loose, span)?;
-    calls.push(Call::Sync(span.from, flags))?;
-    Ok(())
-}
 
 /// No flag is set any more. Outside of the span none was.
 pub(crate) fn clear(flags: &mut Vec<bool>, span: Span)

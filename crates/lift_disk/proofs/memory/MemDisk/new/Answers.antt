@@ -2,7 +2,7 @@ use Rattle.std.proofs.Common.{ℕ, ◌∙◌, sym, ap, length, replicate, false,
 use Rattle.std.proofs.lemmas.List.{length-replicate}
 use Rattle.lift_disk.specs.Disk.{Image, ChangesWithin}
 use Rattle.lift_disk.specs.Memory.{IsFlagged, image_after}
-use Rattle.lift_disk.specs.declared.call.Call.{Call}
+use Rattle.lift_disk.specs.Calls.{Call}
 use Rattle.lift_disk.proofs.History.{none_flagged}
 use Rattle.lift_disk.proofs.Moments.{changes_nothing}
 use Rattle.lift_disk.proofs.memory.MemDisk.new.Goals as goal
@@ -18,7 +18,7 @@ invariant_of-result c =
       spanned = λ i is. absurd (none_flagged n i (subst (λ (l : List Bool). IsFlagged l i) c.in_ok-no_flags.ensures is));
       order = omega (arith, c.none.ensures.0, c.none.ensures.1);
       bound = omega (arith, c.none.ensures.0, c.none.ensures.1);
-      recorded = ap (λ (l : List Call). image_after l c.in_ok-zeros.field-0.items) c.new.ensures.items ∙ c.in_ok-zeros.ensures ∙ sym c.in_ok-zeros-2.ensures;
+      recorded = ap (λ (l : List Call). image_after l c.in_ok-zeros.field-0.items) c.new.ensures ∙ c.in_ok-zeros.ensures ∙ sym c.in_ok-zeros-2.ensures;
       kept = subst (λ (l : Image). ChangesWithin (IsFlagged c.in_ok-no_flags.field-0.items) now l) (c.in_ok-zeros-2.ensures ∙ sym c.in_ok-zeros-3.ensures) (changes_nothing (IsFlagged c.in_ok-no_flags.field-0.items) now);
     }
 

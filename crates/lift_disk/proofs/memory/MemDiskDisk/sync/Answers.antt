@@ -1,9 +1,9 @@
 use Rattle.std.proofs.Common.{◌↔◌, List, Bool, false, length, subst, refl, sym, ◌∙◌, ap}
 use Rattle.std.proofs.lemmas.List.{length-replicate}
 use Rattle.lift_disk.specs.Disk.{Image, ChangesWithin}
-use Rattle.lift_disk.specs.Memory.{image_after, IsFlagged, IsFlaggedFrom, flag_list}
-use Rattle.lift_disk.specs.declared.call.Call.{Call}
-use Rattle.lift_disk.specs.declared.call.Call.TheVariants.{Sync}
+use Rattle.lift_disk.specs.Memory.{image_after, IsFlagged, IsFlaggedFrom}
+use Rattle.lift_disk.specs.Calls.{Call}
+use Rattle.lift_disk.specs.Calls.Call.{Sync}
 use Rattle.lift_disk.proofs.Moments.{changes_nothing}
 use Rattle.lift_disk.proofs.History.{image_after-push, none_flagged, sync_goes_on, ok_items}
 use Rattle.lift_disk.proofs.memory.MemDiskDisk.sync.Goals as goal
@@ -21,7 +21,7 @@ pub invariant_of-self-2-clause-recorded : goal.invariant_of-self-2-clause-record
 invariant_of-self-2-clause-recorded c =
     let m = c.args.self.now in
     let noted = ok_items c.note_sync.result c.is_err.ensures.value c.if-is_err.false c.note_sync.ensures.ok in
-    ap (λ (l : List Call). image_after l m.first.items) noted.2 ∙ image_after-push m.history.items (Sync m.span.from noted.0) m.first.items ∙ m.recorded
+    ap (λ (l : List Call). image_after l m.first.items) noted.2 ∙ image_after-push m.history (Sync m.span.from noted.0) m.first.items ∙ m.recorded
 
 pub invariant_of-self-2-clause-kept : goal.invariant_of-self-2-clause-kept
 invariant_of-self-2-clause-kept c =
@@ -32,9 +32,9 @@ pub returns-clause-goes_on : goal.returns-clause-goes_on
 returns-clause-goes_on c =
     let m = c.args.self.now in
     let noted = ok_items c.note_sync.result c.is_err.ensures.value c.if-is_err.false c.note_sync.ensures.ok in
-    sync_goes_on m.first.items m.history.items m.image.items m.synced.items m.loose.items m.is_steady m.is_short m.failures.count m.calls.count m.writes.count
-    m.span.from noted.0 c.note_sync.new.calls.items c.copy_flagged.new.to.items c.clear.new.flags.items _ _
-    (λ i. subst (λ (l : List Bool). IsFlaggedFrom m.span.from (flag_list noted.0) i ↔ IsFlagged l i) c.deref.ensures.value (noted.1 i)) m.recorded noted.2 c.next-self.ensures
+    sync_goes_on m.first.items m.history m.image.items m.synced.items m.loose.items m.is_steady m.is_short m.failures.count m.calls.count m.writes.count
+    m.span.from noted.0 c.note_sync.new.self c.copy_flagged.new.to.items c.clear.new.flags.items _ _
+    (λ i. subst (λ (l : List Bool). IsFlaggedFrom m.span.from noted.0 i ↔ IsFlagged l i) c.deref.ensures.value (noted.1 i)) m.recorded noted.2 c.next-self.ensures
     (λ i. subst (λ (l : List Bool). ¬ IsFlagged l i) (sym c.clear.ensures) (none_flagged (length m.loose.items) i))
 
 pub returns-clause-touched : goal.returns-clause-touched

@@ -1,9 +1,9 @@
-use Rattle.std.proofs.Common.{ℕ, List, length, slice_set, ◌∙◌, ap, inl, inr, ⊎_elim, arith}
+use Rattle.std.proofs.Common.{List, length, slice_set, ◌∙◌, ap, inl, inr, ⊎_elim, arith}
 use Rattle.std.proofs.lemmas.List.{length-set}
 use Rattle.lift_disk.specs.Disk.{Image}
-use Rattle.lift_disk.specs.Memory.{image_after, with_zeros, front_bytes}
-use Rattle.lift_disk.specs.declared.call.Call.{Call}
-use Rattle.lift_disk.specs.declared.call.Call.TheVariants.{Write}
+use Rattle.lift_disk.specs.Memory.{image_after}
+use Rattle.lift_disk.specs.Calls.{Call}
+use Rattle.lift_disk.specs.Calls.Call.{Write}
 use Rattle.lift_disk.proofs.History.{image_after-push, flagged_set, write_within, kept_write, write_goes_on, ok_items}
 use Rattle.lift_disk.proofs.memory.MemDiskDisk.write.Goals as goal
 
@@ -11,10 +11,9 @@ pub invariant_of-self-2-clause-recorded : goal.invariant_of-self-2-clause-record
 invariant_of-self-2-clause-recorded c =
     let m = c.args.self.now in
     let noted = ok_items c.note_write.result c.is_err.ensures.value c.if-is_err.false c.note_write.ensures.ok in
-    ap (λ (l : List Call). image_after l m.first.items) noted.2
-    ∙ image_after-push m.history.items (Write c.args.sector noted.0) m.first.items
-    ∙ ap (λ (l : Image). slice_set l c.args.sector (with_zeros (front_bytes noted.0))) m.recorded
-    ∙ ap (λ (b : List ℕ). slice_set m.image.items c.args.sector b) noted.1
+    ap (λ (l : List Call). image_after l m.first.items) noted
+    ∙ image_after-push m.history (Write c.args.sector c.args.bytes.now) m.first.items
+    ∙ ap (λ (l : Image). slice_set l c.args.sector c.args.bytes.now) m.recorded
 
 pub invariant_of-self-2-clause-spanned : goal.invariant_of-self-2-clause-spanned
 invariant_of-self-2-clause-spanned c = λ i is.
@@ -36,9 +35,9 @@ pub returns-clause-goes_on : goal.returns-clause-goes_on
 returns-clause-goes_on c =
     let m = c.args.self.now in
     let noted = ok_items c.note_write.result c.is_err.ensures.value c.if-is_err.false c.note_write.ensures.ok in
-    write_goes_on m.first.items m.history.items m.image.items m.synced.items m.loose.items m.is_steady m.is_short m.failures.count m.calls.count m.writes.count
-    c.args.sector c.args.bytes.now noted.0 c.note_write.new.calls.items _ _
-    (omega (arith, m.sized)) noted.2 c.next-self.ensures
+    write_goes_on m.first.items m.history m.image.items m.synced.items m.loose.items m.is_steady m.is_short m.failures.count m.calls.count m.writes.count
+    c.args.sector c.args.bytes.now c.note_write.new.self _ _
+    (omega (arith, m.sized)) noted c.next-self.ensures
 
 pub returns-clause-touched : goal.returns-clause-touched
 returns-clause-touched c honest =
