@@ -1,5 +1,5 @@
 -- Calls that write nothing, one after another.
-use Rattle.std.proofs.Common.{◌≡◌, ◌<◌, inl, inr, ⊎_elim, refl, sym, ◌∙◌, arith, Result, Ok, Err, OnOk, OnErr}
+use Rattle.std.proofs.Common.{◌≡◌, inl, inr, ⊎_elim, refl, sym, ◌∙◌, arith, Result, Ok, Err, OnOk, OnErr}
 use Rattle.std.specs.Prelude.{IfErr, true, false}
 use Rattle.std.specs.Result.{is_err}
 use Rattle.lift_disk.specs.Disk.{DiskState, HasCause, IsSynced, KeepsImage, KeepsSynced, RunsOn, LeavesNoOther}

@@ -1,11 +1,11 @@
 -- Which half a checkpoint that stops leaves picked.
-use Rattle.std.proofs.Common.{◌≡◌, ◌≢◌, ◌⊎◌, ◌<◌, ◌≤◌, ◌+◌, ◌==◌, inl, inr, ⊎_elim, ℕ, Bool, true, false, not, cond, List, [], length, slice_get, slice_set, unwrap_or, sym, ◌∙◌, ap, subst, arith}
+use Rattle.std.proofs.Common.{◌≡◌, ◌⊎◌, ◌<◌, ◌≤◌, ◌+◌, ◌==◌, ⊎_elim, ℕ, Bool, true, false, not, cond, List, [], length, slice_get, slice_set, unwrap_or, sym, ◌∙◌, ap, subst, arith}
 use Rattle.std.proofs.lemmas.List.{length-set}
 use Rattle.lift_base.specs.declared.history.Shape.{Shape}
 use Rattle.lift_disk.specs.Disk.{DiskState, Image, ChangesWithin, IsFilled}
 use Rattle.lift_disk.proofs.History.{set_other}
 use Rattle.lift_disk.proofs.Moments.{changes_more, changes_nothing, changes_twice}
-use Rattle.lift_journal.specs.Layout.{Batch, is_marked, sector_at, picks_second, Picks, start_of, IsSound, Holds, HoldsIn}
+use Rattle.lift_journal.specs.Layout.{Batch, is_marked, picks_second, Picks, start_of, IsSound, Holds, HoldsIn}
 use Rattle.lift_journal.specs.Stops.{StopsAtPick, StopsCheckpoint}
 use Rattle.lift_journal.specs.Switch.{HasWritten, MissesPick, StopsWriting}
 use Rattle.lift_journal.proofs.Appends.{sector_set}

@@ -1,5 +1,5 @@
 //! The spelling of a batch.
-ghost use Rattle.std.specs.Prelude.{◌≡◌, ◌≤◌, ◌<◌, ◌+◌, ◌*◌, ◌++◌, length, take, drop, All, [], ◌∷◌};
+ghost use Rattle.std.specs.Prelude.{◌≡◌, ◌≤◌, ◌<◌, ◌+◌, ◌*◌, ◌++◌, length, take, drop, replicate, All, [], ◌∷◌};
 ghost use Rattle.std.specs.List.{flat_map};
 ghost use Rattle.lift_base.specs.Records.{IsLawful};
 ghost use Rattle.lift_record.specs.Record.{spelling_of};
@@ -13,23 +13,22 @@ use lift_record::{encode, encode_header};
 
 const RECORD_BYTES: usize = 16;
 
-/// The header, the records, and zeros to the end of two sectors.
-fn text_of(batch: &[Record], number: u32) -> [u8; 1024]
+/// Puts the header and the records into two sectors of zeros.
+fn put_text(text: &mut [u8; 1024], batch: &[Record], number: u32)
+    requires blank { text.old ≡ replicate 1024 0 }
     requires some { 1 ≤ length batch.now }
     requires few { length batch.now ≤ 63 }
     requires numbered { 1 ≤ number }
     requires lawful { All IsLawful batch.now }
-    ensures text { result ≡ filled 2 (header_bytes Two (length batch.now) number ++ flat_map (spelling_of Two) batch.now) }
+    ensures text { text.new ≡ filled 2 (header_bytes Two (length batch.now) number ++ flat_map (spelling_of Two) batch.now) }
     ensures typed { All (IsRecordIn Two) batch.now }
 {
-    let mut text = [0; 1024];
-    put(&mut text, 0, &encode_header(batch.len() as u16, number));
+    put(text, 0, &encode_header(batch.len() as u16, number));
     let mut at = RECORD_BYTES;
     for content in batch {
-        put(&mut text, at, &encode(content));
+        put(text, at, &encode(content));
         at += RECORD_BYTES;
     }
-    text
 }
 
 /// The two sectors of a text.
@@ -48,13 +47,14 @@ pub fn body_count(count: usize) -> usize
     if count < 32 { 1 } else { 2 }
 }
 
-/// The body of a batch of the second version: as many of its two sectors as the batch takes.
-pub fn body_of(batch: &[Record], number: u32) -> [u8; 1024]
+/// Puts the body of a batch of the second version into two sectors of zeros, of which it is as many as the batch takes.
+pub fn put_body(text: &mut [u8; 1024], batch: &[Record], number: u32)
+    requires blank { text.old ≡ replicate 1024 0 }
     requires some { 1 ≤ length batch.now }
     requires few { length batch.now ≤ 63 }
     requires numbered { 1 ≤ number }
     requires lawful { All IsLawful batch.now }
-    ensures { IsBody number (record { version = Two; records = batch.now }) (take (bodies (length batch.now)) (take 512 result ∷ drop 512 result ∷ [])) }
+    ensures { IsBody number (record { version = Two; records = batch.now }) (take (bodies (length batch.now)) (take 512 text.new ∷ drop 512 text.new ∷ [])) }
 {
-    text_of(batch, number)
+    put_text(text, batch, number);
 }

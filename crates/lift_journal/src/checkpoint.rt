@@ -10,7 +10,7 @@ ghost use Rattle.lift_journal.specs.Switch.{IsOtherHalf, HasWritten, StopsSwitch
 ghost use Rattle.lift_journal.specs.Stops.{Misses};
 ghost use Rattle.lift_journal.specs.Told.{StopsAsTold};
 
-use crate::body::{body_count, body_of, sectors_of};
+use crate::body::{body_count, put_body, sectors_of};
 use crate::device::{mark, write_sectors};
 use arrayvec::ArrayVec;
 use lift_base::{Record, push_some};
@@ -103,7 +103,8 @@ fn write_batches<D: Disk>(disk: &mut D, register: &Register, start: u32) -> Resu
     for index in 0..batches_for(register.base_len()) {
         let batch = base_batch(register, BATCH_RECORDS * index);
         let bodies = body_count(batch.len());
-        let text = body_of(&batch, index as u32 + 1);
+        let mut text = [0; 1024];
+        put_body(&mut text, &batch, index as u32 + 1);
         let body = sectors_of(&text);
         write_open_batch(disk, gate, &body[..bodies])?;
         gate += bodies as u32 + 1;

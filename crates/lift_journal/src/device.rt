@@ -36,6 +36,9 @@ pub fn write_sectors<D: Disk>(
     Ok(())
 }
 
+/// A closed gate.
+static CLOSED_GATE: [u8; 512] = [0; 512];
+
 /// An open gate, and the pick of the second half.
 pub fn mark() -> [u8; 512]
     ensures { result ≡ marked }
@@ -59,7 +62,7 @@ fn store_behind<D: Disk>(disk: &mut D, gate: u32, body: &[[u8; 512]]) -> Result<
         → IsSyncedAt (slice_set (overwritten (D.state disk.old).image (gate + 1) body.now) (gate + 1 + length body.now) unmarked) (D.state disk.new)) }
 {
     write_sectors(disk, gate + 1, body)?;
-    disk.write(gate + 1 + body.len() as u32, &[0; 512])?;
+    disk.write(gate + 1 + body.len() as u32, &CLOSED_GATE)?;
     disk.sync()
 }
 

@@ -14,7 +14,7 @@ ghost use Rattle.lift_journal.specs.Stops.{StopsShort, StopsCheckpoint};
 ghost use Rattle.lift_journal.specs.Told.{AnswersAsTold};
 ghost use Rattle.lift_journal.specs.Fronts.{IsOfCursor};
 
-use crate::body::{body_count, body_of, sectors_of};
+use crate::body::{body_count, put_body, sectors_of};
 use crate::checkpoint::{batches_for, other_half, write_checkpoint};
 use crate::device::write_batch;
 use crate::fault::JournalFault;
@@ -205,7 +205,8 @@ impl<D: Disk> Journal<D> {
         if (self.gate - self.start) as usize + bodies + 2 > self.shape.half as usize {
             return Err(JournalFault::Full);
         }
-        let text = body_of(batch, self.number);
+        let mut text = [0; 1024];
+        put_body(&mut text, batch, self.number);
         let body = sectors_of(&text);
         if write_batch(&mut self.device, self.gate, &body[..bodies]).is_err() {
             self.is_broken = true;

@@ -1,4 +1,4 @@
-use Rattle.std.proofs.Common.{◌+◌, inl, inr, refl, ◌∙◌, arith}
+use Rattle.std.proofs.Common.{inl, inr, refl, ◌∙◌, arith}
 use Rattle.std.proofs.lemmas.Result.{on_ok_weaker}
 use Rattle.lift_disk.proofs.Moments.{runs_call, touches_write, touches_then_rest}
 use Rattle.lift_journal.specs.Steps.{IsInRange}

@@ -13,8 +13,8 @@ use Rattle.lift_journal.proofs.Checkpoints.{Drafted, drafted_touched, drafted_mo
 use Rattle.lift_journal.proofs.Telling.{fails_then, err_stops}
 use Rattle.lift_journal.proofs.checkpoint.write_batches.Goals as goal
 
-pub body_of-text-requires-clause-lawful : goal.body_of-text-requires-clause-lawful
-body_of-text-requires-clause-lawful g c =
+pub put_body-requires-clause-lawful : goal.put_body-requires-clause-lawful
+put_body-requires-clause-lawful g c =
     subst (All IsLawful) (sym (c.deref.ensures.0 ∙ c.base_batch-batch.ensures)) (lawful_part (63 * c.loop-index.index) (base_records c.args.register.now) c.base_len.ensures.records)
 
 pub write_open_batch-requires-clause-there : goal.write_open_batch-requires-clause-there
@@ -63,7 +63,7 @@ loop-index-preserved g c =
     let is : n ≡ bodies (length items) = c.body_count-bodies.ensures ∙ ap bodies c.len.ensures.value in
     let long = next_size n items c.sectors_of-body.result.now is c.sectors_of-body.ensures.length in
     let room = next_room c.args.start c.loop-index.gate k n c.batches_for-index-end.result records items c.loop-index.invariant.at c.loop-index-test.true c.batches_for-index-end.ensures.limit is in
-    let written = subst (λ (s : Image). IsBody (k + 1) (record { version = Two; records = items }) (take (bodies (length items)) s)) (sym c.sectors_of-body.ensures.cut) (subst (λ (l : List Record). IsBody (k + 1) (record { version = Two; records = l }) (take (bodies (length l)) (take 512 c.body_of-text.result ∷ drop 512 c.body_of-text.result ∷ []))) c.deref.ensures.0 c.body_of-text.ensures) in
+    let written = subst (λ (s : Image). IsBody (k + 1) (record { version = Two; records = items }) (take (bodies (length items)) s)) (sym c.sectors_of-body.ensures.cut) (subst (λ (l : List Record). IsBody (k + 1) (record { version = Two; records = l }) (take (bodies (length l)) (take 512 c.put_body.new.text ∷ drop 512 c.put_body.new.text ∷ []))) c.deref.ensures.0 c.put_body.ensures) in
     subst (λ m. Drafted old new c.args.start (c.loop-index.gate + (m + 1)) (k + 1) records) long
     (drafted_more old now new c.args.start c.loop-index.gate k records c.loop-index.invariant sectors (omega (arith, long, room)) (long ∙ is ∙ ap (λ (l : List Record). bodies (length l)) c.base_batch-batch.ensures)
     (next_body k n records items c.sectors_of-body.result.now c.base_batch-batch.ensures is written) (base_in_order c.args.register.now c.base_len.ensures.lawful)

@@ -21,7 +21,7 @@ returns-then-is_err-clause-any_moment g c =
     let items = c.args.batch.now.items in
     let batch : Batch = record { version = Two; records = items } in
     let is : c.body_count-bodies.result ≡ size_of batch = c.body_count-bodies.ensures ∙ ap bodies c.len.ensures.value in
-    let body = subst (λ (s : Image). IsBody j.number batch (take (bodies (length items)) s)) (sym c.sectors_of-body.ensures.cut) (subst (λ (l : List Record). IsBody j.number (record { version = Two; records = l }) (take (bodies (length l)) (take 512 c.body_of-text.result ∷ drop 512 c.body_of-text.result ∷ []))) c.deref.ensures.0 c.body_of-text.ensures) in
+    let body = subst (λ (s : Image). IsBody j.number batch (take (bodies (length items)) s)) (sym c.sectors_of-body.ensures.cut) (subst (λ (l : List Record). IsBody j.number (record { version = Two; records = l }) (take (bodies (length l)) (take 512 c.put_body.new.text ∷ drop 512 c.put_body.new.text ∷ []))) c.deref.ensures.0 c.put_body.ensures) in
     let stands = c.self.invariant.stands c.if-self.false in
     let leaves = append_leaves j.shape j.start j.gate j.number c.body_count-bodies.result old items new c.write_batch.ensures.runs stands c.requires.entries
     (λ honest. c.write_batch.ensures.any_moment j.shape (stands honest).batches batch
@@ -37,7 +37,7 @@ invariant_of-self-2 g c =
     let items = c.args.batch.now.items in
     let batch : Batch = record { version = Two; records = items } in
     let is : c.body_count-bodies.result ≡ size_of batch = c.body_count-bodies.ensures ∙ ap bodies c.len.ensures.value in
-    let body = subst (λ (s : Image). IsBody j.number batch (take (bodies (length items)) s)) (sym c.sectors_of-body.ensures.cut) (subst (λ (l : List Record). IsBody j.number (record { version = Two; records = l }) (take (bodies (length l)) (take 512 c.body_of-text.result ∷ drop 512 c.body_of-text.result ∷ []))) c.deref.ensures.0 c.body_of-text.ensures) in
+    let body = subst (λ (s : Image). IsBody j.number batch (take (bodies (length items)) s)) (sym c.sectors_of-body.ensures.cut) (subst (λ (l : List Record). IsBody j.number (record { version = Two; records = l }) (take (bodies (length l)) (take 512 c.put_body.new.text ∷ drop 512 c.put_body.new.text ∷ []))) c.deref.ensures.0 c.put_body.ensures) in
     let few = bodies_few (length items) in
     let place = c.self.invariant.place in
     let quiet = open_ok c.write_batch.result (new.failures ≡ old.failures) (sym c.is_err.ensures.value ∙ c.if-is_err.false) c.write_batch.ensures.cause.ok in
@@ -69,7 +69,7 @@ returns-clause-acknowledged g c =
     let items = c.args.batch.now.items in
     let batch : Batch = record { version = Two; records = items } in
     let is : c.body_count-bodies.result ≡ size_of batch = c.body_count-bodies.ensures ∙ ap bodies c.len.ensures.value in
-    let body = subst (λ (s : Image). IsBody j.number batch (take (bodies (length items)) s)) (sym c.sectors_of-body.ensures.cut) (subst (λ (l : List Record). IsBody j.number (record { version = Two; records = l }) (take (bodies (length l)) (take 512 c.body_of-text.result ∷ drop 512 c.body_of-text.result ∷ []))) c.deref.ensures.0 c.body_of-text.ensures) in
+    let body = subst (λ (s : Image). IsBody j.number batch (take (bodies (length items)) s)) (sym c.sectors_of-body.ensures.cut) (subst (λ (l : List Record). IsBody j.number (record { version = Two; records = l }) (take (bodies (length l)) (take 512 c.put_body.new.text ∷ drop 512 c.put_body.new.text ∷ []))) c.deref.ensures.0 c.put_body.ensures) in
     let stands = c.self.invariant.stands c.if-self.false in
     let stood = append_stands j.shape j.start j.gate j.number c.body_count-bodies.result old items new (start_of j.shape.half old.image) c.write_batch.ensures.runs stands c.requires.entries
     (λ honest. open_ok c.write_batch.result _ (sym c.is_err.ensures.value ∙ c.if-is_err.false) c.write_batch.ensures.written j.shape (stands honest).batches batch honest
@@ -84,7 +84,7 @@ returns-clause-any_moment g c =
     let items = c.args.batch.now.items in
     let batch : Batch = record { version = Two; records = items } in
     let is : c.body_count-bodies.result ≡ size_of batch = c.body_count-bodies.ensures ∙ ap bodies c.len.ensures.value in
-    let body = subst (λ (s : Image). IsBody j.number batch (take (bodies (length items)) s)) (sym c.sectors_of-body.ensures.cut) (subst (λ (l : List Record). IsBody j.number (record { version = Two; records = l }) (take (bodies (length l)) (take 512 c.body_of-text.result ∷ drop 512 c.body_of-text.result ∷ []))) c.deref.ensures.0 c.body_of-text.ensures) in
+    let body = subst (λ (s : Image). IsBody j.number batch (take (bodies (length items)) s)) (sym c.sectors_of-body.ensures.cut) (subst (λ (l : List Record). IsBody j.number (record { version = Two; records = l }) (take (bodies (length l)) (take 512 c.put_body.new.text ∷ drop 512 c.put_body.new.text ∷ []))) c.deref.ensures.0 c.put_body.ensures) in
     let stands = c.self.invariant.stands c.if-self.false in
     let leaves = append_leaves j.shape j.start j.gate j.number c.body_count-bodies.result old items new c.write_batch.ensures.runs stands c.requires.entries
     (λ honest. c.write_batch.ensures.any_moment j.shape (stands honest).batches batch
@@ -100,7 +100,7 @@ returns-then-is_err-clause-any_moment_listed g c =
     let items = c.args.batch.now.items in
     let batch : Batch = record { version = Two; records = items } in
     let is : c.body_count-bodies.result ≡ size_of batch = c.body_count-bodies.ensures ∙ ap bodies c.len.ensures.value in
-    let body = subst (λ (s : Image). IsBody j.number batch (take (bodies (length items)) s)) (sym c.sectors_of-body.ensures.cut) (subst (λ (l : List Record). IsBody j.number (record { version = Two; records = l }) (take (bodies (length l)) (take 512 c.body_of-text.result ∷ drop 512 c.body_of-text.result ∷ []))) c.deref.ensures.0 c.body_of-text.ensures) in
+    let body = subst (λ (s : Image). IsBody j.number batch (take (bodies (length items)) s)) (sym c.sectors_of-body.ensures.cut) (subst (λ (l : List Record). IsBody j.number (record { version = Two; records = l }) (take (bodies (length l)) (take 512 c.put_body.new.text ∷ drop 512 c.put_body.new.text ∷ []))) c.deref.ensures.0 c.put_body.ensures) in
     let stands = c.self.invariant.stands c.if-self.false in
     let leaves = λ (batches : List Batch) (lists : LeavesNow old (Holds j.shape batches)). lists_leave j.shape j.start j.gate j.number old stands batches lists batch new c.write_batch.ensures.runs.honest
     (λ honest. c.write_batch.ensures.any_moment j.shape (stands honest).batches batch (λ _. ready j.shape j.start j.gate j.number c.body_count-bodies.result old items c.sectors_of-body.result.now (stands honest) is c.if-self-bodies.false c.sectors_of-body.ensures.length body c.requires.entries)) in
@@ -115,7 +115,7 @@ returns-clause-any_moment_listed g c =
     let items = c.args.batch.now.items in
     let batch : Batch = record { version = Two; records = items } in
     let is : c.body_count-bodies.result ≡ size_of batch = c.body_count-bodies.ensures ∙ ap bodies c.len.ensures.value in
-    let body = subst (λ (s : Image). IsBody j.number batch (take (bodies (length items)) s)) (sym c.sectors_of-body.ensures.cut) (subst (λ (l : List Record). IsBody j.number (record { version = Two; records = l }) (take (bodies (length l)) (take 512 c.body_of-text.result ∷ drop 512 c.body_of-text.result ∷ []))) c.deref.ensures.0 c.body_of-text.ensures) in
+    let body = subst (λ (s : Image). IsBody j.number batch (take (bodies (length items)) s)) (sym c.sectors_of-body.ensures.cut) (subst (λ (l : List Record). IsBody j.number (record { version = Two; records = l }) (take (bodies (length l)) (take 512 c.put_body.new.text ∷ drop 512 c.put_body.new.text ∷ []))) c.deref.ensures.0 c.put_body.ensures) in
     let stands = c.self.invariant.stands c.if-self.false in
     let leaves = λ (batches : List Batch) (lists : LeavesNow old (Holds j.shape batches)). lists_leave j.shape j.start j.gate j.number old stands batches lists batch new c.write_batch.ensures.runs.honest
     (λ honest. c.write_batch.ensures.any_moment j.shape (stands honest).batches batch (λ _. ready j.shape j.start j.gate j.number c.body_count-bodies.result old items c.sectors_of-body.result.now (stands honest) is c.if-self-bodies.false c.sectors_of-body.ensures.length body c.requires.entries)) in
@@ -130,7 +130,7 @@ returns-clause-listed g c =
     let items = c.args.batch.now.items in
     let batch : Batch = record { version = Two; records = items } in
     let is : c.body_count-bodies.result ≡ size_of batch = c.body_count-bodies.ensures ∙ ap bodies c.len.ensures.value in
-    let body = subst (λ (s : Image). IsBody j.number batch (take (bodies (length items)) s)) (sym c.sectors_of-body.ensures.cut) (subst (λ (l : List Record). IsBody j.number (record { version = Two; records = l }) (take (bodies (length l)) (take 512 c.body_of-text.result ∷ drop 512 c.body_of-text.result ∷ []))) c.deref.ensures.0 c.body_of-text.ensures) in
+    let body = subst (λ (s : Image). IsBody j.number batch (take (bodies (length items)) s)) (sym c.sectors_of-body.ensures.cut) (subst (λ (l : List Record). IsBody j.number (record { version = Two; records = l }) (take (bodies (length l)) (take 512 c.put_body.new.text ∷ drop 512 c.put_body.new.text ∷ []))) c.deref.ensures.0 c.put_body.ensures) in
     let stands = c.self.invariant.stands c.if-self.false in
     let stood = λ (batches : List Batch) (lists : LeavesNow old (Holds j.shape batches)). lists_stand j.shape j.start j.gate j.number old stands batches lists batch new c.write_batch.ensures.runs.honest
     (start_of j.shape.half old.image)
@@ -152,7 +152,7 @@ returns-then-is_err-clause-stops g c _ =
     let items = c.args.batch.now.items in
     let batch : Batch = record { version = Two; records = items } in
     let is : c.body_count-bodies.result ≡ size_of batch = c.body_count-bodies.ensures ∙ ap bodies c.len.ensures.value in
-    let body = subst (λ (s : Image). IsBody j.number batch (take (bodies (length items)) s)) (sym c.sectors_of-body.ensures.cut) (subst (λ (l : List Record). IsBody j.number (record { version = Two; records = l }) (take (bodies (length l)) (take 512 c.body_of-text.result ∷ drop 512 c.body_of-text.result ∷ []))) c.deref.ensures.0 c.body_of-text.ensures) in
+    let body = subst (λ (s : Image). IsBody j.number batch (take (bodies (length items)) s)) (sym c.sectors_of-body.ensures.cut) (subst (λ (l : List Record). IsBody j.number (record { version = Two; records = l }) (take (bodies (length l)) (take 512 c.put_body.new.text ∷ drop 512 c.put_body.new.text ∷ []))) c.deref.ensures.0 c.put_body.ensures) in
     let stands = c.self.invariant.stands c.if-self.false in
     let made = λ (honest : old.is_honest) (inert : old.is_inert) (batches : List Batch) (lists : LeavesNow old (Holds j.shape batches)).
     (let at = stands honest in

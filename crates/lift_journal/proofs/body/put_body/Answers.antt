@@ -2,7 +2,7 @@ use Rattle.std.proofs.Common.{length}
 use Rattle.lift_record.specs.declared.version.Version.TheVariants.{Two}
 use Rattle.lift_journal.specs.Layout.{Batch, batch_bytes}
 use Rattle.lift_journal.proofs.Texts.{sectors_spelled, length-batch_bytes}
-use Rattle.lift_journal.proofs.body.body_of.Goals as goal
+use Rattle.lift_journal.proofs.body.put_body.Goals as goal
 
 pub returns : goal.returns
 returns c =
@@ -10,6 +10,6 @@ returns c =
     record {
       some = c.requires.some;
       few = c.requires.few;
-      lawful = c.text_of.ensures.typed;
-      spelled = sectors_spelled (length c.args.batch.now) (batch_bytes c.args.number batch) c.text_of.result (length-batch_bytes c.args.number batch) c.requires.few c.text_of.ensures.text;
+      lawful = c.put_text.ensures.typed;
+      spelled = sectors_spelled (length c.args.batch.now) (batch_bytes c.args.number batch) c.put_text.new.text (length-batch_bytes c.args.number batch) c.requires.few c.put_text.ensures.text;
     }

@@ -9,7 +9,7 @@ use Rattle.lift_record.specs.declared.version.Version.TheVariants.{Two}
 use Rattle.lift_record.proofs.Spellings.{length-header_bytes}
 use Rattle.lift_journal.specs.Layout.{filled, IsRecordIn}
 use Rattle.lift_journal.proofs.Texts.{put_more, length-spellings}
-use Rattle.lift_journal.proofs.body.text_of.Goals as goal
+use Rattle.lift_journal.proofs.body.put_text.Goals as goal
 
 pub loop-content-preserved : goal.loop-content-preserved
 loop-content-preserved c =

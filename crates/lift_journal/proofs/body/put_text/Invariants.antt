@@ -4,7 +4,7 @@ use Rattle.lift_record.specs.Record.{spelling_of}
 use Rattle.lift_record.specs.Header.{header_bytes}
 use Rattle.lift_record.specs.declared.version.Version.TheVariants.{Two}
 use Rattle.lift_journal.specs.Layout.{filled, IsRecordIn}
-use Rattle.lift_journal.proofs.body.text_of.Given as goal
+use Rattle.lift_journal.proofs.body.put_text.Given as goal
 
 abbrev pub invariant-loop-content : goal.invariant-loop-content
 invariant-loop-content l = record {
