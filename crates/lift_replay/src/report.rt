@@ -1,13 +1,44 @@
 //! The lines of a report.
 
-ghost use Rattle.std.specs.Prelude.{◌≡◌, ◌++◌, OnOk, string_bytes};
+ghost use Rattle.std.specs.Prelude.{◌≡◌, ◌++◌, OnOk, decimal, string_bytes};
+ghost use Rattle.lift_base.specs.Text.{terminal_text, reply_text};
 ghost use Rattle.lift_replay.specs.Report.{status_text, party_text, row_text, rows_text, car_text, register_text, halt_text, heard_text, waiting_text, turn_text, cost_text, bad_text, fault_text, refused_text, building_text, detour_text};
 
+use itoa::Buffer;
 use lift_base::{Floor, Halt, Letter, Number, Party, Reason, Reply, Row, Terminal};
 use lift_building::BuildingFault;
 use lift_register::Register;
 use std::alloc::AllocError;
 use std::fmt::Write;
+
+/// Adds a number. A turn tells several, so it is done without a formatter.
+fn push_number(report: &mut String, number: u64) -> Result<(), AllocError>
+    ensures { OnOk result (string_bytes report.new ≡ string_bytes report.old ++ decimal number) }
+{
+    report.push_str(Buffer::new().format(number))
+}
+
+/// Adds the name of a terminal.
+fn push_terminal(report: &mut String, terminal: Terminal) -> Result<(), AllocError>
+    ensures { OnOk result (string_bytes report.new ≡ string_bytes report.old ++ terminal_text terminal) }
+{
+    let index = terminal.get();
+    if index < 16 {
+        report.push((b'A' + index) as char)
+    } else {
+        write!(report, "{terminal}")
+    }
+}
+
+/// Adds an answer.
+fn push_reply(report: &mut String, reply: Reply) -> Result<(), AllocError>
+    ensures { OnOk result (string_bytes report.new ≡ string_bytes report.old ++ reply_text reply) }
+{
+    match reply {
+        Reply::Stopped(None) => report.push_str("IDLE"),
+        _ => write!(report, "{reply}"),
+    }
+}
 
 fn status_word(aboard: bool) -> &'static str
     ensures { result.now ≡ status_text aboard }
@@ -91,8 +122,12 @@ pub fn push_heard(
 ) -> Result<(), AllocError>
     ensures { OnOk result (string_bytes report.new ≡ string_bytes report.old ++ heard_text terminal number reply) }
 {
-    let number = number.get();
-    writeln!(report, "{terminal} {number} {reply}")
+    push_terminal(report, terminal)?;
+    report.push(' ')?;
+    push_number(report, u64::from(number.get()))?;
+    report.push(' ')?;
+    push_reply(report, reply)?;
+    report.push('\n')
 }
 
 /// Adds that a terminal still waits.
@@ -111,7 +146,11 @@ pub fn push_waiting(
 pub fn push_turn(report: &mut String, taken: usize, accepted: usize) -> Result<(), AllocError>
     ensures { OnOk result (string_bytes report.new ≡ string_bytes report.old ++ turn_text taken accepted) }
 {
-    writeln!(report, "turn {taken} {accepted}")
+    report.push_str("turn ")?;
+    push_number(report, taken as u64)?;
+    report.push(' ')?;
+    push_number(report, accepted as u64)?;
+    report.push('\n')
 }
 
 /// Adds what a call would cost a car to the line of costs.
