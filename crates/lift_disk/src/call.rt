@@ -154,9 +154,12 @@ impl History {
         ensures ok { OnOk result (self.new ≡ self.old ++ Write sector bytes.now ∷ []) }
         ensures err { OnErr result (self.new ≡ self.old) }
     {
-        if let Some(front) = front_of::<SHORT>(bytes) {
-            self.notes.push(Note::Front(front, sector))?;
-            return Ok(());
+        // where more is written than a note has room for, mostly one byte tells it
+        if bytes[SHORT] == 0 {
+            if let Some(front) = front_of::<SHORT>(bytes) {
+                self.notes.push(Note::Front(front, sector))?;
+                return Ok(());
+            }
         }
         if let Some(front) = front_of::<LONG>(bytes) {
             return self.note_long(sector, Detail::Front(front));
