@@ -1,23 +1,8 @@
 //! The program `liftd`: it carries out scripts, makes journals on files, and shows what they hold.
 #![tactic(auto)]
 
-#[cfg(test)]
-mod command_lines;
-mod end;
-mod fault;
-mod files;
-mod format;
-#[cfg(test)]
-mod images;
-mod output;
-mod replay;
-mod show;
-#[cfg(test)]
-mod shows;
-mod start;
-mod words;
-
 use lift_base::text::Watched;
+use lift_program::{not_given, start};
 use std::process::ExitCode;
 use std::{env, io};
 
@@ -30,7 +15,7 @@ fn given(rt: &HostRuntime) -> io::Result<Vec<String>> {
 fn main(rt: HostRuntime) -> ExitCode {
     let mut errors = Watched::new(rt.stderr());
     let status = match given(&rt) {
-        Ok(words) => start::start(
+        Ok(words) => start(
             &rt,
             rt.alloc(),
             words.as_slice(),
@@ -38,7 +23,7 @@ fn main(rt: HostRuntime) -> ExitCode {
             &mut rt.stdout(),
             &mut errors,
         ),
-        Err(error) => start::not_given(error, &mut errors).status(),
+        Err(error) => not_given(error, &mut errors).status(),
     };
     ExitCode::from(status)
 }

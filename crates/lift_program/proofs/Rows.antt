@@ -1,0 +1,52 @@
+-- What the rows of `format` and `show` say of their words.
+use Rattle.std.proofs.Common.{◌≡◌, ◌<◌, Option, Some, None, List, ℕ, Bor, codes, option_map, ap, sym, subst, ◌∙◌, arith}
+use Rattle.std.specs.Prelude.{IfNone}
+use Rattle.std.specs.Fmt.{decimal}
+use Rattle.std.proofs.lemmas.Fmt.{decimal_injective}
+use Rattle.clap.specs.Words.{Row, Text, first_of, first_value, rows_of}
+use Rattle.clap.specs.declared.parser.matches.Found.{Found}
+use Rattle.clap.proofs.WalkLemmas.{first_value-rows}
+use Rattle.lift_program.specs.Words.{IsFormat, IsShow, IsHalf}
+use Rattle.lift_program.specs.declared.words.Request.{Request}
+use Rattle.lift_program.specs.declared.words.Request.TheVariants.{Replay, Format, Show}
+
+pub if_none : {A : Type 0} (r : Option A) (P : Type 0) → P → IfNone r P
+if_none None P p = p
+if_none (Some x) P p = tt
+
+-- the value that a getter gives
+pub text_in : (f : Found) (id : Text) (given is : Option (Bor Text)) → option_map (λ s. s.now) given ≡ first_value f id → given ≡ is
+    → first_of id (rows_of f) ≡ option_map (λ s. s.now) is
+text_in f id given is same given_is = sym (first_value-rows f id) ∙ sym same ∙ ap (option_map (λ s. s.now)) given_is
+
+pub no_image : (rows : List Row) → first_of (codes "image") rows ≡ None → (request : Request) → IsFormat rows request → ⊥
+no_image rows none Replay is = is
+no_image rows none (Show image building) is = is
+no_image rows none (Format image building half) is = let bad = sym is.0 ∙ none in cc
+
+pub no_building : (rows : List Row) → first_of (codes "building") rows ≡ None → (request : Request) → IsFormat rows request → ⊥
+no_building rows none Replay is = is
+no_building rows none (Show image building) is = is
+no_building rows none (Format image building half) is = let bad = sym is.1 ∙ none in cc
+
+pub no_half : (rows : List Row) (word : Option Text) → first_of (codes "half") rows ≡ word → ((half : ℕ) → IsHalf word half → ⊥) → (request : Request) → IsFormat rows request → ⊥
+no_half rows word same none Replay is = is
+no_half rows word same none (Show image building) is = is
+no_half rows word same none (Format image building half) is = none half (subst (λ w. IsHalf w half) same is.2)
+
+pub no_image_to_show : (rows : List Row) → first_of (codes "image") rows ≡ None → (request : Request) → IsShow rows request → ⊥
+no_image_to_show rows none Replay is = is
+no_image_to_show rows none (Format image building half) is = is
+no_image_to_show rows none (Show image building) is = let bad = sym is.0 ∙ none in cc
+
+pub no_building_to_show : (rows : List Row) → first_of (codes "building") rows ≡ None → (request : Request) → IsShow rows request → ⊥
+no_building_to_show rows none Replay is = is
+no_building_to_show rows none (Format image building half) is = is
+no_building_to_show rows none (Show image building) is = let bad = sym is.1 ∙ none in cc
+
+-- a number below 64 spells no other one
+pub too_small : (word : Option Text) (text : Text) (number : ℕ) → word ≡ Some text → text ≡ decimal number → number < 64 → (half : ℕ) → IsHalf word half → ⊥
+too_small word text number same spelled small half is = go (subst (λ w. IsHalf w half) same is)
+  where
+    go : IsHalf (Some text) half → ⊥
+    go said = let equal = decimal_injective number half (omega arith) (omega (arith, said)) (sym spelled ∙ said.0) in omega (arith, equal, said, small)

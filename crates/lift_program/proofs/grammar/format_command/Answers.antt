@@ -1,0 +1,16 @@
+use Rattle.std.proofs.Common.{◌≡◌, ap, ap₂, codes, ◌∙◌}
+use Rattle.clap.specs.Words.{App, app_of, with_rule, with_subcommand}
+use Rattle.std.proofs.lemmas.Result.{IfOk-weaker}
+use Rattle.lift_program.specs.Words.{app_on, format_app}
+use Rattle.lift_program.proofs.Commands.{still_local}
+use Rattle.lift_program.proofs.grammar.format_command.Goals as goal
+
+pub returns : goal.returns
+returns c = IfOk-weaker c.arg-3.result _ _ (λ command adds.
+    let on_format : app_of c.in_ok-arg-2.field-0 ≡ app_on (codes "format") = c.in_ok-arg-2.ensures.shape c.word-2.ensures.local
+    ∙ ap₂ with_rule (c.in_ok-arg.ensures.shape c.word.ensures.local ∙ ap₂ with_rule c.new.ensures.app c.word.ensures.rule) c.word-2.ensures.rule in
+    let format_is : app_of command ≡ format_app = adds.shape c.option.ensures.local ∙ ap₂ with_rule on_format c.option.ensures.rule in
+    let local = still_local _ _ _ adds.globals
+    (still_local _ _ _ c.in_ok-arg-2.ensures.globals (still_local _ _ _ c.in_ok-arg.ensures.globals c.new.ensures.local c.word.ensures.local) c.word-2.ensures.local)
+    c.option.ensures.local in
+    λ old new added. added.shape local ∙ ap (λ (a : App). with_subcommand (app_of old) a.top) format_is) c.arg-3.ensures

@@ -1,0 +1,139 @@
+-- How the program ends, and what it says of it.
+use Rattle.std.specs.Prelude.{ℕ, ◌≡◌, ◌⊎◌, ◌+◌, ◌*◌, List, [], ◌∷◌, ◌++◌, Option, Some, None, IfSome, true, false}
+use Rattle.clap.specs.Words.{Text}
+use Rattle.lift_base.specs.Input.{InputState}
+use Rattle.lift_base.specs.Output.{OutputState}
+use Rattle.lift_building.specs.Gives.{IsFirstFault}
+use Rattle.lift_disk.specs.Files.{file_state_of}
+use Rattle.lift_disk.specs.declared.file.FileDisk.{FileDisk}
+use Rattle.lift_journal.specs.declared.fault.JournalFault.TheVariants.{Disk}
+use Rattle.lift_keeper.specs.declared.fault.KeeperFault.TheVariants.{Journal as OfJournal}
+use Rattle.lift_replay.specs.declared.lines.Verdict.TheVariants.{Good, Bad}
+use Rattle.lift_replay.specs.Reading.{IsRead}
+use Rattle.lift_replay.specs.Report.{AppendsBadReport}
+use Rattle.lift_program.specs.Faults.{fault_text, usage_text}
+use Rattle.lift_program.specs.Output.{IsTold}
+use Rattle.lift_program.specs.Showing.{IsShown, IsOpeningFault}
+use Rattle.lift_program.specs.Words.{Asks}
+use Rattle.lift_program.specs.declared.fault.Fault.{Fault}
+use Rattle.lift_program.specs.declared.fault.Fault.TheVariants.{Building, Journal, File, Memory}
+use Rattle.lift_program.specs.declared.end.End.{End}
+use Rattle.lift_program.specs.declared.end.End.TheVariants.{Replayed, Formatted, Shown, Failed, OtherWords}
+use Rattle.lift_program.specs.declared.words.Request.{Request}
+use Rattle.lift_program.specs.declared.words.Request.TheVariants.{Replay, Format, Show}
+
+-- 0 where all was done, 1 for a bad script or a fault, 2 for other words
+abbrev pub status_of : End → ℕ
+status_of (Replayed Good) = 0
+status_of (Replayed Bad) = 1
+status_of (Formatted disk) = 0
+status_of (Shown disk) = 0
+status_of (Failed fault) = 1
+status_of OtherWords = 2
+
+-- the line that is told, none where there is nothing to tell
+abbrev pub line_of : End → Option (List ℕ)
+line_of (Replayed verdict) = None
+line_of (Formatted disk) = None
+line_of (Shown disk) = None
+line_of (Failed fault) = Some (fault_text fault ++ 10 ∷ [])
+line_of OtherWords = Some (usage_text ++ 10 ∷ [])
+
+-- A journal with so many sectors in a half was made on the device: by five calls, three of them writes, of which none failed.
+pub record IsMadeWith (half : ℕ) (disk : FileDisk) : Type 0 where
+  pub size : (file_state_of disk).size ≡ 2 + 2 * half
+  pub calls : (file_state_of disk).calls ≡ 5
+  pub writes : (file_state_of disk).writes ≡ 3
+  pub failures : (file_state_of disk).failures ≡ 0
+
+-- the journal that was asked for
+abbrev pub IsMadeFor : Request → FileDisk → Type 0
+IsMadeFor Replay disk = ⊥
+IsMadeFor (Format image building half) disk = IsMadeWith half disk
+IsMadeFor (Show image building) disk = ⊥
+
+-- a file, or want of memory
+abbrev pub IsFileFault : Fault → Type 0
+IsFileFault fault = (fault ≡ File) ⊎ (fault ≡ Memory)
+
+-- these, the first fault of a building's text, or a failed call of the device
+abbrev pub IsFormatFault : Fault → Type 0
+IsFormatFault (Building fault) = (text : List ℕ) × IsFirstFault text fault
+IsFormatFault (Journal fault) = fault ≡ OfJournal Disk
+IsFormatFault File = Unit {0}
+IsFormatFault Memory = Unit {0}
+
+-- a file, want of memory, or what an opening may be refused for
+abbrev pub IsShowingFault : Fault → Type 0
+IsShowingFault (Building fault) = ⊥
+IsShowingFault (Journal fault) = IsOpeningFault fault
+IsShowingFault File = Unit {0}
+IsShowingFault Memory = Unit {0}
+
+-- these, or the first fault of a building's text
+abbrev pub IsShowFault : Fault → Type 0
+IsShowFault (Building fault) = (text : List ℕ) × IsFirstFault text fault
+IsShowFault (Journal fault) = IsShowingFault (Journal fault)
+IsShowFault File = IsShowingFault File
+IsShowFault Memory = IsShowingFault Memory
+
+-- A script was read, or couldn't be: a call of its reader failed, or all were used and its end was not found.
+abbrev pub IsReadOrFailed : {R : Type 0} → (R → Option (List ℕ)) → (old new : InputState R) → Type 0
+IsReadOrFailed remaining old new =
+    IsRead remaining old new ⊎ ((new.failed ≡ true) ⊎ ((new.calls ≡ 2097152) × (new.ended ≡ false)))
+
+-- what a request may fail by
+abbrev pub IsFaultOf : Request → Fault → Type 0
+IsFaultOf Replay fault = IsFileFault fault
+IsFaultOf (Format image building half) fault = IsFormatFault fault
+IsFaultOf (Show image building) fault = IsShowFault fault
+
+-- the open calls of a journal were asked for
+abbrev pub AsksToShow : Request → Type 0
+AsksToShow Replay = ⊥
+AsksToShow (Format image building half) = ⊥
+AsksToShow (Show image building) = Unit {0}
+
+-- it asks for no report
+abbrev pub IsUnwritten : Request → Type 0
+IsUnwritten Replay = ⊥
+IsUnwritten (Format image building half) = Unit {0}
+IsUnwritten (Show image building) = ⊥
+
+-- what a request may come to
+abbrev pub IsEndFor : Request → End → Type 0
+IsEndFor request (Replayed verdict) = request ≡ Replay
+IsEndFor request (Formatted disk) = IsMadeFor request disk
+IsEndFor request (Shown disk) = AsksToShow request
+IsEndFor request (Failed fault) = IsFaultOf request fault
+IsEndFor request OtherWords = ⊥
+
+-- What these words come to: an end of what they ask for, want of memory, or, where they ask for nothing, other words.
+abbrev pub IsEndOf : List Text → End → Type 0
+IsEndOf words OtherWords = (request : Request) → Asks words request → ⊥
+IsEndOf words end = (end ≡ Failed Memory) ⊎ ((request : Request) × Asks words request × IsEndFor request end)
+
+-- What was written of a fault: nothing of a building's, and nothing of a journal's.
+abbrev pub IsReportOfFault : Fault → (before after : Option (List ℕ)) → Type 0
+IsReportOfFault (Building fault) before after = after ≡ before
+IsReportOfFault (Journal fault) before after = after ≡ before
+IsReportOfFault File before after = Unit {0}
+IsReportOfFault Memory before after = Unit {0}
+
+-- what was written, by the end: of a bad script a report that tells its cause, and of a journal that was shown its open calls
+abbrev pub IsReport : End → (before after : Option (List ℕ)) → Type 0
+IsReport (Replayed Good) before after = Unit {0}
+IsReport (Replayed Bad) before after = AppendsBadReport before after
+IsReport (Formatted disk) before after = after ≡ before
+IsReport (Shown disk) before after = IsShown disk before after
+IsReport (Failed fault) before after = IsReportOfFault fault before after
+IsReport OtherWords before after = after ≡ before
+
+-- the status of an end that these words come to, with its report, and whose line was told, if it has one
+pub record IsStatusFor {E : Type 0} (contents : E → Option (List ℕ)) (words : List Text) (before after : Option (List ℕ)) (old new : OutputState E) (status : ℕ) : Type 0 where
+  pub end : End
+  pub is_end : IsEndOf words end
+  pub reported : IsReport end before after
+  pub is_status : status ≡ status_of end
+  pub told : IfSome (line_of end) (IsTold contents old new)
+  pub quiet : line_of end ≡ None → new ≡ old

@@ -1,0 +1,55 @@
+-- What the program says of a fault, and of words that it doesn't know.
+use Rattle.std.specs.Prelude.{ℕ, List, [], ◌∷◌, ◌++◌, codes}
+use Rattle.std.specs.Fmt.{decimal}
+use Rattle.lift_building.specs.Text.{fault_number as building_number}
+use Rattle.lift_building.specs.declared.fault.BuildingFault.{BuildingFault}
+use Rattle.lift_building.specs.declared.fault.BuildingFault.TheVariants.{Detour, Memory as NoRoom}
+use Rattle.lift_journal.specs.declared.fault.JournalFault.TheVariants.{Disk, NotFormatted, Damaged, Full, Broken}
+use Rattle.lift_keeper.specs.Fault.{fault_number as journal_number}
+use Rattle.lift_keeper.specs.declared.fault.KeeperFault.{KeeperFault}
+use Rattle.lift_keeper.specs.declared.fault.KeeperFault.TheVariants.{Journal as OfJournal, OtherBuilding, BadEntry}
+use Rattle.lift_replay.specs.declared.script.ReplayFault.{ReplayFault}
+use Rattle.lift_replay.specs.declared.script.ReplayFault.TheVariants.{Memory as NoMemory, Read, Write}
+use Rattle.lift_program.specs.declared.fault.Fault.{Fault}
+use Rattle.lift_program.specs.declared.fault.Fault.TheVariants.{Building, Journal, File, Memory}
+
+-- a building's fault by its number, a detour with its three floors
+abbrev pub building_text : BuildingFault → List ℕ
+building_text (Detour from by to) = codes "liftd: building 6 " ++ decimal from ++ 32 ∷ decimal by ++ 32 ∷ decimal to
+building_text fault = codes "liftd: building " ++ decimal (building_number fault)
+
+-- where in the journal a fault was found: damage has its sector, a record that doesn't fit its place
+abbrev pub place_text : KeeperFault → List ℕ
+place_text (OfJournal Disk) = []
+place_text (OfJournal NotFormatted) = []
+place_text (OfJournal (Damaged sector)) = 32 ∷ decimal sector
+place_text (OfJournal Full) = []
+place_text (OfJournal Broken) = []
+place_text OtherBuilding = []
+place_text (BadEntry place) = 32 ∷ decimal place
+
+-- a journal's fault by its number, and where it was found
+abbrev pub journal_text : KeeperFault → List ℕ
+journal_text fault = codes "liftd: journal " ++ decimal (journal_number fault) ++ place_text fault
+
+-- the line of a fault, without its end
+abbrev pub fault_text : Fault → List ℕ
+fault_text (Building fault) = building_text fault
+fault_text (Journal fault) = journal_text fault
+fault_text File = codes "liftd: file"
+fault_text Memory = codes "liftd: memory"
+
+-- the line of words that are those of no command
+abbrev pub usage_text : List ℕ
+usage_text = codes "liftd: usage"
+
+-- a building that was refused for want of memory is that
+abbrev pub of_building : BuildingFault → Fault
+of_building NoRoom = Memory
+of_building fault = Building fault
+
+-- a script whose reading, or whose writing, failed is undone for a file
+abbrev pub of_replay : ReplayFault → Fault
+of_replay NoMemory = Memory
+of_replay Read = File
+of_replay Write = File

@@ -1,0 +1,79 @@
+-- What the program's words ask for.
+use Rattle.std.specs.Prelude.{◌≡◌, ◌≤◌, ◌⊎◌, ℕ, true, List, [], Option, Some, None, codes}
+use Rattle.std.specs.Fmt.{decimal}
+use Rattle.clap.specs.Words.{AddsSubcommand, App, Row, Rule, Text, app_of, new_app, new_rule, with_rule, with_subcommand, first_of, subcommand_of, fault_of}
+use Rattle.clap.specs.declared.builder.command.Command.{Command}
+use Rattle.lift_program.specs.declared.words.Request.{Request}
+use Rattle.lift_program.specs.declared.words.Request.TheVariants.{Replay, Format, Show}
+
+-- a plain word that has to be there
+abbrev pub word_rule : Text → Rule
+word_rule name = record (new_rule name) { required = true }
+
+-- an option, with its value in the next word or behind `=`
+abbrev pub option_rule : Text → Rule
+option_rule name = record (new_rule name) { long = Some name }
+
+-- a command over an image and a building: `<name> <image> <building>`
+abbrev pub app_on : Text → App
+app_on name = with_rule (with_rule (new_app name) (word_rule (codes "image"))) (word_rule (codes "building"))
+
+-- `format <image> <building> [--half n]`
+abbrev pub format_app : App
+format_app = with_rule (app_on (codes "format")) (option_rule (codes "half"))
+
+-- `show <image> <building>`
+abbrev pub show_app : App
+show_app = app_on (codes "show")
+
+-- `replay`
+abbrev pub replay_app : App
+replay_app = new_app (codes "replay")
+
+-- A command that, added to a program, is this command of it, behind those that it had.
+abbrev pub IsCommand : App → Command → Type 0
+IsCommand app command = (old new : Command) → AddsSubcommand old command new → app_of new ≡ with_subcommand (app_of old) app.top
+
+-- the program by itself, whose first word is not its name
+abbrev pub bare_app : App
+bare_app = record (new_app (codes "liftd")) { top = record (new_app (codes "liftd")).top { no_binary_name = true } }
+
+-- the program with its commands
+abbrev pub liftd_app : App
+liftd_app = with_subcommand (with_subcommand (with_subcommand bare_app replay_app.top) format_app.top) show_app.top
+
+-- the sectors in a half: 64, or what the option's word spells, 64 to 1,000,000
+abbrev pub IsHalf : Option Text → ℕ → Type 0
+IsHalf None half = half ≡ 64
+IsHalf (Some word) half = (word ≡ decimal half) × (64 ≤ half) × (half ≤ 1000000)
+
+-- what the words behind `format` ask for
+abbrev pub IsFormat : List Row → Request → Type 0
+IsFormat rows Replay = ⊥
+IsFormat rows (Format image building half) = (first_of (codes "image") rows ≡ Some image.now)
+    × (first_of (codes "building") rows ≡ Some building.now)
+    × IsHalf (first_of (codes "half") rows) half
+IsFormat rows (Show image building) = ⊥
+
+-- what the words behind `show` ask for
+abbrev pub IsShow : List Row → Request → Type 0
+IsShow rows Replay = ⊥
+IsShow rows (Format image building half) = ⊥
+IsShow rows (Show image building) = (first_of (codes "image") rows ≡ Some image.now) × (first_of (codes "building") rows ≡ Some building.now)
+
+-- what a command asks for; without one a script is carried out
+abbrev pub IsFor : Option (Text × List Row) → Request → Type 0
+IsFor None request = request ≡ Replay
+IsFor (Some command) request = ((command.0 ≡ codes "replay") × (request ≡ Replay))
+    ⊎ (((command.0 ≡ codes "format") × IsFormat command.1 request)
+    ⊎ ((command.0 ≡ codes "show") × IsShow command.1 request))
+
+-- The grammar of the commands takes the words, and they ask for this.
+abbrev pub Asks : List Text → Request → Type 0
+Asks words request = (fault_of liftd_app words ≡ []) × IsFor (subcommand_of liftd_app words) request
+
+-- 64 to 1,000,000 sectors in a half
+abbrev pub IsInRange : Request → Type 0
+IsInRange Replay = Unit {0}
+IsInRange (Format image building half) = (64 ≤ half) × (half ≤ 1000000)
+IsInRange (Show image building) = Unit {0}

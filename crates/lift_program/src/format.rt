@@ -1,0 +1,36 @@
+//! The making of an empty journal on a file.
+
+ghost use Rattle.std.specs.Prelude.{◌≤◌, IfOk, IfErr};
+ghost use Rattle.lift_program.specs.Ends.{IsMadeWith, IsFormatFault};
+
+use crate::fault::Fault;
+use crate::files::{image_at, text_in};
+use lift_building::Building;
+use lift_disk::FileDisk;
+use lift_journal::JournalFault;
+use lift_keeper::KeeperFault;
+use std::alloc::Global;
+use std::fs::{File, Files};
+
+/// Makes an empty journal in the file `image`, for the building in the file `building`, with so many sectors in a half.
+/// Nothing is made for a building that is refused.
+pub fn format<F: Files<File = File>>(
+    rt: &F,
+    alloc: Global,
+    image: &str,
+    building: &str,
+    half: u32,
+) -> Result<FileDisk, Fault>
+    requires least { 64 ≤ half }
+    requires most { half ≤ 1000000 }
+    ensures made { IfOk result (IsMadeWith half) }
+    ensures fault { IfErr result IsFormatFault }
+{
+    let text = text_in(rt, alloc, building)?;
+    let shape = Building::read(alloc, text.as_str())?.shape(half);
+    let mut disk = image_at(rt, image, 2 + 2 * half)?;
+    match lift_journal::format(&mut disk, shape) {
+        Ok(()) => Ok(disk),
+        Err(_) => Err(Fault::Journal(KeeperFault::Journal(JournalFault::Disk))),
+    }
+}

@@ -1,0 +1,70 @@
+//! The grammar of the program's words: its commands and their arguments.
+
+ghost use Rattle.std.specs.Prelude.{◌≡◌, false, IfOk};
+ghost use Rattle.clap.specs.Words.{app_of, rule_of};
+ghost use Rattle.lift_program.specs.Words.{liftd_app, bare_app, replay_app, format_app, show_app, word_rule, option_rule, IsCommand};
+
+use clap::{Arg, Command};
+use std::alloc::{AllocError, Global};
+
+/// A plain word that has to be there.
+fn word<'a>(alloc: Global, name: &'a str) -> Arg<'a>
+    ensures rule { rule_of result ≡ word_rule name.now }
+    ensures local { result.global ≡ false }
+{
+    Arg::new(alloc, name).required(true)
+}
+
+/// An option, with its value in the next word or behind `=`.
+fn option<'a>(alloc: Global, name: &'a str) -> Arg<'a>
+    ensures rule { rule_of result ≡ option_rule name.now }
+    ensures local { result.global ≡ false }
+{
+    Arg::new(alloc, name).long(name)
+}
+
+/// `replay`.
+fn replay_command<'a>(alloc: Global) -> Command<'a>
+    ensures { IsCommand replay_app result }
+{
+    Command::new(alloc, "replay")
+}
+
+/// `format <image> <building> [--half n]`.
+fn format_command<'a>(alloc: Global) -> Result<Command<'a>, AllocError>
+    ensures { IfOk result (IsCommand format_app) }
+{
+    Command::new(alloc, "format")
+        .arg(word(alloc, "image"))?
+        .arg(word(alloc, "building"))?
+        .arg(option(alloc, "half"))
+}
+
+/// `show <image> <building>`.
+fn show_command<'a>(alloc: Global) -> Result<Command<'a>, AllocError>
+    ensures { IfOk result (IsCommand show_app) }
+{
+    Command::new(alloc, "show")
+        .arg(word(alloc, "image"))?
+        .arg(word(alloc, "building"))
+}
+
+/// The program by itself, whose first word is not its name.
+fn bare<'a>(alloc: Global) -> Command<'a>
+    ensures { app_of result ≡ bare_app }
+{
+    Command::new(alloc, "liftd").no_binary_name(true)
+}
+
+/// The program with its commands.
+pub fn grammar<'a>(alloc: Global) -> Result<Command<'a>, AllocError>
+    ensures { IfOk result (λ command. app_of command ≡ liftd_app) }
+{
+    let replay = replay_command(alloc);
+    let format = format_command(alloc)?;
+    let show = show_command(alloc)?;
+    bare(alloc)
+        .subcommand(replay)?
+        .subcommand(format)?
+        .subcommand(show)
+}

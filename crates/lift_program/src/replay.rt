@@ -1,0 +1,30 @@
+//! The carrying out of a script.
+
+ghost use Rattle.std.specs.Prelude.{◌≡◌, true, false, IfErr};
+ghost use Rattle.lift_replay.specs.Report.{AppendsBadReport};
+ghost use Rattle.lift_program.specs.Ends.{IsFileFault, IsReadOrFailed};
+
+use crate::fault::Fault;
+use lift_base::text::Counted;
+use lift_replay::Verdict;
+use std::alloc::Global;
+use std::io::{Read, Write};
+
+/// Carries out the script that the reader gives, and writes its report.
+pub fn replay<R: Read + Drop, W: Write>(
+    alloc: Global,
+    input: &mut Counted<R>,
+    writer: &mut W,
+) -> Result<Verdict, Fault>
+    requires fresh { input.old.calls ≡ 0 }
+    requires unhurt { input.old.failed ≡ false }
+    requires before_end { input.old.ended ≡ false }
+    ensures good { result ≡ Ok Verdict.Good → input.new.ended ≡ true }
+    ensures bad { result ≡ Ok Verdict.Bad → AppendsBadReport (W.contents writer.old) (W.contents writer.new) }
+    ensures fault { IfErr result IsFileFault }
+    ensures cause { result ≡ Err Fault.File → IsReadOrFailed R.remaining input.old input.new }
+{
+    let verdict = lift_replay::run(alloc, input, writer)?;
+    writer.flush().map_err(Fault::of_file)?;
+    Ok(verdict)
+}

@@ -1,0 +1,85 @@
+//! The open calls of a group, begun again from its image.
+
+ghost use Rattle.std.specs.Prelude.{◌≡◌, ◌≢◌, ℕ, List, take, Ok, Err, IfOk, IfErr, OnOk, OnErr};
+ghost use Rattle.std.specs.Io.KnownBytes.{Appends};
+ghost use Rattle.lift_keeper.specs.Reopening.{RefusesReopening};
+ghost use Rattle.lift_keeper.specs.declared.fault.KeeperFault.{KeeperFault as Refusal};
+ghost use Rattle.lift_replay.specs.Report.{register_text};
+ghost use Rattle.lift_program.specs.Ends.{IsFileFault, IsReportOfFault, IsShowFault, IsShowingFault};
+ghost use Rattle.lift_program.specs.Showing.{IsShown, Shows, ShowsFront};
+ghost use Rattle.lift_program.specs.declared.fault.Fault.TheVariants.{Journal as OfJournal};
+
+use crate::fault::Fault;
+use crate::files::{image_in, text_in};
+use lift_base::text::put_all;
+use lift_building::Building;
+use lift_disk::{Disk, FileDisk};
+use lift_keeper::Keeper;
+use lift_register::Register;
+use lift_replay::report::push_rows;
+use std::alloc::Global;
+use std::fs::{File, Files};
+use std::io::Write;
+
+/// Writes the open calls of a register, as scripts report them.
+fn write_rows<W: Write>(alloc: Global, register: &Register, writer: &mut W) -> Result<(), Fault>
+    ensures written { OnOk result (Appends (W.contents writer.old) (W.contents writer.new) (register_text register.now)) }
+    ensures front { OnErr result ((n : ℕ) × Appends (W.contents writer.old) (W.contents writer.new) (take n (register_text register.now))) }
+    ensures fault { IfErr result IsFileFault }
+{
+    let mut report = String::new(alloc);
+    push_rows(&mut report, register)?;
+    if put_all(writer, report.as_bytes()).is_err() {
+        return Err(Fault::File);
+    }
+    writer.flush().map_err(Fault::of_file)
+}
+
+/// Opens the keeper of a building on a device, and writes the open calls that it shows: the recovery's. Hands the device
+/// back. No sector is written.
+fn show_on<D: Disk + Drop, W: Write>(
+    alloc: Global,
+    disk: D,
+    building: &Building,
+    writer: &mut W,
+) -> (D, Result<(), Fault>)
+    // What is written is exactly the lines of the register that the recovery gave,
+    ensures shown { OnOk result.1 (Shows building.now (D.state disk) (D.state result.0) (W.contents writer.old) (W.contents writer.new)) }
+    // or a front of them, where they can't be written.
+    ensures front { IfErr result.1 (λ fault. IsFileFault fault
+        → ShowsFront building.now (D.state disk) (D.state result.0) (W.contents writer.old) (W.contents writer.new)) }
+    // Where the recovery is refused its cause is told, and nothing is written.
+    ensures refused { (fault : Refusal) → result.1 ≡ Err (OfJournal fault)
+        → RefusesReopening building.now (D.state disk) (D.state result.0) fault }
+    ensures unwritten { IfErr result.1 (λ fault. IsReportOfFault fault (W.contents writer.old) (W.contents writer.new)) }
+    ensures fault { IfErr result.1 IsShowingFault }
+    ensures writes { (D.state result.0).writes ≡ (D.state disk).writes }
+{
+    match Keeper::open(disk, building) {
+        Ok(keeper) => {
+            let outcome = write_rows(alloc, keeper.register(), writer);
+            (keeper.into_disk(), outcome)
+        }
+        Err((disk, fault)) => (disk, Err(Fault::Journal(fault))),
+    }
+}
+
+/// Shows the open calls of the journal in the file `image`, which is of the building in the file `building`.
+pub fn show<F: Files<File = File>, W: Write>(
+    rt: &F,
+    alloc: Global,
+    image: &str,
+    building: &str,
+    writer: &mut W,
+) -> Result<FileDisk, Fault>
+    ensures shown { IfOk result (λ disk. IsShown disk (W.contents writer.old) (W.contents writer.new)) }
+    ensures fault { IfErr result IsShowFault }
+    ensures report { IfErr result (λ fault. IsReportOfFault fault (W.contents writer.old) (W.contents writer.new)) }
+{
+    let text = text_in(rt, alloc, building)?;
+    let building = Building::read(alloc, text.as_str())?;
+    let disk = image_in(rt, image)?;
+    let (disk, outcome) = show_on(alloc, disk, &building, writer);
+    outcome?;
+    Ok(disk)
+}

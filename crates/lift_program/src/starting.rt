@@ -1,0 +1,137 @@
+//! From the program's words to its status.
+
+ghost use Rattle.std.specs.Prelude.{◌≡◌, ◌≢◌, None, false, true, map, IfSome};
+ghost use Rattle.std.specs.IoError.{error_kind};
+ghost use Rattle.lift_replay.specs.declared.lines.Verdict.TheVariants.{Good};
+ghost use Rattle.lift_program.specs.Ends.{IsEndFor, IsEndOf, IsReadOrFailed, IsReport, IsStatusFor, IsUnwritten, line_of};
+ghost use Rattle.lift_program.specs.Output.{IsTold};
+ghost use Rattle.lift_program.specs.Words.{Asks, IsInRange};
+ghost use Rattle.lift_program.specs.declared.words.Request.{Request as Wanted};
+ghost use Rattle.lift_program.specs.declared.words.Request.TheVariants.{Replay};
+
+use crate::end::End;
+use crate::fault::Fault;
+use crate::format::format;
+use crate::replay::replay;
+use crate::show::show;
+use crate::words::{Request, request_of};
+use lift_base::text::{Counted, Watched};
+use std::alloc::Global;
+use std::convert::AsStr;
+use std::fs::{File, Files};
+use std::io;
+use std::io::{ErrorKind, Read, Write};
+
+/// Does what the request asks for.
+fn done<F: Files<File = File>, R: Read + Drop, W: Write>(
+    rt: &F,
+    alloc: Global,
+    request: Request<'_>,
+    input: &mut Counted<R>,
+    writer: &mut W,
+) -> End
+    requires range { IsInRange request }
+    requires fresh { input.old.calls ≡ 0 }
+    requires unhurt { input.old.failed ≡ false }
+    requires before_end { input.old.ended ≡ false }
+    ensures end { IsEndFor request.entry result }
+    ensures report { IsReport result (W.contents writer.old) (W.contents writer.new) }
+    ensures unwritten { IsUnwritten request.entry → W.contents writer.new ≡ W.contents writer.old }
+    ensures good { result ≡ End.Replayed Good → input.new.ended ≡ true }
+    ensures cause { request.entry ≡ Replay → result ≡ End.Failed Fault.File
+        → IsReadOrFailed R.remaining input.old input.new }
+{
+    match request {
+        Request::Replay => match replay(alloc, input, writer) {
+            Ok(verdict) => End::Replayed(verdict),
+            Err(fault) => End::Failed(fault),
+        },
+        Request::Format {
+            image,
+            building,
+            half,
+        } => match format(rt, alloc, image, building, half) {
+            Ok(disk) => End::Formatted(disk),
+            Err(fault) => End::Failed(fault),
+        },
+        Request::Show { image, building } => match show(rt, alloc, image, building, writer) {
+            Ok(disk) => End::Shown(disk),
+            Err(fault) => End::Failed(fault),
+        },
+    }
+}
+
+/// Why the words weren't given: for want of memory, or since one of them is no text.
+pub fn not_given<E: Write + Drop>(error: io::Error, errors: &mut Watched<E>) -> End
+    ensures memory { error_kind error ≡ ErrorKind.OutOfMemory → result ≡ End.Failed Fault.Memory }
+    ensures other { error_kind error ≢ ErrorKind.OutOfMemory → result ≡ End.OtherWords }
+    ensures told { IfSome (line_of result) (IsTold E.contents errors.old errors.new) }
+{
+    let end = if error.kind() == ErrorKind::OutOfMemory {
+        End::Failed(Fault::Memory)
+    } else {
+        End::OtherWords
+    };
+    end.tell(errors);
+    end
+}
+
+/// Does what the words behind the program's name ask for, and answers how it ended. A fault writes its line to
+/// `errors`, and so do other words.
+fn carry_out<F: Files<File = File>, S: AsStr, R: Read + Drop, W: Write, E: Write + Drop>(
+    rt: &F,
+    alloc: Global,
+    words: &[S],
+    input: &mut Counted<R>,
+    writer: &mut W,
+    errors: &mut Watched<E>,
+) -> End
+    requires fresh { input.old.calls ≡ 0 }
+    requires unhurt { input.old.failed ≡ false }
+    requires before_end { input.old.ended ≡ false }
+    // It ends as the words ask,
+    ensures end { IsEndOf (map S.text words.now) result }
+    // a fault and other words are told by their line,
+    ensures told { IfSome (line_of result) (IsTold E.contents errors.old errors.new) }
+    // and what was done tells nothing.
+    ensures quiet { line_of result ≡ None → errors.new ≡ errors.old }
+    // The report of a bad script tells the cause, and a journal's are its open calls.
+    ensures report { IsReport result (W.contents writer.old) (W.contents writer.new) }
+    // Nothing is reported where neither was asked for.
+    ensures unwritten { ((request : Wanted) → Asks (map S.text words.now) request → IsUnwritten request)
+        → W.contents writer.new ≡ W.contents writer.old }
+    // A good script was read to its end,
+    ensures good { result ≡ End.Replayed Good → input.new.ended ≡ true }
+    // and one that is undone for a file was read, or could not be.
+    ensures cause { Asks (map S.text words.now) Replay → result ≡ End.Failed Fault.File
+        → IsReadOrFailed R.remaining input.old input.new }
+{
+    let end = match request_of(alloc, words) {
+        Ok(Some(request)) => done(rt, alloc, request, input, writer),
+        Ok(None) => End::OtherWords,
+        Err(error) => End::Failed(Fault::from(error)),
+    };
+    end.tell(errors);
+    end
+}
+
+/// Does what the words behind the program's name ask for, and answers the status: 0 where all was done, 1 for a bad
+/// script or a fault, 2 for other words. A fault writes its line to `errors`, and so do other words.
+pub fn start<F: Files<File = File>, S: AsStr, R: Read + Drop, W: Write, E: Write + Drop>(
+    rt: &F,
+    alloc: Global,
+    words: &[S],
+    reader: R,
+    writer: &mut W,
+    errors: &mut Watched<E>,
+) -> u8
+    // It is the status of an end that the words come to, with its report, and which is told,
+    ensures status { IsStatusFor E.contents (map S.text words.now) (W.contents writer.old) (W.contents writer.new) errors.old errors.new result }
+    // and nothing is reported where neither a replay nor a journal's open calls were asked for.
+    ensures unwritten { ((request : Wanted) → Asks (map S.text words.now) request → IsUnwritten request)
+        → W.contents writer.new ≡ W.contents writer.old }
+{
+    let mut input = Counted::new(reader);
+    let end = carry_out(rt, alloc, words, &mut input, writer, errors);
+    end.status()
+}

@@ -1,0 +1,120 @@
+//! What the program's words ask for.
+
+ghost use Rattle.std.specs.Prelude.{◌≡◌, ◌≤◌, ℕ, map, option_map, IfOk, IfSome, IfNone};
+ghost use Rattle.clap.specs.Words.{rows_of, found_of, subcommand_rows_of};
+ghost use Rattle.lift_program.specs.Words.{Asks, IsFor, IsFormat, IsShow, IsHalf, IsInRange};
+ghost use Rattle.lift_program.specs.declared.words.Request.{Request as Wanted};
+
+use crate::grammar::grammar;
+use clap::ArgMatches;
+use clap::error::ErrorKind;
+use lift_base::text::number_up_to;
+use std::alloc::{AllocError, Global};
+use std::convert::AsStr;
+
+/// What the program is to do.
+#[derive(Clone, Copy)]
+pub enum Request<'a> {
+    /// Carry out a script.
+    Replay,
+    /// Make an empty journal in the file `image`, for the building in the file `building`.
+    Format {
+        image: &'a str,
+        building: &'a str,
+        /// The sectors of half of it, 64 to 1,000,000.
+        half: u32,
+    },
+    /// Show the open calls of the journal in the file `image`, which is of the building in the file `building`.
+    Show {
+        image: &'a str,
+        building: &'a str,
+    },
+}
+
+const LEAST_HALF: u32 = 64;
+
+const MOST_HALF: u32 = 1_000_000;
+
+/// The sectors that a word names; 64 where it is absent.
+fn half_of(word: Option<&str>) -> Option<u32>
+    ensures some { IfSome result (λ half. IsHalf (option_map (λ w. w.now) word.entry) half) }
+    ensures limits { IfSome result (λ half. (64 ≤ half) × (half ≤ 1000000)) }
+    ensures none { IfNone result ((half : ℕ) → IsHalf (option_map (λ w. w.now) word.entry) half → ⊥) }
+{
+    let Some(word) = word else {
+        return Some(LEAST_HALF);
+    };
+    let half = number_up_to(word, MOST_HALF)?;
+    if half < LEAST_HALF { None } else { Some(half) }
+}
+
+/// What the words behind `format` ask for.
+fn format_of<'a>(matches: &ArgMatches<'a>) -> Option<Request<'a>>
+    ensures some { IfSome result (λ request. IsFormat (rows_of (found_of matches.now)) request) }
+    ensures range { IfSome result (λ request. IsInRange request) }
+    ensures none { IfNone result ((request : Wanted) → IsFormat (rows_of (found_of matches.now)) request → ⊥) }
+{
+    let image = matches.get_str("image")?;
+    let building = matches.get_str("building")?;
+    let half = half_of(matches.get_str("half"))?;
+    Some(Request::Format {
+        image,
+        building,
+        half,
+    })
+}
+
+/// What the words behind `show` ask for.
+fn show_of<'a>(matches: &ArgMatches<'a>) -> Option<Request<'a>>
+    ensures some { IfSome result (λ request. IsShow (rows_of (found_of matches.now)) request) }
+    ensures range { IfSome result (λ request. IsInRange request) }
+    ensures none { IfNone result ((request : Wanted) → IsShow (rows_of (found_of matches.now)) request → ⊥) }
+{
+    let image = matches.get_str("image")?;
+    let building = matches.get_str("building")?;
+    Some(Request::Show { image, building })
+}
+
+/// What the words ask for, by the command among them.
+fn found_in<'a>(matches: &ArgMatches<'a>) -> Option<Request<'a>>
+    ensures some { IfSome result (λ request. IsFor (subcommand_rows_of matches.now) request) }
+    ensures range { IfSome result (λ request. IsInRange request) }
+    ensures none { IfNone result ((request : Wanted) → IsFor (subcommand_rows_of matches.now) request → ⊥) }
+{
+    match matches.subcommand() {
+        None => Some(Request::Replay),
+        Some((name, matches)) => {
+            if name == "replay" {
+                Some(Request::Replay)
+            } else if name == "format" {
+                format_of(matches)
+            } else if name == "show" {
+                show_of(matches)
+            } else {
+                None
+            }
+        }
+    }
+}
+
+/// What the words behind the program's name ask for; none where they are those of no command, or ask for help.
+pub fn request_of<'a, S: AsStr>(
+    alloc: Global,
+    words: &'a [S],
+) -> Result<Option<Request<'a>>, AllocError>
+    ensures asked { IfOk result (λ found. IfSome found (λ request. Asks (map S.text words.now) request)) }
+    ensures range { IfOk result (λ found. IfSome found (λ request. IsInRange request)) }
+    ensures other { IfOk result (λ found.
+        IfNone found ((request : Wanted) → Asks (map S.text words.now) request → ⊥)) }
+{
+    match grammar(alloc)?.try_get_matches_from(words) {
+        Ok(matches) => Ok(found_in(&matches)),
+        Err(error) => {
+            if error.kind() == ErrorKind::OutOfMemory {
+                Err(AllocError)
+            } else {
+                Ok(None)
+            }
+        }
+    }
+}

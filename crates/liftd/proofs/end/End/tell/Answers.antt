@@ -1,4 +1,0 @@
-use Rattle.liftd.proofs.end.End.tell.Goals as goal
-
-pub returns-in-OtherWords-clause-told : goal.returns-in-OtherWords-clause-told
-returns-in-OtherWords-clause-told g c = rw c.in-OtherWords.is c.tell-in-OtherWords.ensures
