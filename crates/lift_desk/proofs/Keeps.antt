@@ -12,8 +12,8 @@ use Rattle.atomic_table.proofs.Lists.{at_set, at_snoc}
 use Rattle.lift_desk.specs.declared.view.ClerkView.{ClerkView}
 use Rattle.lift_desk.specs.declared.view.View.{View}
 use Rattle.lift_desk.specs.Words.{turn_of, number_of, last_of, IsAskWord, IsReplyWord}
-use Rattle.lift_desk.specs.Rule.{blank, opening_view, terminal_view, clerk_view, note_of, ahead_of, told_by, stamp_of, CountTurns, Lists, IsInOrder, IsAhead, Fits, IsKept}
-use Rattle.lift_desk.specs.Steps.{with_ask, with_answer, with_hearing, with_look, with_taking, is_new, is_awaited, at_terminal, at_clerk, Asked, Answered, Looked, LookedAhead, Heard, Met}
+use Rattle.lift_desk.specs.Rule.{blank, opening_view, united, terminal_part, clerk_part, note_of, ahead_of, told_by, stamp_of, CountTurns, Lists, IsInOrder, IsAhead, Fits, IsKept}
+use Rattle.lift_desk.specs.Steps.{with_ask, with_answer, with_hearing, with_look, with_taking, is_new, is_awaited, at_terminal, at_clerk, Asked, Answered, Looked, LookedAhead, Heard, Met, Compared}
 use Rattle.lift_desk.proofs.WordLists.{last_of-push, CountTurns-push, turn_of-last_of, CountTurns-prefix, CountTurns-stamped, prefix_length, stamped_length, prefix_whole, prefix_refl, prefix_nil, prefix_push, prefix_next, stamped_next, stamped_same, All-last_of, IsAhead-push, IsAhead-prefix, IsAhead-take}
 
 abbrev M : Type 0
@@ -62,6 +62,8 @@ asks_keep slots id me word may free turn spelled s r _ at _ =
       answers = mine.answers;
       looks_ahead = λ k. IsAhead-push l.asked v.clerk.taken word (mine.looks_ahead k);
       told = mine.told;
+      told_answers = mine.told_answers;
+      told_asks = prefix_push v.clerk.told l.asked word mine.told_asks;
     } in (
       w,
       keeps,
@@ -78,6 +80,8 @@ asks_keep slots id me word may free turn spelled s r _ at _ =
               answers = f.answers;
               looks_ahead = λ k. IsAhead-push l.asked u.clerk.taken word (f.looks_ahead k);
               told = f.told;
+              told_answers = f.told_answers;
+              told_asks = prefix_push u.clerk.told l.asked word f.told_asks;
             });
       },
       refl,
@@ -114,18 +118,31 @@ counts l o =
 lt_of : (m n : ℕ) → nat_lt m n ≡ true → m < n
 lt_of m n e = grind (arith, nat_tests)
 
+le_of : (m n : ℕ) → nat_lt m n ≡ false → n ≤ m
+le_of m n e = grind (arith, nat_tests)
+
 abbrev LooksSo : State (Unit {0}) View → ℕ → View → ℕ → Bool → Type 0
 LooksSo s id v n b =
-    IsKept record { words = set s.words 0 n; homes = s.homes; views = set s.views id (at_clerk v (record { taken = if b then v.clerk.taken ++ n ∷ [] else v.clerk.taken; answered = v.clerk.answered; looks = suc v.clerk.looks; last = n })) }
+    IsKept record { words = set s.words 0 n; homes = s.homes; views = set s.views id (at_clerk v (record { taken = if b then v.clerk.taken ++ n ∷ [] else v.clerk.taken; answered = v.clerk.answered; looks = suc v.clerk.looks; last = n; told = v.clerk.told })) }
     × (b ≡ true → IsAskWord n × (turn_of n ≡ suc (length v.clerk.taken)) × (length v.clerk.answered ≡ length v.clerk.taken))
+    × IsPrefix v.clerk.told (if b then v.clerk.taken ++ n ∷ [] else v.clerk.taken)
 
 looks_so : (s : State (Unit {0}) View) (r : IsKept s) (id : ℕ) (v : View) → v.answers ≡ true → v.looks_ahead ≡ false → get_elem? s.views id ≡ some v
     → (b : Bool) → nat_lt (turn_of (last_of v.clerk.taken)) (turn_of (get_or s.words 0 0)) ≡ b → LooksSo s id v (get_or s.words 0 0) b
 looks_so s r id v may not_ahead at false is =
     let l = r.lists in
+    let o = r.in_order in
     let f = r.views id v at in
-    let w = at_clerk v (record { taken = v.clerk.taken; answered = v.clerk.answered; looks = suc v.clerk.looks; last = get_or s.words 0 0 }) in
-    let mine : Fits r.terminal r.clerk l id w = record { asks = f.asks; answers = f.answers; looks_ahead = f.looks_ahead; told = f.told } in (
+    let a = f.answers may in
+    let c = counts l o in
+    let n : ℕ = get_or s.words 0 0 in
+    let n_is : n ≡ last_of l.asked = ap (λ z. get_or z 0 0) r.words in
+    let turn_is : turn_of n ≡ length l.asked = ap turn_of n_is ∙ c.asked in
+    let last_is : turn_of (last_of v.clerk.taken) ≡ length l.taken = ap (λ z. turn_of (last_of z)) a.1 ∙ c.taken in
+    let below : turn_of n ≤ turn_of (last_of v.clerk.taken) = le_of _ _ is in
+    let all : v.clerk.taken ≡ l.asked = a.1 ∙ prefix_whole l.taken l.asked o.taken (omega arith) in
+    let w = at_clerk v (record { taken = v.clerk.taken; answered = v.clerk.answered; looks = suc v.clerk.looks; last = get_or s.words 0 0; told = v.clerk.told }) in
+    let mine : Fits r.terminal r.clerk l id w = record { asks = f.asks; answers = f.answers; looks_ahead = f.looks_ahead; told = f.told; told_answers = f.told_answers; told_asks = f.told_asks } in (
       record {
         terminal = r.terminal;
         clerk = r.clerk;
@@ -135,6 +152,7 @@ looks_so s r id v may not_ahead at false is =
         views = fit_set r.terminal r.clerk l s.views id w mine (λ j u apart e. r.views j u e);
       },
       λ e. off e,
+      subst (IsPrefix v.clerk.told) (sym all) f.told_asks,
     )
 looks_so s r id v may not_ahead at true is =
     let l = r.lists in
@@ -159,12 +177,14 @@ looks_so s r id v may not_ahead at true is =
       asks_spelled = o.asks_spelled;
       answers_spelled = o.answers_spelled;
     } in
-    let w = at_clerk v (record { taken = v.clerk.taken ++ n ∷ []; answered = v.clerk.answered; looks = suc v.clerk.looks; last = n }) in
+    let w = at_clerk v (record { taken = v.clerk.taken ++ n ∷ []; answered = v.clerk.answered; looks = suc v.clerk.looks; last = n; told = v.clerk.told }) in
     let mine : Fits r.terminal r.clerk l' id w = record {
       asks = f.asks;
       answers = λ _. (a.0, ap (λ z. z ++ n ∷ []) a.1, a.2);
       looks_ahead = λ k. off (sym not_ahead ∙ k);
       told = f.told;
+      told_answers = f.told_answers;
+      told_asks = f.told_asks;
     } in
     let taken_same : length v.clerk.taken ≡ length l.taken = ap length a.1 in
     let answered_same : length v.clerk.answered ≡ length l.answered = ap length a.2 in (
@@ -180,9 +200,12 @@ looks_so s r id v may not_ahead at true is =
               answers = λ k. absurd (apart ((g.answers k).0 ∙ sym a.0));
               looks_ahead = g.looks_ahead;
               told = g.told;
+              told_answers = g.told_answers;
+              told_asks = g.told_asks;
             });
       },
       λ _. (subst IsAskWord (sym n_is) (All-last_of IsAskWord l.asked o.asks_spelled (omega arith)), omega arith, omega arith),
+      subst (IsPrefix v.clerk.told) (whole ∙ ap (λ z. z ++ n ∷ []) (sym a.1)) f.told_asks,
     )
 
 pub looks_keep : (slots id : ℕ) (me : M) → me.0.answers ≡ true → me.0.looks_ahead ≡ false
@@ -190,7 +213,7 @@ pub looks_keep : (slots id : ℕ) (me : M) → me.0.answers ≡ true → me.0.lo
 looks_keep slots id me may not_ahead s r _ at _ =
     let n : ℕ = get_or s.words 0 0 in
     let so = looks_so s r id me.0 may not_ahead at (nat_lt (turn_of (last_of me.0.clerk.taken)) (turn_of n)) refl in
-    (at_clerk me.0 (with_taking me.0.clerk n), keeps, tt, so.0, (refl, refl, so.1))
+    (at_clerk me.0 (with_taking me.0.clerk n), keeps, tt, so.0, (refl, refl, so.1, so.2))
 
 pub answers_keep : (slots id : ℕ) (me : M) (word : ℕ) → me.0.answers ≡ true → length me.0.clerk.taken ≡ suc (length me.0.clerk.answered)
     → stamp_of word ≡ stamp_of (last_of me.0.clerk.taken) → IsReplyWord word
@@ -220,6 +243,8 @@ answers_keep slots id me word may owed stamp spelled s r _ at _ =
       answers = λ _. (a.0, a.1, ap (λ z. z ++ word ∷ []) a.2);
       looks_ahead = f.looks_ahead;
       told = prefix_push v.told l.answered word f.told;
+      told_answers = prefix_push v.terminal.told l.answered word f.told_answers;
+      told_asks = f.told_asks;
     } in (
       w,
       keeps,
@@ -236,6 +261,8 @@ answers_keep slots id me word may owed stamp spelled s r _ at _ =
               answers = λ k. absurd (apart ((g.answers k).0 ∙ sym a.0));
               looks_ahead = g.looks_ahead;
               told = prefix_push u.told l.answered word g.told;
+              told_answers = prefix_push u.terminal.told l.answered word g.told_answers;
+              told_asks = g.told_asks;
             });
       },
       refl,
@@ -244,18 +271,33 @@ answers_keep slots id me word may owed stamp spelled s r _ at _ =
 awaits : (h a t : ℕ) → (nat_lt h a && nat_eq t a) ≡ true → (h < a) × (t ≡ a)
 awaits h a t e = grind (arith, nat_tests)
 
+-- where no answer is awaited or none has come, all were heard
+heard_all : (h a t : ℕ) → (nat_lt h a && nat_eq t a) ≡ false → t ≤ a → a ≤ suc h → t ≤ h
+heard_all h a t e below one_more = grind (arith, nat_tests)
+
 abbrev HearsSo : State (Unit {0}) View → ℕ → View → ℕ → Bool → Type 0
 HearsSo s id v n b =
-    IsKept record { words = set s.words 1 n; homes = s.homes; views = set s.views id (at_terminal v (record { asked = v.terminal.asked; heard = if b then v.terminal.heard ++ n ∷ [] else v.terminal.heard; looks = suc v.terminal.looks; last = n })) }
+    IsKept record { words = set s.words 1 n; homes = s.homes; views = set s.views id (at_terminal v (record { asked = v.terminal.asked; heard = if b then v.terminal.heard ++ n ∷ [] else v.terminal.heard; looks = suc v.terminal.looks; last = n; told = v.terminal.told })) }
     × (b ≡ true → IsReplyWord n × (turn_of n ≡ length v.terminal.asked) × (number_of n ≡ number_of (last_of v.terminal.asked)))
+    × IsPrefix v.terminal.told (if b then v.terminal.heard ++ n ∷ [] else v.terminal.heard)
 
 hears_so : (s : State (Unit {0}) View) (r : IsKept s) (id : ℕ) (v : View) → v.asks ≡ true → get_elem? s.views id ≡ some v
     → (b : Bool) → is_awaited v.terminal (get_or s.words 1 0) ≡ b → HearsSo s id v (get_or s.words 1 0) b
 hears_so s r id v may at false is =
     let l = r.lists in
+    let o = r.in_order in
     let f = r.views id v at in
+    let a = f.asks may in
+    let c = counts l o in
+    let n : ℕ = get_or s.words 1 0 in
+    let n_is : n ≡ last_of l.answered = ap (λ z. get_or z 1 0) r.words in
+    let turn_is : turn_of n ≡ length l.answered = ap turn_of n_is ∙ c.answered in
+    let asked_same : length v.terminal.asked ≡ length l.asked = ap length a.1 in
+    let heard_same : length v.terminal.heard ≡ length l.heard = ap length a.2 in
+    let below : turn_of n ≤ length v.terminal.heard = heard_all (length v.terminal.heard) (length v.terminal.asked) (turn_of n) is (omega arith) (omega arith) in
+    let all : v.terminal.heard ≡ l.answered = a.2 ∙ prefix_whole l.heard l.answered o.heard (omega arith) in
     let w = at_terminal v (with_look v.terminal (get_or s.words 1 0)) in
-    let mine : Fits r.terminal r.clerk l id w = record { asks = f.asks; answers = f.answers; looks_ahead = f.looks_ahead; told = f.told } in (
+    let mine : Fits r.terminal r.clerk l id w = record { asks = f.asks; answers = f.answers; looks_ahead = f.looks_ahead; told = f.told; told_answers = f.told_answers; told_asks = f.told_asks } in (
       record {
         terminal = r.terminal;
         clerk = r.clerk;
@@ -265,6 +307,7 @@ hears_so s r id v may at false is =
         views = fit_set r.terminal r.clerk l s.views id w mine (λ j u apart e. r.views j u e);
       },
       λ e. off e,
+      subst (IsPrefix v.terminal.told) (sym all) f.told_answers,
     )
 hears_so s r id v may at true is =
     let l = r.lists in
@@ -292,12 +335,14 @@ hears_so s r id v may at true is =
       asks_spelled = o.asks_spelled;
       answers_spelled = o.answers_spelled;
     } in
-    let w = at_terminal v (record { asked = v.terminal.asked; heard = v.terminal.heard ++ n ∷ []; looks = suc v.terminal.looks; last = n }) in
+    let w = at_terminal v (record { asked = v.terminal.asked; heard = v.terminal.heard ++ n ∷ []; looks = suc v.terminal.looks; last = n; told = v.terminal.told }) in
     let mine : Fits r.terminal r.clerk l' id w = record {
       asks = λ _. (a.0, a.1, ap (λ z. z ++ n ∷ []) a.2);
       answers = f.answers;
       looks_ahead = f.looks_ahead;
       told = f.told;
+      told_answers = f.told_answers;
+      told_asks = f.told_asks;
     } in (
       record {
         terminal = r.terminal;
@@ -311,6 +356,8 @@ hears_so s r id v may at true is =
               answers = g.answers;
               looks_ahead = g.looks_ahead;
               told = g.told;
+              told_answers = g.told_answers;
+              told_asks = g.told_asks;
             });
       },
       λ _. (
@@ -318,6 +365,7 @@ hears_so s r id v may at true is =
         latest,
         ap number_of n_is ∙ ap (λ (z : ℕ × ℕ). z.1) (stamped_last l.answered l.asked o.answered (taken_whole l o (omega arith)) (omega arith) (omega arith)) ∙ ap (λ z. number_of (last_of z)) (sym a.1),
       ),
+      subst (IsPrefix v.terminal.told) (whole ∙ ap (λ z. z ++ n ∷ []) (sym a.2)) f.told_answers,
     )
   where
     taken_whole : (l : Lists) (o : IsInOrder l) → length l.asked ≤ length l.taken → l.taken ≡ l.asked
@@ -330,7 +378,7 @@ pub hears_keep : (slots id : ℕ) (me : M) → me.0.asks ≡ true → Allows IsK
 hears_keep slots id me may s r _ at _ =
     let n : ℕ = get_or s.words 1 0 in
     let so = hears_so s r id me.0 may at (is_awaited me.0.terminal n) refl in
-    (at_terminal me.0 (with_hearing me.0.terminal n), keeps, tt, so.0, (refl, so.1))
+    (at_terminal me.0 (with_hearing me.0.terminal n), keeps, tt, so.0, (refl, so.1, so.2))
 
 pub meets_keep : (slots id : ℕ) (me : M) → me.0.asks ≡ true → Allows IsKept slots id me 1 (λ n. n) (Met (step slots 1 0 0 none) me)
 meets_keep slots id me may s r _ at _ =
@@ -343,7 +391,7 @@ meets_keep slots id me may s r _ at _ =
     let n : ℕ = get_or s.words 1 0 in
     let n_is : n ≡ last_of l.answered = ap (λ z. get_or z 1 0) r.words in
     let w = at_terminal v (with_look v.terminal n) in
-    let mine : Fits r.terminal r.clerk l id w = record { asks = f.asks; answers = f.answers; looks_ahead = f.looks_ahead; told = f.told } in (
+    let mine : Fits r.terminal r.clerk l id w = record { asks = f.asks; answers = f.answers; looks_ahead = f.looks_ahead; told = f.told; told_answers = f.told_answers; told_asks = f.told_asks } in (
       w,
       keeps,
       tt,
@@ -385,7 +433,7 @@ begins = record {
 }
   where
     one : (seat : ℕ) (v : View) → get_elem? (opening_view ∷ []) seat ≡ some v → Fits 0 0 (record { asked = []; taken = []; answered = []; heard = [] }) seat v
-    one zero v e = subst (Fits 0 0 (record { asked = []; taken = []; answered = []; heard = [] }) 0) (some-injective opening_view v e) (record { asks = λ _. (refl, refl, refl); answers = λ _. (refl, refl, refl); looks_ahead = λ k. off k; told = prefix_nil [] })
+    one zero v e = subst (Fits 0 0 (record { asked = []; taken = []; answered = []; heard = [] }) 0) (some-injective opening_view v e) (record { asks = λ _. (refl, refl, refl); answers = λ _. (refl, refl, refl); looks_ahead = λ k. off k; told = prefix_nil []; told_answers = prefix_nil []; told_asks = prefix_nil [] })
     one (suc seat) v e = absurd (some-ne-none v (sym e))
 
 at_end : (l : List View) (a b : View) (j : ℕ) → get_elem? l j ≢ some b → get_elem? (l ++ a ∷ []) j ≡ some b → j ≡ length l
@@ -394,20 +442,23 @@ at_end [] a b (suc j) n e = absurd (some-ne-none b (sym e))
 at_end (x ∷ xs) a b zero n e = absurd (n e)
 at_end (x ∷ xs) a b (suc j) n e = ap suc (at_end xs a b j n e)
 
--- the first seat becomes the terminal's, and the new one is the clerk's
-pub seats_split : (id : ℕ) → Splits IsKept id opening_view terminal_view clerk_view
-seats_split id s r at =
+-- a seat with both rights becomes the terminal's, and the new one is the clerk's
+pub parts_split : (id : ℕ) (v : View) → v.asks ≡ true → v.answers ≡ true → Splits IsKept id v (terminal_part v) (clerk_part v)
+parts_split id v asks answers s r at =
     let l = r.lists in
-    let f = r.views id opening_view at in
-    let a = f.asks refl in
-    let b = f.answers refl in
-    let vs = set s.views id terminal_view in
-    let Old : ℕ → View → Type 0 = λ j u. (u.asks ≡ true → (j ≡ r.terminal) × (u.terminal.asked ≡ l.asked) × (u.terminal.heard ≡ l.heard)) × (u.answers ≢ true) × (u.looks_ahead ≡ true → IsAhead l.asked u.clerk.taken) × IsPrefix u.told l.answered in
+    let f = r.views id v at in
+    let a = f.asks asks in
+    let b = f.answers answers in
+    let right = clerk_part v in
+    let vs = set s.views id (terminal_part v) in
+    let Old : ℕ → View → Type 0 = λ j u. (u.asks ≡ true → (j ≡ r.terminal) × (u.terminal.asked ≡ l.asked) × (u.terminal.heard ≡ l.heard)) × (u.answers ≢ true) × (u.looks_ahead ≡ true → IsAhead l.asked u.clerk.taken)
+    × IsPrefix u.told l.answered × IsPrefix u.terminal.told l.answered × IsPrefix u.clerk.told l.asked in
+    let left_fits : Old id (terminal_part v) = ((λ _. a), (λ k. off k), (λ k. off k), prefix_nil l.answered, subst (λ z. IsPrefix z l.answered) (sym b.2) (prefix_refl l.answered), prefix_nil l.asked) in
     let old : (j : ℕ) (u : View) → get_elem? vs j ≡ some u → Old j u = λ j u e.
     ⊎_elim
-    (λ (x : (j ≡ id) × (terminal_view ≡ u)). subst (λ (y : ℕ × View). Old y.0 y.1) (λ i. (sym x.0 i, x.1 i)) (f.asks, (λ k. off k), (λ k. off k), prefix_nil l.answered))
-    (λ (x : (j ≢ id) × (get_elem? s.views j ≡ some u)). let g = r.views j u x.1 in (g.asks, (λ k. x.0 ((g.answers k).0 ∙ sym b.0)), g.looks_ahead, g.told))
-    (at_set s.views id j terminal_view u e) in
+    (λ (x : (j ≡ id) × (terminal_part v ≡ u)). subst (λ (y : ℕ × View). Old y.0 y.1) (λ i. (sym x.0 i, x.1 i)) left_fits)
+    (λ (x : (j ≢ id) × (get_elem? s.views j ≡ some u)). let g = r.views j u x.1 in (g.asks, (λ k. x.0 ((g.answers k).0 ∙ sym b.0)), g.looks_ahead, g.told, g.told_answers, g.told_asks))
+    (at_set s.views id j (terminal_part v) u e) in
     record {
       terminal = r.terminal;
       clerk = length vs;
@@ -415,14 +466,16 @@ seats_split id s r at =
       words = r.words;
       in_order = r.in_order;
       views = λ j u e. ⊎_elim
-          (λ (x : get_elem? vs j ≡ some u). let g = old j u x in record { asks = g.0; answers = λ k. absurd (g.1 k); looks_ahead = g.2; told = g.3 })
-          (λ (is : clerk_view ≡ u). record {
+          (λ (x : get_elem? vs j ≡ some u). let g = old j u x in record { asks = g.0; answers = λ k. absurd (g.1 k); looks_ahead = g.2; told = g.3; told_answers = g.4; told_asks = g.5 })
+          (λ (is : right ≡ u). record {
             asks = λ k. off (ap (λ (y : View). y.asks) is ∙ k);
-            answers = λ k. (at_end vs clerk_view u j (λ x. (old j u x).1 k) e, ap (λ (y : View). y.clerk.taken) (sym is) ∙ b.1, ap (λ (y : View). y.clerk.answered) (sym is) ∙ b.2);
+            answers = λ k. (at_end vs right u j (λ x. (old j u x).1 k) e, ap (λ (y : View). y.clerk.taken) (sym is) ∙ b.1, ap (λ (y : View). y.clerk.answered) (sym is) ∙ b.2);
             looks_ahead = λ k. off (ap (λ (y : View). y.looks_ahead) is ∙ k);
             told = subst (λ (z : View). IsPrefix z.told l.answered) is (prefix_nil l.answered);
+            told_answers = subst (λ (z : View). IsPrefix z.terminal.told l.answered) is (prefix_nil l.answered);
+            told_asks = subst (λ (z : View). IsPrefix z.clerk.told l.asked) is (subst (λ z. IsPrefix z l.asked) (sym a.1) (prefix_refl l.asked));
           })
-          (at_snoc vs clerk_view u j e);
+          (at_snoc vs right u j e);
     }
 
 -- a new seat that may store nothing
@@ -443,14 +496,38 @@ adds id v w s r at new = record {
 pub tells_split : (id : ℕ) (v : View) → v.answers ≡ true → Splits IsKept id v v (note_of v)
 tells_split id v may s r at =
     let a = (r.views id v at).answers may in
-    adds id v (note_of v) s r at (λ j. record { asks = λ k. off k; answers = λ k. off k; looks_ahead = λ k. off k; told = subst (λ z. IsPrefix z r.lists.answered) (sym a.2) (prefix_refl r.lists.answered) })
+    adds id v (note_of v) s r at (λ j. record {
+      asks = λ k. off k;
+      answers = λ k. off k;
+      looks_ahead = λ k. off k;
+      told = subst (λ z. IsPrefix z r.lists.answered) (sym a.2) (prefix_refl r.lists.answered);
+      told_answers = prefix_nil r.lists.answered;
+      told_asks = prefix_nil r.lists.asked;
+    })
 
 pub ahead_split : (id : ℕ) (v : View) → v.answers ≡ true → Splits IsKept id v v (ahead_of v)
 ahead_split id v may s r at =
-    let a = (r.views id v at).answers may in
+    let f = r.views id v at in
+    let a = f.answers may in
     let o = r.in_order in
-    adds id v (ahead_of v) s r at
-    (λ j. record { asks = λ k. off k; answers = λ k. off k; looks_ahead = λ _. subst (IsAhead r.lists.asked) (sym a.1) (IsAhead-prefix r.lists.asked r.lists.taken o.turns o.taken); told = prefix_nil r.lists.answered })
+    adds id v (ahead_of v) s r at (λ j. record {
+      asks = λ k. off k;
+      answers = λ k. off k;
+      looks_ahead = λ _. subst (IsAhead r.lists.asked) (sym a.1) (IsAhead-prefix r.lists.asked r.lists.taken o.turns o.taken);
+      told = prefix_nil r.lists.answered;
+      told_answers = prefix_nil r.lists.answered;
+      told_asks = f.told_asks;
+    })
+
+blank_fits : (terminal clerk : ℕ) (l : Lists) (seat : ℕ) → Fits terminal clerk l seat blank
+blank_fits terminal clerk l seat = record {
+  asks = λ k. off k;
+  answers = λ k. off k;
+  looks_ahead = λ k. off k;
+  told = prefix_nil l.answered;
+  told_answers = prefix_nil l.answered;
+  told_asks = prefix_nil l.asked;
+}
 
 -- a seat is spent, and another may have learned what it was told
 spends : (id : ℕ) (v : View) (other : ℕ) (u w : View) (s : State (Unit {0}) View) (r : IsKept s) → Fits r.terminal r.clerk r.lists id w
@@ -461,7 +538,7 @@ spends id v other u w s r mine = record {
   lists = r.lists;
   words = r.words;
   in_order = r.in_order;
-  views = fit_set r.terminal r.clerk r.lists (set s.views id w) other blank (record { asks = λ k. off k; answers = λ k. off k; looks_ahead = λ k. off k; told = prefix_nil r.lists.answered })
+  views = fit_set r.terminal r.clerk r.lists (set s.views id w) other blank (blank_fits r.terminal r.clerk r.lists other)
       (λ j y apart e. fit_set r.terminal r.clerk r.lists s.views id w mine (λ i x _ e'. r.views i x e') j y e);
 }
 
@@ -470,14 +547,73 @@ tells_join id v other u s r at apart there =
     let f = r.views id v at in
     let was : get_elem? s.views other ≡ some u = ⊎_elim (λ (x : (other ≡ id) × (told_by v u ≡ u)). absurd (apart x.0)) (λ (x : (other ≢ id) × (get_elem? s.views other ≡ some u)). x.1) (at_set s.views id other (told_by v u) u there) in
     let g = r.views other u was in
-    spends id v other u (told_by v u) s r (record { asks = f.asks; answers = f.answers; looks_ahead = f.looks_ahead; told = g.told })
+    spends id v other u (told_by v u) s r (record { asks = f.asks; answers = f.answers; looks_ahead = f.looks_ahead; told = g.told; told_answers = f.told_answers; told_asks = f.told_asks })
 
 pub ahead_join : (id : ℕ) (v : View) (other : ℕ) (u : View) → Joins IsKept id v other u v blank
 ahead_join id v other u s r at apart there = spends id v other u v s r (r.views id v at)
 
+-- the clerk's rights go to the terminal's seat
+pub unites_join : (id : ℕ) (v : View) (other : ℕ) (c : View) → v.asks ≡ true → c.answers ≡ true → Joins IsKept id v other c (united v c) blank
+unites_join id v other c asks answers s r at apart there =
+    let l = r.lists in
+    let w = united v c in
+    let was : get_elem? s.views other ≡ some c = ⊎_elim (λ (x : (other ≡ id) × (w ≡ c)). absurd (apart x.0)) (λ (x : (other ≢ id) × (get_elem? s.views other ≡ some c)). x.1) (at_set s.views id other w c there) in
+    let f = r.views id v at in
+    let g = r.views other c was in
+    let a = f.asks asks in
+    let b = g.answers answers in
+    let mine : Fits r.terminal id l id w = record {
+      asks = λ _. a;
+      answers = λ _. (refl, b.1, b.2);
+      looks_ahead = λ k. off k;
+      told = prefix_nil l.answered;
+      told_answers = f.told_answers;
+      told_asks = g.told_asks;
+    } in record {
+      terminal = r.terminal;
+      clerk = id;
+      lists = l;
+      words = r.words;
+      in_order = r.in_order;
+      views = fit_set r.terminal id l (set s.views id w) other blank (blank_fits r.terminal id l other)
+          (λ j y not_other e. ⊎_elim
+          (λ (x : (j ≡ id) × (w ≡ y)). subst (λ (z : ℕ × View). Fits r.terminal id l z.0 z.1) (λ i. (sym x.0 i, x.1 i)) mine)
+          (λ (x : (j ≢ id) × (get_elem? s.views j ≡ some y)). let h = r.views j y x.1 in record {
+            asks = h.asks;
+            answers = λ k. absurd (not_other ((h.answers k).0 ∙ sym b.0));
+            looks_ahead = h.looks_ahead;
+            told = h.told;
+            told_answers = h.told_answers;
+            told_asks = h.told_asks;
+          })
+          (at_set s.views id j w y e));
+    }
+
+-- a seat with both rights has all that there is
+pub compares_keep : (slots id : ℕ) (me : M) → me.0.asks ≡ true → me.0.answers ≡ true → Allows IsKept slots id me 0 (λ n. n) (Compared (step slots 0 0 0 none) me)
+compares_keep slots id me asks answers s r _ at _ =
+    let v = me.0 in
+    let l = r.lists in
+    let f = r.views id v at in
+    let a = f.asks asks in
+    let b = f.answers answers in (
+      v,
+      keeps,
+      tt,
+      record {
+        terminal = r.terminal;
+        clerk = r.clerk;
+        lists = l;
+        words = loaded (last_of l.asked) (last_of l.answered) s.words 0 (omega arith) r.words;
+        in_order = r.in_order;
+        views = fit_set r.terminal r.clerk l s.views id v f (λ j u apart e. r.views j u e);
+      },
+      (refl, subst IsInOrder (λ i. record { asked = sym a.1 i; taken = sym b.1 i; answered = sym b.2 i; heard = sym a.2 i }) r.in_order),
+    )
+
 abbrev AheadSo : State (Unit {0}) View → ℕ → View → ℕ → Bool → Type 0
 AheadSo s id v n b =
-    IsKept record { words = set s.words 0 n; homes = s.homes; views = set s.views id (at_clerk v (record { taken = if b then v.clerk.taken ++ n ∷ [] else v.clerk.taken; answered = v.clerk.answered; looks = suc v.clerk.looks; last = n })) }
+    IsKept record { words = set s.words 0 n; homes = s.homes; views = set s.views id (at_clerk v (record { taken = if b then v.clerk.taken ++ n ∷ [] else v.clerk.taken; answered = v.clerk.answered; looks = suc v.clerk.looks; last = n; told = v.clerk.told })) }
     × (b ≡ true → IsAskWord n)
 
 ahead_so : (s : State (Unit {0}) View) (r : IsKept s) (id : ℕ) (v : View) → v.looks_ahead ≡ true → v.answers ≡ false → get_elem? s.views id ≡ some v
@@ -490,12 +626,14 @@ ahead_so s r id v may no_answer at b is =
     let n : ℕ = get_or s.words 0 0 in
     let n_is : n ≡ last_of l.asked = ap (λ z. get_or z 0 0) r.words in
     let asked : turn_of n ≡ length l.asked = ap turn_of n_is ∙ c.asked in
-    let w = at_clerk v (record { taken = if b then v.clerk.taken ++ n ∷ [] else v.clerk.taken; answered = v.clerk.answered; looks = suc v.clerk.looks; last = n }) in
+    let w = at_clerk v (record { taken = if b then v.clerk.taken ++ n ∷ [] else v.clerk.taken; answered = v.clerk.answered; looks = suc v.clerk.looks; last = n; told = v.clerk.told }) in
     let mine : Fits r.terminal r.clerk l id w = record {
       asks = f.asks;
       answers = λ k. off (sym no_answer ∙ k);
       looks_ahead = λ k. taken_more l.asked v.clerk.taken n b n_is asked (f.looks_ahead k) is;
       told = f.told;
+      told_answers = f.told_answers;
+      told_asks = f.told_asks;
     } in (
       record {
         terminal = r.terminal;
@@ -520,7 +658,17 @@ pub looks_ahead_keep : (slots id : ℕ) (me : M) → me.0.looks_ahead ≡ true �
 looks_ahead_keep slots id me may none' s r _ at _ =
     let n : ℕ = get_or s.words 0 0 in
     let so = ahead_so s r id me.0 may none' at (nat_lt (turn_of (last_of me.0.clerk.taken)) (turn_of n)) refl in
-    (at_clerk me.0 (with_taking me.0.clerk n), keeps, tt, so.0, (refl, so.1))
+    let l = r.lists in
+    let told = (r.views id me.0 at).told_asks in
+    let n_is : n ≡ last_of l.asked = ap (λ z. get_or z 0 0) r.words in
+    let turn_is : turn_of n ≡ length l.asked = ap turn_of n_is ∙ (counts l r.in_order).asked in
+    let begun : length me.0.clerk.told ≤ length l.asked = prefix_length me.0.clerk.told l.asked told in (
+      at_clerk me.0 (with_taking me.0.clerk n),
+      keeps,
+      tt,
+      so.0,
+      (refl, so.1, omega arith, λ same. n_is ∙ ap last_of (sym (prefix_whole me.0.clerk.told l.asked told (omega arith)))),
+    )
 
 pub lt_true : (m n : ℕ) → m < n → nat_lt m n ≡ true
 lt_true m n h = grind (arith, nat_tests)
@@ -531,7 +679,3 @@ taken_more v word e = ap (λ (b : Bool). if b then v.taken ++ word ∷ [] else v
 pub owes_one : (b : Bool) (taken answered : ℕ) → (b ≡ true → taken ≡ suc answered) → (b ≡ false → taken ≡ answered) → answered < taken → taken ≡ suc answered
 owes_one true taken answered one even h = one refl
 owes_one false taken answered one even h = let e = even refl in absurd (omega arith)
-
--- the same, of a view that is known
-pub seats_split_as : (id : ℕ) (v : View) → v ≡ opening_view → Splits IsKept id v terminal_view clerk_view
-seats_split_as id v is = subst (λ (u : View). Splits IsKept id u terminal_view clerk_view) (sym is) (seats_split id)

@@ -12,10 +12,10 @@ use Rattle.lift_desk.specs.Words.{turn_of, number_of, last_of, IsAskWord, IsRepl
 
 -- no word yet
 abbrev pub no_asks : TerminalView
-no_asks = record { asked = []; heard = []; looks = 0; last = 0 }
+no_asks = record { asked = []; heard = []; looks = 0; last = 0; told = [] }
 
 abbrev pub no_answers : ClerkView
-no_answers = record { taken = []; answered = []; looks = 0; last = 0 }
+no_answers = record { taken = []; answered = []; looks = 0; last = 0; told = [] }
 
 -- a seat that may do nothing
 abbrev pub blank : View
@@ -37,11 +37,37 @@ note_of v = record { asks = false; answers = false; looks_ahead = false; termina
 
 -- what a seat that looks ahead of the clerk begins with
 abbrev pub ahead_of : View → View
-ahead_of v = record { asks = false; answers = false; looks_ahead = true; terminal = no_asks; clerk = record { taken = v.clerk.taken; answered = []; looks = 0; last = 0 }; told = [] }
+ahead_of v = record { asks = false; answers = false; looks_ahead = true; terminal = no_asks; clerk = record { taken = v.clerk.taken; answered = []; looks = 0; last = 0; told = v.clerk.told }; told = [] }
 
 -- the view of a seat that has read a note
 abbrev pub told_by : View → View → View
 told_by v note = record { asks = v.asks; answers = v.answers; looks_ahead = v.looks_ahead; terminal = v.terminal; clerk = v.clerk; told = note.told }
+
+-- a seat with the rights of both
+abbrev pub united : View → View → View
+united v c = record { asks = v.asks; answers = c.answers; looks_ahead = false; terminal = v.terminal; clerk = c.clerk; told = [] }
+
+-- the terminal's part of it, which is told what was answered
+abbrev pub terminal_part : View → View
+terminal_part v = record {
+  asks = true;
+  answers = false;
+  looks_ahead = false;
+  terminal = record { asked = v.terminal.asked; heard = v.terminal.heard; looks = v.terminal.looks; last = v.terminal.last; told = v.clerk.answered };
+  clerk = no_answers;
+  told = [];
+}
+
+-- the clerk's part of it, which is told what was asked
+abbrev pub clerk_part : View → View
+clerk_part v = record {
+  asks = false;
+  answers = true;
+  looks_ahead = false;
+  terminal = no_asks;
+  clerk = record { taken = v.clerk.taken; answered = v.clerk.answered; looks = v.clerk.looks; last = v.clerk.last; told = v.terminal.asked };
+  told = [];
+}
 
 -- the turn and the number of a word
 abbrev pub stamp_of : ℕ → ℕ × ℕ
@@ -74,12 +100,14 @@ pub record IsAhead (asked taken : List ℕ) : Type 0 where
   pub asked_all : All (Contains asked) taken
   pub rise : IsStrictlyIncreasing (map turn_of taken)
 
--- One seat at most stores asks and one answers, and what these know is all that there is
+-- One seat at most stores asks and one answers, and what these know is all that there is. What a seat was told began all of it, and still does
 pub record Fits (terminal clerk : ℕ) (l : Lists) (seat : ℕ) (v : View) : Type 0 where
   pub asks : v.asks ≡ true → (seat ≡ terminal) × (v.terminal.asked ≡ l.asked) × (v.terminal.heard ≡ l.heard)
   pub answers : v.answers ≡ true → (seat ≡ clerk) × (v.clerk.taken ≡ l.taken) × (v.clerk.answered ≡ l.answered)
   pub looks_ahead : v.looks_ahead ≡ true → IsAhead l.asked v.clerk.taken
   pub told : IsPrefix v.told l.answered
+  pub told_answers : IsPrefix v.terminal.told l.answered
+  pub told_asks : IsPrefix v.clerk.told l.asked
 
 -- the two words are the last ask and the last answer
 pub record IsKept (s : State (Unit {0}) View) : Type 0 where

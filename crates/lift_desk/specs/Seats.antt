@@ -1,13 +1,14 @@
 -- Seats and desks as contracts see them.
-use Rattle.std.specs.Prelude.{◌≡◌, ℕ, suc, ◌<◌, Bool, true, false, List, [], ◌∷◌, map, length, slice_get, slice_index_or, slice_set, Option, Some, None, All}
+use Rattle.std.specs.Prelude.{◌≡◌, ℕ, suc, ◌<◌, Bool, true, false, List, [], ◌∷◌, ◌++◌, map, length, slice_get, slice_index_or, slice_set, Option, Some, None, All}
 use Rattle.atomic_table.specs.Seated.{TableId}
 use Rattle.lift_base.specs.declared.command.Reply.{Reply}
 use Rattle.lift_desk.specs.declared.view.TerminalView.{TerminalView}
 use Rattle.lift_desk.specs.declared.view.ClerkView.{ClerkView}
 use Rattle.lift_desk.specs.declared.view.View.{View}
 use Rattle.lift_desk.specs.declared.words.Ask.{Ask}
-use Rattle.lift_desk.specs.Words.{turn_of, number_of, last_of, ask_word, reply_word}
+use Rattle.lift_desk.specs.Words.{turn_of, number_of, last_of, ask_word, reply_word, IsReply}
 use Rattle.lift_desk.specs.Rule.{blank, no_asks, no_answers}
+use Rattle.lift_desk.specs.Spelled.{IsAsk}
 use Rattle.lift_desk.specs.Steps.{is_awaited, is_new}
 
 -- a terminal's seat: its table, its terminal, and what it knows
@@ -77,6 +78,18 @@ abbrev pub TakesOf : ClerkView → ℕ → Option Ask → Type 0
 TakesOf v word None = is_new v word ≡ false
 TakesOf v word (Some ask) = (is_new v word ≡ true) × (word ≡ ask_word (suc (length v.taken)) ask.number ask.body)
 
+-- the terminal was told of this answer to its last ask, and has not heard it
+abbrev pub IsToldAnswer : TerminalView → Reply → Type 0
+IsToldAnswer v reply = IsReply reply × (v.told ≡ v.heard ++ reply_word (length v.asked) (number_of (last_of v.asked)) reply ∷ [])
+
+-- the clerk was told of this ask, and has not taken it
+abbrev pub IsToldAsk : ClerkView → Ask → Type 0
+IsToldAsk v ask = IsAsk ask × (v.told ≡ v.taken ++ ask_word (suc (length v.taken)) ask.number ask.body ∷ [])
+
+-- the last ask that a seat ahead was told of is this one, which is later than all that it has taken
+abbrev pub IsToldAhead : ClerkView → Ask → Type 0
+IsToldAhead v ask = IsAsk ask × (turn_of (last_of v.taken) < length v.told) × (last_of v.told ≡ ask_word (length v.told) ask.number ask.body)
+
 -- the terminals' seats at the start
 abbrev pub seats_from : ℕ → List TableId → List TerminalSeat
 seats_from first [] = []
@@ -100,9 +113,9 @@ abbrev pub view_in : List View → View
 view_in [] = blank
 view_in (v ∷ vs) = v
 
--- what a seat ahead of the clerk begins with: what the clerk took
+-- what a seat ahead of the clerk begins with: what the clerk took and was told of
 abbrev pub taken_only : ClerkView → ClerkView
-taken_only v = record { taken = v.taken; answered = []; looks = 0; last = 0 }
+taken_only v = record { taken = v.taken; answered = []; looks = 0; last = 0; told = v.told }
 
 -- a seat ahead of each of the clerk's
 abbrev pub ahead_from : List ClerkPlace → List ClerkPlace

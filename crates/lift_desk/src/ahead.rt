@@ -1,9 +1,10 @@
 //! A seat that looks ahead of the clerk at one table: it takes asks and answers none.
-ghost use Rattle.std.specs.Prelude.{◌≡◌, ℕ, IfSome, true, false, []};
+ghost use Rattle.std.specs.Prelude.{◌≡◌, ℕ, ◌≤◌, IfSome, IsSome, Some, length, true, false, []};
+ghost use Rattle.lift_desk.specs.declared.words.Ask.{Ask};
 ghost use Rattle.lift_desk.specs.Words.{turn_of, last_of};
 ghost use Rattle.lift_desk.specs.Steps.{with_taking};
 ghost use Rattle.lift_desk.specs.Spelled.{IsAsk};
-ghost use Rattle.lift_desk.specs.Seats.{ClerkPlace, placed_at, TakesAheadOf};
+ghost use Rattle.lift_desk.specs.Seats.{ClerkPlace, placed_at, TakesAheadOf, IsToldAhead};
 
 use crate::seat::{Chair, DeskTable};
 use crate::view::{LooksAhead, View};
@@ -63,6 +64,9 @@ impl AheadPlace {
         ensures looked { (word : ℕ) × (self.new ≡ placed_at self.old.table (with_taking self.old.view word))
             × TakesAheadOf self.old.view word result }
         ensures in_range { IfSome result IsAsk }
+        ensures known { length self.old.view.told ≤ turn_of (last_of self.new.view.taken) }
+        ensures finds { (ask : Ask) → IsToldAhead self.old.view ask
+            → IsSome result × (turn_of (last_of self.new.view.taken) ≡ length self.old.view.told → result ≡ Some ask) }
     {
         let badge = mem::replace(&mut self.badge, Badge::blank());
         let mut seat = badge.into_seat::<()>();

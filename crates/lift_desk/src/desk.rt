@@ -1,11 +1,13 @@
 //! The desk: a table for each terminal, with the terminal's seat and the clerk's.
-ghost use Rattle.std.specs.Prelude.{◌≡◌, ℕ, ◌<◌, ◌≤◌, ◌↔◌, IsTrue, IsSome, suc, length, OnOk, OnErr, IfOk, IfSome, Err, [], slice_get, vec_len};
-ghost use Rattle.lift_desk.specs.Rule.{terminal_view, clerk_view};
+ghost use Rattle.std.specs.Prelude.{◌≡◌, ℕ, ◌<◌, ◌≤◌, ◌↔◌, IsTrue, IsSome, suc, length, OnOk, OnErr, IfOk, IfSome, Some, Err, [], slice_get, vec_len};
+ghost use Rattle.lift_base.specs.declared.command.Reply.{Reply};
+ghost use Rattle.lift_desk.specs.declared.words.Ask.{Ask};
+ghost use Rattle.lift_desk.specs.Rule.{terminal_view, clerk_view, IsInOrder};
 ghost use mathlib.Core.List.{IsPrefix};
-ghost use Rattle.lift_desk.specs.Words.{turn_of, last_of, number_of, ask_word, reply_word};
-ghost use Rattle.lift_desk.specs.Steps.{with_ask, with_answer, with_hearing, with_look, with_taking};
+ghost use Rattle.lift_desk.specs.Words.{turn_of, last_of, number_of, ask_word, reply_word, IsReply};
+ghost use Rattle.lift_desk.specs.Steps.{with_ask, with_answer, with_hearing, with_look, with_taking, with_told_answers, with_told_asks, lists_of};
 ghost use Rattle.lift_desk.specs.Spelled.{IsAsk};
-ghost use Rattle.lift_desk.specs.Seats.{IsSeatOf, IsClerkOf, seat_with, clerk_with, view_at, Waits, Owes, OwesNothing, HearsOf, TakesOf, seats_from, clerk_of, ahead_from, TakesAheadOf, AreSeatsOf};
+ghost use Rattle.lift_desk.specs.Seats.{IsSeatOf, IsClerkOf, seat_with, clerk_with, view_at, Waits, Owes, OwesNothing, HearsOf, TakesOf, IsToldAnswer, IsToldAsk, IsToldAhead, seats_from, clerk_of, ahead_from, TakesAheadOf, AreSeatsOf};
 
 use crate::ahead::AheadPlace;
 use crate::place::Place;
@@ -151,6 +153,7 @@ impl Desk {
         ensures ok { OnOk result (seat.new ≡ seat_with seat.old
             (with_ask seat.old.view (ask_word (suc (length seat.old.view.asked)) number body))) }
         ensures pending { OnOk result (Waits seat.new.view × (number_of (last_of seat.new.view.asked) ≡ number)) }
+        ensures in_range { OnOk result (IsAsk (record { number = number; body = body })) }
         ensures err { OnErr result (seat.new ≡ seat.old) }
         ensures stays { IsSeatOf self.now seat.new }
     {
@@ -164,6 +167,10 @@ impl Desk {
         ensures looked { (word : ℕ) × (seat.new ≡ seat_with seat.old (with_hearing seat.old.view word))
             × HearsOf seat.old.view word result }
         ensures rests { IsSome result → ¬ (Waits seat.new.view) }
+        // All answers that the terminal was told of are heard then.
+        ensures known { IsPrefix seat.old.view.told seat.new.view.heard }
+        ensures finds { (reply : Reply) → IsToldAnswer seat.old.view reply → result ≡ Some reply }
+        ensures in_range { IfSome result IsReply }
         ensures stays { IsSeatOf self.now seat.new }
     {
         let table = &self.tables[usize::from(seat.terminal.get())];
@@ -181,6 +188,9 @@ impl Desk {
             → length (view_at clerk.old terminal).answered ≡ length (view_at clerk.old terminal).taken }
         ensures owes { IfSome result (λ ask. Owes (view_at clerk.new terminal)
             × (number_of (last_of (view_at clerk.new terminal).taken) ≡ ask.number)) }
+        // All asks that the clerk was told of are taken then.
+        ensures known { IsPrefix (view_at clerk.old terminal).told (view_at clerk.new terminal).taken }
+        ensures finds { (ask : Ask) → IsToldAsk (view_at clerk.old terminal) ask → result ≡ Some ask }
         // So the word has no other reading.
         ensures in_range { IfSome result IsAsk }
         ensures stays { IsClerkOf self.now clerk.new }
@@ -200,12 +210,31 @@ impl Desk {
             clerk.new ≡ clerk_with clerk.old terminal
             (with_answer view (reply_word (length view.taken) (number_of (last_of view.taken)) reply)) }
         ensures rests { ¬ (Owes (view_at clerk.new terminal)) }
+        ensures in_range { IsReply reply }
         ensures stays { IsClerkOf self.now clerk.new }
     {
         let at = usize::from(terminal.get());
         let table = &self.tables[at];
         let place = &mut clerk.places[at];
         place.answer(table, reply)
+    }
+
+    /// Tells the clerk what the terminal has asked so far, and the terminal what the clerk has answered so far: from then on a
+    /// look finds at least that ask, and a `hear` that answer. It stores nothing, and gives nothing of what it loads.
+    pub fn tell(&self, seat: &mut Seat, clerk: &mut ClerkSeat)
+        requires seat { IsSeatOf self.now seat.old }
+        requires clerk { IsClerkOf self.now clerk.old }
+        ensures seat { seat.new ≡ seat_with seat.old (with_told_answers seat.old.view (view_at clerk.old seat.old.terminal).answered) }
+        ensures clerk { clerk.new ≡ clerk_with clerk.old seat.old.terminal (with_told_asks (view_at clerk.old seat.old.terminal) seat.old.view.asked) }
+        // What the two have stored fits together.
+        ensures in_order { IsInOrder (lists_of seat.old.view (view_at clerk.old seat.old.terminal)) }
+        ensures seat_stays { IsSeatOf self.now seat.new }
+        ensures stays { IsClerkOf self.now clerk.new }
+    {
+        let at = usize::from(seat.terminal.get());
+        let table = &self.tables[at];
+        let place = &mut clerk.places[at];
+        place.tell(table, seat)
     }
 
     /// Looks once at the terminal's last answer, and says whether it is the last that the clerk stored there.
@@ -222,12 +251,12 @@ impl Desk {
         let at = usize::from(seat.terminal.get());
         let table = &self.tables[at];
         let place = &mut clerk.places[at];
-        let note = place.tell(table);
+        let note = place.note(table);
         let word = seat.meet(table, note);
         place.is_last(word)
     }
 
-    /// Cuts off seats that take asks ahead of the answers. They begin with what the clerk took, and the clerk keeps the right to answer.
+    /// Cuts off seats that take asks ahead of the answers. They begin with what the clerk took and was told of, and the clerk keeps the right to answer.
     pub fn split(&self, clerk: ClerkSeat) -> (TakeSeat, ClerkSeat)
         requires { IsClerkOf self.now clerk }
         ensures ahead { result.0 ≡ ahead_from clerk }
@@ -251,6 +280,10 @@ impl Desk {
         ensures looked { (word : ℕ)
             × (ahead.new ≡ clerk_with ahead.old terminal (with_taking (view_at ahead.old terminal) word))
             × TakesAheadOf (view_at ahead.old terminal) word result }
+        // The last ask that the seats were told of, or a later one, is taken then.
+        ensures known { length (view_at ahead.old terminal).told ≤ turn_of (last_of (view_at ahead.new terminal).taken) }
+        ensures finds { (ask : Ask) → IsToldAhead (view_at ahead.old terminal) ask
+            → IsSome result × (turn_of (last_of (view_at ahead.new terminal).taken) ≡ length (view_at ahead.old terminal).told → result ≡ Some ask) }
         ensures in_range { IfSome result IsAsk }
         ensures stays { IsClerkOf self.now ahead.new }
     {

@@ -1,14 +1,15 @@
 //! The clerk's seat at one table.
-ghost use Rattle.std.specs.Prelude.{◌≡◌, ℕ, ◌<◌, ◌^◌, ◌↔◌, IsTrue, IsSome, IfSome, suc, length, true, false, []};
+ghost use Rattle.std.specs.Prelude.{◌≡◌, ℕ, ◌<◌, ◌^◌, ◌↔◌, IsTrue, IsSome, IfSome, Some, suc, length, true, false, []};
 ghost use mathlib.Core.List.{IsPrefix};
 ghost use Rattle.lift_desk.specs.Words.{turn_of, last_of, number_of, reply_word};
-ghost use Rattle.lift_desk.specs.Rule.{clerk_view, no_answers};
-ghost use Rattle.lift_desk.specs.Steps.{with_answer, with_taking};
+ghost use Rattle.lift_desk.specs.declared.words.Ask.{Ask};
+ghost use Rattle.lift_desk.specs.Rule.{clerk_view, no_answers, IsInOrder};
+ghost use Rattle.lift_desk.specs.Steps.{with_answer, with_taking, with_told_answers, with_told_asks, lists_of};
 ghost use Rattle.lift_desk.specs.Spelled.{IsAsk};
-ghost use Rattle.lift_desk.specs.Seats.{ClerkPlace, placed_at, taken_only, Owes, TakesOf};
+ghost use Rattle.lift_desk.specs.Seats.{ClerkPlace, placed_at, taken_only, Owes, TakesOf, IsToldAsk, seat_with};
 
 use crate::ahead::AheadPlace;
-use crate::seat::{Chair, DeskTable};
+use crate::seat::{Chair, DeskTable, Seat};
 use crate::view::{Ahead, Answers, Looks, Tells, View};
 use crate::words::{Ask, read_ask, reply_word, turn_of};
 use atomic_table::Badge;
@@ -76,6 +77,8 @@ impl Place {
         ensures even { IsSome result → length self.old.view.answered ≡ length self.old.view.taken }
         ensures owes { IfSome result (λ ask. Owes self.new.view × (number_of (last_of self.new.view.taken) ≡ ask.number)) }
         ensures in_range { IfSome result IsAsk }
+        ensures known { IsPrefix self.old.view.told self.new.view.taken }
+        ensures finds { (ask : Ask) → IsToldAsk self.old.view ask → result ≡ Some ask }
     {
         let badge = mem::replace(&mut self.badge, Badge::blank());
         let mut seat = badge.into_seat::<()>();
@@ -110,7 +113,7 @@ impl Place {
     }
 
     // A note of all that was answered.
-    pub(crate) fn tell(&mut self, table: &DeskTable) -> Chair
+    pub(crate) fn note(&mut self, table: &DeskTable) -> Chair
         requires table { (self.old.table ≡ table.now.shared.table_id) × (table.now.shared.table_id.words ≡ 2) }
         requires seated { self.old.seated ≡ true }
         ensures same { self.new ≡ self.old }
@@ -121,6 +124,19 @@ impl Place {
         let note = table.shared.split_seat::<Tells>(&mut seat);
         self.badge = seat.into_badge();
         note
+    }
+
+    // Tells this seat what the terminal asked, and the terminal what was answered.
+    pub(crate) fn tell(&mut self, table: &DeskTable, seat: &mut Seat)
+        requires table { (self.old.table ≡ table.now.shared.table_id) × (table.now.shared.table_id.words ≡ 2) }
+        requires seated { (self.old.seated ≡ true) × (seat.old.table ≡ self.old.table) }
+        ensures place { self.new ≡ placed_at self.old.table (with_told_asks self.old.view seat.old.view.asked) }
+        ensures seat { seat.new ≡ seat_with seat.old (with_told_answers seat.old.view self.old.view.answered) }
+        ensures in_order { IsInOrder (lists_of seat.old.view self.old.view) }
+    {
+        let badge = mem::replace(&mut self.badge, Badge::blank());
+        let chair = seat.share(table, badge.into_seat::<()>());
+        self.badge = chair.into_badge();
     }
 
     // Whether the last ask that was taken is not answered.

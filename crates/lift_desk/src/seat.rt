@@ -1,13 +1,15 @@
 //! A terminal's seat at its table.
-ghost use Rattle.std.specs.Prelude.{◌≡◌, ℕ, ◌<◌, ◌^◌, ◌↔◌, suc, length, [], true, OnOk, OnErr, IfSome, IsSome, Err};
+ghost use Rattle.std.specs.Prelude.{◌≡◌, ℕ, ◌<◌, ◌^◌, ◌↔◌, suc, length, [], true, false, OnOk, OnErr, IfSome, IsSome, Some, Err};
 ghost use Rattle.atomic_table.specs.Seated.{TableId};
-ghost use Rattle.lift_desk.specs.Words.{turn_of, last_of, number_of, ask_word};
-ghost use Rattle.lift_desk.specs.Steps.{with_ask, with_hearing, with_look};
+ghost use Rattle.lift_base.specs.declared.command.Reply.{Reply};
+ghost use Rattle.lift_desk.specs.Words.{turn_of, last_of, number_of, ask_word, IsReply};
+ghost use Rattle.lift_desk.specs.Spelled.{IsAsk};
+ghost use Rattle.lift_desk.specs.Steps.{with_ask, with_hearing, with_look, with_told_answers, with_told_asks, lists_of};
 ghost use mathlib.Core.List.{IsPrefix};
-ghost use Rattle.lift_desk.specs.Seats.{TerminalSeat, seat_with, Waits, HearsOf};
-ghost use Rattle.lift_desk.specs.Rule.{terminal_view, no_asks};
+ghost use Rattle.lift_desk.specs.Seats.{TerminalSeat, seat_with, Waits, HearsOf, IsToldAnswer};
+ghost use Rattle.lift_desk.specs.Rule.{terminal_view, no_asks, IsInOrder};
 
-use crate::view::{Asks, DeskRule, Hears, Meets, Tells, View};
+use crate::view::{Asks, Compares, DeskRule, Hears, Meets, Seats, Tells, View};
 use crate::words::{ask_word, read_reply, turn_of};
 use atomic_table::Table;
 use lift_base::{Body, Number, Reply, Terminal};
@@ -95,6 +97,7 @@ impl Seat {
         ensures ok { OnOk result (self.new ≡ seat_with self.old
             (with_ask self.old.view (ask_word (suc (length self.old.view.asked)) number body))) }
         ensures pending { OnOk result (Waits self.new.view × (number_of (last_of self.new.view.asked) ≡ number)) }
+        ensures in_range { OnOk result (IsAsk (record { number = number; body = body })) }
         ensures err { OnErr result (self.new ≡ self.old) }
     {
         if self.waits {
@@ -117,6 +120,9 @@ impl Seat {
         ensures looked { (word : ℕ) × (self.new ≡ seat_with self.old (with_hearing self.old.view word))
             × HearsOf self.old.view word result }
         ensures rests { IsSome result → ¬ (Waits self.new.view) }
+        ensures in_range { IfSome result IsReply }
+        ensures known { IsPrefix self.old.view.told self.new.view.heard }
+        ensures finds { (reply : Reply) → IsToldAnswer self.old.view reply → result ≡ Some reply }
     {
         let word = table.shared.load::<Hears>(&mut self.chair, 1);
         if !self.waits || turn_of(word) != self.turn {
@@ -124,6 +130,21 @@ impl Seat {
         }
         self.waits = false;
         read_reply(word)
+    }
+
+    // Takes the clerk's rights, compares all words with them, and gives them back. Each of the two is told what the other has stored.
+    pub(crate) fn share(&mut self, table: &DeskTable, clerk: Chair) -> Chair
+        requires table { (self.old.table ≡ table.now.shared.table_id) × (table.now.shared.table_id.words ≡ 2) }
+        requires clerk { (clerk.table_id ≡ self.old.table) × (clerk.me.1 ≡ []) × (clerk.me.0.answers ≡ true) }
+        ensures told { self.new ≡ seat_with self.old (with_told_answers self.old.view clerk.me.0.clerk.answered) }
+        ensures clerk { (result.table_id ≡ self.old.table) × (result.me.1 ≡ []) }
+        ensures rights { (result.me.0.answers ≡ true) × (result.me.0.looks_ahead ≡ false) }
+        ensures view { result.me.0.clerk ≡ with_told_asks clerk.me.0.clerk self.old.view.asked }
+        ensures in_order { IsInOrder (lists_of self.old.view clerk.me.0.clerk) }
+    {
+        table.shared.join_seat::<Seats>(&mut self.chair, clerk);
+        table.shared.load::<Compares>(&mut self.chair, 0);
+        table.shared.split_seat::<Seats>(&mut self.chair)
     }
 
     // One look, by a terminal that was told what was answered.

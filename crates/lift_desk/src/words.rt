@@ -1,8 +1,9 @@
 //! A word of the desk: 20 bits of turn, 24 bits of number, and 20 bits that spell an ask or an answer.
-ghost use Rattle.std.specs.Prelude.{◌≡◌, ◌<◌, ◌≤◌, ◌^◌, ◌↔◌, IsSome, IfSome, Some};
+ghost use Rattle.std.specs.Prelude.{◌≡◌, ℕ, ◌<◌, ◌≤◌, ◌^◌, ◌↔◌, IsSome, IfSome, Some};
 ghost use Rattle.lift_base.specs.declared.command.Body.{Body};
 ghost use Rattle.lift_base.specs.declared.command.Reply.{Reply};
 ghost use Rattle.lift_base.specs.declared.travel.Dir.{Dir};
+ghost use Rattle.lift_desk.specs.declared.words.Ask.{Ask};
 ghost use Rattle.lift_desk.specs.Words.{turn_of, number_of, dir_bit, body_bits, ask_word, stop_bits, reply_bits, reply_word, IsBody, IsNext, IsReply, IsAskWord, IsReplyWord};
 ghost use Rattle.lift_desk.specs.Spelled.{IsAsk};
 
@@ -87,6 +88,7 @@ pub fn ask_word(turn: u32, number: Number, body: Body) -> u64
     ensures spelled { IsAskWord result }
     ensures turn { turn_of result ≡ turn }
     ensures number { number_of result ≡ number }
+    ensures in_range { IsAsk (record { number = number; body = body }) }
 {
     u64::from(turn) * TURN + u64::from(number.get()) * NUMBER + body_bits(&body)
 }
@@ -97,6 +99,7 @@ pub fn read_ask(word: u64) -> Option<Ask>
     ensures value { IfSome result (λ ask. word ≡ ask_word (turn_of word) ask.number ask.body) }
     ensures number { IfSome result (λ ask. number_of word ≡ ask.number) }
     ensures in_range { IfSome result IsAsk }
+    ensures known { (turn : ℕ) (ask : Ask) → 1 ≤ turn → IsAsk ask → word ≡ ask_word turn ask.number ask.body → result ≡ Some ask }
 {
     if turn_of(word) == 0 {
         return None;
@@ -175,6 +178,7 @@ pub fn reply_word(turn: u32, number: Number, reply: Reply) -> u64
     ensures spelled { IsReplyWord result }
     ensures turn { turn_of result ≡ turn }
     ensures number { number_of result ≡ number }
+    ensures in_range { IsReply reply }
 {
     u64::from(turn) * TURN + u64::from(number.get()) * NUMBER + reply_bits(&reply)
 }
@@ -183,6 +187,9 @@ pub fn reply_word(turn: u32, number: Number, reply: Reply) -> u64
 pub fn read_reply(word: u64) -> Option<Reply>
     ensures valid { IsSome result ↔ IsReplyWord word }
     ensures value { IfSome result (λ reply. word ≡ reply_word (turn_of word) (number_of word) reply) }
+    ensures in_range { IfSome result IsReply }
+    ensures known { (turn number : ℕ) (reply : Reply) → 1 ≤ turn → number < 2 ^ 24 → IsReply reply
+        → word ≡ reply_word turn number reply → result ≡ Some reply }
 {
     if turn_of(word) == 0 {
         return None;

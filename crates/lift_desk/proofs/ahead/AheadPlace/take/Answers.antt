@@ -1,8 +1,8 @@
-use Rattle.std.proofs.Common.{◌≡◌, ℕ, [], ◌∷◌, ◌++◌, true, sym, ap, ◌∙◌, arith}
+use Rattle.std.proofs.Common.{◌≡◌, ℕ, ◌≤◌, [], ◌∷◌, ◌++◌, length, true, refl, sym, ap, ◌∙◌, arith}
 use Rattle.lift_desk.specs.declared.view.View.{View}
 use Rattle.lift_desk.specs.Words.{turn_of, last_of}
 use Rattle.lift_desk.specs.Steps.{at_clerk, with_taking, is_new}
-use Rattle.lift_desk.specs.Seats.{is_seated, view_in}
+use Rattle.lift_desk.specs.Seats.{ClerkPlace, is_seated, view_in}
 use Rattle.lift_desk.proofs.Keeps.{looks_ahead_keep, lt_true, taken_more}
 use Rattle.lift_desk.proofs.WordLists.{last_of-push}
 use Rattle.lift_desk.proofs.ahead.AheadPlace.take.Goals as goal
@@ -40,3 +40,42 @@ invariant_of-self-2 c =
       silent = ap (λ (v : View). v.answers) (new ∙ ap (λ (v : View). at_clerk v (with_taking m.clerk word)) (sym old)) ∙ i.silent;
       turn = turn ∙ ap turn_of (sym last_is);
     }
+
+pub returns-clause-known : goal.returns-clause-known
+returns-clause-known c =
+    let i = c.self.invariant in
+    let m : View = c.into_seat-seat.result.me.0 in
+    let word : ℕ = c.load-word.result in
+    let old : view_in c.self.inside.badge.views ≡ m = ap (λ b. view_in b.views) (sym c.replace-badge.ensures.value) ∙ ap view_in c.into_seat-seat.ensures.2 in
+    let load = c.load-word.ensures.2 in
+    let new : view_in c.into_badge.result.views ≡ at_clerk m (with_taking m.clerk word) = ap view_in c.into_badge.ensures.2 ∙ ap (λ me. me.0) load.0 in
+    let turn : c.turn_of-turn.result ≡ turn_of word = c.turn_of-turn.ensures.turn in
+    let was_turn : c.self.inside.turn ≡ turn_of (last_of m.clerk.taken) = i.turn ∙ ap (λ (v : View). turn_of (last_of v.clerk.taken)) old in
+    let later = c.if-turn-self.false in
+    let fresh : is_new m.clerk word ≡ true = lt_true _ _ (omega arith) in
+    let taken : (view_in c.into_badge.result.views).clerk.taken ≡ m.clerk.taken ++ word ∷ [] = ap (λ (v : View). v.clerk.taken) new ∙ taken_more m.clerk word fresh in
+    let last_is : turn_of (last_of (view_in c.into_badge.result.views).clerk.taken) ≡ turn_of word = ap (λ l. turn_of (last_of l)) taken ∙ ap turn_of (last_of-push m.clerk.taken word) in
+    let told : length c.args.self.now.view.told ≡ length m.clerk.told = ap (λ (p : ClerkPlace). length p.view.told) (sym c.self.view_is) ∙ ap (λ (v : View). length v.clerk.told) old in
+    let begun : length m.clerk.told ≤ turn_of word = load.2 in
+    omega arith
+
+pub returns-clause-finds : goal.returns-clause-finds
+returns-clause-finds c ask h =
+    let i = c.self.invariant in
+    let m : View = c.into_seat-seat.result.me.0 in
+    let word : ℕ = c.load-word.result in
+    let old : view_in c.self.inside.badge.views ≡ m = ap (λ b. view_in b.views) (sym c.replace-badge.ensures.value) ∙ ap view_in c.into_seat-seat.ensures.2 in
+    let load = c.load-word.ensures.2 in
+    let new : view_in c.into_badge.result.views ≡ at_clerk m (with_taking m.clerk word) = ap view_in c.into_badge.ensures.2 ∙ ap (λ me. me.0) load.0 in
+    let turn : c.turn_of-turn.result ≡ turn_of word = c.turn_of-turn.ensures.turn in
+    let was_turn : c.self.inside.turn ≡ turn_of (last_of m.clerk.taken) = i.turn ∙ ap (λ (v : View). turn_of (last_of v.clerk.taken)) old in
+    let later = c.if-turn-self.false in
+    let fresh : is_new m.clerk word ≡ true = lt_true _ _ (omega arith) in
+    let taken : (view_in c.into_badge.result.views).clerk.taken ≡ m.clerk.taken ++ word ∷ [] = ap (λ (v : View). v.clerk.taken) new ∙ taken_more m.clerk word fresh in
+    let last_is : turn_of (last_of (view_in c.into_badge.result.views).clerk.taken) ≡ turn_of word = ap (λ l. turn_of (last_of l)) taken ∙ ap turn_of (last_of-push m.clerk.taken word) in
+    let told : c.args.self.now.view.told ≡ m.clerk.told = ap (λ (p : ClerkPlace). p.view.told) (sym c.self.view_is) ∙ ap (λ (v : View). v.clerk.told) old in
+    let many : length c.args.self.now.view.told ≡ length m.clerk.told = ap length told in
+    let above = h.1 in (
+      refl,
+      λ same. c.in_ok-ask.ensures.known (length c.args.self.now.view.told) ask (omega arith) h.0 (load.3 (sym last_is ∙ same ∙ many) ∙ ap last_of (sym told) ∙ h.2),
+    )

@@ -2,7 +2,7 @@ use Rattle.std.proofs.Common.{◌≡◌, true, sym, ap, ◌∙◌, arith}
 use Rattle.lift_desk.specs.declared.view.View.{View}
 use Rattle.lift_desk.specs.Seats.{is_seated, view_in}
 use Rattle.lift_desk.proofs.Keeps.{tells_split}
-use Rattle.lift_desk.proofs.place.Place.tell.Goals as goal
+use Rattle.lift_desk.proofs.place.Place.note.Goals as goal
 
 pub split_seat-note-requires : goal.split_seat-note-requires
 split_seat-note-requires c =

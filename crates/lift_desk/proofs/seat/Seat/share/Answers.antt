@@ -1,0 +1,25 @@
+use Rattle.std.proofs.Common.{ap, ◌∙◌, arith}
+use Rattle.lift_desk.proofs.Keeps.{unites_join, compares_keep, parts_split}
+use Rattle.lift_desk.proofs.seat.Seat.share.Goals as goal
+
+pub join_seat-requires : goal.join_seat-requires
+join_seat-requires c =
+    let table = ap (λ s. s.table) c.self.view_is in
+    (table ∙ c.requires.table.0, c.requires.clerk.0 ∙ c.requires.table.0, c.requires.clerk.1, omega arith, unites_join _ _ _ _ c.self.invariant.asks c.requires.clerk.2)
+
+pub load-requires : goal.load-requires
+load-requires c =
+    let j = c.join_seat.ensures in (
+      j.0 ∙ ap (λ s. s.table) c.self.view_is ∙ c.requires.table.0,
+      omega arith,
+      compares_keep _ _ _ (ap (λ m. m.0.asks) j.2 ∙ c.self.invariant.asks) (ap (λ m. m.0.answers) j.2 ∙ c.requires.clerk.2),
+    )
+
+pub split_seat-requires : goal.split_seat-requires
+split_seat-requires c =
+    let j = c.join_seat.ensures in
+    let l = c.load.ensures in (
+      l.0 ∙ j.0 ∙ ap (λ s. s.table) c.self.view_is ∙ c.requires.table.0,
+      omega arith,
+      parts_split _ _ (ap (λ m. m.0.asks) (l.2.0 ∙ j.2) ∙ c.self.invariant.asks) (ap (λ m. m.0.answers) (l.2.0 ∙ j.2) ∙ c.requires.clerk.2),
+    )
