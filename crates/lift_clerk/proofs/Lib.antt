@@ -13,3 +13,4 @@ pub mod Reopened
 pub mod Crashes
 pub mod Terminals
 pub mod Moved
+pub mod Told

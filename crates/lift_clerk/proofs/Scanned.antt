@@ -3,6 +3,7 @@ use Rattle.std.proofs.Common.{◌≡◌, ℕ, suc, ◌<◌, ◌≤◌, Bool, tru
 use Rattle.std.specs.Prelude.{IfSome, IsSome}
 use Rattle.std.specs.Option.{option_to_list}
 use Rattle.std.proofs.lemmas.List.{map-append}
+use mathlib.Core.List.{IsPrefix}
 use Rattle.lift_base.specs.declared.command.Reply.{Reply}
 use Rattle.lift_base.specs.declared.command.Reply.TheVariants.{Unknown}
 use Rattle.lift_building.specs.Plan.{Plan}
@@ -11,7 +12,7 @@ use Rattle.lift_desk.specs.declared.words.Ask.{Ask}
 use Rattle.lift_desk.specs.Words.{last_of, number_of}
 use Rattle.lift_desk.specs.Spelled.{IsAsk}
 use Rattle.lift_desk.specs.Steps.{with_taking}
-use Rattle.lift_desk.specs.Seats.{ClerkPlace, no_place, view_at, clerk_with, TakesOf, Owes}
+use Rattle.lift_desk.specs.Seats.{ClerkPlace, no_place, view_at, clerk_with, TakesOf, IsToldAsk, Owes}
 use Rattle.lift_desk.proofs.Places.{view_at-here}
 use Rattle.lift_policy.specs.declared.command.Command.{Command}
 use Rattle.lift_policy.specs.Eligible.{Choice}
@@ -54,6 +55,8 @@ pub record Looked (seat next : List ClerkPlace) (n word : ℕ) (found : Option A
   pub even : IsSome found → length (view_at seat n).answered ≡ length (view_at seat n).taken
   pub number : IfSome found (λ (ask : Ask). number_of (last_of (with_taking (view_at seat n) word).taken) ≡ ask.number)
   pub in_range : IfSome found IsAsk
+  pub known : IsPrefix (view_at seat n).told (with_taking (view_at seat n) word).taken
+  pub told : (ask : Ask) → IsToldAsk (view_at seat n) ask → found ≡ Some ask
 
 pub scans-more : (choice : Choice) (plan : Plan) (is_broken : Bool) (places seat next : List ClerkPlace) (before mid after : State) (answers others : List Answer) (n word : ℕ) (found : Option Ask)
     → RunsJoin choice → n < length places → Scans choice plan is_broken places seat before mid answers n → Looked seat next n word found
@@ -71,7 +74,9 @@ scans-more choice plan is_broken places seat next before mid after answers other
     (subst (λ (w : ClerkView). TakesOf w word found) here look.takes)
     (subst (λ (w : ClerkView). IsSome found → length w.answered ≡ length w.taken) here look.even)
     (subst (λ (w : ClerkView). IfSome found (λ (ask : Ask). number_of (last_of (with_taking w word).taken) ≡ ask.number)) here look.number)
-    look.in_range in
+    look.in_range
+    (subst (λ (w : ClerkView). IsPrefix w.told (with_taking w word).taken) here look.known)
+    (subst (λ (w : ClerkView). (ask : Ask) → IsToldAsk w ask → found ≡ Some ask) here look.told) in
     let commands : commands_of 0 (visits ++ v ∷ []) ≡ commands_of 0 visits ++ command_at n found = commands-more 0 n visits v (omega arith) in
     record {
       visits = visits ++ v ∷ [];
@@ -90,11 +95,21 @@ scans-more choice plan is_broken places seat next before mid after answers other
 pub looked-at : (seat next : List ClerkPlace) (n word : ℕ) (found : Option Ask) → n < length seat → next ≡ clerk_with seat n (with_taking (view_at seat n) word) → TakesOf (view_at seat n) word found
     → (IsSome found → length (view_at seat n).answered ≡ length (view_at seat n).taken)
     → IfSome found (λ (ask : Ask). Owes (view_at next n) × (number_of (last_of (view_at next n).taken) ≡ ask.number))
-    → IfSome found IsAsk → Looked seat next n word found
-looked-at seat next n word None inside is takes even owes in_range = record { seat_is = is; takes = takes; even = even; number = tt; in_range = tt }
-looked-at seat next n word (Some ask) inside is takes even owes in_range =
+    → IfSome found IsAsk → IsPrefix (view_at seat n).told (view_at next n).taken → ((ask : Ask) → IsToldAsk (view_at seat n) ask → found ≡ Some ask) → Looked seat next n word found
+looked-at seat next n word None inside is takes even owes in_range known told =
     let here : view_at next n ≡ with_taking (view_at seat n) word = ap (λ l. view_at l n) is ∙ view_at-here seat n (with_taking (view_at seat n) word) inside in
-    record { seat_is = is; takes = takes; even = even; number = ap (λ (w : ClerkView). number_of (last_of w.taken)) (sym here) ∙ owes.1; in_range = in_range }
+    record { seat_is = is; takes = takes; even = even; number = tt; in_range = tt; known = subst (λ (w : ClerkView). IsPrefix (view_at seat n).told w.taken) here known; told = told }
+looked-at seat next n word (Some ask) inside is takes even owes in_range known told =
+    let here : view_at next n ≡ with_taking (view_at seat n) word = ap (λ l. view_at l n) is ∙ view_at-here seat n (with_taking (view_at seat n) word) inside in
+    record {
+      seat_is = is;
+      takes = takes;
+      even = even;
+      number = ap (λ (w : ClerkView). number_of (last_of w.taken)) (sym here) ∙ owes.1;
+      in_range = in_range;
+      known = subst (λ (w : ClerkView). IsPrefix (view_at seat n).told w.taken) here known;
+      told = told;
+    }
 
 pub few-more : {A : Type 0} (item : Option A) → length (option_to_list item) ≤ 1
 few-more None = omega arith

@@ -2,13 +2,14 @@
 use Rattle.std.proofs.Common.{◌≡◌, ℕ, zero, suc, ◌+◌, ◌<◌, ◌≤◌, true, false, List, [], ◌∷◌, ◌++◌, length, get_or, Option, Some, None, refl, sym, ap, ◌∙◌, subst, arith, length-append, append_assoc}
 use Rattle.std.specs.Prelude.{IfSome, IsSome}
 use Rattle.std.proofs.lemmas.List.{append-nil}
+use mathlib.Core.List.{IsPrefix}
 use Rattle.lift_base.specs.declared.command.Reply.{Reply}
 use Rattle.lift_desk.specs.declared.view.ClerkView.{ClerkView}
 use Rattle.lift_desk.specs.declared.words.Ask.{Ask}
 use Rattle.lift_desk.specs.Words.{last_of, number_of, reply_word}
 use Rattle.lift_desk.specs.Spelled.{IsAsk}
 use Rattle.lift_desk.specs.Steps.{is_new, with_taking, with_answer}
-use Rattle.lift_desk.specs.Seats.{ClerkPlace, no_place, view_at, clerk_with, placed_at, TakesOf, Owes, OwesNothing}
+use Rattle.lift_desk.specs.Seats.{ClerkPlace, no_place, view_at, clerk_with, placed_at, TakesOf, IsToldAsk, Owes, OwesNothing}
 use Rattle.lift_desk.proofs.WordLists.{last_of-push}
 use Rattle.lift_policy.specs.declared.command.Command.{Command}
 use Rattle.lift_clerk.specs.Visits.{Visit, FindsAt, Finds, command_at, commands_of, with_reply, replies_behind, served}
@@ -60,17 +61,20 @@ length-served places [] replies = refl
 length-served [] (u ∷ visits) replies = refl
 length-served (p ∷ places) (u ∷ visits) replies = ap suc (length-served places visits (replies_behind u.found replies))
 
-taken-new : (view : ClerkView) (word : ℕ) → is_new view word ≡ true → (with_taking view word).taken ≡ view.taken ++ word ∷ []
+pub taken-new : (view : ClerkView) (word : ℕ) → is_new view word ≡ true → (with_taking view word).taken ≡ view.taken ++ word ∷ []
 taken-new view word new = rw new
 
-taken-old : (view : ClerkView) (word : ℕ) → is_new view word ≡ false → (with_taking view word).taken ≡ view.taken
+pub taken-old : (view : ClerkView) (word : ℕ) → is_new view word ≡ false → (with_taking view word).taken ≡ view.taken
 taken-old view word old = rw old
 
 -- what a look finds, of what its call says
 pub finds-at : (place : ClerkPlace) (word : ℕ) (found : Option Ask) → TakesOf place.view word found → (IsSome found → length place.view.answered ≡ length place.view.taken)
-    → IfSome found (λ (ask : Ask). number_of (last_of (with_taking place.view word).taken) ≡ ask.number) → IfSome found IsAsk → FindsAt place (record { word = word; found = found })
-finds-at place word None reads even number in_range = record { reads = reads; even = even; number = tt; in_range = tt }
-finds-at place word (Some ask) reads even number in_range = record {
+    → IfSome found (λ (ask : Ask). number_of (last_of (with_taking place.view word).taken) ≡ ask.number) → IfSome found IsAsk
+    → IsPrefix place.view.told (with_taking place.view word).taken → ((ask : Ask) → IsToldAsk place.view ask → found ≡ Some ask) → FindsAt place (record { word = word; found = found })
+finds-at place word None reads even number in_range known told = record { reads = reads; even = even; number = tt; in_range = tt; known = known; told = told }
+finds-at place word (Some ask) reads even number in_range known told = record {
+  known = known;
+  told = told;
   in_range = in_range;
   reads = reads;
   even = even;

@@ -1,8 +1,9 @@
 -- What a clerk holds: its seats at a desk, its keeper, and the policy that names cars.
-use Rattle.std.specs.Prelude.{◌≡◌, ◌⊎◌, Bool, true, List, []}
+use Rattle.std.specs.Prelude.{ℕ, ◌≡◌, ◌⊎◌, Bool, true, List, []}
 use Rattle.atomic_table.specs.Seated.{TableId}
 use Rattle.lift_base.specs.declared.history.Entry.{Entry}
-use Rattle.lift_desk.specs.Seats.{ClerkPlace, IsClerkOf, OwesNothing}
+use Rattle.lift_desk.specs.Seats.{ClerkPlace, IsClerkOf, OwesNothing, view_at, clerk_with}
+use Rattle.lift_desk.specs.Steps.{with_told_asks}
 use Rattle.lift_keeper.specs.Keeper.{KeeperView}
 
 -- what a caller sees of a clerk over a device, with a policy
@@ -18,3 +19,7 @@ pub record IsClerk (desk : List TableId) (seat : List ClerkPlace) (batch : List 
   pub seated : IsClerkOf desk seat
   pub answered : OwesNothing seat
   pub settled : (batch ≡ []) ⊎ (is_broken ≡ true)
+
+-- The clerk was told that these words were asked at a terminal, and nothing else changed.
+abbrev pub IsToldAt : {D P : Type 0} → ClerkState D P → ClerkState D P → ℕ → List ℕ → Type 0
+IsToldAt old new terminal words = new ≡ record old { seat = clerk_with old.seat terminal (with_told_asks (view_at old.seat terminal) words) }

@@ -1,5 +1,5 @@
 -- What the machine of events is while a clerk runs, and which of its events the clerk's calls are.
-use Rattle.std.specs.Prelude.{ℕ, suc, ◌+◌, ◌≡◌, ◌≢◌, ◌⊎◌, true, false, List, [], ◌∷◌, ◌++◌, length, map, filter, drop, count_by, All, Contains, Option, Some, IsTrue}
+use Rattle.std.specs.Prelude.{ℕ, suc, ◌+◌, ◌<◌, ◌≡◌, ◌≢◌, ◌⊎◌, true, false, List, [], ◌∷◌, ◌++◌, length, map, filter, drop, count_by, All, Contains, Option, Some, IsTrue}
 use Rattle.std.specs.List.{AllByRecursion}
 use Rattle.lift_base.specs.declared.history.Entry.{Entry}
 use Rattle.lift_building.specs.Plan.{IsBuilding}
@@ -8,7 +8,7 @@ use Rattle.lift_register.specs.Register.{RegisterState, register_of, empty}
 use Rattle.lift_desk.specs.declared.view.ClerkView.{ClerkView}
 use Rattle.lift_desk.specs.declared.words.Ask.{Ask}
 use Rattle.lift_desk.specs.Words.{reply_word}
-use Rattle.lift_desk.specs.Spelled.{ask_words}
+use Rattle.lift_desk.specs.Spelled.{ask_words, IsAsk}
 use Rattle.lift_desk.specs.Seats.{view_at, clerk_of}
 use Rattle.lift_policy.specs.Eligible.{Choice}
 use Rattle.lift_policy.specs.declared.command.Command.{Command}
@@ -28,9 +28,9 @@ use Rattle.lift_world.specs.Beside.{is_of_terminals}
 use Rattle.lift_world.specs.Headline.{StillNames}
 use Rattle.lift_world.specs.Turns.{IsAtRest, IsBrokenAtRest, with_replies, take_events, calls_to, turn_events, failed_events, broken_events}
 use Rattle.lift_clerk.specs.declared.counts.Counts.{Counts}
-use Rattle.lift_clerk.specs.Clerk.{ClerkState}
+use Rattle.lift_clerk.specs.Clerk.{ClerkState, IsToldAt}
 use Rattle.lift_clerk.specs.Turn.{IsTurn, IsFailedTurn, IsBrokenTurn, IsEither}
-use Rattle.lift_clerk.specs.Visits.{commands_of}
+use Rattle.lift_clerk.specs.Visits.{Visit, Finds, commands_of}
 
 -- what a command asks
 abbrev pub ask_of : Command → Ask
@@ -90,6 +90,28 @@ waiting_in w terminal = drop (count_by (is_answer_to terminal) w.answered) (filt
 -- Where an ask waits at a terminal in this world, it is the one that the look there found.
 abbrev pub LooksAgree : World → List Command → Type 0
 LooksAgree w commands = AllByRecursion (λ (c : Command). (waiting_in w c.terminal ≡ []) ⊎ (waiting_in w c.terminal ≡ c ∷ [])) commands
+
+-- The clerk was told of all that this terminal asked in this world, and a word can spell each of these asks.
+pub record KnowsAsks (w : World) (terminal : ℕ) (view : ClerkView) : Type 0 where
+  pub told : view.told ≡ ask_words 1 (map ask_of (filter (asks terminal) w.asked))
+  pub in_range : All IsAsk (map ask_of (filter (asks terminal) w.asked))
+
+-- Looks of a clerk that was told of all asks find those that wait.
+abbrev pub ToldLooksAgree : (D P : Type 0) → Type 0
+ToldLooksAgree D P = (w : World) (clerk : ClerkState D P) (visits : List Visit) → IsMachineOf w clerk → Finds clerk.seat visits
+    → ((terminal : ℕ) → terminal < length clerk.seat → KnowsAsks w terminal (view_at clerk.seat terminal)) → LooksAgree w (commands_of 0 visits)
+
+-- To tell the clerk of asks is no event.
+abbrev pub TellsAreNoEvents : (D P : Type 0) → Type 0
+TellsAreNoEvents D P = (w : World) (before after : ClerkState D P) (terminal : ℕ) (words : List ℕ) → IsToldAt before after terminal words → IsMachineOf w before → IsMachineOf w after
+
+-- Where these are the asks of a terminal in this world, the clerk knows them then, and those of other terminals as before.
+abbrev pub TellsMakeKnown : (D P : Type 0) → Type 0
+TellsMakeKnown D P = (w : World) (before after : ClerkState D P) (terminal : ℕ)
+    → IsToldAt before after terminal (ask_words 1 (map ask_of (filter (asks terminal) w.asked))) → terminal < length before.seat
+    → All IsAsk (map ask_of (filter (asks terminal) w.asked))
+    → KnowsAsks w terminal (view_at after.seat terminal)
+    × ((other : ℕ) → other ≢ terminal → KnowsAsks w other (view_at before.seat other) → KnowsAsks w other (view_at after.seat other))
 
 -- no ask waits: terminals have asked just what the clerk took
 abbrev pub WaitsNowhere : World → Type 0

@@ -1,12 +1,13 @@
 -- One scan of all terminals: what each look found, and which replies were stored.
 use Rattle.std.specs.Prelude.{ℕ, suc, ◌≡◌, List, [], ◌∷◌, ◌++◌, length, Option, Some, None, IsSome, IfSome}
+use mathlib.Core.List.{IsPrefix}
 use Rattle.lift_base.specs.declared.command.Reply.{Reply}
 use Rattle.lift_desk.specs.declared.view.ClerkView.{ClerkView}
 use Rattle.lift_desk.specs.declared.words.Ask.{Ask}
 use Rattle.lift_desk.specs.Words.{number_of, reply_word}
 use Rattle.lift_desk.specs.Spelled.{IsAsk}
 use Rattle.lift_desk.specs.Steps.{with_taking, with_answer}
-use Rattle.lift_desk.specs.Seats.{ClerkPlace, placed_at, TakesOf}
+use Rattle.lift_desk.specs.Seats.{ClerkPlace, placed_at, TakesOf, IsToldAsk}
 use Rattle.lift_policy.specs.declared.command.Command.{Command}
 
 -- one look at a terminal: the word loaded, and the ask taken of it, if any
@@ -14,12 +15,15 @@ pub record Visit : Type 0 where
   pub word : ℕ
   pub found : Option Ask
 
--- The look takes what its word says where that is new to the clerk, which had answered all that it took there before.
+-- The look takes what its word says where that is new to the clerk, which had answered all that it took there before. Then all
+-- asks that the clerk was told of are taken.
 pub record FindsAt (place : ClerkPlace) (visit : Visit) : Type 0 where
   pub reads : TakesOf place.view visit.word visit.found
   pub even : IsSome visit.found → length place.view.answered ≡ length place.view.taken
   pub number : IfSome visit.found (λ (ask : Ask). number_of visit.word ≡ ask.number)
   pub in_range : IfSome visit.found IsAsk
+  pub known : IsPrefix place.view.told (with_taking place.view visit.word).taken
+  pub told : (ask : Ask) → IsToldAsk place.view ask → visit.found ≡ Some ask
 
 -- these looks are at the first places, one at each, in their order
 abbrev pub Finds : List ClerkPlace → List Visit → Type 0

@@ -3,19 +3,21 @@
 ghost use Rattle.std.specs.Prelude.{◌≡◌, ◌<◌, ◌⊎◌, ◌↔◌, [], length, true, false, Ok, Err, IfOk, IfErr, OnOk, OnErr};
 ghost use Rattle.lift_disk.specs.Disk.{LeavesNow, LeavesOnly, RunsOn};
 ghost use Rattle.lift_register.specs.Register.{register_of};
-ghost use Rattle.lift_desk.specs.Seats.{IsClerkOf, OwesNothing};
+ghost use Rattle.lift_desk.specs.Rule.{IsInOrder};
+ghost use Rattle.lift_desk.specs.Seats.{IsClerkOf, IsSeatOf, OwesNothing, seat_with, view_at};
+ghost use Rattle.lift_desk.specs.Steps.{with_told_answers, lists_of};
 ghost use Rattle.lift_journal.specs.Steps.{Makes};
 ghost use Rattle.lift_journal.specs.Told.{NoneFails};
 ghost use Rattle.lift_keeper.specs.Decider.{starting};
 ghost use Rattle.lift_keeper.specs.Images.{IsImageOf, IsInDoubt};
 ghost use Rattle.lift_keeper.specs.Reopening.{Reopens, RefusesReopening, FailsBy};
 ghost use Rattle.lift_keeper.specs.Writer.{StopsCommit, commit_calls, commit_writes, commit_used, commit_second};
-ghost use Rattle.lift_clerk.specs.Clerk.{IsClerk};
+ghost use Rattle.lift_clerk.specs.Clerk.{IsClerk, IsToldAt};
 ghost use Rattle.lift_clerk.specs.Turn.{IsTurn, IsFailedTurn, IsBrokenTurn, IsEither, entries_in};
 
 use crate::counts::Counts;
 use crate::scan::{answer_all, scan};
-use lift_desk::{ClerkSeat, Desk};
+use lift_desk::{ClerkSeat, Desk, Seat};
 use lift_disk::{Arm, Disk};
 use lift_journal::JournalFault;
 use lift_keeper::{Keeper, KeeperFault};
@@ -64,6 +66,19 @@ impl<'d, 'b, D: Disk, P: Policy + Drop> Clerk<'d, 'b, D, P> {
         ensures settled { (result.now.state.batch ≡ []) ⊎ (result.now.writer.is_broken ≡ true) }
     {
         &self.keeper
+    }
+
+    /// Tells it what a terminal has asked so far, and the terminal what was answered there so far. From then on a turn takes at
+    /// least that ask, and the terminal hears at least that answer. It stores nothing.
+    pub fn tell(&mut self, seat: &mut Seat)
+        requires { IsSeatOf self.old.desk seat.old }
+        ensures seat { seat.new ≡ seat_with seat.old (with_told_answers seat.old.view (view_at self.old.seat seat.old.terminal).answered) }
+        ensures told { IsToldAt self.old self.new seat.old.terminal seat.old.view.asked }
+        // What the two have stored fits together.
+        ensures in_order { IsInOrder (lists_of seat.old.view (view_at self.old.seat seat.old.terminal)) }
+        ensures seat_stays { IsSeatOf self.new.desk seat.new }
+    {
+        self.desk.tell(seat, &mut self.seat)
     }
 
     /// One turn: looks once at each terminal, in rising order, takes at most one command of each, decides each on the state

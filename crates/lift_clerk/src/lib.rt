@@ -11,5 +11,5 @@ pub use clerk::Clerk;
 pub use counts::Counts;
 pub use machine::{
     crashes_are_the_machines, reopening_moves_the_machine, reopenings_are_the_machines,
-    turn_moves_the_machine, turns_are_the_machines,
+    told_asks_are_found, turn_moves_the_machine, turns_are_the_machines,
 };

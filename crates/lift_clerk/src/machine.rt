@@ -4,6 +4,7 @@ ghost use Rattle.std.specs.Prelude.{◌≡◌, ◌⊎◌, true, Err, IfOk, IfErr
 ghost use Rattle.lift_clerk.specs.Turn.{IsBrokenTurn};
 ghost use Rattle.lift_clerk.specs.Laws.{Laws};
 ghost use Rattle.lift_clerk.specs.Machine.{TurnsAreTurns, FailuresAreFailures, BrokenTurnsAreBroken, TerminalsKeepIt};
+ghost use Rattle.lift_clerk.specs.Machine.{ToldLooksAgree, TellsAreNoEvents, TellsMakeKnown};
 ghost use Rattle.lift_clerk.specs.Machine.{ReopeningsAreReopenings, FailedReopeningsAreFaults, NothingIsNoEvent, BeginsAtStart, BeginsAfterCut};
 ghost use Rattle.lift_clerk.specs.Machine.{CrashesAreCuts, CrashesWithinTurns, CrashesWithinFailures, CutsShowLetters, BeginsAfterCrash, Moves, Turns, Fails, Reopens, Stays};
 
@@ -71,6 +72,14 @@ pub fn crashes_are_the_machines<D: Disk, P: Policy>()
     policies_are_covered::<P>();
     machine_laws();
 }
+
+/// A clerk that was told of all that terminals asked in this world finds what waits there: its looks agree with the world, as
+/// the laws of turns want it. To tell it is no event, and makes it know the asks of that terminal.
+pub fn told_asks_are_found<D: Disk, P: Policy>()
+    ensures looks { ToldLooksAgree D P }
+    ensures nothing { TellsAreNoEvents D P }
+    ensures known { TellsMakeKnown D P }
+{}
 
 // One turn, with what its contract gives of the machine's turns.
 fn turn_once<D: Disk, P: Policy + Drop>(

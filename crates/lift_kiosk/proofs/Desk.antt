@@ -19,7 +19,7 @@ rests_at v rests =
     rw even refl
 
 abbrev hearing : TerminalView → ℕ → TerminalView
-hearing v word = record { asked = v.asked; heard = v.heard ++ word ∷ []; looks = suc v.looks; last = word }
+hearing v word = record { asked = v.asked; heard = v.heard ++ word ∷ []; looks = suc v.looks; last = word; told = v.told }
 
 heard_at : (v : TerminalView) (word : ℕ) → is_awaited v word ≡ true → with_hearing v word ≡ hearing v word
 heard_at v word awaited = rw awaited refl
