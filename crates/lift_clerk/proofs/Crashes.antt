@@ -1,15 +1,16 @@
 -- What crashes leave, and the letters that it shows.
 use Rattle.std.proofs.Common.{ℕ, suc, zero, ◌≡◌, ◌-◌, ◌+◌, ◌<◌, ◌≤◌, ◌⊎◌, inl, inr, Bool, true, false, List, [], ◌∷◌, ◌++◌, length, take, drop, replicate, Option, Some, refl, sym, ap, subst, ◌∙◌, arith}
-use Rattle.std.specs.Prelude.{IsTrue, option_and_then}
+use Rattle.std.specs.Prelude.{IsTrue, All, Contains, option_and_then}
 use Rattle.std.proofs.Math.Seq.{take-length, drop-length}
 use Rattle.std.proofs.lemmas.Bool.{false≢true}
-use Rattle.std.proofs.lemmas.List.{length-append}
+use Rattle.std.proofs.lemmas.List.{append-nil, length-append}
 use Rattle.lift_base.specs.declared.command.Reply.{Reply}
 use Rattle.lift_base.specs.declared.history.Entry.{Entry}
 use Rattle.lift_building.specs.Plan.{Plan}
 use Rattle.lift_disk.specs.Disk.{Image}
 use Rattle.lift_keeper.specs.Images.{IsImageOf, IsInDoubt}
 use Rattle.lift_register.specs.Register.{RegisterState, register_of}
+use Rattle.lift_register.specs.Joins.{RegistersJoin}
 use Rattle.lift_policy.specs.Eligible.{Choice, any_eligible}
 use Rattle.lift_policy.specs.Step.{State}
 use Rattle.lift_policy.specs.Run.{Run}
@@ -21,16 +22,16 @@ use Rattle.lift_world.specs.declared.event.Phase.TheVariants.{Writing, Synced, G
 use Rattle.lift_world.specs.declared.event.Power.{Power}
 use Rattle.lift_world.specs.declared.event.Power.TheVariants.{Running, Broken, Off}
 use Rattle.lift_world.specs.declared.event.Taken.{Taken}
-use Rattle.lift_world.specs.World.{World, Batch, is_running, is_off, state_of, safe_list, batch_of, outcome, may_keep, register_after}
+use Rattle.lift_world.specs.World.{World, Batch, is_running, is_off, state_of, safe_list, batch_of, may_keep, acknowledged, register_after}
 use Rattle.lift_world.specs.Next.{next, goes, in_phase, writes_of, bodies}
 use Rattle.lift_world.specs.Asking.{asked_on}
-use Rattle.lift_world.specs.Headline.{RecoversAcknowledged, RecoversLetters}
+use Rattle.lift_world.specs.Headline.{StillNames, RecoversAcknowledged, RecoversLetters}
 use Rattle.lift_world.specs.Policies.{RunsAreAny}
 use Rattle.lift_world.specs.Turns.{IsAtRest, scanned, take_events, with_replies}
 use Rattle.lift_clerk.specs.Clerk.{ClerkState}
 use Rattle.lift_clerk.specs.Turn.{IsEither}
 use Rattle.lift_clerk.specs.Visits.{commands_of}
-use Rattle.lift_clerk.specs.Machine.{IsMachineOf, IsReached, ShowsWhole, ShowsBroken, IsKept, IsKeptAtGate, events_to_gate, CrashesAreCuts, CrashesWithinTurns, CrashesWithinFailures, CutsShowLetters, BeginsAfterCrash}
+use Rattle.lift_clerk.specs.Machine.{IsMachineOf, IsReached, ShowsWhole, ShowsBroken, IsKept, IsKeptAtGate, kept_of, events_to_gate, CrashesAreCuts, CrashesWithinTurns, CrashesWithinFailures, CutsShowLetters, BeginsAfterCrash}
 use Rattle.lift_clerk.specs.Laws.{Laws}
 use Rattle.lift_clerk.proofs.Served.{all_apart}
 use Rattle.lift_clerk.proofs.Standing.{fresh}
@@ -39,42 +40,53 @@ use Rattle.lift_clerk.proofs.Turned.{splits, register_with, safe_all}
 use Rattle.lift_clerk.proofs.Doubts.{was_safe, in_doubt}
 use Rattle.lift_clerk.proofs.Reopened.{with_nothing, begins_after_cut}
 
-kept_safe : (w : World) (plan : Plan) (register : RegisterState) (left : Image) → w.building ≡ plan → register_after (safe_list w) ≡ register → IsImageOf plan register left → IsKept w left
+kept_safe : (w : World) (plan : Plan) (register : RegisterState) (left : Image) → w.building ≡ plan → register_after (safe_list w) ≡ register → IsImageOf plan register left → IsKept w (safe_list w) left
 kept_safe w plan register left b r reads = record {
   kept = Safe;
   may_be_kept = refl;
+  outcome_is = refl;
   reads = subst (λ (p : Plan). IsImageOf p (register_after (safe_list w)) left) (sym b) (subst (λ (x : RegisterState). IsImageOf plan x left) (sym r) reads);
 }
 
 kept_with_batch : (w : World) (plan : Plan) (register : RegisterState) (left : Image) → w.building ≡ plan → IsTrue (may_keep w WithBatch) → register_after (safe_list w ++ batch_of w) ≡ register
-    → IsImageOf plan register left → IsKept w left
+    → IsImageOf plan register left → IsKept w (safe_list w ++ batch_of w) left
 kept_with_batch w plan register left b may r reads = record {
   kept = WithBatch;
   may_be_kept = may;
+  outcome_is = refl;
   reads = subst (λ (p : Plan). IsImageOf p (register_after (safe_list w ++ batch_of w)) left) (sym b) (subst (λ (x : RegisterState). IsImageOf plan x left) (sym r) reads);
 }
+
+-- with no batch it is the register of what is safe
+kept_without : RegistersJoin → (w : World) (plan : Plan) (old : RegisterState) (batch : List Entry) (left : Image) → w.building ≡ plan → register_after (safe_list w) ≡ old → batch ≡ []
+    → IsImageOf plan (register_of old batch) left → IsKept w (safe_list w ++ batch) left
+kept_without registers w plan old batch left b safe none reads =
+    subst (λ (xs : List Entry). IsKept w xs left) (sym (append-nil (safe_list w)) ∙ ap (λ (xs : List Entry). safe_list w ++ xs) (sym none))
+    (kept_safe w plan (register_of old batch) left b
+    (sym (with_nothing registers (safe_list w)) ∙ ap (λ (x : RegisterState). register_of x []) safe ∙ ap (register_of old) (sym none)) reads)
 
 module _ {D P : Type 0} (laws : Laws) (w : World) (clerk : ClerkState D P) (left : Image) (m : IsMachineOf w clerk) where
   abbrev plan : Plan
   plan = clerk.keeper.writer.plan
 
-  by_doubt : (br : ShowsBroken w clerk.keeper) (doubt : List Entry) → clerk.keeper.writer.doubt ≡ doubt → IsInDoubt plan clerk.keeper.writer.register clerk.keeper.writer.doubt left → IsKept w left
-  by_doubt br doubt d (inl reads) = kept_safe w plan clerk.keeper.writer.register left m.building br.safe reads
-  by_doubt br [] d (inr reads) =
-      kept_safe w plan (register_of clerk.keeper.writer.register clerk.keeper.writer.doubt) left m.building
-      (sym (with_nothing laws.registers (safe_list w)) ∙ ap (λ (x : RegisterState). register_of x []) br.safe ∙ ap (register_of clerk.keeper.writer.register) (sym d)) reads
-  by_doubt br (x ∷ xs) d (inr reads) =
-      kept_with_batch w plan (register_of clerk.keeper.writer.register clerk.keeper.writer.doubt) left m.building
-      (br.may_be_kept (λ none. let wrong : x ∷ xs ≡ [] = sym d ∙ none in cc))
-      (ap (λ (ys : List Entry). register_after (safe_list w ++ ys)) br.doubt ∙ register_with laws.registers w clerk.keeper.writer.doubt clerk.keeper.writer.register br.safe) reads
+  abbrev doubt : List Entry
+  doubt = clerk.keeper.writer.doubt
 
-  by_state : (b : Bool) → clerk.keeper.writer.is_broken ≡ b → (clerk.keeper.writer.is_broken ≡ false → IsImageOf plan clerk.keeper.writer.register left)
-      → (clerk.keeper.writer.is_broken ≡ true → IsInDoubt plan clerk.keeper.writer.register clerk.keeper.writer.doubt left) → IsKept w left
-  by_state false e whole broken = kept_safe w plan clerk.keeper.writer.register left m.building (m.whole e).safe (whole e)
-  by_state true e whole broken = by_doubt (m.broken e) clerk.keeper.writer.doubt refl (broken e)
+  by_doubt : (br : ShowsBroken w clerk.keeper) (batch : List Entry) → doubt ≡ batch → IsImageOf plan (register_of clerk.keeper.writer.register doubt) left → IsKept w (safe_list w ++ doubt) left
+  by_doubt br [] d reads = kept_without laws.registers w plan clerk.keeper.writer.register doubt left m.building br.safe d reads
+  by_doubt br (x ∷ xs) d reads =
+      subst (λ (ys : List Entry). IsKept w (safe_list w ++ ys) left) br.doubt (kept_with_batch w plan (register_of clerk.keeper.writer.register doubt) left m.building
+      (br.may_be_kept (λ none. let wrong : x ∷ xs ≡ [] = sym d ∙ none in cc))
+      (ap (λ (ys : List Entry). register_after (safe_list w ++ ys)) br.doubt ∙ register_with laws.registers w doubt clerk.keeper.writer.register br.safe) reads)
+
+  by_state : (b : Bool) → clerk.keeper.writer.is_broken ≡ b → (either : IsInDoubt plan clerk.keeper.writer.register doubt left) → IsKept w (kept_of (safe_list w) doubt either) left
+  by_state false e (inl reads) = kept_safe w plan clerk.keeper.writer.register left m.building (m.whole e).safe reads
+  by_state false e (inr reads) = kept_without laws.registers w plan clerk.keeper.writer.register doubt left m.building (m.whole e).safe (m.whole e).no_doubt reads
+  by_state true e (inl reads) = kept_safe w plan clerk.keeper.writer.register left m.building (m.broken e).safe reads
+  by_state true e (inr reads) = by_doubt (m.broken e) doubt refl reads
 
 pub crashes_are_cuts : {D P : Type 0} → Laws → CrashesAreCuts D P
-crashes_are_cuts laws w clerk left m whole broken = by_state laws w clerk left m clerk.keeper.writer.is_broken refl whole broken
+crashes_are_cuts laws w clerk left m either = by_state laws w clerk left m clerk.keeper.writer.is_broken refl either
 
 -- a batch on its way to its gate
 once : (w v : World) (e : Event) (es : List Event) → next w e ≡ Some v → goes (e ∷ es) w ≡ goes es v
@@ -146,6 +158,9 @@ module _ (laws : Laws) (w : World) (reached : IsReached w) (rest : IsAtRest w) (
   abbrev there : World
   there = in_phase w4 GateWritten
 
+  kept_is : safe_list there ++ batch_of there ≡ w.accepted ++ state.batch
+  kept_is = ap (λ (xs : List Entry). xs ++ batch_of w4) safe_is ∙ ap (λ (xs : List Entry). w.accepted ++ xs) batch_is
+
   count : writes_of w4 ≡ bodies (length state.batch) + 1
   count = ap (λ (xs : List Entry). bodies (length xs) + 1) batch_is
 
@@ -160,41 +175,44 @@ module _ (laws : Laws) (w : World) (reached : IsReached w) (rest : IsAtRest w) (
       ∙ once w2 w3 Seal (Pull ∷ calls) sealed ∙ once w3 w4 Pull calls pulled ∙ written
 
   pub at_gate : (plan : Plan) (register : RegisterState) (left : Image) → w.building ≡ plan → register_after (w.accepted ++ state.batch) ≡ register → IsImageOf plan register left
-      → IsKeptAtGate w (c ∷ cs) (length state.batch) left
+      → IsKeptAtGate w (c ∷ cs) (length state.batch) (w.accepted ++ state.batch) left
   at_gate plan register left b q reads = record {
     before = a.events;
     of_terminals = a.theirs;
     letters = scan.0;
     there = there;
     possible = possible;
+    same_building = refl;
     given_is = refl;
     reached = reaches laws w reached (a.events ++ events_to_gate (c ∷ cs) scan.0 (length state.batch)) there possible refl;
-    keeps = kept_with_batch there plan register left b refl
-        (ap (λ (xs : List Entry). register_after (xs ++ batch_of w4)) safe_is ∙ ap (λ (xs : List Entry). register_after (w.accepted ++ xs)) batch_is ∙ q) reads;
+    keeps = subst (λ (xs : List Entry). IsKept there xs left) kept_is (kept_with_batch there plan register left b refl (ap register_after kept_is ∙ q) reads);
   }
 
 module _ (laws : Laws) (w : World) (reached : IsReached w) (rest : IsAtRest w) (plan : Plan) (old : RegisterState) (left : Image) (building : w.building ≡ plan)
     (safe : register_after (safe_list w) ≡ old) where
   by_batch : (cs : List Command) (rs : List Reply) (state : State) → Asked w cs → Run w.building any_eligible (state_of w) cs rs state → (batch : List Entry) → state.batch ≡ batch
-      → state.register ≡ register_of old state.batch → IsImageOf plan state.register left → IsKept w left ⊎ IsKeptAtGate w cs (length state.batch) left
-  by_batch cs rs state a r [] e q reads =
-      inl (kept_safe w plan state.register left building
-      (sym (with_nothing laws.registers (safe_list w)) ∙ ap (λ (x : RegisterState). register_of x []) safe ∙ ap (register_of old) (sym e) ∙ sym q) reads)
-  by_batch [] [] state a r (x ∷ xs) e q reads =
+      → (register : RegisterState) → register ≡ register_of old state.batch → IsImageOf plan register left
+      → IsKept w (safe_list w ++ state.batch) left ⊎ IsKeptAtGate w cs (length state.batch) (safe_list w ++ state.batch) left
+  by_batch cs rs state a r [] e register q reads =
+      inl (kept_without laws.registers w plan old state.batch left building safe e (subst (λ (x : RegisterState). IsImageOf plan x left) q reads))
+  by_batch [] [] state a r (x ∷ xs) e register q reads =
       let none : state.batch ≡ [] = ap (λ (s : State). s.batch) r ∙ ap (λ (n : ℕ). drop n w.accepted) rest.all_sealed ∙ drop-length w.accepted in
       let wrong : x ∷ xs ≡ [] = sym e ∙ none in
       cc
-  by_batch [] (reply ∷ rs) state a r (x ∷ xs) e q reads = absurd r
-  by_batch (c ∷ cs) [] state a r (x ∷ xs) e q reads = absurd r
-  by_batch (c ∷ cs) (reply ∷ rs) state a r (x ∷ xs) e q reads =
+  by_batch [] (reply ∷ rs) state a r (x ∷ xs) e register q reads = absurd r
+  by_batch (c ∷ cs) [] state a r (x ∷ xs) e register q reads = absurd r
+  by_batch (c ∷ cs) (reply ∷ rs) state a r (x ∷ xs) e register q reads =
       let l : length state.batch ≡ suc (length xs) = ap length e in
-      inr (at_gate laws w reached rest c cs reply rs state a r (omega arith) plan state.register left building
-      (ap (λ (ys : List Entry). register_after (ys ++ state.batch)) (sym (safe_all w rest)) ∙ register_with laws.registers w state.batch old safe ∙ sym q) reads)
+      let all : w.accepted ≡ safe_list w = sym (safe_all w rest) in
+      inr (subst (λ (ys : List Entry). IsKeptAtGate w (c ∷ cs) (length state.batch) (ys ++ state.batch) left) all
+      (at_gate laws w reached rest c cs reply rs state a r (omega arith) plan register left building
+      (ap (λ (ys : List Entry). register_after (ys ++ state.batch)) all ∙ register_with laws.registers w state.batch old safe ∙ sym q) reads))
 
   within : (cs : List Command) (rs : List Reply) (state : State) → Asked w cs → Run w.building any_eligible (state_of w) cs rs state
-      → state.register ≡ register_of old state.batch → IsEither plan old state.register left → IsKept w left ⊎ IsKeptAtGate w cs (length state.batch) left
-  within cs rs state a r q (inl reads) = inl (kept_safe w plan old left building safe reads)
-  within cs rs state a r q (inr reads) = by_batch cs rs state a r state.batch refl q reads
+      → (register : RegisterState) → register ≡ register_of old state.batch → (either : IsEither plan old register left)
+      → IsKept w (kept_of (safe_list w) state.batch either) left ⊎ IsKeptAtGate w cs (length state.batch) (kept_of (safe_list w) state.batch either) left
+  within cs rs state a r register q (inl reads) = inl (kept_safe w plan old left building safe reads)
+  within cs rs state a r register q (inr reads) = by_batch cs rs state a r state.batch refl register q reads
 
 pub crashes_within_turns : {D P : Type 0} → Laws → (choice : Choice) → RunsAreAny choice → CrashesWithinTurns D P choice
 crashes_within_turns laws choice any w before after counts left t m agree either =
@@ -204,8 +222,8 @@ crashes_within_turns laws choice any w before after counts left t m agree either
     let a : Asked w cs = ask laws w m.reached (splits laws w before after m) (rests w wh.at_rest) cs agree (all_apart 0 t.turn.visits) in
     let run : Run w.building any_eligible (state_of w) cs t.turn.replies state =
     run_in choice any w before.keeper.writer.plan before.keeper.state cs t.turn.replies state m.building wh.state t.turn.run in
-    within laws w m.reached wh.at_rest before.keeper.writer.plan before.keeper.writer.register left m.building wh.safe cs t.turn.replies state a run t.turn.safe
-    (subst (λ (s : State). IsEither before.keeper.writer.plan before.keeper.writer.register s.register left) t.turn.after either)
+    within laws w m.reached wh.at_rest before.keeper.writer.plan before.keeper.writer.register left m.building wh.safe cs t.turn.replies state a run
+    after.keeper.state.register (ap (λ (s : State). s.register) t.turn.after ∙ t.turn.safe) either
 
 pub crashes_within_failures : {D P : Type 0} → Laws → (choice : Choice) → RunsAreAny choice → CrashesWithinFailures D P choice
 crashes_within_failures laws choice any w before after left t m agree either =
@@ -216,19 +234,20 @@ crashes_within_failures laws choice any w before after left t m agree either =
     let a : Asked w cs = ask laws w m.reached (splits laws w before after m) (rests w wh.at_rest) cs agree (all_apart 0 t.turn.visits) in
     let run : Run w.building any_eligible (state_of w) cs rs state =
     run_in choice any w before.keeper.writer.plan before.keeper.state cs rs state m.building wh.state t.turn.run.0.1 in
-    within laws w m.reached wh.at_rest before.keeper.writer.plan before.keeper.writer.register left m.building wh.safe cs rs state a run t.turn.register either
+    within laws w m.reached wh.at_rest before.keeper.writer.plan before.keeper.writer.register left m.building wh.safe cs rs state a run after.keeper.state.register t.turn.register either
 
 -- each letter
 pub cuts_show_letters : Laws → CutsShowLetters
-cuts_show_letters laws w left sound reached k = record {
-  entries = outcome w k.kept;
+cuts_show_letters laws w entries left sound reached k = record {
   reads = k.reads;
-  holds = subst (λ (v : World). RecoversAcknowledged v) reached.1 (laws.acknowledged w.building reached.0 sound) k.kept k.may_be_kept;
-  letters = subst (λ (v : World). RecoversLetters v) reached.1 (laws.letters w.building reached.0 sound) k.kept k.may_be_kept;
+  holds = subst (λ (xs : List Entry). All (Contains xs) (acknowledged w)) k.outcome_is
+      (subst (λ (v : World). RecoversAcknowledged v) reached.1 (laws.acknowledged w.building reached.0 sound) k.kept k.may_be_kept);
+  letters = subst (λ (xs : List Entry). All (StillNames xs) (acknowledged w)) k.outcome_is
+      (subst (λ (v : World). RecoversLetters v) reached.1 (laws.letters w.building reached.0 sound) k.kept k.may_be_kept);
 }
 
 pub begins_after_crash : {D P : Type 0} → Laws → BeginsAfterCrash D P
-begins_after_crash laws w clerk image reached building begins k only =
-    let reads : IsImageOf clerk.keeper.writer.plan (register_after (outcome w k.kept)) image = subst (λ (p : Plan). IsImageOf p (register_after (outcome w k.kept)) image) building k.reads in
-    let b = begins_after_cut laws w clerk k.kept reached building k.may_be_kept begins (sym (only (register_after (outcome w k.kept)) reads)) in
-    (k.kept, b.0, b.1, b.2, b.3)
+begins_after_crash laws w clerk entries image reached building begins k only =
+    let reads : IsImageOf clerk.keeper.writer.plan (register_after entries) image = subst (λ (p : Plan). IsImageOf p (register_after entries) image) building k.reads in
+    let b = begins_after_cut laws w clerk k.kept reached building k.may_be_kept begins (sym (only (register_after entries) reads) ∙ ap register_after (sym k.outcome_is)) in
+    (k.kept, b.0, b.1, b.2, b.3, b.4 ∙ k.outcome_is, b.5)

@@ -182,7 +182,7 @@ failures_are_failures laws choice any w before after t m agree =
           let k = e.1 folds in
           let ends : Ends w cs t.turn.replies k.0 = subst (λ (xs : List Reply). Ends w cs xs k.0) (sym t.turn.run.1) k.1.ends in
           follows laws w before after m t.turn.visits t.turn.replies t.turn.serves agree t.same_plan (failed_events cs e.0 folds GateWritten (length state.batch)) k.0
-          (record { first = k.1.first; theirs = k.1.theirs; possible = k.1.possible; ends = ends })
+          (record { first = k.1.first; theirs = k.1.theirs; possible = k.1.possible; ends = ends }) (safe_list w) k.2.safe_is
           (λ whole. not_both after.keeper.writer.is_broken whole t.breaks)
           (λ broken. record {
             at_rest = k.2.rest;
@@ -201,7 +201,7 @@ broken_turns_are_broken laws w before after t was_broken m agree =
     let ends : Ends w cs t.replies k.1 = subst (λ (xs : List Reply). Ends w cs xs k.1) (sym t.run.0) k.2.ends in (
       k.0,
       follows laws w before after m t.visits t.replies t.serves agree (ap (λ (x : KeeperView _). x.writer.plan) t.rests) (events_while_broken cs k.0) k.1
-          (record { first = k.2.first; theirs = k.2.theirs; possible = k.2.possible; ends = ends })
+          (record { first = k.2.first; theirs = k.2.theirs; possible = k.2.possible; ends = ends }) (safe_list w) k.3.safe_is
           (λ whole. not_both before.keeper.writer.is_broken (ap (λ (x : KeeperView _). x.writer.is_broken) (sym t.rests) ∙ whole) was_broken)
           (λ broken. subst (λ (x : KeeperView _). ShowsBroken k.1 x) (sym t.rests) (record {
             at_rest = k.3.rest;

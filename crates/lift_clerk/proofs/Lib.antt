@@ -14,3 +14,4 @@ pub mod Crashes
 pub mod Terminals
 pub mod Moved
 pub mod Told
+pub mod Histories

@@ -1,6 +1,7 @@
 -- Each call moves the machine.
 use Rattle.std.proofs.Common.{◌≡◌, ◌⊎◌, inl, inr, Bool, true, false, List, [], ◌∷◌, ◌++◌, refl, sym, ap, ◌∙◌}
 use Rattle.std.specs.Prelude.{Result, Ok, Err, IfOk, IfErr, OnOk, OnErr}
+use Rattle.lift_base.specs.declared.history.Entry.{Entry}
 use Rattle.lift_journal.specs.declared.fault.JournalFault.TheVariants.{Disk, Broken}
 use Rattle.lift_keeper.specs.declared.fault.KeeperFault.{KeeperFault}
 use Rattle.lift_keeper.specs.declared.fault.KeeperFault.TheVariants.{Journal}
@@ -16,39 +17,39 @@ use Rattle.lift_clerk.specs.Visits.{commands_of}
 use Rattle.lift_clerk.specs.Machine.{LooksAgree, WaitsNowhere, Follows, Turns, TurnsAreTurns, Fails, FailuresAreFailures, BrokenTurnsAreBroken, Reopens, ReopeningsAreReopenings, Stays, NothingIsNoEvent, FailedReopeningsAreFaults, Reaches, Moves}
 
 -- where no ask waits every look agrees
-all_agree : (w : World) → WaitsNowhere w → (cs : List Command) → LooksAgree w cs
+pub all_agree : (w : World) → WaitsNowhere w → (cs : List Command) → LooksAgree w cs
 all_agree w none [] = tt
 all_agree w none (c ∷ cs) = (inl (none c.terminal), all_agree w none cs)
 
 module _ {D P : Type 0} (w : World) (after : ClerkState D P) (none : WaitsNowhere w) where
-  reaches : (own : List Event) (given : List Taken) → Follows w own given after → Reaches w after
-  reaches own given k = record { events = k.before ++ own; end = k.end; possible = k.possible; waits = k.waits none; shows = k.shows }
+  reaches : (own : List Event) (given : List Taken) (safe : List Entry) → Follows w own given safe after → Reaches w after
+  reaches own given safe k = record { events = k.before ++ own; end = k.end; possible = k.possible; waits = k.waits none; shows = k.shows }
 
 module _ {D P : Type 0} (before after : ClerkState D P) where
   pub moves_well : (choice : Choice) (counts : Counts) → TurnsAreTurns D P choice → Turns choice before after counts → Moves before after
   moves_well choice counts law t w m none =
       let k = law w before after counts t m (all_agree w none (commands_of 0 t.turn.visits)) in
-      reaches w after none _ _ (k.1 0)
+      reaches w after none _ _ _ (k.1 0)
 
   pub moves_failing : (choice : Choice) → FailuresAreFailures D P choice → Fails choice before after → Moves before after
   moves_failing choice law t w m none =
       let k = law w before after t m (all_agree w none (commands_of 0 t.turn.visits)) in
-      reaches w after none _ _ (k.1 0)
+      reaches w after none _ _ _ (k.1 0)
 
   pub moves_broken : BrokenTurnsAreBroken D P → IsBrokenTurn before after → before.keeper.writer.is_broken ≡ true → Moves before after
   moves_broken law t broken w m none =
       let k = law w before after t broken m (all_agree w none (commands_of 0 t.visits)) in
-      reaches w after none _ _ k.1
+      reaches w after none _ _ _ k.1
 
   pub moves_reopening : ReopeningsAreReopenings D P → Reopens before after → Moves before after
-  moves_reopening law r w m none = let k = law w before after r m in reaches w after none _ _ k.3
+  moves_reopening law r w m none = let k = law w before after r m in reaches w after none _ _ _ k.3
 
   pub moves_nothing : NothingIsNoEvent D P → Stays before after → after.keeper.writer.is_broken ≡ before.keeper.writer.is_broken → Moves before after
   moves_nothing law s same w m none = record { events = []; end = w; possible = refl; waits = none; shows = law w before after s same m }
 
   by_state : (b : Bool) → before.keeper.writer.is_broken ≡ b → NothingIsNoEvent D P → FailedReopeningsAreFaults D P → Stays before after → after.keeper.writer.is_broken ≡ true → Moves before after
   by_state true e nothing faults s is = moves_nothing nothing s (is ∙ sym e)
-  by_state false e nothing faults s is = λ w m none. reaches w after none _ _ (faults w before after s e is m)
+  by_state false e nothing faults s is = λ w m none. reaches w after none _ _ _ (faults w before after s e is m)
 
   pub moves_refused : NothingIsNoEvent D P → FailedReopeningsAreFaults D P → Stays before after
       → (after.keeper.writer.is_broken ≡ true) ⊎ (after.keeper.writer.is_broken ≡ before.keeper.writer.is_broken) → Moves before after

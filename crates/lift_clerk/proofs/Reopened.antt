@@ -23,7 +23,7 @@ use Rattle.lift_world.specs.World.{World, Batch, start, unplaced, safe_list, bat
 use Rattle.lift_world.specs.Next.{next, goes, reopened, cutting}
 use Rattle.lift_world.specs.Turns.{IsAtRest, IsBrokenAtRest}
 use Rattle.lift_clerk.specs.Clerk.{ClerkState}
-use Rattle.lift_clerk.specs.Machine.{IsMachineOf, ShowsWords, ShowsWhole, ShowsBroken, Follows, Reopens, ReopeningsAreReopenings, NothingIsNoEvent, FailedReopeningsAreFaults, BeginsAtStart, BeginsAfterCut, answer_words}
+use Rattle.lift_clerk.specs.Machine.{IsMachineOf, ShowsWords, ShowsWhole, ShowsBroken, Follows, Reopens, ReopeningsAreReopenings, NothingIsNoEvent, FailedReopeningsAreFaults, BeginsAtStart, BeginsAfterCut, answer_words, kept_of}
 use Rattle.lift_clerk.specs.Laws.{Laws}
 use Rattle.lift_clerk.proofs.Asked.{reaches, not_both}
 use Rattle.lift_clerk.proofs.Turned.{register_with, safe_all, state_is}
@@ -45,6 +45,11 @@ seated_words w end t old new e a b k = subst (λ (s : List ClerkPlace). ShowsWor
 pub goes_once : (w end : World) (event : Event) → next w event ≡ Some end → goes (event ∷ []) w ≡ Some end
 goes_once w end event e = ap (option_and_then (goes [])) e
 
+-- of no batch nothing is kept
+pub nothing_kept : {A B : Type 0} (safe batch : List Entry) (o : A ⊎ B) → batch ≡ [] → kept_of safe batch o ≡ safe
+nothing_kept safe batch (inl without) e = refl
+nothing_kept safe batch (inr whole) e = ap (λ (xs : List Entry). safe ++ xs) e ∙ append-nil safe
+
 module _ (registers : RegistersJoin) where
   -- nothing in doubt
   pub with_nothing : (xs : List Entry) → register_of (register_after xs) [] ≡ register_after xs
@@ -61,17 +66,24 @@ opened end clerk k p r s d = record {
 }
 
 module _ {D P : Type 0} (laws : Laws) (w : World) (before after : ClerkState D P) (r : Reopens before after) (m : IsMachineOf w before) where
-  abbrev Keeps : Type 0
-  Keeps = (kept : Kept) × IsTrue (may_keep w kept) × (after.keeper.writer.register ≡ register_after (outcome w kept)) × Follows w (Reopen kept ∷ []) [] after
+  abbrev OneOf : Type 0
+  OneOf = (after.keeper.writer.register ≡ before.keeper.writer.register) ⊎ (after.keeper.writer.register ≡ register_of before.keeper.writer.register before.keeper.writer.doubt)
 
-  leads_to : (kept : Kept) (end : World) → next w (Reopen kept) ≡ Some end → IsAtRest end → end.building ≡ w.building → end.asked ≡ w.asked → end.answered ≡ w.answered → end.given ≡ w.given
-      → end.positions ≡ unplaced → register_after end.accepted ≡ after.keeper.writer.register → Follows w (Reopen kept ∷ []) [] after
-  leads_to kept end e k b a s g p reg = record {
+  abbrev safe : OneOf → List Entry
+  safe o = kept_of (safe_list w) before.keeper.writer.doubt o
+
+  abbrev Keeps : OneOf → Type 0
+  Keeps o = (kept : Kept) × IsTrue (may_keep w kept) × (after.keeper.writer.register ≡ register_after (outcome w kept)) × Follows w (Reopen kept ∷ []) [] (safe o) after
+
+  leads_to : (o : OneOf) (kept : Kept) (end : World) → next w (Reopen kept) ≡ Some end → IsAtRest end → end.building ≡ w.building → end.asked ≡ w.asked → end.answered ≡ w.answered → end.given ≡ w.given
+      → end.positions ≡ unplaced → register_after end.accepted ≡ after.keeper.writer.register → end.accepted ≡ safe o → Follows w (Reopen kept ∷ []) [] (safe o) after
+  leads_to o kept end e k b a s g p reg same_safe = record {
     before = [];
     of_terminals = tt;
     end = end;
     possible = goes_once w end (Reopen kept) e;
     given_is = g ∙ sym (append-nil w.given);
+    safe_is = safe_all end k ∙ same_safe;
     waits = λ none t. ap (λ (xs : List Answer). drop (count_by (is_answer_to t) xs) (filter (asks t) end.asked)) s
         ∙ ap (λ (xs : List Command). drop (count_by (is_answer_to t) w.answered) (filter (asks t) xs)) a ∙ none t;
     shows = record {
@@ -83,14 +95,12 @@ module _ {D P : Type 0} (laws : Laws) (w : World) (before after : ClerkState D P
     };
   }
 
-  safe_again : before.keeper.writer.register ≡ register_after (safe_list w) → before.keeper.writer.doubt ≡ []
-      → (after.keeper.writer.register ≡ before.keeper.writer.register) ⊎ (after.keeper.writer.register ≡ register_of before.keeper.writer.register before.keeper.writer.doubt)
-      → after.keeper.writer.register ≡ register_after (safe_list w)
+  safe_again : before.keeper.writer.register ≡ register_after (safe_list w) → before.keeper.writer.doubt ≡ [] → OneOf → after.keeper.writer.register ≡ register_after (safe_list w)
   safe_again s d (inl e) = e ∙ s
   safe_again s d (inr e) =
       e ∙ ap (register_of before.keeper.writer.register) d ∙ ap (λ (x : RegisterState). register_of x []) s ∙ with_nothing laws.registers (safe_list w)
 
-  while_whole : before.keeper.writer.is_broken ≡ false → Keeps
+  while_whole : before.keeper.writer.is_broken ≡ false → Keeps r.one_of
   while_whole e =
       let wh : ShowsWhole w before.keeper = m.whole e in
       let reg : after.keeper.writer.register ≡ register_after (safe_list w) = safe_again (sym wh.safe) wh.no_doubt r.one_of in
@@ -98,28 +108,29 @@ module _ {D P : Type 0} (laws : Laws) (w : World) (before after : ClerkState D P
         Safe,
         refl,
         reg,
-        leads_to Safe end ((laws.running_reopenings w).opens wh.at_rest) ((laws.running_reopenings w).rests wh.at_rest) refl refl refl refl refl
-            (ap register_after (sym (safe_all w wh.at_rest)) ∙ sym reg),
+        leads_to r.one_of Safe end ((laws.running_reopenings w).opens wh.at_rest) ((laws.running_reopenings w).rests wh.at_rest) refl refl refl refl refl
+            (ap register_after (sym (safe_all w wh.at_rest)) ∙ sym reg) (sym (safe_all w wh.at_rest) ∙ sym (nothing_kept (safe_list w) before.keeper.writer.doubt r.one_of wh.no_doubt)),
       )
 
-  keeping : (kept : Kept) → IsBrokenAtRest w → IsTrue (may_keep w kept) → after.keeper.writer.register ≡ register_after (outcome w kept) → Keeps
-  keeping kept rest may reg =
-      let t = laws.reopenings w kept rest may in (kept, may, reg, leads_to kept (reopened w kept) t.0 t.1 refl refl refl refl refl (sym reg))
+  keeping : (o : OneOf) (kept : Kept) → IsBrokenAtRest w → IsTrue (may_keep w kept) → after.keeper.writer.register ≡ register_after (outcome w kept) → outcome w kept ≡ safe o → Keeps o
+  keeping o kept rest may reg same_safe =
+      let t = laws.reopenings w kept rest may in (kept, may, reg, leads_to o kept (reopened w kept) t.0 t.1 refl refl refl refl refl (sym reg) same_safe)
 
   by_doubt : (doubt : List Entry) → before.keeper.writer.doubt ≡ doubt → (br : ShowsBroken w before.keeper)
-      → after.keeper.writer.register ≡ register_of before.keeper.writer.register before.keeper.writer.doubt → Keeps
-  by_doubt [] d br e = keeping Safe br.at_rest refl (safe_again (sym br.safe) d (inr e))
+      → (e : after.keeper.writer.register ≡ register_of before.keeper.writer.register before.keeper.writer.doubt) → Keeps (inr e)
+  by_doubt [] d br e =
+      let o : OneOf = inr e in
+      keeping o Safe br.at_rest refl (safe_again (sym br.safe) d o) (sym (nothing_kept (safe_list w) before.keeper.writer.doubt o d))
   by_doubt (x ∷ xs) d br e =
-      keeping WithBatch br.at_rest (br.may_be_kept (λ none. let wrong : x ∷ xs ≡ [] = sym d ∙ none in cc))
+      keeping (inr e) WithBatch br.at_rest (br.may_be_kept (λ none. let wrong : x ∷ xs ≡ [] = sym d ∙ none in cc))
       (e ∙ sym (register_with laws.registers w before.keeper.writer.doubt before.keeper.writer.register br.safe)
-      ∙ ap (λ (ys : List Entry). register_after (safe_list w ++ ys)) (sym br.doubt))
+      ∙ ap (λ (ys : List Entry). register_after (safe_list w ++ ys)) (sym br.doubt)) (ap (λ (ys : List Entry). safe_list w ++ ys) br.doubt)
 
-  by_register : ShowsBroken w before.keeper
-      → (after.keeper.writer.register ≡ before.keeper.writer.register) ⊎ (after.keeper.writer.register ≡ register_of before.keeper.writer.register before.keeper.writer.doubt) → Keeps
-  by_register br (inl e) = keeping Safe br.at_rest refl (e ∙ sym br.safe)
+  by_register : ShowsBroken w before.keeper → (o : OneOf) → Keeps o
+  by_register br (inl e) = keeping (inl e) Safe br.at_rest refl (e ∙ sym br.safe) refl
   by_register br (inr e) = by_doubt before.keeper.writer.doubt refl br e
 
-  by_state : (b : Bool) → before.keeper.writer.is_broken ≡ b → Keeps
+  by_state : (b : Bool) → before.keeper.writer.is_broken ≡ b → Keeps r.one_of
   by_state false e = while_whole e
   by_state true e = by_register (m.broken e) r.one_of
 
@@ -151,6 +162,7 @@ failed_reopenings_are_faults laws w before after s was is m =
       end = end;
       possible = goes_once w end Fault fault;
       given_is = sym (append-nil w.given);
+      safe_is = refl;
       waits = λ none. none;
       shows = record {
         building = m.building ∙ sym s.same_plan;
@@ -188,13 +200,16 @@ unfolding Registers.cars Registers.terminals
 nothing_yet = refl
 
 pub begins_at_start : {D P : Type 0} → Laws → BeginsAtStart D P
-begins_at_start laws clerk k none = record {
-  building = refl;
-  reached = ([], refl);
-  words = λ t. new_words (start clerk.keeper.writer.plan) clerk t k.seat refl refl;
-  whole = λ whole. opened (start clerk.keeper.writer.plan) clerk (laws.starts clerk.keeper.writer.plan) refl (nothing_yet ∙ sym none) k.state k.no_doubt;
-  broken = λ broken. not_both clerk.keeper.writer.is_broken k.is_whole broken;
-}
+begins_at_start laws clerk k none = (
+  record {
+    building = refl;
+    reached = ([], refl);
+    words = λ t. new_words (start clerk.keeper.writer.plan) clerk t k.seat refl refl;
+    whole = λ whole. opened (start clerk.keeper.writer.plan) clerk (laws.starts clerk.keeper.writer.plan) refl (nothing_yet ∙ sym none) k.state k.no_doubt;
+    broken = λ broken. not_both clerk.keeper.writer.is_broken k.is_whole broken;
+  },
+  λ t. refl,
+)
 
 same_outcome : (w : World) (kept : Kept) → outcome (cutting w kept) kept ≡ outcome w kept
 same_outcome w Safe = refl
@@ -217,4 +232,6 @@ begins_after_cut laws w clerk kept reached building may k register =
         whole = λ whole. opened after clerk (laws.cuts w kept off cut) refl (ap register_after (same_outcome w kept) ∙ sym register) k.state k.no_doubt;
         broken = λ broken. not_both clerk.keeper.writer.is_broken k.is_whole broken;
       },
+      safe_all after (laws.cuts w kept off cut) ∙ same_outcome w kept,
+      λ t. refl,
     )

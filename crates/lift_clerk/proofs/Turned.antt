@@ -46,7 +46,7 @@ module _ {D P : Type 0} (laws : Laws) (w : World) (before after : ClerkState D P
     abbrev found : List Command
     found = commands_of 0 visits
 
-    module _ (own : List Event) (end : World) (k : Leads own found rs end) where
+    module _ (own : List Event) (end : World) (k : Leads own found rs end) (safe : List Entry) (same_safe : safe_list end ≡ safe) where
       abbrev more : (t : ℕ) → Asks w splits t found
       more t = asks_after w splits t found agree (all_apart 0 visits)
 
@@ -64,13 +64,14 @@ module _ {D P : Type 0} (laws : Laws) (w : World) (before after : ClerkState D P
           ∙ (more t).none (sym (waiting_is w t (splits t)) ∙ none t)
 
       pub follows : (after.keeper.writer.is_broken ≡ false → ShowsWhole end after.keeper) → (after.keeper.writer.is_broken ≡ true → ShowsBroken end after.keeper)
-          → Follows w own (with_replies found rs) after
+          → Follows w own (with_replies found rs) safe after
       follows whole broken = record {
         before = k.first;
         of_terminals = k.theirs;
         end = end;
         possible = k.possible;
         given_is = k.ends.given;
+        safe_is = same_safe;
         waits = waits;
         shows = record {
           building = k.ends.building ∙ m.building ∙ sym same_plan;
@@ -174,6 +175,7 @@ turns_are_turns laws choice any w before after counts t m agree =
           ap register_after (k.accepted ∙ ap (λ (xs : List Entry). xs ++ state.batch) (sym safe)) ∙ register_with laws.registers w state.batch before.keeper.writer.register wh.safe ∙ sym t.turn.safe in
           follows laws w before after m t.turn.visits t.turn.replies t.turn.serves agree t.same_plan (events_of_turn cs e.0 folds (length state.batch)) k.end
           (record { first = k.before; theirs = k.theirs; possible = k.possible; ends = k.ends })
+          (safe_list w ++ state.batch) (safe_all k.end k.rest ∙ k.accepted ∙ ap (λ (xs : List Entry). xs ++ state.batch) (sym safe))
           (λ whole. record {
             at_rest = k.rest;
             state = state_is k.end k.rest (record state { batch = [] }) register k.positions refl ∙ sym t.turn.after;

@@ -2,6 +2,7 @@
 use Rattle.std.specs.Prelude.{ℕ, List}
 use Rattle.lift_building.specs.Plan.{Plan, IsBuilding}
 use Rattle.lift_register.specs.Joins.{RegistersJoin}
+use Rattle.lift_policy.specs.Eligible.{Choice}
 use Rattle.lift_policy.specs.Step.{State}
 use Rattle.lift_policy.specs.declared.command.Command.{Command}
 use Rattle.lift_world.specs.declared.event.Event.{Event}
@@ -13,6 +14,8 @@ use Rattle.lift_world.specs.Beside.{GoesAreRuns, RunsJoin}
 use Rattle.lift_world.specs.Headline.{HearsInOrder, RecoversAcknowledged, RecoversLetters}
 use Rattle.lift_world.specs.Possible.{ReopensAfterCut, Seals, PullsInTurn, CallsInOrder}
 use Rattle.lift_world.specs.Turns.{IsAtRest, HasRun, RunsAreTakes, TurnsAreRuns, FailuresAreRuns, BrokenTurnsAreRuns, TurnsEndAtRest, FailuresEndAtRest, BrokenTurnsEndAtRest, ReopeningsEndAtRest, RunningReopeningsEndAtRest, FailedReopeningsEndAtRest, CutsEndAtRest}
+use Rattle.lift_clerk.specs.Machine.{TurnsAreTurns, FailuresAreFailures, BrokenTurnsAreBroken, ReopeningsAreReopenings, FailedReopeningsAreFaults, NothingIsNoEvent}
+use Rattle.lift_clerk.specs.Machine.{BeginsAtStart, BeginsAfterCrash, CrashesAreCuts, CrashesWithinTurns, CrashesWithinFailures, CutsShowLetters}
 
 pub record Laws : Type 0 where
   pub asks : (w : World) → AsksStand w
@@ -40,3 +43,18 @@ pub record Laws : Type 0 where
   pub possible : (w : World) → GoesAreRuns w
   pub joined : (w : World) → RunsJoin w
   pub registers : RegistersJoin
+
+-- what is known of each call of a clerk
+pub record CallLaws (D P : Type 0) (chooses : P → Choice) : Type 0 where
+  pub turn : (policy : P) → TurnsAreTurns D P (chooses policy)
+  pub failure : (policy : P) → FailuresAreFailures D P (chooses policy)
+  pub broken : BrokenTurnsAreBroken D P
+  pub reopening : ReopeningsAreReopenings D P
+  pub fault : FailedReopeningsAreFaults D P
+  pub nothing : NothingIsNoEvent D P
+  pub first : BeginsAtStart D P
+  pub recovery : BeginsAfterCrash D P
+  pub cut : CrashesAreCuts D P
+  pub within : (policy : P) → CrashesWithinTurns D P (chooses policy)
+  pub within_failed : (policy : P) → CrashesWithinFailures D P (chooses policy)
+  pub letters : CutsShowLetters

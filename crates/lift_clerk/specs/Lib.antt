@@ -4,3 +4,4 @@ pub mod Turn
 pub mod Scanning
 pub mod Machine
 pub mod Laws
+pub mod History

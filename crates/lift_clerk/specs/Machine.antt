@@ -1,6 +1,7 @@
 -- What the machine of events is while a clerk runs, and which of its events the clerk's calls are.
 use Rattle.std.specs.Prelude.{ℕ, suc, ◌+◌, ◌<◌, ◌≡◌, ◌≢◌, ◌⊎◌, true, false, List, [], ◌∷◌, ◌++◌, length, map, filter, drop, count_by, All, Contains, Option, Some, IsTrue}
 use Rattle.std.specs.List.{AllByRecursion}
+use mathlib.Core.Logic.{inl, inr}
 use Rattle.lift_base.specs.declared.history.Entry.{Entry}
 use Rattle.lift_building.specs.Plan.{IsBuilding}
 use Rattle.lift_disk.specs.Disk.{Image}
@@ -118,13 +119,14 @@ abbrev pub WaitsNowhere : World → Type 0
 WaitsNowhere w = (terminal : ℕ) → waiting_in w terminal ≡ []
 
 -- Terminals hear and ask, and then these events, each possible in its place, lead to a world that is this clerk's. These
--- commands were given their answers meanwhile. Where no ask waited none waits then.
-pub record Follows {D P : Type 0} (w : World) (events : List Event) (given : List Taken) (after : ClerkState D P) : Type 0 where
+-- commands were given their answers meanwhile, and these entries are safe then. Where no ask waited none waits then.
+pub record Follows {D P : Type 0} (w : World) (events : List Event) (given : List Taken) (safe : List Entry) (after : ClerkState D P) : Type 0 where
   pub before : List Event
   pub of_terminals : AllByRecursion (λ (e : Event). IsTrue (is_of_terminals e)) before
   pub end : World
   pub possible : goes (before ++ events) w ≡ Some end
   pub given_is : end.given ≡ w.given ++ given
+  pub safe_is : safe_list end ≡ safe
   pub waits : WaitsNowhere w → WaitsNowhere end
   pub shows : IsMachineOf end after
 
@@ -151,7 +153,7 @@ abbrev pub TurnsAreTurns : (D P : Type 0) → Choice → Type 0
 TurnsAreTurns D P choice = (w : World) (before after : ClerkState D P) (counts : Counts) (t : Turns choice before after counts)
     → IsMachineOf w before → LooksAgree w (commands_of 0 t.turn.visits)
     → (letters : List (Option ℕ)) × ((folds : ℕ) → Follows w (events_of_turn (commands_of 0 t.turn.visits) letters folds (length t.turn.decided.batch))
-    (with_replies (commands_of 0 t.turn.visits) t.turn.replies) after)
+    (with_replies (commands_of 0 t.turn.visits) t.turn.replies) (safe_list w ++ t.turn.decided.batch) after)
 
 -- what `turn` gives where the device failed it
 pub record Fails {D P : Type 0} (choice : Choice) (before after : ClerkState D P) : Type 0 where
@@ -167,13 +169,13 @@ abbrev pub FailuresAreFailures : (D P : Type 0) → Choice → Type 0
 FailuresAreFailures D P choice = (w : World) (before after : ClerkState D P) (t : Fails choice before after)
     → IsMachineOf w before → LooksAgree w (commands_of 0 t.turn.visits)
     → (letters : List (Option ℕ)) × ((folds : ℕ) → Follows w (failed_events (commands_of 0 t.turn.visits) letters folds GateWritten (length after.keeper.state.batch))
-    (with_replies (commands_of 0 t.turn.visits) t.turn.replies) after)
+    (with_replies (commands_of 0 t.turn.visits) t.turn.replies) (safe_list w) after)
 
 -- A turn of a broken clerk is one of the broken machine.
 abbrev pub BrokenTurnsAreBroken : (D P : Type 0) → Type 0
 BrokenTurnsAreBroken D P = (w : World) (before after : ClerkState D P) (t : IsBrokenTurn before after) → before.keeper.writer.is_broken ≡ true
     → IsMachineOf w before → LooksAgree w (commands_of 0 t.visits)
-    → (letters : List (Option ℕ)) × Follows w (events_while_broken (commands_of 0 t.visits) letters) (with_replies (commands_of 0 t.visits) t.replies) after
+    → (letters : List (Option ℕ)) × Follows w (events_while_broken (commands_of 0 t.visits) letters) (with_replies (commands_of 0 t.visits) t.replies) (safe_list w) after
 
 -- what `reopen` gives where it answers Ok, on an honest device
 pub record Reopens {D P : Type 0} (before after : ClerkState D P) : Type 0 where
@@ -185,10 +187,16 @@ pub record Reopens {D P : Type 0} (before after : ClerkState D P) : Type 0 where
   pub no_doubt : after.keeper.writer.doubt ≡ []
   pub same_plan : after.keeper.writer.plan ≡ before.keeper.writer.plan
 
+-- what is kept of a batch behind what is safe: nothing of it, or all
+abbrev pub kept_of : {A B : Type 0} → List Entry → List Entry → A ⊎ B → List Entry
+kept_of safe batch (inl without) = safe
+kept_of safe batch (inr whole) = safe ++ batch
+
 -- A reopening is one of the machine, which keeps what the register tells that it kept.
 abbrev pub ReopeningsAreReopenings : (D P : Type 0) → Type 0
-ReopeningsAreReopenings D P = (w : World) (before after : ClerkState D P) → Reopens before after → IsMachineOf w before
-    → (kept : Kept) × IsTrue (may_keep w kept) × (after.keeper.writer.register ≡ register_after (outcome w kept)) × Follows w (Reopen kept ∷ []) [] after
+ReopeningsAreReopenings D P = (w : World) (before after : ClerkState D P) (r : Reopens before after) → IsMachineOf w before
+    → (kept : Kept) × IsTrue (may_keep w kept) × (after.keeper.writer.register ≡ register_after (outcome w kept))
+    × Follows w (Reopen kept ∷ []) [] (kept_of (safe_list w) before.keeper.writer.doubt r.one_of) after
 
 -- The seats, what the keeper shows, what is safe of it and what is in doubt are as before, whatever the device is.
 pub record Stays {D P : Type 0} (before after : ClerkState D P) : Type 0 where
@@ -207,7 +215,7 @@ NothingIsNoEvent D P = (w : World) (before after : ClerkState D P) → Stays bef
 -- A reopening that the device failed while nothing had failed is a fault.
 abbrev pub FailedReopeningsAreFaults : (D P : Type 0) → Type 0
 FailedReopeningsAreFaults D P = (w : World) (before after : ClerkState D P) → Stays before after
-    → before.keeper.writer.is_broken ≡ false → after.keeper.writer.is_broken ≡ true → IsMachineOf w before → Follows w (Fault ∷ []) [] after
+    → before.keeper.writer.is_broken ≡ false → after.keeper.writer.is_broken ≡ true → IsMachineOf w before → Follows w (Fault ∷ []) [] (safe_list w) after
 
 -- Possible events lead from each world of the group, if no ask waits there, to one of what the group is now.
 pub record Reaches {D P : Type 0} (w : World) (after : ClerkState D P) : Type 0 where
@@ -227,72 +235,78 @@ pub record Begins {D P : Type 0} (clerk : ClerkState D P) : Type 0 where
   pub is_whole : clerk.keeper.writer.is_broken ≡ false
   pub no_doubt : clerk.keeper.writer.doubt ≡ []
 
--- Over an empty journal that is the machine's start.
+-- Over an empty journal that is the machine's start, where no ask waits.
 abbrev pub BeginsAtStart : (D P : Type 0) → Type 0
-BeginsAtStart D P = (clerk : ClerkState D P) → Begins clerk → clerk.keeper.writer.register ≡ empty → IsMachineOf (start clerk.keeper.writer.plan) clerk
+BeginsAtStart D P = (clerk : ClerkState D P) → Begins clerk → clerk.keeper.writer.register ≡ empty
+    → IsMachineOf (start clerk.keeper.writer.plan) clerk × WaitsNowhere (start clerk.keeper.writer.plan)
 
 -- After a crash it is the world that the machine's power cut and recovery leave, where the register is one that this cut
--- may keep. What was given stays given.
+-- may keep. What was given stays given, what was kept is safe, and no ask waits.
 abbrev pub BeginsAfterCut : (D P : Type 0) → Type 0
 BeginsAfterCut D P = (w : World) (clerk : ClerkState D P) (kept : Kept) → IsReached w → w.building ≡ clerk.keeper.writer.plan → IsTrue (may_keep w kept)
     → Begins clerk → clerk.keeper.writer.register ≡ register_after (outcome w kept)
     → (after : World) × (goes (Cut kept ∷ Reopen kept ∷ []) w ≡ Some after) × (after.given ≡ w.given) × IsMachineOf after clerk
+    × (safe_list after ≡ outcome w kept) × WaitsNowhere after
 
--- the image reads as the register of what some power cut now would keep
-pub record IsKept (w : World) (left : Image) : Type 0 where
+-- some power cut now would keep these entries, and the image reads as their register
+pub record IsKept (w : World) (entries : List Entry) (left : Image) : Type 0 where
   pub kept : Kept
   pub may_be_kept : IsTrue (may_keep w kept)
-  pub reads : IsImageOf w.building (register_after (outcome w kept)) left
+  pub outcome_is : outcome w kept ≡ entries
+  pub reads : IsImageOf w.building (register_after entries) left
 
 -- Over a device whose image is such a one, and reads as no other register than the keeper's, a clerk at a new desk is in the
 -- world which that power cut and its recovery leave.
 abbrev pub BeginsAfterCrash : (D P : Type 0) → Type 0
-BeginsAfterCrash D P = (w : World) (clerk : ClerkState D P) (image : Image) → IsReached w → w.building ≡ clerk.keeper.writer.plan → Begins clerk → IsKept w image
-    → ((other : RegisterState) → IsImageOf clerk.keeper.writer.plan other image → other ≡ clerk.keeper.writer.register)
+BeginsAfterCrash D P = (w : World) (clerk : ClerkState D P) (entries : List Entry) (image : Image) → IsReached w → w.building ≡ clerk.keeper.writer.plan → Begins clerk
+    → IsKept w entries image → ((other : RegisterState) → IsImageOf clerk.keeper.writer.plan other image → other ≡ clerk.keeper.writer.register)
     → (kept : Kept) × (after : World) × (goes (Cut kept ∷ Reopen kept ∷ []) w ≡ Some after) × (after.given ≡ w.given) × IsMachineOf after clerk
+    × (safe_list after ≡ entries) × WaitsNowhere after
 
--- What a crash may leave between two calls, a power cut of the machine keeps.
+-- What a crash may leave between two calls, or at any moment of a reopening, a power cut of the machine keeps. Where
+-- nothing has failed nothing is in doubt.
 abbrev pub CrashesAreCuts : (D P : Type 0) → Type 0
 CrashesAreCuts D P = (w : World) (clerk : ClerkState D P) (left : Image) → IsMachineOf w clerk
-    → (clerk.keeper.writer.is_broken ≡ false → IsImageOf clerk.keeper.writer.plan clerk.keeper.writer.register left)
-    → (clerk.keeper.writer.is_broken ≡ true → IsInDoubt clerk.keeper.writer.plan clerk.keeper.writer.register clerk.keeper.writer.doubt left)
-    → IsKept w left
+    → (doubt : IsInDoubt clerk.keeper.writer.plan clerk.keeper.writer.register clerk.keeper.writer.doubt left)
+    → IsKept w (kept_of (safe_list w) clerk.keeper.writer.doubt doubt) left
 
 -- the events of a turn up to the write of its gate
 abbrev pub events_to_gate : List Command → List (Option ℕ) → ℕ → List Event
 events_to_gate commands letters count = take_events commands letters ++ (Seal ∷ Pull ∷ calls_to (bodies count + 1) GateWritten)
 
 -- Once the gate of a turn's batch is written, and nothing of it was answered, a power cut may keep this image.
-pub record IsKeptAtGate (w : World) (commands : List Command) (count : ℕ) (left : Image) : Type 0 where
+pub record IsKeptAtGate (w : World) (commands : List Command) (count : ℕ) (entries : List Entry) (left : Image) : Type 0 where
   pub before : List Event
   pub of_terminals : AllByRecursion (λ (e : Event). IsTrue (is_of_terminals e)) before
   pub letters : List (Option ℕ)
   pub there : World
   pub possible : goes (before ++ events_to_gate commands letters count) w ≡ Some there
+  pub same_building : there.building ≡ w.building
   pub given_is : there.given ≡ w.given
   pub reached : IsReached there
-  pub keeps : IsKept there left
+  pub keeps : IsKept there entries left
 
 -- What a crash may leave at any moment within a turn, a power cut keeps before the turn or within it.
 abbrev pub CrashesWithinTurns : (D P : Type 0) → Choice → Type 0
 CrashesWithinTurns D P choice = (w : World) (before after : ClerkState D P) (counts : Counts) (left : Image) (t : Turns choice before after counts)
     → IsMachineOf w before → LooksAgree w (commands_of 0 t.turn.visits)
-    → IsEither before.keeper.writer.plan before.keeper.writer.register after.keeper.state.register left
-    → IsKept w left ⊎ IsKeptAtGate w (commands_of 0 t.turn.visits) (length t.turn.decided.batch) left
+    → (either : IsEither before.keeper.writer.plan before.keeper.writer.register after.keeper.state.register left)
+    → IsKept w (kept_of (safe_list w) t.turn.decided.batch either) left
+    ⊎ IsKeptAtGate w (commands_of 0 t.turn.visits) (length t.turn.decided.batch) (kept_of (safe_list w) t.turn.decided.batch either) left
 
 abbrev pub CrashesWithinFailures : (D P : Type 0) → Choice → Type 0
 CrashesWithinFailures D P choice = (w : World) (before after : ClerkState D P) (left : Image) (t : Fails choice before after)
     → IsMachineOf w before → LooksAgree w (commands_of 0 t.turn.visits)
-    → IsEither before.keeper.writer.plan before.keeper.writer.register after.keeper.state.register left
-    → IsKept w left ⊎ IsKeptAtGate w (commands_of 0 t.turn.visits) (length after.keeper.state.batch) left
+    → (either : IsEither before.keeper.writer.plan before.keeper.writer.register after.keeper.state.register left)
+    → IsKept w (kept_of (safe_list w) after.keeper.state.batch either) left
+    ⊎ IsKeptAtGate w (commands_of 0 t.turn.visits) (length after.keeper.state.batch) (kept_of (safe_list w) after.keeper.state.batch either) left
 
 -- the image reads as the register of these entries, which hold all that was acknowledged, and show each letter still
-pub record Shows (w : World) (left : Image) : Type 0 where
-  pub entries : List Entry
+pub record Shows (w : World) (entries : List Entry) (left : Image) : Type 0 where
   pub reads : IsImageOf w.building (register_after entries) left
   pub holds : All (Contains entries) (acknowledged w)
   pub letters : All (StillNames entries) (acknowledged w)
 
 -- So whatever a power cut leaves at a point that the machine reaches, shows each letter that was given until then.
 abbrev pub CutsShowLetters : Type 0
-CutsShowLetters = (w : World) (left : Image) → IsBuilding w.building → IsReached w → IsKept w left → Shows w left
+CutsShowLetters = (w : World) (entries : List Entry) (left : Image) → IsBuilding w.building → IsReached w → IsKept w entries left → Shows w entries left

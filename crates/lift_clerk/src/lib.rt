@@ -4,11 +4,13 @@
 
 mod clerk;
 mod counts;
+mod history;
 mod machine;
 mod scan;
 
 pub use clerk::Clerk;
 pub use counts::Counts;
+pub use history::histories_are_runs;
 pub use machine::{
     crashes_are_the_machines, reopening_moves_the_machine, reopenings_are_the_machines,
     told_asks_are_found, turn_moves_the_machine, turns_are_the_machines,
