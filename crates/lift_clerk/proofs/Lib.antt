@@ -15,3 +15,4 @@ pub mod Terminals
 pub mod Moved
 pub mod Told
 pub mod Histories
+pub mod Moments

@@ -3,7 +3,7 @@ use Rattle.std.specs.Prelude.{◌≡◌, ◌⊎◌, true, List, [], ◌++◌, Al
 use Rattle.std.specs.List.{flat_map}
 use Rattle.lift_base.specs.declared.history.Entry.{Entry}
 use Rattle.lift_building.specs.Plan.{Plan, IsBuilding}
-use Rattle.lift_disk.specs.Disk.{Image}
+use Rattle.lift_disk.specs.Disk.{Image, DiskState, LeavesOnly}
 use Rattle.lift_register.specs.Register.{RegisterState, empty}
 use Rattle.lift_policy.specs.Eligible.{Choice}
 use Rattle.lift_keeper.specs.Images.{IsImageOf, IsInDoubt}
@@ -113,3 +113,27 @@ CrashesInFailuresShowGiven D P chooses = (before after : ClerkState D P) (safe :
     → History chooses before safe given → (t : Fails (chooses before.policy) before after)
     → (either : IsEither before.keeper.writer.plan before.keeper.writer.register after.keeper.state.register left)
     → ShowsGiven before.keeper.writer.plan (kept_of safe after.keeper.state.batch either) given left
+
+-- what is safe shows it, or that with this batch
+abbrev pub ShowsEither : Plan → List Entry → List Entry → List Taken → Image → Type 0
+ShowsEither plan safe batch given left = ShowsGiven plan safe given left ⊎ ShowsGiven plan (safe ++ batch) given left
+
+-- One call's device before and after. Whatever had happened before the call, each image that a crash at any moment of it may
+-- leave shows all that was given before.
+abbrev pub MomentsShow : {D P : Type 0} → (P → Choice) → ClerkState D P → List Entry → DiskState → DiskState → Type 0
+MomentsShow chooses before batch old new = (safe : List Entry) (given : List Taken) → History chooses before safe given
+    → LeavesOnly old new (ShowsEither before.keeper.writer.plan safe batch given)
+
+-- the turn, and its moments
+pub record TurnShows {D P : Type 0} (chooses : P → Choice) (before after : ClerkState D P) (counts : Counts) (old new : DiskState) : Type 0 where
+  pub turn : Turns (chooses before.policy) before after counts
+  pub moments : MomentsShow chooses before turn.turn.decided.batch old new
+
+pub record FailureShows {D P : Type 0} (chooses : P → Choice) (before after : ClerkState D P) (old new : DiskState) : Type 0 where
+  pub turn : Fails (chooses before.policy) before after
+  pub moments : MomentsShow chooses before after.keeper.writer.doubt old new
+
+pub record BrokenTurnShows {D P : Type 0} (chooses : P → Choice) (before after : ClerkState D P) (old new : DiskState) : Type 0 where
+  pub turn : IsBrokenTurn before after
+  pub was_broken : before.keeper.writer.is_broken ≡ true
+  pub moments : MomentsShow chooses before before.keeper.writer.doubt old new

@@ -10,7 +10,9 @@ mod scan;
 
 pub use clerk::Clerk;
 pub use counts::Counts;
-pub use history::histories_are_runs;
+pub use history::{
+    crash_shows_letters, histories_are_runs, reopening_shows_letters, turn_shows_letters,
+};
 pub use machine::{
     crashes_are_the_machines, reopening_moves_the_machine, reopenings_are_the_machines,
     told_asks_are_found, turn_moves_the_machine, turns_are_the_machines,

@@ -1,7 +1,9 @@
 //! What the machine of events is while a clerk runs.
 
-ghost use Rattle.std.specs.Prelude.{◌≡◌, ◌⊎◌, true, Err, IfOk, IfErr, OnOk, OnErr};
-ghost use Rattle.lift_clerk.specs.Turn.{IsBrokenTurn};
+ghost use Rattle.std.specs.Prelude.{◌≡◌, ◌⊎◌, true, false, Err, IfOk, IfErr, OnOk, OnErr};
+ghost use Rattle.lift_disk.specs.Disk.{LeavesOnly};
+ghost use Rattle.lift_keeper.specs.Images.{IsInDoubt};
+ghost use Rattle.lift_clerk.specs.Turn.{IsBrokenTurn, IsEither};
 ghost use Rattle.lift_clerk.specs.Laws.{Laws};
 ghost use Rattle.lift_clerk.specs.Machine.{TurnsAreTurns, FailuresAreFailures, BrokenTurnsAreBroken, TerminalsKeepIt};
 ghost use Rattle.lift_clerk.specs.Machine.{ToldLooksAgree, TellsAreNoEvents, TellsMakeKnown};
@@ -82,7 +84,7 @@ pub fn told_asks_are_found<D: Disk, P: Policy>()
 {}
 
 // One turn, with what its contract gives of the machine's turns.
-fn turn_once<D: Disk, P: Policy + Drop>(
+pub fn turn_once<D: Disk, P: Policy + Drop>(
     clerk: &mut Clerk<'_, '_, D, P>,
 ) -> Result<Counts, KeeperFault>
     ensures turns { IfOk result (λ counts. Turns (P.chooses clerk.old.policy) clerk.old clerk.new counts) }
@@ -90,17 +92,21 @@ fn turn_once<D: Disk, P: Policy + Drop>(
     ensures rests { result ≡ Err (KeeperFault.Journal JournalFault.Broken) → IsBrokenTurn clerk.old clerk.new }
     ensures broken { result ≡ Err (KeeperFault.Journal JournalFault.Broken) → clerk.old.keeper.writer.is_broken ≡ true }
     ensures causes { IfErr result (λ fault. (fault ≡ KeeperFault.Journal JournalFault.Disk) ⊎ (fault ≡ KeeperFault.Journal JournalFault.Broken)) }
+    ensures any_moment { clerk.old.keeper.writer.is_broken ≡ false → LeavesOnly (D.state clerk.old.keeper.writer.device) (D.state clerk.new.keeper.writer.device)
+        (IsEither clerk.old.keeper.writer.plan clerk.old.keeper.writer.register clerk.new.keeper.state.register) }
 {
     clerk.turn()
 }
 
 // One reopening likewise.
-fn reopen_once<D: Disk, P: Policy + Drop>(
+pub fn reopen_once<D: Disk, P: Policy + Drop>(
     clerk: &mut Clerk<'_, '_, D, P>,
 ) -> Result<(), KeeperFault>
     ensures opens { OnOk result ((D.state clerk.old.keeper.writer.device).is_honest → Reopens clerk.old clerk.new) }
     ensures stays { OnErr result (Stays clerk.old clerk.new) }
     ensures same { OnErr result ((clerk.new.keeper.writer.is_broken ≡ true) ⊎ (clerk.new.keeper.writer.is_broken ≡ clerk.old.keeper.writer.is_broken)) }
+    ensures any_moment { LeavesOnly (D.state clerk.old.keeper.writer.device) (D.state clerk.new.keeper.writer.device)
+        (IsInDoubt clerk.old.keeper.writer.plan clerk.old.keeper.writer.register clerk.old.keeper.writer.doubt) }
 {
     clerk.reopen()
 }
