@@ -16,3 +16,4 @@ pub mod Moved
 pub mod Told
 pub mod Histories
 pub mod Moments
+pub mod Begun

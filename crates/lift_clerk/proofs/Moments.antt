@@ -1,10 +1,11 @@
 -- What a crash at any moment of a running call shows.
-use Rattle.std.proofs.Common.{◌≡◌, ◌⊎◌, inl, inr, ⊎_elim, Bool, true, false, List, refl, sym, subst, arith}
+use Rattle.std.proofs.Common.{◌≡◌, ◌⊎◌, inl, inr, Bool, true, false, List, refl, sym, subst}
 use Rattle.std.specs.Prelude.{Result, Ok, Err, IfOk}
 use Rattle.lift_base.specs.declared.history.Entry.{Entry}
 use Rattle.lift_building.specs.Plan.{Plan}
 use Rattle.lift_disk.specs.Disk.{DiskState, Image, LeavesNow, LeavesOnly, LeavesNoOther}
 use Rattle.lift_register.specs.Register.{RegisterState}
+use Rattle.lift_disk.proofs.Moments.{leaves_none, leaves_weaker}
 use Rattle.lift_policy.specs.Eligible.{Choice}
 use Rattle.lift_keeper.specs.Images.{IsImageOf, IsInDoubt}
 use Rattle.lift_keeper.specs.Keeper.{KeeperView}
@@ -15,24 +16,6 @@ use Rattle.lift_clerk.specs.Clerk.{ClerkState}
 use Rattle.lift_clerk.specs.Turn.{IsBrokenTurn, IsEither}
 use Rattle.lift_clerk.specs.Machine.{Turns, Fails, kept_of}
 use Rattle.lift_clerk.specs.History.{History, ShowsGiven, ShowsEither, MomentsShow, TurnShows, FailureShows, BrokenTurnShows, CrashesShowGiven, CrashesInTurnsShowGiven, CrashesInFailuresShowGiven}
-
--- what holds of each image holds of it in other words
-leaves_else : (old new : DiskState) (A B : Image → Type 0) → ((left : Image) → A left → B left) → LeavesOnly old new A → LeavesOnly old new B
-leaves_else old new A B then k = record {
-  honest = k.honest;
-  later = k.later;
-  each = λ honest left is. then left (k.each honest left is);
-  before = λ honest t left le is. ⊎_elim (λ earlier. inl earlier) (λ now. inr (then left now)) (k.before honest t left le is);
-}
-
--- where no call was made
-leaves_none : (disk : DiskState) (A : Image → Type 0) → LeavesNoOther disk → LeavesNow disk A → LeavesOnly disk disk A
-leaves_none disk A only now = record {
-  honest = (λ h. h, λ h. h);
-  later = λ honest. omega arith;
-  each = λ honest left is. now honest left (only honest left is);
-  before = λ honest t left le is. inl is;
-}
 
 shows_either : {A B : Type 0} (plan : Plan) (safe batch : List Entry) (given : List Taken) (left : Image) (o : A ⊎ B) → ShowsGiven plan (kept_of safe batch o) given left
     → ShowsEither plan safe batch given left
@@ -81,8 +64,8 @@ module _ {D P : Type 0} (chooses : P → Choice) (before after : ClerkState D P)
       → IfOk result (λ counts. TurnShows chooses before after counts old new)
   turn_shows law (Ok counts) t moments = record {
     turn = t;
-    moments = λ safe given h. leaves_else old new (IsEither plan before.keeper.writer.register after.keeper.state.register) (ShowsEither plan safe t.turn.decided.batch given)
-        (λ left either. shows_either plan safe t.turn.decided.batch given left either (law before after safe given counts left h t either)) (moments t.was_whole);
+    moments = λ safe given h. leaves_weaker old new (IsEither plan before.keeper.writer.register after.keeper.state.register) (ShowsEither plan safe t.turn.decided.batch given)
+        (λ honest left either. shows_either plan safe t.turn.decided.batch given left either (law before after safe given counts left h t either)) (moments t.was_whole);
   }
   turn_shows law (Err fault) t moments = tt
 
@@ -91,16 +74,16 @@ module _ {D P : Type 0} (chooses : P → Choice) (before after : ClerkState D P)
       → FailureShows chooses before after old new
   failure_shows law t moments = record {
     turn = t;
-    moments = λ safe given h. leaves_else old new (IsEither plan before.keeper.writer.register after.keeper.state.register) (ShowsEither plan safe after.keeper.writer.doubt given)
-        (λ left either. subst (λ (batch : List Entry). ShowsEither plan safe batch given left) (sym t.turn.doubt)
+    moments = λ safe given h. leaves_weaker old new (IsEither plan before.keeper.writer.register after.keeper.state.register) (ShowsEither plan safe after.keeper.writer.doubt given)
+        (λ honest left either. subst (λ (batch : List Entry). ShowsEither plan safe batch given left) (sym t.turn.doubt)
         (shows_either plan safe after.keeper.state.batch given left either (law before after safe given left h t either))) (moments t.was_whole);
   }
 
   pub reopening_shows : CrashesShowGiven D P chooses → LeavesOnly old new (IsInDoubt plan before.keeper.writer.register before.keeper.writer.doubt)
       → MomentsShow chooses before before.keeper.writer.doubt old new
   reopening_shows law moments safe given h =
-      leaves_else old new (IsInDoubt plan before.keeper.writer.register before.keeper.writer.doubt) (ShowsEither plan safe before.keeper.writer.doubt given)
-      (λ left doubt. shows_either plan safe before.keeper.writer.doubt given left doubt (law before safe given left h doubt)) moments
+      leaves_weaker old new (IsInDoubt plan before.keeper.writer.register before.keeper.writer.doubt) (ShowsEither plan safe before.keeper.writer.doubt given)
+      (λ honest left doubt. shows_either plan safe before.keeper.writer.doubt given left doubt (law before safe given left h doubt)) moments
 
 -- of a broken clerk the device had no call
 pub broken_turn_shows : {D P : Type 0} (chooses : P → Choice) (state : D → DiskState) (before after : ClerkState D P) → IsBrokenTurn before after → before.keeper.writer.is_broken ≡ true

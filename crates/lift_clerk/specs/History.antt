@@ -69,6 +69,22 @@ pub data History {D P : Type 0} (chooses : P → Choice) : ClerkState D P → Li
       → BeginsOver before.keeper.writer.plan image after
       → History chooses after (kept_of safe there.keeper.state.batch either) given
 
+-- The clerk goes on with what has happened to any earlier one of the building, whose power was cut and left this image, at
+-- whatever moment that was.
+pub record GoesOnOver {D P : Type 0} (chooses : P → Choice) (plan : Plan) (image : Image) (clerk : ClerkState D P) : Type 0 where
+  pub begins : BeginsOver plan image clerk
+  pub between : (before : ClerkState D P) (safe : List Entry) (given : List Taken) → History chooses before safe given → before.keeper.writer.plan ≡ plan
+      → (doubt : IsInDoubt before.keeper.writer.plan before.keeper.writer.register before.keeper.writer.doubt image)
+      → History chooses clerk (kept_of safe before.keeper.writer.doubt doubt) given
+  pub within : (before there : ClerkState D P) (safe : List Entry) (given : List Taken) (counts : Counts) → History chooses before safe given
+      → before.keeper.writer.plan ≡ plan → (t : Turns (chooses before.policy) before there counts)
+      → (either : IsEither before.keeper.writer.plan before.keeper.writer.register there.keeper.state.register image)
+      → History chooses clerk (kept_of safe t.turn.decided.batch either) given
+  pub within_failure : (before there : ClerkState D P) (safe : List Entry) (given : List Taken) → History chooses before safe given
+      → before.keeper.writer.plan ≡ plan → (t : Fails (chooses before.policy) before there)
+      → (either : IsEither before.keeper.writer.plan before.keeper.writer.register there.keeper.state.register image)
+      → History chooses clerk (kept_of safe there.keeper.state.batch either) given
+
 -- Some run of the machine leads to a world of this clerk's. No ask waits there, just these entries are safe, and just these
 -- commands were answered.
 pub record IsRunOf {D P : Type 0} (clerk : ClerkState D P) (safe : List Entry) (given : List Taken) : Type 0 where

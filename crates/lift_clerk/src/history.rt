@@ -1,13 +1,16 @@
 //! What every history of a group leads to, and what every crash then shows.
 
-ghost use Rattle.std.specs.Prelude.{◌≡◌, ◌⊎◌, true, false, List, Err, IfOk, IfErr, OnOk, OnErr};
+ghost use Rattle.std.specs.Prelude.{◌≡◌, ◌⊎◌, true, false, List, [], Err, IfOk, IfErr, OnOk, OnErr};
 ghost use Rattle.lift_base.specs.declared.history.Entry.{Entry};
-ghost use Rattle.lift_disk.specs.Disk.{LeavesNow};
+ghost use Rattle.lift_disk.specs.Disk.{MayLeave, LeavesNow};
+ghost use Rattle.lift_register.specs.Register.{empty};
+ghost use Rattle.lift_desk.specs.Seats.{IsClerkOf, OwesNothing, clerk_of};
+ghost use Rattle.lift_keeper.specs.Reopening.{RefusesReopening};
 ghost use Rattle.lift_world.specs.declared.event.Taken.{Taken};
 ghost use Rattle.lift_clerk.specs.Machine.{Reopens, Stays};
 ghost use Rattle.lift_clerk.specs.Laws.{CallLaws};
 ghost use Rattle.lift_clerk.specs.History.{History, HistoriesAreRuns, CrashesShowGiven, CrashesInTurnsShowGiven, CrashesInFailuresShowGiven};
-ghost use Rattle.lift_clerk.specs.History.{ShowsGiven, ShowsEither, MomentsShow, TurnShows, FailureShows, BrokenTurnShows};
+ghost use Rattle.lift_clerk.specs.History.{GoesOnOver, ShowsGiven, ShowsEither, MomentsShow, TurnShows, FailureShows, BrokenTurnShows};
 
 use crate::clerk::Clerk;
 use crate::counts::Counts;
@@ -15,9 +18,11 @@ use crate::machine::{
     crashes_are_the_machines, reopen_once, reopenings_are_the_machines, turn_once,
     turns_are_the_machines,
 };
+use lift_building::Building;
+use lift_desk::{ClerkSeat, Desk};
 use lift_disk::Disk;
 use lift_journal::JournalFault;
-use lift_keeper::KeeperFault;
+use lift_keeper::{Keeper, KeeperFault};
 use lift_policy::Policy;
 
 // What is proved of each call.
@@ -40,6 +45,30 @@ pub fn histories_are_runs<D: Disk, P: Policy>()
     ensures within_failed { CrashesInFailuresShowGiven D P P.chooses }
 {
     call_laws::<D, P>();
+}
+
+/// A clerk at a new desk, over a device that a crash may have left: the recovery. It writes nothing. Where the journal is
+/// empty a history begins; where its image is one that a crash of an earlier clerk left, that clerk's goes on.
+///
+/// An `Err` is that of `Keeper::open`, and hands the device back.
+pub fn begin_over<'d, 'b, D: Disk, P: Policy + Drop>(
+    desk: &'d Desk,
+    seat: ClerkSeat,
+    disk: D,
+    building: &'b Building,
+    policy: P,
+) -> Result<Clerk<'d, 'b, D, P>, (D, KeeperFault)>
+    requires seated { IsClerkOf desk.now seat }
+    requires answered { OwesNothing seat }
+    requires unused { seat ≡ clerk_of desk.now }
+    ensures first { IfOk result (λ clerk. clerk.keeper.writer.register ≡ empty → History P.chooses clerk [] []) }
+    ensures again { IfOk result (λ clerk. (D.state disk).is_honest → GoesOnOver P.chooses building.now (D.state clerk.keeper.writer.device).image clerk) }
+    ensures seen { IfOk result (λ clerk. (D.state disk).is_honest → MayLeave (D.state disk) (D.state clerk.keeper.writer.device).image) }
+    ensures refused { IfErr result (λ err. RefusesReopening building.now (D.state disk) (D.state err.0) err.1) }
+{
+    let keeper = Keeper::open(disk, building)?;
+    let _shown = keeper.register();
+    Ok(Clerk::new(desk, seat, keeper, policy))
 }
 
 /// Whatever has happened by now, each image that a crash now may leave shows each letter that was ever given.

@@ -11,7 +11,8 @@ mod scan;
 pub use clerk::Clerk;
 pub use counts::Counts;
 pub use history::{
-    crash_shows_letters, histories_are_runs, reopening_shows_letters, turn_shows_letters,
+    begin_over, crash_shows_letters, histories_are_runs, reopening_shows_letters,
+    turn_shows_letters,
 };
 pub use machine::{
     crashes_are_the_machines, reopening_moves_the_machine, reopenings_are_the_machines,

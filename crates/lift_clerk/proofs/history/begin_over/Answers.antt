@@ -1,0 +1,14 @@
+use Rattle.lift_clerk.proofs.Begun.{first, again}
+use Rattle.lift_clerk.proofs.history.begin_over.Goals as goal
+
+pub returns-clause-first : goal.returns-clause-first
+returns-clause-first g c =
+    let k = c.in_ok-keeper in
+    first c.args.desk.now c.args.seat k.keeper c.args.policy c.new.result c.new.ensures c.requires.unused k.ensures.state k.ensures.whole.0 k.ensures.whole.1 g.P.Policy.chooses
+    c.register-shown.ensures.possible.building
+
+pub returns-clause-again : goal.returns-clause-again
+returns-clause-again g c honest =
+    let k = c.in_ok-keeper in
+    again c.args.desk.now c.args.seat k.keeper c.args.policy c.new.result c.new.ensures c.requires.unused k.ensures.state k.ensures.whole.0 k.ensures.whole.1 g.P.Policy.chooses
+    g.D.Disk.state c.args.building.now k.ensures.plan (k.ensures.opens.only honest)
