@@ -172,6 +172,7 @@ enum Act {
     Pending(Option<Number>),
     Scan(u8),
     Meet,
+    Tell,
     /// The number of the terminal.
     Terminal(u8),
     /// So many asks, each of them answered and heard.
@@ -188,6 +189,10 @@ fn comes_out(desk: &Desk, seat: &mut Seat, clerk: &mut ClerkSeat, act: &Act) -> 
         Act::Pending(want) => seat.pending() == *want,
         Act::Scan(want) => scan(desk, clerk) == *want,
         Act::Meet => desk.meet(seat, clerk),
+        Act::Tell => {
+            desk.tell(seat, clerk);
+            true
+        }
         Act::Terminal(want) => seat.terminal().get() == *want,
         Act::Rounds(times) => use_turns(desk, seat, clerk, *times) == *times,
     }
@@ -228,15 +233,17 @@ fn an_ask_is_answered_once(rt: HostRuntime) -> Result<(), Fail> {
         Act::Ask(7, Ok(())),
         Act::Ask(8, Err(AskRefusal::Waiting)),
         Act::Pending(Some(number(7))),
+        Act::Tell,
         Act::Hear(None),
         Act::Scan(1),
+        Act::Tell,
         Act::Scan(0),
         Act::Hear(Some(Reply::Car(car(1)))),
         Act::Hear(None),
         Act::Meet,
         Act::Pending(None),
     ];
-    assert_eq!(rt; successes_at_last(rt.alloc(), 2, &acts)?, 12);
+    assert_eq!(rt; successes_at_last(rt.alloc(), 2, &acts)?, 14);
     Ok(())
 }
 
