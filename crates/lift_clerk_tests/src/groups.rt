@@ -1,6 +1,6 @@
 //! The demo building's group at a desk of its own, with four terminals that ask.
 ghost use Rattle.std.specs.Prelude.{◌≡◌, ◌<◌, ◌≤◌, ◌+◌, length, vec_len, IfOk};
-ghost use Rattle.lift_desk.specs.Seats.{IsSeatOf, IsClerkOf, AreSeatsOf, OwesNothing};
+ghost use Rattle.lift_desk.specs.Seats.{IsSeatOf, IsClerkOf, AreSeatsOf, OwesNothing, clerk_of as new_seats};
 
 use lift_base::{Body, Dir, Floor, Letter, Memory, Number, Party, Reply, Stop};
 use lift_building::Building;
@@ -77,6 +77,7 @@ pub(crate) fn open(alloc: Global, terminals: usize) -> Result<DeskParts, AllocEr
     ensures seats { IfOk result (λ parts. AreSeatsOf parts.desk parts.seats.items) }
     ensures clerk { IfOk result (λ parts. IsClerkOf parts.desk parts.clerk) }
     ensures owes { IfOk result (λ parts. OwesNothing parts.clerk) }
+    ensures unused { IfOk result (λ parts. parts.clerk ≡ new_seats parts.desk) }
 {
     match Desk::open(alloc, terminals) {
         Ok(parts) => Ok(parts),

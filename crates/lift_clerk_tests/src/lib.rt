@@ -9,6 +9,8 @@ mod faults;
 #[cfg(test)]
 mod groups;
 #[cfg(test)]
+mod histories;
+#[cfg(test)]
 mod sessions;
 #[cfg(test)]
 mod turns;
