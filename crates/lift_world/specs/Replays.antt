@@ -1,5 +1,5 @@
 -- What the machine in memory is: its view, and its register as that of its list.
-use Rattle.std.specs.Prelude.{ℕ, ◌≡◌, Bool, List, [], ◌∷◌, ◌++◌, Option, Some, None, true, false}
+use Rattle.std.specs.Prelude.{ℕ, ◌≡◌, Bool, List, [], ◌∷◌, ◌++◌, Option, Some, None, IsSome, true, false}
 use Rattle.lift_base.specs.declared.travel.Position.{Position}
 use Rattle.lift_base.specs.declared.history.Entry.{Entry}
 use Rattle.lift_building.specs.Plan.{Plan}
@@ -12,8 +12,9 @@ use Rattle.lift_world.specs.declared.event.Power.{Power}
 use Rattle.lift_world.specs.declared.event.Taken.{Taken}
 use Rattle.lift_world.specs.declared.event.Answer.{Answer}
 use Rattle.lift_world.specs.declared.event.Event.{Event}
+use Rattle.lift_world.specs.declared.event.Event.TheVariants.{Ask, Take, Seal, Pull, Fold, Body as BodyWrite, FirstSync, Gate, SecondSync, Answer as Answering, Hear, Fault, Cut, Reopen}
 use Rattle.lift_world.specs.World.{World, Batch, register_after}
-use Rattle.lift_world.specs.Next.{next}
+use Rattle.lift_world.specs.Next.{next, may_take}
 
 -- each of these entries fits the register of those before it
 abbrev pub FitAfter : Plan → List Entry → List Entry → Type 0
@@ -53,3 +54,21 @@ MovesTo (Some w) old possible new = (possible ≡ true) × (new ≡ w)
 
 abbrev pub Moves : World → Event → Bool → World → Type 0
 Moves old event possible new = MovesTo (next old event) old possible new
+
+-- Where memory may be wanting: an event that makes a list longer, and only where it is possible; of a take, where the
+-- terminal's ask may be looked at. The device's calls and a cut want none.
+abbrev pub MayWant : World → Event → Type 0
+MayWant w (Ask terminal number body) = IsSome (next w (Ask terminal number body))
+MayWant w (Take terminal letter) = may_take w terminal ≡ true
+MayWant w Seal = IsSome (next w Seal)
+MayWant w Pull = IsSome (next w Pull)
+MayWant w Fold = ⊥
+MayWant w BodyWrite = ⊥
+MayWant w FirstSync = ⊥
+MayWant w Gate = ⊥
+MayWant w SecondSync = IsSome (next w SecondSync)
+MayWant w (Answering terminal) = IsSome (next w (Answering terminal))
+MayWant w (Hear terminal) = IsSome (next w (Hear terminal))
+MayWant w Fault = IsSome (next w Fault)
+MayWant w (Cut kept) = ⊥
+MayWant w (Reopen kept) = IsSome (next w (Reopen kept))

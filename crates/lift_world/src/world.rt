@@ -147,19 +147,20 @@ fn replay(building: &Building, half: u32, entries: &[Entry]) -> Register
 }
 
 impl<'b> World<'b> {
-    ghost use Rattle.std.specs.Prelude.{◌≡◌, ℕ, List, IfOk, OnErr, length, true, false};
+    ghost use Rattle.std.specs.Prelude.{◌≡◌, ℕ, List, IsOk, IfOk, OnErr, length, true, false};
     ghost use Rattle.lift_base.specs.declared.history.Entry.{Entry as EntryValue};
     ghost use Rattle.std.specs.Prelude.{take, ◌||◌};
     ghost use Rattle.std.specs.List.{list_any};
     ghost use Rattle.lift_world.specs.World.{start, may_keep, is_taken_of, outcome};
     ghost use Rattle.lift_world.specs.Next.{taking, unanswered, may_take, may_pull, is_quiet, may_reopen, writes_of};
-    ghost use Rattle.lift_world.specs.Replays.{Moves, MovesTo};
+    ghost use Rattle.lift_world.specs.Replays.{Moves, MovesTo, MayWant};
     ghost use Rattle.lift_world.specs.declared.event.Event.{Event};
 
     /// A fresh group over an empty journal, with so many sectors in each of its halves. A checkpoint makes room wherever
-    /// a half has none, so no event depends on that number.
+    /// a half has none, so no event depends on that number. It takes no memory yet, so it never answers `Memory`.
     pub fn new(alloc: Global, building: &'b Building, half: u32) -> Result<World<'b>, Memory>
-        ensures { IfOk result (λ world. world ≡ start building.now) }
+        ensures value { IfOk result (λ world. world ≡ start building.now) }
+        ensures made { IsOk result }
     {
         Ok(World {
             alloc,
@@ -237,6 +238,7 @@ impl<'b> World<'b> {
     fn ask(&mut self, terminal: Terminal, number: Number, body: Body) -> Result<bool, Memory>
         ensures ok { IfOk result (λ possible. Moves self.old (Event.Ask terminal number body) possible self.new) }
         ensures err { OnErr result (self.new ≡ self.old) }
+        ensures wants { OnErr result (MayWant self.old (Event.Ask terminal number body)) }
     {
         if self.power.is_off()
             || count_asks(&self.asked, terminal) != count_answers(&self.heard, terminal)
@@ -285,6 +287,7 @@ impl<'b> World<'b> {
     fn take(&mut self, terminal: Terminal, letter: Option<Letter>) -> Result<bool, Memory>
         ensures ok { IfOk result (λ possible. Moves self.old (Event.Take terminal letter) possible self.new) }
         ensures err { OnErr result (self.new ≡ self.old) }
+        ensures wants { OnErr result (MayWant self.old (Event.Take terminal letter)) }
     {
         if !self.may_take(terminal) {
             return Ok(false);
@@ -329,6 +332,7 @@ impl<'b> World<'b> {
     fn seal(&mut self) -> Result<bool, Memory>
         ensures ok { IfOk result (λ possible. Moves self.old Event.Seal possible self.new) }
         ensures err { OnErr result (self.new ≡ self.old) }
+        ensures wants { OnErr result (MayWant self.old Event.Seal) }
     {
         if self.power.is_off() || self.taken.is_empty() {
             return Ok(false);
@@ -354,6 +358,7 @@ impl<'b> World<'b> {
     fn pull(&mut self) -> Result<bool, Memory>
         ensures ok { IfOk result (λ possible. Moves self.old Event.Pull possible self.new) }
         ensures err { OnErr result (self.new ≡ self.old) }
+        ensures wants { OnErr result (MayWant self.old Event.Pull) }
     {
         if !self.may_pull() || self.queue.is_empty() {
             return Ok(false);
@@ -429,6 +434,7 @@ impl<'b> World<'b> {
     fn second_sync(&mut self) -> Result<bool, Memory>
         ensures ok { IfOk result (λ possible. Moves self.old Event.SecondSync possible self.new) }
         ensures err { OnErr result (self.new ≡ self.old) }
+        ensures wants { OnErr result (MayWant self.old Event.SecondSync) }
     {
         if !self.power.is_running() || !self.phase.is_gate_written() {
             return Ok(false);
@@ -446,6 +452,7 @@ impl<'b> World<'b> {
     fn fault(&mut self) -> Result<bool, Memory>
         ensures ok { IfOk result (λ possible. Moves self.old Event.Fault possible self.new) }
         ensures err { OnErr result (self.new ≡ self.old) }
+        ensures wants { OnErr result (MayWant self.old Event.Fault) }
     {
         if !self.power.is_running() || self.phase.is_synced() {
             return Ok(false);
@@ -462,6 +469,7 @@ impl<'b> World<'b> {
     fn answer(&mut self, terminal: Terminal) -> Result<bool, Memory>
         ensures ok { IfOk result (λ possible. Moves self.old (Event.Answer terminal) possible self.new) }
         ensures err { OnErr result (self.new ≡ self.old) }
+        ensures wants { OnErr result (MayWant self.old (Event.Answer terminal)) }
     {
         if self.power.is_off() {
             return Ok(false);
@@ -486,6 +494,7 @@ impl<'b> World<'b> {
     fn hear(&mut self, terminal: Terminal) -> Result<bool, Memory>
         ensures ok { IfOk result (λ possible. Moves self.old (Event.Hear terminal) possible self.new) }
         ensures err { OnErr result (self.new ≡ self.old) }
+        ensures wants { OnErr result (MayWant self.old (Event.Hear terminal)) }
     {
         if self.power.is_off() {
             return Ok(false);
@@ -561,6 +570,7 @@ impl<'b> World<'b> {
     fn reopen(&mut self, kept: Kept) -> Result<bool, Memory>
         ensures ok { IfOk result (λ possible. Moves self.old (Event.Reopen kept) possible self.new) }
         ensures err { OnErr result (self.new ≡ self.old) }
+        ensures wants { OnErr result (MayWant self.old (Event.Reopen kept)) }
     {
         if !self.may_reopen(&kept) {
             return Ok(false);
@@ -584,10 +594,12 @@ impl<'b> World<'b> {
         Ok(true)
     }
 
-    /// One event. False where it isn't possible, and then, as for want of memory, nothing changed.
+    /// One event. False where it isn't possible, and then, as for want of memory, nothing changed. Memory is wanted only by
+    /// an event that makes a list longer, where it is possible; by a take, where the terminal's ask may be looked at.
     pub fn step(&mut self, event: &Event) -> Result<bool, Memory>
         ensures ok { IfOk result (λ possible. Moves self.old event.now possible self.new) }
         ensures err { OnErr result (self.new ≡ self.old) }
+        ensures wants { OnErr result (MayWant self.old event.now) }
     {
         match *event {
             Event::Ask(terminal, number, body) => self.ask(terminal, number, body),
