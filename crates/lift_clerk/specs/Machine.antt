@@ -97,10 +97,13 @@ pub record KnowsAsks (w : World) (terminal : ℕ) (view : ClerkView) : Type 0 wh
   pub told : view.told ≡ ask_words 1 (map ask_of (filter (asks terminal) w.asked))
   pub in_range : All IsAsk (map ask_of (filter (asks terminal) w.asked))
 
+-- The clerk was told of all asks in this world.
+abbrev pub KnowsAllAsks : {D P : Type 0} → World → ClerkState D P → Type 0
+KnowsAllAsks w clerk = (terminal : ℕ) → terminal < length clerk.seat → KnowsAsks w terminal (view_at clerk.seat terminal)
+
 -- Looks of a clerk that was told of all asks find those that wait.
 abbrev pub ToldLooksAgree : (D P : Type 0) → Type 0
-ToldLooksAgree D P = (w : World) (clerk : ClerkState D P) (visits : List Visit) → IsMachineOf w clerk → Finds clerk.seat visits
-    → ((terminal : ℕ) → terminal < length clerk.seat → KnowsAsks w terminal (view_at clerk.seat terminal)) → LooksAgree w (commands_of 0 visits)
+ToldLooksAgree D P = (w : World) (clerk : ClerkState D P) (visits : List Visit) → IsMachineOf w clerk → Finds clerk.seat visits → KnowsAllAsks w clerk → LooksAgree w (commands_of 0 visits)
 
 -- To tell the clerk of asks is no event.
 abbrev pub TellsAreNoEvents : (D P : Type 0) → Type 0
@@ -227,6 +230,10 @@ pub record Reaches {D P : Type 0} (w : World) (after : ClerkState D P) : Type 0 
 
 abbrev pub Moves : {D P : Type 0} → ClerkState D P → ClerkState D P → Type 0
 Moves before after = (w : World) → IsMachineOf w before → WaitsNowhere w → Reaches w after
+
+-- Possible events lead from each world of the group, if the clerk was told of all asks there, to one of what the group is now.
+abbrev pub MovesWhereTold : {D P : Type 0} → ClerkState D P → ClerkState D P → Type 0
+MovesWhereTold before after = (w : World) → IsMachineOf w before → KnowsAllAsks w before → (events : List Event) × (end : World) × (goes events w ≡ Some end) × IsMachineOf end after
 
 -- a clerk at a new desk, over a keeper that has just opened
 pub record Begins {D P : Type 0} (clerk : ClerkState D P) : Type 0 where

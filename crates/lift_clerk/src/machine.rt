@@ -6,7 +6,7 @@ ghost use Rattle.lift_keeper.specs.Images.{IsInDoubt};
 ghost use Rattle.lift_clerk.specs.Turn.{IsBrokenTurn, IsEither};
 ghost use Rattle.lift_clerk.specs.Laws.{Laws};
 ghost use Rattle.lift_clerk.specs.Machine.{TurnsAreTurns, FailuresAreFailures, BrokenTurnsAreBroken, TerminalsKeepIt};
-ghost use Rattle.lift_clerk.specs.Machine.{ToldLooksAgree, TellsAreNoEvents, TellsMakeKnown};
+ghost use Rattle.lift_clerk.specs.Machine.{ToldLooksAgree, TellsAreNoEvents, TellsMakeKnown, MovesWhereTold};
 ghost use Rattle.lift_clerk.specs.Machine.{ReopeningsAreReopenings, FailedReopeningsAreFaults, NothingIsNoEvent, BeginsAtStart, BeginsAfterCut};
 ghost use Rattle.lift_clerk.specs.Machine.{CrashesAreCuts, CrashesWithinTurns, CrashesWithinFailures, CutsShowLetters, BeginsAfterCrash, Moves, Turns, Fails, Reopens, Stays};
 
@@ -112,6 +112,7 @@ pub fn reopen_once<D: Disk, P: Policy + Drop>(
 }
 
 /// One turn. Whatever world the group was in, with no ask waiting there, possible events lead to the one that it is in then.
+/// So they do with asks waiting, where the clerk was told of all asks there.
 pub fn turn_moves_the_machine<D: Disk, P: Policy + Drop>(
     clerk: &mut Clerk<'_, '_, D, P>,
 ) -> Result<Counts, KeeperFault>
@@ -121,8 +122,10 @@ pub fn turn_moves_the_machine<D: Disk, P: Policy + Drop>(
     ensures broken { result ≡ Err (KeeperFault.Journal JournalFault.Broken) → clerk.old.keeper.writer.is_broken ≡ true }
     ensures causes { IfErr result (λ fault. (fault ≡ KeeperFault.Journal JournalFault.Disk) ⊎ (fault ≡ KeeperFault.Journal JournalFault.Broken)) }
     ensures moves { Moves clerk.old clerk.new }
+    ensures told { MovesWhereTold clerk.old clerk.new }
 {
     turns_are_the_machines::<D, P>();
+    told_asks_are_found::<D, P>();
     turn_once(clerk)
 }
 
