@@ -1,5 +1,4 @@
 pub mod CarTexts
-pub mod Records
-pub mod Spans
+pub mod Hearing
 pub mod Words
 pub mod Written

@@ -2,8 +2,8 @@
 use Rattle.std.specs.Prelude.{ℕ, ◌≡◌, ◌<◌, ◌≤◌, List, [], ◌∷◌, codes}
 use Rattle.std.specs.Fmt.{decimal}
 use Rattle.lift_base.specs.Text.{AreWords, ArePartyWords, letter_text, dir_text}
-use Rattle.lift_replay.specs.declared.line.Cut.{Cut as Outcome}
-use Rattle.lift_replay.specs.declared.line.Cut.TheVariants.{Keep, Lose, Fill}
+use Rattle.lift_disk.specs.declared.outcome.Outcome.{Outcome}
+use Rattle.lift_disk.specs.declared.outcome.Outcome.TheVariants.{Keep, Lose, Fill}
 use Rattle.lift_replay.specs.declared.line.ScriptLine.{ScriptLine}
 use Rattle.lift_replay.specs.declared.line.ScriptLine.TheVariants.{Place, Call, Stop, Turn, Stops, Cost, Rows, Fuse, Cut}
 

@@ -4,7 +4,7 @@ use Rattle.lift_building.specs.Plan.{Plan}
 use Rattle.lift_replay.specs.declared.line.ScriptLine.{ScriptLine}
 use Rattle.lift_replay.specs.declared.line.ScriptLine.TheVariants.{Place, Call, Stop, Turn, Stops, Cost, Rows, Fuse, Cut}
 
--- The building has the car or the kiosk that the line names. Fuses and power cuts are not known.
+-- the building has the car or the kiosk that the line names, if it names one
 abbrev pub IsKnown : Plan → ScriptLine → Type 0
 IsKnown plan (Place car floor dir) = car < length plan.cars
 IsKnown plan (Call kiosk number floor party) = kiosk < length plan.kiosks
@@ -13,5 +13,5 @@ IsKnown plan Turn = Unit {0}
 IsKnown plan (Stops car) = car < length plan.cars
 IsKnown plan (Cost kiosk floor party) = kiosk < length plan.kiosks
 IsKnown plan Rows = Unit {0}
-IsKnown plan (Fuse calls) = ⊥
-IsKnown plan (Cut outcome) = ⊥
+IsKnown plan (Fuse calls) = Unit {0}
+IsKnown plan (Cut outcome) = Unit {0}

@@ -1,5 +1,6 @@
-pub mod Asks
 pub mod Grammar
 pub mod Known
 pub mod Reading
 pub mod Report
+pub mod Segment
+pub mod Terminals

@@ -55,6 +55,14 @@ heard_text terminal number reply = terminal_text terminal ++ 32 ∷ decimal numb
 abbrev pub waiting_text : (terminal number : ℕ) → List ℕ
 waiting_text terminal number = terminal_text terminal ++ 32 ∷ decimal number ++ codes " WAITING" ++ 10 ∷ []
 
+-- an ask of a terminal that has used up its turns
+abbrev pub spent_text : (terminal number : ℕ) → List ℕ
+spent_text terminal number = terminal_text terminal ++ 32 ∷ decimal number ++ codes " SPENT" ++ 10 ∷ []
+
+-- how many calls are open once the power has come back
+abbrev pub cut_text : ℕ → List ℕ
+cut_text calls = codes "cut " ++ decimal calls ++ 10 ∷ []
+
 -- how many commands a turn took, and how many it accepted
 abbrev pub turn_text : (taken accepted : ℕ) → List ℕ
 turn_text taken accepted = codes "turn " ++ decimal taken ++ 32 ∷ decimal accepted ++ 10 ∷ []
@@ -99,9 +107,13 @@ abbrev pub IsRefusal : List ℕ → Type 0
 IsRefusal report = (report ≡ codes "TOO LONG\n") ⊎ ((report ≡ codes "NOT TEXT\n") ⊎ ((report ≡ codes "NO SCRIPT\n")
     ⊎ ((fault : BuildingFault) × (fault ≢ Memory) × (report ≡ building_text fault))))
 
+-- the last line is a malformed line's
+abbrev pub EndsBad : List ℕ → Type 0
+EndsBad report = (above : List ℕ) × (line : ℕ) × (report ≡ above ++ bad_text line)
+
 -- The report of a bad script tells its cause: it is a refusal, or its last line is the malformed line's.
 abbrev pub TellsCause : List ℕ → Type 0
-TellsCause report = IsRefusal report ⊎ ((above : List ℕ) × (line : ℕ) × (report ≡ above ++ bad_text line))
+TellsCause report = IsRefusal report ⊎ EndsBad report
 
 -- what was written is the report of a bad script
 abbrev pub AppendsBadReport : (old new : Option (List ℕ)) → Type 0

@@ -1,7 +1,6 @@
 //! Scripts for the group controller: what each line asks for, what it does, and the lines of their reports.
 #![tactic(auto)]
 
-mod asks;
 mod input;
 mod line;
 mod lines;
@@ -9,10 +8,13 @@ mod parsing;
 mod piece;
 pub mod report;
 mod script;
+mod segment;
+mod source;
 mod station;
+mod terminals;
 
 pub use input::{InputFault, read_all};
-pub use line::{Cut, ScriptLine};
+pub use line::ScriptLine;
 pub use lines::Verdict;
 pub use parsing::parse;
 pub use script::{ReplayFault, run};

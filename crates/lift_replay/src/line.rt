@@ -1,15 +1,5 @@
 use lift_base::{Dir, Floor, Letter, Number, Party};
-
-/// What a power cut leaves in the sectors that weren't safe.
-#[derive(Clone, Copy, PartialEq, Eq)]
-pub enum Cut {
-    /// Their bytes as they are.
-    Keep,
-    /// Their bytes as of the last successful sync.
-    Lose,
-    /// This byte everywhere.
-    Fill(u8),
-}
+use lift_disk::Outcome;
 
 /// What a line of a script asks for.
 #[derive(Clone, Copy, PartialEq, Eq)]
@@ -52,8 +42,8 @@ pub enum ScriptLine {
     Fuse {
         calls: u32,
     },
-    /// The power is cut, and comes back.
+    /// The power is cut, and comes back: what becomes of the sectors that weren't safe.
     Cut {
-        outcome: Cut,
+        outcome: Outcome,
     },
 }

@@ -1,23 +1,22 @@
 //! What each line of a script does, and what it reports.
 
-ghost use Rattle.std.specs.Prelude.{◌≡◌, ◌<◌, ◌↔◌, ◌++◌, length, string_bytes, IsTrue, OnOk, OnErr};
-ghost use Rattle.lift_base.specs.declared.command.Reply.{Reply as ReplyValue};
+ghost use Rattle.std.specs.Prelude.{◌≡◌, ◌≢◌, ◌<◌, ◌↔◌, ◌++◌, length, string_bytes, IsTrue};
 ghost use Rattle.lift_replay.specs.Known.{IsKnown};
 ghost use Rattle.lift_replay.specs.Report.{bad_text};
 ghost use Rattle.lift_policy.specs.View.{IsViewIn};
 
-use crate::asks::Ask;
 use crate::line::ScriptLine;
 use crate::parsing::parse;
 use crate::report::{
-    push_bad, push_cost, push_fault, push_halt, push_heard, push_refused, push_rows, push_turn,
+    push_bad, push_cost, push_fault, push_halt, push_refused, push_rows, push_spent, push_turn,
     push_waiting,
 };
-use crate::station::{Answer, Station};
-use lift_base::{Body, Floor, Halt, Letter, Number, Party, Reason, Reply, Terminal};
+use crate::station::Station;
+use lift_base::{Body, Floor, Halt, Letter, Number, Party, Reason, Terminal};
 use lift_building::Building;
 use lift_cost::NewCall;
-use lift_journal::JournalFault;
+use lift_desk::AskRefusal;
+use lift_disk::Outcome;
 use lift_policy::{Eligible, Etd, View};
 use std::alloc::AllocError;
 use std::fmt::Write;
@@ -29,10 +28,19 @@ pub enum Verdict {
     Bad,
 }
 
+/// What ends the lines that are carried out at one desk.
+#[derive(Clone, Copy, PartialEq, Eq)]
+pub enum End {
+    /// The end of the run.
+    Run(Verdict),
+    /// A power cut.
+    Cut(Outcome),
+}
+
 /// The fault that a line reports which would show more than what is safe: the journal is broken.
 const BROKEN: u8 = 5;
 
-/// A terminal asks, or is told that it still waits.
+/// A terminal asks, or is told why it can't.
 fn push_ask(
     report: &mut String,
     station: &mut Station,
@@ -40,55 +48,26 @@ fn push_ask(
     number: Number,
     body: Body,
 ) -> Result<(), AllocError>
-    requires idle { length station.old.decider.state.batch ≡ 0 }
-    ensures idle { length station.new.decider.state.batch ≡ 0 }
+    requires { terminal < length station.old.terminals.seats.items }
+    ensures building { station.new.building ≡ station.old.building }
+    ensures clerk { station.new.clerk ≡ station.old.clerk }
 {
-    if station.asks.ask(terminal, Ask { number, body }) {
-        Ok(())
-    } else {
-        push_waiting(report, terminal, number)
+    match station.terminals.ask(terminal, number, body) {
+        Ok(()) => Ok(()),
+        Err(AskRefusal::Waiting) => push_waiting(report, terminal, number),
+        Err(AskRefusal::Spent) => push_spent(report, terminal, number),
     }
 }
 
-/// What a terminal hears: nothing is known of the commands of a turn that failed.
-fn heard(outcome: &Result<usize, JournalFault>, answer: &Answer) -> Reply
-    ensures safe { OnOk outcome.now (result ≡ answer.now.reply) }
-    ensures failed { OnErr outcome.now (result ≡ ReplyValue.Unknown) }
+/// One turn: what it took and added, or its fault, and then what each terminal hears.
+fn push_turn_of(report: &mut String, station: &mut Station) -> Result<(), AllocError>
+    ensures building { station.new.building ≡ station.old.building }
 {
-    match outcome {
-        Ok(_) => answer.reply,
-        Err(_) => Reply::Unknown,
-    }
-}
-
-/// What a turn took and added, or its fault, and then what each terminal hears.
-fn push_outcome(
-    report: &mut String,
-    outcome: &Result<usize, JournalFault>,
-    answers: &[Answer],
-) -> Result<(), AllocError> {
-    match outcome {
-        Ok(accepted) => push_turn(report, answers.len(), *accepted)?,
+    match station.clerk.turn() {
+        Ok(counts) => push_turn(report, counts.taken, counts.accepted)?,
         Err(fault) => push_fault(report, "turn", fault.number())?,
     }
-    for answer in answers {
-        push_heard(
-            report,
-            answer.terminal,
-            answer.number,
-            heard(outcome, answer),
-        )?;
-    }
-    Ok(())
-}
-
-/// One turn, and what it reports.
-fn push_turn_of(report: &mut String, station: &mut Station) -> Result<(), AllocError>
-    requires idle { length station.old.decider.state.batch ≡ 0 }
-    ensures idle { length station.new.decider.state.batch ≡ 0 }
-{
-    let outcome = station.turn();
-    push_outcome(report, &outcome, station.answers.as_slice())
+    station.terminals.push_all_heard(report)
 }
 
 /// Halts in their order, or that there are none.
@@ -173,8 +152,7 @@ fn push_costs_between(
     report.push('\n')
 }
 
-/// Whether the building has the car or the kiosk that a line names. Fuses and power cuts are for a clerk that can be
-/// begun again, and this one can't.
+/// Whether the building has the car or the kiosk that a line names, if it names one.
 fn is_known(building: &Building, line: &ScriptLine) -> bool
     ensures { IsTrue result ↔ IsKnown building.now line.now }
 {
@@ -186,17 +164,18 @@ fn is_known(building: &Building, line: &ScriptLine) -> bool
         ScriptLine::Cost { kiosk, .. } => kiosk < building.kiosks(),
         ScriptLine::Turn => true,
         ScriptLine::Rows => true,
-        ScriptLine::Fuse { .. } => false,
-        ScriptLine::Cut { .. } => false,
+        ScriptLine::Fuse { .. } => true,
+        ScriptLine::Cut { .. } => true,
     }
 }
 
 /// The stop list of a car, where it is known to be safe.
 fn show_stops(report: &mut String, station: &Station, car: Letter) -> Result<(), AllocError> {
-    if station.fault.is_some() {
+    let keeper = station.clerk.keeper();
+    if keeper.is_broken() {
         return push_fault(report, "stops", BROKEN);
     }
-    push_stops(report, &station.decider.view(), car)
+    push_stops(report, &keeper.view(), car)
 }
 
 /// The costs of a call, where the open calls are known to be safe.
@@ -207,27 +186,29 @@ fn show_costs(
     to: Floor,
     party: Party,
 ) -> Result<(), AllocError>
-    requires known { kiosk < length station.now.decider.plan.kiosks }
+    requires known { kiosk < length station.now.building.now.kiosks }
 {
-    if station.fault.is_some() {
+    let keeper = station.clerk.keeper();
+    if keeper.is_broken() {
         return push_fault(report, "cost", BROKEN);
     }
-    let _possible = station.decider.register();
-    let building = station.decider.building();
+    let _possible = keeper.register();
+    let building = station.building;
     let from = building.kiosk_floor(kiosk);
     let call = NewCall { from, to, party };
-    push_costs_between(report, building, &station.decider.view(), &call)
+    push_costs_between(report, building, &keeper.view(), &call)
 }
 
 /// The open calls, where they are known to be safe.
 fn show_rows(report: &mut String, station: &Station) -> Result<(), AllocError> {
-    if station.fault.is_some() {
+    let keeper = station.clerk.keeper();
+    if keeper.is_broken() {
         return push_fault(report, "rows", BROKEN);
     }
-    push_rows(report, station.decider.register())
+    push_rows(report, keeper.register())
 }
 
-/// A kiosk asks for a car, or is told that it still waits.
+/// A kiosk asks for a car, or is told why it can't.
 fn push_call(
     report: &mut String,
     station: &mut Station,
@@ -235,27 +216,27 @@ fn push_call(
     number: Number,
     body: Body,
 ) -> Result<(), AllocError>
-    requires idle { length station.old.decider.state.batch ≡ 0 }
-    requires kiosk { kiosk < 47 }
-    ensures idle { length station.new.decider.state.batch ≡ 0 }
+    requires { kiosk < length station.old.building.now.kiosks }
+    ensures building { station.new.building ≡ station.old.building }
+    ensures clerk { station.new.clerk ≡ station.old.clerk }
 {
+    let _limit = station.building.kiosks();
     match Terminal::of_kiosk(kiosk) {
         Some(terminal) => push_ask(report, station, terminal, number, body),
         None => unreachable!(),
     }
 }
 
-/// Carries out a line.
+/// Carries out a line. The answer is what a power cut leaves, where it asks for one.
 fn carry_out(
     report: &mut String,
     station: &mut Station,
     line: &ScriptLine,
-) -> Result<(), AllocError>
-    requires idle { length station.old.decider.state.batch ≡ 0 }
-    requires known { IsKnown station.old.decider.plan line.now }
-    ensures idle { length station.new.decider.state.batch ≡ 0 }
+) -> Result<Option<Outcome>, AllocError>
+    requires known { IsKnown station.old.building.now line.now }
+    ensures building { station.new.building ≡ station.old.building }
 {
-    let _limit = station.decider.building().kiosks();
+    let _cars = station.building.cars();
     match *line {
         ScriptLine::Place { car, floor, dir } => {
             let body = Body::Place(floor, dir);
@@ -265,7 +246,7 @@ fn carry_out(
                 Terminal::of_car(car),
                 Number::default(),
                 body,
-            )
+            )?;
         }
         ScriptLine::Stop {
             car,
@@ -274,50 +255,54 @@ fn carry_out(
             dir,
         } => {
             let body = Body::Stop(floor, dir);
-            push_ask(report, station, Terminal::of_car(car), number, body)
+            push_ask(report, station, Terminal::of_car(car), number, body)?;
         }
         ScriptLine::Call {
             kiosk,
             number,
             floor,
             party,
-        } => push_call(report, station, kiosk, number, Body::Call(floor, party)),
-        ScriptLine::Turn => push_turn_of(report, station),
-        ScriptLine::Stops { car } => show_stops(report, station, car),
+        } => push_call(report, station, kiosk, number, Body::Call(floor, party))?,
+        ScriptLine::Turn => push_turn_of(report, station)?,
+        ScriptLine::Stops { car } => show_stops(report, station, car)?,
         ScriptLine::Cost {
             kiosk,
             floor,
             party,
-        } => show_costs(report, station, kiosk, floor, party),
-        ScriptLine::Rows => show_rows(report, station),
-        ScriptLine::Fuse { .. } => unreachable!(),
-        ScriptLine::Cut { .. } => unreachable!(),
+        } => show_costs(report, station, kiosk, floor, party)?,
+        ScriptLine::Rows => show_rows(report, station)?,
+        ScriptLine::Fuse { calls } => station.clerk.arm(calls),
+        ScriptLine::Cut { outcome } => return Ok(Some(outcome)),
     }
+    Ok(None)
 }
 
 /// Carries out the line with this number, counted from 1, and adds what it reports. A malformed line, or one that names
-/// what the building lacks, ends the script. Empty lines and those that begin with `#` are skipped.
+/// what the building lacks, ends the run. Empty lines and those that begin with `#` are skipped. None where the next line
+/// is to be carried out.
 pub fn push_line(
     report: &mut String,
     station: &mut Station,
     text: &str,
     number: usize,
-) -> Result<Verdict, AllocError>
-    requires idle { length station.old.decider.state.batch ≡ 0 }
-    ensures idle { length station.new.decider.state.batch ≡ 0 }
-    ensures bad { result ≡ Ok Verdict.Bad → string_bytes report.new ≡ string_bytes report.old ++ bad_text number }
+) -> Result<Option<End>, AllocError>
+    ensures bad { result ≡ Ok (Some (End.Run Verdict.Bad)) → string_bytes report.new ≡ string_bytes report.old ++ bad_text number }
+    ensures on { result ≢ Ok (Some (End.Run Verdict.Good)) }
+    ensures building { station.new.building ≡ station.old.building }
 {
     if text.is_empty() || text.starts_with('#') {
-        return Ok(Verdict::Good);
+        return Ok(None);
     }
     match parse(text) {
-        Some(line) if is_known(station.decider.building(), &line) => {
-            carry_out(report, station, &line)?;
-            Ok(Verdict::Good)
+        Some(line) if is_known(station.building, &line) => {
+            match carry_out(report, station, &line)? {
+                None => Ok(None),
+                Some(outcome) => Ok(Some(End::Cut(outcome))),
+            }
         }
         _ => {
             push_bad(report, number)?;
-            Ok(Verdict::Bad)
+            Ok(Some(End::Run(Verdict::Bad)))
         }
     }
 }

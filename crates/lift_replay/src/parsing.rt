@@ -4,14 +4,15 @@ ghost use Rattle.std.specs.Prelude.{◌≡◌, ◌≢◌, ◌<◌, ◌≤◌, �
 ghost use Rattle.std.specs.Fmt.{decimal};
 ghost use Rattle.lift_base.specs.Text.{letter_text, dir_text};
 ghost use Rattle.lift_replay.specs.Grammar.{Spells, AskFor, outcome_words, IsOutcomeInRange, IsInRange};
-ghost use Rattle.lift_replay.specs.declared.line.Cut.{Cut as Outcome};
+ghost use Rattle.lift_disk.specs.declared.outcome.Outcome.{Outcome as Left};
 ghost use Rattle.lift_replay.specs.declared.line.ScriptLine.{ScriptLine as Wanted};
 
-use crate::line::{Cut, ScriptLine};
+use crate::line::ScriptLine;
 use lift_base::Floor;
 use lift_base::text::{
     dir_of_word, letter_of_word, number_of_word, number_up_to, party_of_words, words_of,
 };
+use lift_disk::Outcome;
 
 /// The floor, 0 to 63, that a word names.
 fn floor_of(word: &str) -> Option<Floor>
@@ -36,18 +37,18 @@ fn kiosk_of(word: &str) -> Option<u8>
 }
 
 /// What the last words of a power cut say that it leaves.
-fn outcome_of(words: &[&str]) -> Option<Cut>
+fn outcome_of(words: &[&str]) -> Option<Outcome>
     ensures some { IfSome result (λ outcome. map (λ word. word.now) words.now ≡ outcome_words outcome) }
     ensures range { IfSome result (λ outcome. IsOutcomeInRange outcome) }
-    ensures none { IfNone result ((outcome : Outcome) → IsOutcomeInRange outcome
+    ensures none { IfNone result ((outcome : Left) → IsOutcomeInRange outcome
         → map (λ word. word.now) words.now ≢ outcome_words outcome) }
 {
     match words {
         [word] => {
             if *word == "keep" {
-                Some(Cut::Keep)
+                Some(Outcome::Keep)
             } else if *word == "lose" {
-                Some(Cut::Lose)
+                Some(Outcome::Lose)
             } else {
                 None
             }
@@ -55,7 +56,7 @@ fn outcome_of(words: &[&str]) -> Option<Cut>
         [word, byte] => {
             if *word == "fill" {
                 let byte = number_up_to(byte, 255)?;
-                Some(Cut::Fill(byte as u8))
+                Some(Outcome::Fill(byte as u8))
             } else {
                 None
             }

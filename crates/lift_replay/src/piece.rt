@@ -1,13 +1,13 @@
 //! A report in pieces, so that the writer isn't called for each line.
 
-ghost use Rattle.std.specs.Prelude.{◌≡◌, [], take, string_bytes, OnOk, IfErr};
+ghost use Rattle.std.specs.Prelude.{◌≡◌, ◌++◌, List, ℕ, [], take, string_bytes, OnOk, IfErr};
 ghost use Rattle.std.specs.Io.KnownBytes.{Appends};
 
 use lift_base::text::{WriteFault, put_all};
 use std::io::Write;
 
 /// A piece is written once it has so many bytes.
-pub const PIECE_BYTES: usize = 32_768;
+const PIECE_BYTES: usize = 32_768;
 
 /// The room for a piece: its last line, the longest of which shows 512 calls in less than 20,000 bytes, goes beyond it.
 pub const ROOM_BYTES: usize = 65_536;
@@ -21,4 +21,16 @@ pub fn put_piece<W: Write>(writer: &mut W, piece: &mut String) -> Result<(), Wri
     let end = put_all(writer, piece.as_bytes());
     piece.clear();
     end
+}
+
+/// Writes a piece of whole lines, and empties it, if it is large enough.
+pub fn put_large_piece<W: Write>(writer: &mut W, piece: &mut String) -> Result<(), WriteFault>
+    ensures ok { OnOk result ((written : List ℕ) × Appends (W.contents writer.old) (W.contents writer.new) written
+        × (string_bytes piece.old ≡ written ++ string_bytes piece.new)) }
+    ensures front { IfErr result (λ fault. Appends (W.contents writer.old) (W.contents writer.new) (take fault.written (string_bytes piece.old))) }
+{
+    if piece.len() < PIECE_BYTES {
+        return Ok(());
+    }
+    put_piece(writer, piece)
 }

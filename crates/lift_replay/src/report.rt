@@ -2,7 +2,7 @@
 
 ghost use Rattle.std.specs.Prelude.{◌≡◌, ◌++◌, OnOk, decimal, string_bytes};
 ghost use Rattle.lift_base.specs.Text.{terminal_text, reply_text};
-ghost use Rattle.lift_replay.specs.Report.{status_text, party_text, row_text, rows_text, car_text, register_text, halt_text, heard_text, waiting_text, turn_text, cost_text, bad_text, fault_text, refused_text, building_text, detour_text};
+ghost use Rattle.lift_replay.specs.Report.{status_text, party_text, row_text, rows_text, car_text, register_text, halt_text, heard_text, waiting_text, spent_text, cut_text, turn_text, cost_text, bad_text, fault_text, refused_text, building_text, detour_text};
 
 use itoa::Buffer;
 use lift_base::{Floor, Halt, Letter, Number, Party, Reason, Reply, Row, Terminal};
@@ -140,6 +140,21 @@ pub fn push_waiting(
 {
     let number = number.get();
     writeln!(report, "{terminal} {number} WAITING")
+}
+
+/// Adds that a terminal has no turn left to ask with.
+pub fn push_spent(report: &mut String, terminal: Terminal, number: Number) -> Result<(), AllocError>
+    ensures { OnOk result (string_bytes report.new ≡ string_bytes report.old ++ spent_text terminal number) }
+{
+    let number = number.get();
+    writeln!(report, "{terminal} {number} SPENT")
+}
+
+/// Adds how many calls are open once the power has come back.
+pub fn push_cut(report: &mut String, calls: u32) -> Result<(), AllocError>
+    ensures { OnOk result (string_bytes report.new ≡ string_bytes report.old ++ cut_text calls) }
+{
+    writeln!(report, "cut {calls}")
 }
 
 /// Adds what a turn took and accepted.

@@ -3,14 +3,16 @@
 ghost use Rattle.std.specs.Prelude.{◌≡◌, ◌≢◌, ◌⊎◌, ◌≤◌, ◌++◌, ℕ, List, [], length, string_bytes, true, false, OnOk};
 ghost use Rattle.std.specs.Io.KnownBytes.{Appends};
 ghost use Rattle.lift_replay.specs.Reading.{IsRead};
-ghost use Rattle.lift_replay.specs.Report.{IsRefusal, TellsCause, AppendsBadReport};
+ghost use Rattle.lift_replay.specs.Report.{IsRefusal, EndsBad, AppendsBadReport};
 ghost use Rattle.lift_replay.specs.declared.script.ReplayFault.TheVariants.{Memory as NoMemory, Write as NoOutput};
 
 use crate::input::{InputFault, read_all};
-use crate::lines::{Verdict, push_line};
-use crate::piece::{PIECE_BYTES, ROOM_BYTES, put_piece};
+use crate::lines::Verdict;
+use crate::piece::{ROOM_BYTES, put_piece};
 use crate::report::push_building_fault;
-use crate::station::Station;
+use crate::segment::{SegmentEnd, add_segment};
+use crate::source::{Lines, split_script};
+use crate::station::first_keeper;
 use lift_base::Memory;
 use lift_base::text::{Counted, WriteFault, put_all};
 use lift_building::{Building, BuildingFault};
@@ -58,40 +60,6 @@ const MOST_BYTES: usize = 1_048_576;
 /// The reader is called so often at most.
 const MOST_CALLS: u32 = 2_097_152;
 
-/// A line without its end (a line feed, with a carriage return before it or none), and what stands behind it; none where
-/// the text is at its end. The last line may lack its end.
-fn next_line(text: &str) -> Option<(&str, &str)> {
-    if text.is_empty() {
-        return None;
-    }
-    match text.split_once('\n') {
-        None => Some((text, "")),
-        Some((line, behind)) => match line.strip_suffix('\r') {
-            None => Some((line, behind)),
-            Some(line) => Some((line, behind)),
-        },
-    }
-}
-
-/// The lines before the first that is `---`, each with its end, and the text behind that one; none where there is no
-/// such line.
-fn split_script<'a>(alloc: Global, text: &'a str) -> Result<Option<(String, &'a str)>, AllocError> {
-    let mut building = String::new(alloc);
-    let mut rest = text;
-    for _ in 0..=text.len() {
-        let Some((line, behind)) = next_line(rest) else {
-            return Ok(None);
-        };
-        if line == "---" {
-            return Ok(Some((building, behind)));
-        }
-        building.push_str(line)?;
-        building.push('\n')?;
-        rest = behind;
-    }
-    Ok(None)
-}
-
 /// A report of one line, for a script of which nothing is carried out.
 fn refuse<W: Write>(writer: &mut W, report: &str) -> Result<Verdict, ReplayFault>
     requires refusal { IsRefusal report.now }
@@ -121,41 +89,29 @@ fn refuse_building<W: Write>(
     refuse(writer, &report)
 }
 
-/// Carries out the lines, and adds what each reports to a piece of the report, which is written once it is large enough.
-/// What is left in the piece, also where a line could not be carried out, is of whole lines.
-fn add_lines<W: Write>(
+/// Carries out the lines, segment by segment: over a formatted device up to the first power cut, and then over what each
+/// cut left.
+fn add_segments<W: Write>(
     alloc: Global,
-    station: &mut Station,
-    lines: &str,
+    building: &Building,
+    text: &str,
     piece: &mut String,
     writer: &mut W,
 ) -> Result<Verdict, ReplayFault>
-    requires idle { length station.old.decider.state.batch ≡ 0 }
     ensures output { result ≢ Err ReplayFault.Read }
     ensures bad { result ≡ Ok Verdict.Bad → (written : List ℕ) × Appends (W.contents writer.old) (W.contents writer.new) written
-        × TellsCause (written ++ string_bytes piece.new) }
+        × EndsBad (written ++ string_bytes piece.new) }
 {
-    let mut report = String::new(alloc);
-    let mut rest = lines;
-    for place in 0..=lines.len() {
-        let Some((line, behind)) = next_line(rest) else {
-            return Ok(Verdict::Good);
-        };
-        rest = behind;
-        report.clear();
-        let verdict = push_line(&mut report, station, line, place + 1)?;
-        if station.is_short() {
-            return Err(ReplayFault::Memory);
-        }
-        piece.push_str(&report)?;
-        if verdict == Verdict::Bad {
-            return Ok(verdict);
-        }
-        if piece.len() >= PIECE_BYTES {
-            put_piece(writer, piece)?;
+    let mut lines = Lines::new(text);
+    let mut keeper = first_keeper(alloc, building)?;
+    for _ in 0..=text.len() {
+        let end = add_segment(alloc, building, keeper, &mut lines, piece, writer)?;
+        match end {
+            SegmentEnd::Run(verdict) => return Ok(verdict),
+            SegmentEnd::Cut(recovered) => keeper = recovered,
         }
     }
-    Ok(Verdict::Good)
+    unreachable!()
 }
 
 /// Carries out the lines, and writes what they report, up to the end or to the line that ended the run.
@@ -168,9 +124,8 @@ fn run_lines<W: Write>(
     ensures output { result ≢ Err ReplayFault.Read }
     ensures bad { result ≡ Ok Verdict.Bad → AppendsBadReport (W.contents writer.old) (W.contents writer.new) }
 {
-    let mut station = Station::new(alloc, building)?;
     let mut piece = String::with_capacity(alloc, ROOM_BYTES)?;
-    let end = add_lines(alloc, &mut station, lines, &mut piece, writer);
+    let end = add_segments(alloc, building, lines, &mut piece, writer);
     let written = put_piece(writer, &mut piece);
     let verdict = end?;
     written?;

@@ -1,5 +1,6 @@
 use lift_base::{Dir, Floor, Letter, Number, Party};
-use lift_replay::{Cut, ScriptLine, parse};
+use lift_disk::Outcome;
+use lift_replay::{ScriptLine, parse};
 
 fn floor(number: u8) -> Floor {
     Floor::new(number).unwrap_or_default()
@@ -68,16 +69,21 @@ fn lines_are_read(rt: HostRuntime) {
             },
         ),
         ("fuse 1000000", ScriptLine::Fuse { calls: 1_000_000 }),
-        ("cut keep", ScriptLine::Cut { outcome: Cut::Keep }),
-        ("cut lose", ScriptLine::Cut { outcome: Cut::Lose }),
-        (
-            "cut fill 255",
-            ScriptLine::Cut {
-                outcome: Cut::Fill(255),
-            },
-        ),
     ] {
         assert!(rt; parse(line) == Some(wanted), "{line}");
+    }
+}
+
+/// What a power cut leaves, with the ends of the bytes' range.
+#[test]
+fn cuts_are_read(rt: HostRuntime) {
+    for (line, outcome) in [
+        ("cut keep", Outcome::Keep),
+        ("cut lose", Outcome::Lose),
+        ("cut fill 0", Outcome::Fill(0)),
+        ("cut fill 255", Outcome::Fill(255)),
+    ] {
+        assert!(rt; parse(line) == Some(ScriptLine::Cut { outcome }), "{line}");
     }
 }
 

@@ -1,6 +1,10 @@
-//! Tests of `lift_replay`: lines of scripts, the lines of a report, and readers that end, fail or never end.
+//! Tests of `lift_replay`: lines of scripts, the lines of a report, power cuts, and readers that end, fail or never end.
 #![tactic(auto)]
 
+#[cfg(test)]
+mod checkpoints;
+#[cfg(test)]
+mod cuts;
 #[cfg(test)]
 mod first_call;
 #[cfg(test)]

@@ -60,8 +60,8 @@ fn malformed_lines(rt: HostRuntime) -> Result<(), Fail> {
         ("call 2 1 5\n", "BAD 1\n"),
         ("cost 2 5\n", "BAD 1\n"),
         ("call 0 1 64\n", "BAD 1\n"),
-        ("fuse 3\n", "BAD 1\n"),
-        ("cut keep\n", "BAD 1\n"),
+        ("fuse 3 1\n", "BAD 1\n"),
+        ("cut keep 1\n", "BAD 1\n"),
         ("turn\r\r\n", "BAD 1\n"),
         ("turn\r", "BAD 1\n"),
     ] {

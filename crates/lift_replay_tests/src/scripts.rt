@@ -34,7 +34,7 @@ fn cars(places: &str) -> [&str; 5] {
 }
 
 /// The script over the demo building with so many places in each car, carried out: its report, where all went well.
-fn replay(alloc: Global, places: &str, lines: &str) -> Result<String, Fail> {
+pub(crate) fn replay(alloc: Global, places: &str, lines: &str) -> Result<String, Fail> {
     let mut text = String::from_str(alloc, DEMO)?;
     for part in cars(places) {
         text.push_str(part)?;

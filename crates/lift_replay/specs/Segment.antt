@@ -1,0 +1,17 @@
+-- How a segment of a run ends, between two power cuts.
+use Rattle.lift_disk.specs.declared.fuse.FuseDisk.{FuseDisk}
+use Rattle.lift_keeper.specs.Keeper.{KeeperView}
+use Rattle.lift_replay.specs.declared.lines.End.{End}
+use Rattle.lift_replay.specs.declared.lines.End.TheVariants.{Run as Over, Cut as Power}
+use Rattle.lift_replay.specs.declared.segment.SegmentEnd.{SegmentEnd}
+use Rattle.lift_replay.specs.declared.segment.SegmentEnd.TheVariants.{Run, Cut}
+
+-- a power cut ends the lines of a segment
+abbrev pub IsCut : End → Type 0
+IsCut (Over verdict) = ⊥
+IsCut (Power outcome) = Unit {0}
+
+-- behind a power cut the keeper that goes on is so
+abbrev pub IfCut : SegmentEnd → (KeeperView FuseDisk → Type 0) → Type 0
+IfCut (Run verdict) P = Unit {0}
+IfCut (Cut keeper) P = P keeper

@@ -1,0 +1,59 @@
+-- The seats of a desk's terminals, what they ask, and what they hear.
+use Rattle.std.specs.Prelude.{ℕ, suc, ◌≡◌, ◌<◌, ◌≤◌, ◌⊎◌, List, [], ◌∷◌, ◌++◌, length, slice_index_or, Option, Some, None}
+use Rattle.atomic_table.specs.Seated.{TableId}
+use Rattle.lift_base.specs.declared.command.Body.{Body}
+use Rattle.lift_base.specs.declared.command.Reply.{Reply}
+use Rattle.lift_desk.specs.Words.{ask_word, number_of, last_of}
+use Rattle.lift_desk.specs.Rule.{no_asks}
+use Rattle.lift_desk.specs.Steps.{with_ask, with_hearing}
+use Rattle.lift_desk.specs.Seats.{TerminalSeat, AreSeatsOf, Waits, HearsOf, seat_with, no_table}
+use Rattle.lift_replay.specs.Report.{heard_text}
+
+-- what stands in for the seat of a terminal that the desk lacks
+abbrev pub no_seat : TerminalSeat
+no_seat = record { table = no_table; terminal = 0; view = no_asks }
+
+abbrev pub seat_at : List TerminalSeat → ℕ → TerminalSeat
+seat_at seats terminal = slice_index_or seats terminal no_seat
+
+-- each terminal of the desk has its seat, in order
+pub record AreTerminalsOf (desk : List TableId) (seats : List TerminalSeat) : Type 0 where
+  pub count : length seats ≡ length desk
+  pub seated : AreSeatsOf desk seats
+  pub own : (i : ℕ) → i < length seats → (seat_at seats i).terminal ≡ i
+
+-- no terminal before the first one waits for an answer, and none from the end on
+pub record IsSpanned (seats : List TerminalSeat) (first end : ℕ) : Type 0 where
+  pub bound : end ≤ length seats
+  pub before : (i : ℕ) → i < first → ¬ Waits (seat_at seats i).view
+  pub behind : (i : ℕ) → end ≤ i → ¬ Waits (seat_at seats i).view
+
+-- the terminal's seat once it has asked this, with its next turn
+abbrev pub having_asked : TerminalSeat → ℕ → Body → TerminalSeat
+having_asked seat number body = seat_with seat (with_ask seat.view (ask_word (suc (length seat.view.asked)) number body))
+
+-- what the report shows of what a terminal hears
+abbrev pub line_of : TerminalSeat → Option Reply → List ℕ
+line_of seat None = []
+line_of seat (Some reply) = heard_text seat.terminal (number_of (last_of seat.view.asked)) reply
+
+-- A terminal that waits has looked once for its answer, and the report shows what it heard.
+pub record HasHeard (old new : TerminalSeat) (line : List ℕ) : Type 0 where
+  pub word : ℕ
+  pub reply : Option Reply
+  pub waited : Waits old.view
+  pub looked : new ≡ seat_with old (with_hearing old.view word)
+  pub hears : HearsOf old.view word reply
+  pub shown : line ≡ line_of old reply
+
+-- what a terminal does when all hear: one that doesn't wait rests
+abbrev pub Hears : (old new : TerminalSeat) (line : List ℕ) → Type 0
+Hears old new line = (¬ Waits old.view × (new ≡ old) × (line ≡ [])) ⊎ HasHeard old new line
+
+-- all of these terminals hear, in their order
+abbrev pub AllHear : (olds news : List TerminalSeat) (lines : List ℕ) → Type 0
+AllHear [] [] lines = lines ≡ []
+AllHear [] (new ∷ news) lines = ⊥
+AllHear (old ∷ olds) [] lines = ⊥
+AllHear (old ∷ olds) (new ∷ news) lines =
+    (line : List ℕ) × (others : List ℕ) × Hears old new line × AllHear olds news others × (lines ≡ line ++ others)

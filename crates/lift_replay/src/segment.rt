@@ -1,0 +1,116 @@
+//! What a script does between two power cuts.
+
+ghost use Rattle.std.specs.Prelude.{◌≡◌, ◌≢◌, ◌<◌, ◌≤◌, ◌++◌, List, ℕ, [], length, string_bytes, false, OnOk, IfOk};
+ghost use Rattle.std.specs.Io.KnownBytes.{Appends};
+ghost use Rattle.lift_replay.specs.Report.{EndsBad, cut_text};
+ghost use Rattle.lift_replay.specs.Segment.{IfCut, IsCut};
+
+use crate::lines::{End, Verdict, push_line};
+use crate::piece::put_large_piece;
+use crate::report::push_cut;
+use crate::script::ReplayFault;
+use crate::source::Lines;
+use crate::station::Station;
+use lift_building::Building;
+use lift_desk::{Desk, DeskParts};
+use lift_disk::FuseDisk;
+use lift_keeper::Keeper;
+use std::alloc::Global;
+use std::io::Write;
+
+/// How a segment of a run ends.
+pub enum SegmentEnd<'b> {
+    /// With the run.
+    Run(Verdict),
+    /// By a power cut, behind which this keeper goes on.
+    Cut(Keeper<'b, FuseDisk>),
+}
+
+/// Carries out lines up to a power cut or to the end of the run, and adds what each reports to a piece of the report,
+/// which is written once it is large enough. What is left in the piece, also where a line could not be carried out, is of
+/// whole lines.
+fn add_lines<W: Write>(
+    alloc: Global,
+    station: &mut Station,
+    lines: &mut Lines,
+    piece: &mut String,
+    writer: &mut W,
+) -> Result<End, ReplayFault>
+    ensures output { result ≢ Err ReplayFault.Read }
+    ensures written { OnOk result ((written : List ℕ) × Appends (W.contents writer.old) (W.contents writer.new) written) }
+    ensures bad { result ≡ Ok (End.Run Verdict.Bad) → (written : List ℕ) × Appends (W.contents writer.old) (W.contents writer.new) written
+        × EndsBad (written ++ string_bytes piece.new) }
+    ensures good { result ≡ Ok (End.Run Verdict.Good) → length lines.new.rest.now ≡ 0 }
+    ensures shorter { OnOk result (length lines.new.rest.now ≤ length lines.old.rest.now) }
+    ensures cut { IfOk result (λ end. IsCut end → length lines.new.rest.now < length lines.old.rest.now) }
+    ensures building { station.new.building ≡ station.old.building }
+{
+    let mut report = String::new(alloc);
+    for _ in 0..=lines.len() {
+        let Some((number, line)) = lines.next() else {
+            return Ok(End::Run(Verdict::Good));
+        };
+        report.clear();
+        let end = push_line(&mut report, station, line, number)?;
+        if station.is_short() {
+            return Err(ReplayFault::Memory);
+        }
+        piece.push_str(&report)?;
+        if let Some(end) = end {
+            return Ok(end);
+        }
+        put_large_piece(writer, piece)?;
+    }
+    unreachable!()
+}
+
+/// Adds to the piece how many calls are open once the power has come back.
+fn add_cut<W: Write>(
+    alloc: Global,
+    calls: u32,
+    piece: &mut String,
+    writer: &mut W,
+) -> Result<(), ReplayFault>
+    ensures output { result ≢ Err ReplayFault.Read }
+    ensures written { OnOk result ((written : List ℕ) × Appends (W.contents writer.old) (W.contents writer.new) written
+        × (string_bytes piece.old ++ cut_text calls ≡ written ++ string_bytes piece.new)) }
+{
+    let mut report = String::new(alloc);
+    push_cut(&mut report, calls)?;
+    piece.push_str(&report)?;
+    put_large_piece(writer, piece)?;
+    Ok(())
+}
+
+/// Opens a desk for the building, and carries out lines over it and the keeper, up to a power cut or to the end of the run.
+pub fn add_segment<'b, W: Write>(
+    alloc: Global,
+    building: &'b Building,
+    keeper: Keeper<'b, FuseDisk>,
+    lines: &mut Lines,
+    piece: &mut String,
+    writer: &mut W,
+) -> Result<SegmentEnd<'b>, ReplayFault>
+    requires plan { keeper.writer.plan ≡ building.now }
+    requires settled { keeper.state.batch ≡ [] }
+    ensures output { result ≢ Err ReplayFault.Read }
+    ensures written { OnOk result ((written : List ℕ) × Appends (W.contents writer.old) (W.contents writer.new) written) }
+    ensures bad { result ≡ Ok (SegmentEnd.Run Verdict.Bad) → (written : List ℕ) × Appends (W.contents writer.old) (W.contents writer.new) written
+        × EndsBad (written ++ string_bytes piece.new) }
+    ensures good { result ≡ Ok (SegmentEnd.Run Verdict.Good) → length lines.new.rest.now ≡ 0 }
+    ensures cut { IfOk result (λ end. IfCut end (λ keeper. length lines.new.rest.now < length lines.old.rest.now)) }
+    ensures plan { IfOk result (λ end. IfCut end (λ keeper. keeper.writer.plan ≡ building.now)) }
+    ensures settled { IfOk result (λ end. IfCut end (λ keeper. keeper.state.batch ≡ [])) }
+{
+    let terminals = 16 + usize::from(building.kiosks());
+    let DeskParts { desk, seats, clerk } = Desk::open(alloc, terminals)?;
+    let mut station = Station::new(building, keeper, &desk, seats, clerk);
+    match add_lines(alloc, &mut station, lines, piece, writer)? {
+        End::Run(verdict) => Ok(SegmentEnd::Run(verdict)),
+        End::Cut(outcome) => {
+            let keeper = station.cut(outcome)?;
+            add_cut(alloc, keeper.register().open_count(), piece, writer)?;
+            Ok(SegmentEnd::Cut(keeper))
+        }
+    }
+}

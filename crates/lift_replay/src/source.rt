@@ -1,0 +1,86 @@
+//! The text of a script: its building, and its lines.
+
+ghost use Rattle.std.specs.Prelude.{◌≡◌, ◌<◌, ◌≤◌, ◌+◌, ◌^◌, length, IfSome, IfNone};
+
+use std::alloc::{AllocError, Global};
+
+/// A line without its end (a line feed, with a carriage return before it or none), and what stands behind it; none where
+/// the text is at its end. The last line may lack its end.
+fn next_line(text: &str) -> Option<(&str, &str)>
+    ensures shorter { IfSome result (λ found. length found.1.now < length text.now) }
+    ensures over { IfNone result (length text.now ≡ 0) }
+{
+    if text.is_empty() {
+        return None;
+    }
+    match text.split_once('\n') {
+        None => Some((text, "")),
+        Some((line, behind)) => match line.strip_suffix('\r') {
+            None => Some((line, behind)),
+            Some(line) => Some((line, behind)),
+        },
+    }
+}
+
+/// The lines before the first that is `---`, each with its end, and the text behind that one; none where there is no
+/// such line.
+pub fn split_script<'a>(
+    alloc: Global,
+    text: &'a str,
+) -> Result<Option<(String, &'a str)>, AllocError> {
+    let mut building = String::new(alloc);
+    let mut rest = text;
+    for _ in 0..=text.len() {
+        let Some((line, behind)) = next_line(rest) else {
+            return Ok(None);
+        };
+        if line == "---" {
+            return Ok(Some((building, behind)));
+        }
+        building.push_str(line)?;
+        building.push('\n')?;
+        rest = behind;
+    }
+    Ok(None)
+}
+
+/// The lines of a script that are still to be carried out.
+#[derive(Clone, Copy)]
+pub struct Lines<'a> {
+    rest: &'a str,
+    /// How many lines stood before them.
+    count: usize,
+    ghost bound: { count + length rest.now < 2 ^ 63 },
+}
+
+impl<'a> Lines<'a> {
+    pub fn new(text: &'a str) -> Self
+        ensures text { result.rest.now ≡ text.now }
+        ensures count { result.count ≡ 0 }
+    {
+        Lines {
+            rest: text,
+            count: 0,
+        }
+    }
+
+    /// How many bytes they have, at least as many as lines.
+    pub fn len(&self) -> usize
+        ensures { result ≡ length self.now.rest.now }
+    {
+        self.rest.len()
+    }
+
+    /// The next line with its number, counted from 1; none where there are no more.
+    pub fn next(&mut self) -> Option<(usize, &'a str)>
+        ensures number { IfSome result (λ found. found.0 ≡ self.old.count + 1) }
+        ensures counted { IfSome result (λ found. self.new.count ≡ found.0) }
+        ensures shorter { IfSome result (λ found. length self.new.rest.now < length self.old.rest.now) }
+        ensures over { IfNone result ((length self.old.rest.now ≡ 0) × (self.new ≡ self.old)) }
+    {
+        let (line, behind) = next_line(self.rest)?;
+        self.rest = behind;
+        self.count += 1;
+        Some((self.count, line))
+    }
+}

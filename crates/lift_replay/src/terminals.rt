@@ -1,0 +1,98 @@
+//! The terminals' seats at a desk: what they ask, and what they hear.
+
+ghost use Rattle.std.specs.Prelude.{◌≡◌, ◌<◌, ◌++◌, ◌↔◌, List, ℕ, length, slice_set, string_bytes, true, OnOk, OnErr, IfOk};
+ghost use Rattle.lift_desk.specs.Seats.{AreSeatsOf, Waits, seats_from};
+ghost use Rattle.lift_replay.specs.Terminals.{AreTerminalsOf, IsSpanned, AllHear, Hears, having_asked, seat_at};
+
+use crate::report::push_heard;
+use lift_base::{Body, Number, Terminal};
+use lift_desk::{AskRefusal, Desk, Seat};
+use std::alloc::AllocError;
+
+/// The seats of a desk's terminals, in order.
+#[derive(Drop)]
+pub struct Terminals<'d> {
+    desk: &'d Desk,
+    seats: Vec<Seat>,
+    /// No terminal before the first one or from the end on waits for an answer, so that a turn need not tell them all.
+    first: u8,
+    end: u8,
+    ghost own: { AreTerminalsOf desk.now seats.items },
+    ghost spanned: { IsSpanned seats.items first end },
+}
+
+impl<'d> Terminals<'d> {
+    /// The terminals of a new desk: nobody has asked.
+    pub fn new(desk: &'d Desk, seats: Vec<Seat>) -> Self
+        requires seated { AreSeatsOf desk.now seats.items }
+        requires new { seats.items ≡ seats_from 0 desk.now }
+        ensures desk { result.desk.now ≡ desk.now }
+        ensures seats { result.seats.items ≡ seats_from 0 desk.now }
+    {
+        Terminals {
+            desk,
+            seats,
+            first: 63,
+            end: 0,
+        }
+    }
+
+    /// The terminal asks, unless its last ask has not been heard or all its turns were used.
+    pub fn ask(&mut self, terminal: Terminal, number: Number, body: Body) -> Result<(), AskRefusal>
+        requires { terminal < length self.old.seats.items }
+        ensures waiting { (result ≡ Err AskRefusal.Waiting) ↔ Waits (seat_at self.old.seats.items terminal).view }
+        ensures spent { (result ≡ Err AskRefusal.Spent) ↔ (¬ (Waits (seat_at self.old.seats.items terminal).view)
+            × (length (seat_at self.old.seats.items terminal).view.asked ≡ 1048575)) }
+        ensures asked { OnOk result (self.new.seats.items
+            ≡ slice_set self.old.seats.items terminal (having_asked (seat_at self.old.seats.items terminal) number body)) }
+        ensures kept { OnErr result (self.new.seats.items ≡ self.old.seats.items) }
+        ensures desk { self.new.desk ≡ self.old.desk }
+        ensures count { length self.new.seats.items ≡ length self.old.seats.items }
+    {
+        let index = terminal.get();
+        self.desk
+            .ask(&mut self.seats[usize::from(index)], number, body)?;
+        self.first = self.first.min(index);
+        self.end = self.end.max(index + 1);
+        Ok(())
+    }
+
+    /// A terminal that waits looks for its answer, and the report shows what it hears. The answer is whether it waits on.
+    fn push_heard_at(&mut self, report: &mut String, index: u8) -> Result<bool, AllocError>
+        requires { index < length self.old.seats.items }
+        ensures hears { OnOk result ((line : List ℕ) × Hears (seat_at self.old.seats.items index) (seat_at self.new.seats.items index) line
+            × (string_bytes report.new ≡ string_bytes report.old ++ line)) }
+        ensures waits { IfOk result (λ waits. (waits ≡ true) ↔ Waits (seat_at self.new.seats.items index).view) }
+        ensures others { self.new.seats.items ≡ slice_set self.old.seats.items index (seat_at self.new.seats.items index) }
+        ensures desk { self.new.desk ≡ self.old.desk }
+        ensures span { (self.new.first ≡ self.old.first) × (self.new.end ≡ self.old.end) }
+    {
+        let seat = &mut self.seats[usize::from(index)];
+        let Some(number) = seat.pending() else {
+            return Ok(false);
+        };
+        let Some(reply) = self.desk.hear(seat) else {
+            return Ok(true);
+        };
+        push_heard(report, seat.terminal(), number, reply)?;
+        Ok(false)
+    }
+
+    /// All terminals that wait for an answer look for it, by rising terminal, and the report shows what each hears.
+    pub fn push_all_heard(&mut self, report: &mut String) -> Result<(), AllocError>
+        ensures hears { OnOk result ((lines : List ℕ) × AllHear self.old.seats.items self.new.seats.items lines
+            × (string_bytes report.new ≡ string_bytes report.old ++ lines)) }
+        ensures desk { self.new.desk ≡ self.old.desk }
+        ensures count { length self.new.seats.items ≡ length self.old.seats.items }
+    {
+        let mut waits = false;
+        for index in self.first..self.end {
+            waits |= self.push_heard_at(report, index)?;
+        }
+        if !waits {
+            self.first = 63;
+            self.end = 0;
+        }
+        Ok(())
+    }
+}
