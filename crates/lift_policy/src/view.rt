@@ -42,8 +42,8 @@ impl<'a> View<'a> {
         }
     }
 
-    /// The register that it shows.
-    pub(crate) fn register(&self) -> &Register
+    /// The register that it shows: the open calls of all cars, and what each terminal was last answered.
+    pub fn register(&self) -> &Register
         ensures { result.now ≡ self.now.register }
     {
         self.register

@@ -1,10 +1,10 @@
 -- The legs of some calls as their car passes on.
 use Rattle.std.proofs.Common.{◌≡◌, ℕ, zero, suc, ◌+◌, ◌-◌, ◌*◌, ◌≤◌, ◌<◌, ◌||◌, ◌&&◌, ◌==◌, Bool, true, false, cond, nat_lt, List, [], ◌∷◌, ◌++◌, length, get_or, take, drop, map, refl, sym, ap, subst, ◌∙◌, arith, append_assoc, zero-add}
-use Rattle.std.specs.List.{flat_map, list_any}
+use Rattle.std.specs.List.{All, AllByRecursion, flat_map, list_any}
 use Rattle.std.proofs.lemmas.Bool.{lt-ltb}
 use Rattle.std.proofs.lemmas.List.{take_more, drop_more, append-nil, length-append, length-map, length-drop, length-take-le}
 use Rattle.std.proofs.lemmas.List.Concat.{flat_map-append}
-use Rattle.std.proofs.lemmas.List.Elements.{filter_agree}
+use Rattle.std.proofs.lemmas.List.Elements.{filter_agree, recursion_from_All, All-append, All-cons, All-nil}
 use Rattle.std.proofs.lemmas.List.Sums.{sum_by-append, sum_by-cons}
 use Rattle.lift_base.specs.declared.travel.Halt.{Halt}
 use Rattle.lift_base.specs.declared.travel.Pass.{Pass}
@@ -13,7 +13,7 @@ use Rattle.lift_base.specs.declared.travel.Stop.{Stop}
 use Rattle.lift_base.specs.declared.history.Row.{Row}
 use Rattle.lift_base.specs.History.{row_after, dir_of}
 use Rattle.lift_base.specs.Travel.{same_dir}
-use Rattle.lift_stops.specs.StopList.{same_pass, same_halt, pass_of, legs_of, is_needed, all_halts, stop_list, halts_of}
+use Rattle.lift_stops.specs.StopList.{HasFloors, same_pass, same_halt, pass_of, legs_of, is_needed, all_halts, stop_list, halts_of}
 use Rattle.lift_stops.specs.Tally.{IsTally, HasRow, times_in, legs_at}
 use Rattle.lift_stops.specs.Schedule.{IsPlanned}
 use Rattle.lift_stops.proofs.Tallies.{kept, length-kept}
@@ -149,3 +149,27 @@ pub length-planned : (position : Position) (rows : List Row) (halts : List Halt)
 length-planned position rows halts counts planned =
     let same : length halts ≡ length (kept position.dir (times_in (legs_at position rows))) = ap (λ (hs : List Halt). length hs) planned.tally.listed in
     omega (arith, same, length-kept position.dir (legs_at position rows), length-legs position rows)
+
+-- ---- floors that a building may have
+
+legs-board : (boards : Bool) (from to : ℕ) → All (λ leg. leg < 64) (from ∷ to ∷ []) → All (λ leg. leg < 64) (cond boards (to ∷ []) (from ∷ to ∷ []))
+legs-board true from to below = All-cons (λ leg. leg < 64) to [] (below 1 to (omega arith)) (All-nil (λ leg. leg < 64))
+legs-board false from to below = below
+
+floors-own : (row : Row) (aboard leaves boards : Bool) → HasFloors row → All (λ leg. leg < 64) (cond aboard (row.to ∷ []) (row.from ∷ row.to ∷ []))
+    → All HasFloors (cond aboard (cond leaves [] (row ∷ [])) ((record row { aboard = boards }) ∷ []))
+floors-own row true true boards has below = All-nil HasFloors
+floors-own row true false boards has below = All-cons HasFloors row [] has (All-nil HasFloors)
+floors-own row false leaves boards has below =
+    All-cons HasFloors (record row { aboard = boards }) [] (legs-board boards row.from row.to below) (All-nil HasFloors)
+
+floors-left : (stop : Stop) (rows : List Row) → AllByRecursion HasFloors rows → All HasFloors (flat_map (row_after stop) rows)
+floors-left stop [] each = All-nil HasFloors
+floors-left stop (row ∷ rows) each =
+    All-append HasFloors (row_after stop row) (flat_map (row_after stop) rows)
+    (floors-own row row.aboard (stop.floor == row.to) (stop.floor == row.from && same_dir stop.dir (dir_of row.from row.to)) each.0 each.0)
+    (floors-left stop rows each.1)
+
+-- after a stop each call's legs are among those that it had
+pub floors-after : (stop : Stop) (rows : List Row) → All HasFloors rows → All HasFloors (flat_map (row_after stop) rows)
+floors-after stop rows all = floors-left stop rows (recursion_from_All HasFloors rows all)

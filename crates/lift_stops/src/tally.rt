@@ -6,7 +6,7 @@ ghost use Rattle.arrayvec.specs.ArrayVec.{array_vec_len};
 ghost use Rattle.lift_base.specs.History.{row_after};
 ghost use Rattle.lift_base.specs.declared.travel.Dir.{Dir as DirValue};
 ghost use Rattle.lift_base.specs.declared.travel.Halt.{Halt as HaltValue};
-ghost use Rattle.lift_stops.specs.StopList.{halts_of};
+ghost use Rattle.lift_stops.specs.StopList.{HasFloors, halts_of};
 ghost use Rattle.lift_stops.specs.Tally.{IsTally, HasTally, HasRow, legs_at};
 
 use crate::stops::{find_halt, pass_of};
@@ -58,9 +58,10 @@ impl Tally {
     /// One leg more, at this halt of a car that travels in this direction.
     pub fn add(&mut self, dir: Dir, halt: &Halt)
         requires { HasTally dir 65 self.old.halts.items self.old.counts.items }
-        ensures { (before after : List HaltValue)
+        ensures tally { (before after : List HaltValue)
             → IsTally dir (before ++ after) self.old.halts.items self.old.counts.items
             → IsTally dir (before ++ halt.now ∷ after) self.new.halts.items self.new.counts.items }
+        ensures floor { halt.now.floor < 64 }
     {
         let _floor = halt.floor.get();
         match find_halt(&self.halts, dir, halt) {
@@ -96,10 +97,11 @@ impl Tally {
 /// The legs of a call join, at their halts for a car at this position.
 pub fn add_row(tally: &mut Tally, position: &Position, row: &Row)
     requires { HasTally position.now.dir 64 tally.old.halts.items tally.old.counts.items }
-    ensures { (before after : List HaltValue)
+    ensures tally { (before after : List HaltValue)
         → IsTally position.now.dir (before ++ after) tally.old.halts.items tally.old.counts.items
         → IsTally position.now.dir (before ++ (halts_of position.now row.now ++ after))
         tally.new.halts.items tally.new.counts.items }
+    ensures floors { HasFloors row.now }
 {
     let pass = pass_of(row, *position);
     let (from, to) = (row.from, row.to);

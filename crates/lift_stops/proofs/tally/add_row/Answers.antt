@@ -6,6 +6,6 @@ add-requires-else-row-2 c =
     let few = c.requires.few in
     record {
       legs = record { pass = c.pass_of-pass.result; floor = c.args.row.now.to } ∷ c.requires.legs;
-      tally = c.add-else-row.ensures [] c.requires.legs c.requires.tally;
+      tally = c.add-else-row.ensures.tally [] c.requires.legs c.requires.tally;
       few = omega (arith, few);
     }

@@ -18,4 +18,4 @@ pub returns-then-not-stays : goal.returns-then-not-stays
 returns-then-not-stays c before after tally =
     let Joins : Dir → Type 0 = λ dir. (before after : List Halt) → IsTally dir (before ++ after) c.remove_row.new.tally.halts.items c.remove_row.new.tally.counts.items
     → IsTally dir (before ++ (halts_of c.args.there.now c.args.next.now ++ after)) c.add_row.new.tally.halts.items c.add_row.new.tally.counts.items in
-    subst Joins c.requires.same_way c.add_row.ensures before after (c.remove_row.ensures before after tally)
+    subst Joins c.requires.same_way c.add_row.ensures.tally before after (c.remove_row.ensures before after tally)

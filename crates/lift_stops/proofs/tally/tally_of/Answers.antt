@@ -25,4 +25,4 @@ loop-row-preserved c =
     let Before : List Halt → Type 0 = λ all. IsTally c.args.position.now.dir all c.loop-row.tally.halts.items c.loop-row.tally.counts.items in
     let After : List Halt → Type 0 = λ all. IsTally c.args.position.now.dir (legs ++ all) c.add_row.new.tally.halts.items c.add_row.new.tally.counts.items in
     rw (legs-more c.args.position.now c.args.rows.now c.loop-row.row-index c.row-item.result (omega arith) c.row-item.is)
-    (subst After (append-nil own) (c.add_row.ensures legs [] (subst Before (sym (append-nil legs)) c.loop-row.invariant)))
+    (subst After (append-nil own) (c.add_row.ensures.tally legs [] (subst Before (sym (append-nil legs)) c.loop-row.invariant)))

@@ -1,6 +1,8 @@
-use Rattle.std.proofs.Common.{ap, ◌∙◌}
-use Rattle.lift_stops.specs.StopList.{stop_list}
+use Rattle.std.proofs.Common.{ap, subst, ◌∙◌}
+use Rattle.std.specs.List.{All}
+use Rattle.lift_stops.specs.StopList.{HasFloors, stop_list}
 use Rattle.lift_stops.specs.Schedule.{ScheduleState}
+use Rattle.lift_stops.proofs.Halts.{stop_list-own}
 use Rattle.lift_stops.proofs.Passing.{tally-stops}
 use Rattle.lift_stops.proofs.schedule.Schedule.halts.Goals as goal
 
@@ -10,3 +12,9 @@ returns-clause-halts c =
     c.halts.ensures.halts
     ∙ tally-stops fields.position fields.rows.items fields.tally.halts.items fields.tally.counts.items c.self.invariant.tally
     ∙ ap (λ (s : ScheduleState). stop_list s.rows s.position) c.self.view_is
+
+pub returns-clause-in_order : goal.returns-clause-in_order
+returns-clause-in_order c row member apart position =
+    let floors : All HasFloors c.args.self.now.rows = subst (λ (s : ScheduleState). All HasFloors s.rows) c.self.view_is c.self.invariant.floors in
+    let own : HasFloors row = rw (← member.2) (floors member.0 row member.1) in
+    stop_list-own c.args.self.now.rows row position member apart own

@@ -1,7 +1,8 @@
 use Rattle.std.proofs.Common.{arith, ap, sym, subst, length, List, [], ◌++◌}
 use Rattle.std.proofs.lemmas.List.{append-nil, length_push}
+use Rattle.std.proofs.lemmas.List.Elements.{All-push}
 use Rattle.lift_base.specs.declared.travel.Halt.{Halt}
-use Rattle.lift_stops.specs.StopList.{halts_of}
+use Rattle.lift_stops.specs.StopList.{HasFloors, halts_of}
 use Rattle.lift_stops.specs.Tally.{IsTally, legs_at}
 use Rattle.lift_stops.specs.Schedule.{ScheduleState}
 use Rattle.lift_stops.proofs.Passing.{legs-push, length-legs}
@@ -27,6 +28,7 @@ invariant_of-self c =
     let Before : List Halt → Type 0 = λ all. IsTally fields.position.dir all fields.tally.halts.items fields.tally.counts.items in
     let After : List Halt → Type 0 = λ all. IsTally fields.position.dir (legs ++ all) c.add_row.new.tally.halts.items c.add_row.new.tally.counts.items in
     rw c.push.ensures.items (record {
-      tally = rw (legs-push fields.position fields.rows.items c.args.row) (subst After (append-nil own) (c.add_row.ensures legs [] (subst Before (sym (append-nil legs)) c.self.invariant.tally)));
+      tally = rw (legs-push fields.position fields.rows.items c.args.row) (subst After (append-nil own) (c.add_row.ensures.tally legs [] (subst Before (sym (append-nil legs)) c.self.invariant.tally)));
       few = (let long = length_push fields.rows.items c.args.row in omega (arith, few, long));
+      floors = All-push HasFloors fields.rows.items c.args.row c.self.invariant.floors c.add_row.ensures.floors;
     })
