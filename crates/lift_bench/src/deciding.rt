@@ -1,73 +1,183 @@
-//! Which car takes a new call, by the cars' schedules and from nothing.
-ghost use Rattle.std.specs.Prelude.{◌<◌};
+//! Decisions with so many open calls: new calls, by the cars' schedules and from nothing, and stops.
+ghost use Rattle.std.specs.Prelude.{◌<◌, Contains, length};
 ghost use Rattle.lift_policy.specs.View.{IsViewIn};
 
 use crate::building::text_of;
 use crate::fault::Fault;
-use lift_base::{Body, Dir, Floor, Letter, Number, Party, Terminal};
+use lift_base::{Body, Dir, Floor, Letter, Number, Party, Reply, Terminal};
 use lift_building::Building;
 use lift_cost::{NewCall, total_cost};
 use lift_keeper::Decider;
 use lift_policy::{Eligible, Etd, FewestOpen, Policy, View};
 use std::alloc::Global;
 
-/// How many cars, open calls and decisions.
+/// What is decided again and again. The open calls are the same after each round.
+#[derive(Clone, Copy)]
+pub(crate) enum Kind {
+    /// A new call, by the cars' schedules; the two stops of its car, and its place, take it out again.
+    Call,
+    /// The same, with the costs of all eligible cars from nothing.
+    Plain,
+    /// The two stops and the place without the call.
+    Stops,
+    /// A stop in the car's direction, at which nobody boards or leaves.
+    Ahead,
+    /// A stop against the car's direction, at which nobody boards or leaves.
+    Turn,
+}
+
+/// How many cars, open calls and rounds.
 #[derive(Clone, Copy)]
 pub(crate) struct Load {
     pub(crate) cars: u8,
     pub(crate) calls: u32,
     pub(crate) times: u32,
+    pub(crate) kind: Kind,
 }
 
 /// What was decided.
 #[derive(Clone, Copy)]
 pub(crate) struct Decided {
-    /// The calls that were open meanwhile.
+    /// The calls that were open before each round.
     pub(crate) calls: u32,
+    /// The new calls that found a car, or else the stops.
     pub(crate) decisions: u32,
-    /// The decisions for car A.
-    pub(crate) first: u32,
 }
 
-fn floor(number: u32) -> Floor {
-    Floor::new((number % 64) as u8).unwrap_or_default()
+/// The floors of the new call. No other call starts or ends there, and none starts between them.
+const FROM: u8 = 46;
+
+const TO: u8 = 63;
+
+fn floor(number: u8) -> Floor {
+    Floor::new(number).unwrap_or_default()
 }
 
-/// Decides a command and gives its batch out. A new call goes to the car with the fewest.
-fn command(decider: &mut Decider, terminal: Terminal, number: Number, body: &Body) {
-    if decider.pending() < 63 {
-        let _reply = decider.decide(terminal, number, body, &FewestOpen);
-        let _batch = decider.seal();
+/// The kiosk on this floor.
+fn kiosk(floor: u8) -> Terminal {
+    Terminal::of_kiosk(floor).unwrap_or_default()
+}
+
+/// Decides a command with its terminal's next number, and drops its batch.
+fn command<P: Policy>(decider: &mut Decider, terminal: Terminal, body: &Body, policy: &P) -> Reply {
+    let number = match body {
+        Body::Place(_, _) => 0,
+        _ => decider.register().last_number(terminal) + 1,
+    };
+    if decider.pending() >= 63 {
+        return Reply::Unknown;
     }
+    let number = Number::new(number).unwrap_or_default();
+    let reply = decider.decide(terminal, number, body, policy);
+    decider.clear_batch();
+    reply
+}
+
+/// A car stops at a floor.
+fn stop(decider: &mut Decider, car: Letter, at: u8, dir: Dir) {
+    let body = Body::Stop(floor(at), dir);
+    let _reply = command(decider, Terminal::of_car(car), &body, &FewestOpen);
+}
+
+/// A car tells that it is where it was first, going up.
+fn place(decider: &mut Decider, car: Letter) {
+    let body = Body::Place(floor(2 * car.get()), Dir::Up);
+    let _reply = command(decider, Terminal::of_car(car), &body, &FewestOpen);
 }
 
 /// Each car tells where it is.
-fn place(decider: &mut Decider, cars: u8) {
+fn place_all(decider: &mut Decider, cars: u8) {
     for index in 0..cars {
-        let dir = if index % 2 == 0 { Dir::Up } else { Dir::Down };
-        let body = Body::Place(floor(4 * u32::from(index)), dir);
-        let car = Letter::new(index).unwrap_or_default();
-        command(decider, Terminal::of_car(car), Number::default(), &body);
+        place(decider, Letter::new(index).unwrap_or_default());
     }
 }
 
-/// So many calls, from the kiosks in turn, over all floors.
-fn call(decider: &mut Decider, calls: u32) {
+/// The goal of a call from this floor: another one, and none of the new call's.
+fn goal(from: u32, round: u32) -> Floor {
+    let place = ((from + 5 * (round % 11) + 11) % 62) as u8;
+    floor(if place < FROM { place } else { place + 1 })
+}
+
+/// So many calls, from the kiosks below the new call's in turn; each goes to the car with the fewest.
+fn fill(decider: &mut Decider, calls: u32) {
     for place in 0..calls {
-        let kiosk = Terminal::of_kiosk((place % 47) as u8).unwrap_or_default();
-        let number = Number::new(place / 47 + 1).unwrap_or_default();
-        let to = floor(place % 47 + place / 47 % 20 + 11);
-        command(decider, kiosk, number, &Body::Call(to, Party::default()));
+        let from = place % 46;
+        let body = Body::Call(goal(from, place / 46), Party::default());
+        let _reply = command(decider, kiosk(from as u8), &body, &FewestOpen);
     }
 }
 
-/// A new call, another one each time, between floors of the building.
-fn new_call(time: u32) -> NewCall {
-    NewCall {
-        from: floor(time),
-        to: floor(time / 64 % 63 + 1 + time % 64),
-        party: Party::default(),
+/// The stops at which the new call's passengers would board and leave, and the place where the car was.
+fn pass_by(decider: &mut Decider, car: Letter) {
+    stop(decider, car, FROM, Dir::Up);
+    stop(decider, car, TO, Dir::Up);
+    place(decider, car);
+}
+
+/// The new call, served at once; the car that took it.
+fn round<P: Policy>(decider: &mut Decider, policy: &P) -> Option<Letter> {
+    let body = Body::Call(floor(TO), Party::default());
+    match command(decider, kiosk(FROM), &body, policy) {
+        Reply::Car(car) => {
+            pass_by(decider, car);
+            Some(car)
+        }
+        _ => None,
     }
+}
+
+/// So many rounds; how many calls found a car.
+fn rounds<P: Policy>(decider: &mut Decider, times: u32, policy: &P) -> u32 {
+    let mut taken = 0u32;
+    for _ in 0..times {
+        if round(decider, policy).is_some() {
+            taken = taken.saturating_add(1);
+        }
+    }
+    taken
+}
+
+/// So many times the stops and the place of a round.
+fn stops(decider: &mut Decider, car: Letter, times: u32) {
+    for _ in 0..times {
+        pass_by(decider, car);
+    }
+}
+
+/// So many stops upwards, at two floors in turn, of a car that goes up.
+fn stops_ahead(decider: &mut Decider, car: Letter, times: u32) {
+    for time in 0..times {
+        let at = if time % 2 == 0 { FROM } else { TO };
+        stop(decider, car, at, Dir::Up);
+    }
+}
+
+/// So many stops at one floor, each against the direction of the one before it.
+fn turns(decider: &mut Decider, car: Letter, times: u32) {
+    for time in 0..times {
+        let dir = if time % 2 == 0 { Dir::Down } else { Dir::Up };
+        stop(decider, car, FROM, dir);
+    }
+}
+
+/// Picks the car whose cost is least, all stop lists made from nothing.
+struct PlainEtd;
+
+impl Policy for PlainEtd {
+    ghost chooses = { λ _ _ _ _ eligible car. Contains eligible car };
+
+    fn choose(
+        &self,
+        building: &Building,
+        view: &View,
+        call: NewCall,
+        eligible: Eligible,
+    ) -> Letter {
+        let letters = eligible.letters();
+        letters[least_plainly(building, view, &call, letters)]
+    }
+
+    ghost only_members = { λ policy plan view call eligible car h. h };
 }
 
 /// What a call would cost a car, its stop lists made from nothing.
@@ -83,72 +193,43 @@ fn plain_cost(building: &Building, view: &View, call: &NewCall, car: Letter) -> 
     }
 }
 
-/// The car whose cost is least, the lowest letter on a tie, all of it from nothing.
-fn pick_plainly(building: &Building, view: &View, call: &NewCall, eligible: &Eligible) -> Letter
+/// The place of the first car whose cost is least.
+fn least_plainly(building: &Building, view: &View, call: &NewCall, letters: &[Letter]) -> usize
     requires possible { IsViewIn building.now view.now }
     requires from { call.now.from < building.now.floors }
     requires to { call.now.to < building.now.floors }
+    requires some { 0 < length letters.now }
+    ensures { result < length letters.now }
 {
-    let mut best = Letter::default();
-    let mut least = u64::MAX;
-    for car in eligible.letters() {
-        let cost = plain_cost(building, view, call, *car);
+    let mut best = 0;
+    let mut least = plain_cost(building, view, call, letters[0]);
+    for i in 1..letters.len() {
+        let cost = plain_cost(building, view, call, letters[i]);
         if cost < least {
             least = cost;
-            best = *car;
+            best = i;
         }
     }
     best
 }
 
-/// The car for a new call.
-fn pick(building: &Building, view: &View, call: NewCall, is_plain: bool) -> Option<Letter>
-    requires possible { IsViewIn building.now view.now }
-{
-    let floors = building.floors();
-    if call.from.get() >= floors || call.to.get() >= floors {
-        return None;
-    }
-    match Eligible::among(building, view, call) {
-        None => None,
-        Some(eligible) => {
-            if is_plain {
-                Some(pick_plainly(building, view, &call, &eligible))
-            } else {
-                Some(Etd.choose(building, view, call, eligible))
-            }
-        }
-    }
-}
-
-/// Picks so many times; how many calls found a car, and how many found car A.
-fn picks(building: &Building, view: &View, times: u32, is_plain: bool) -> (u32, u32)
-    requires possible { IsViewIn building.now view.now }
-{
-    let mut decisions = 0u32;
-    let mut first = 0u32;
-    for time in 0..times {
-        if let Some(car) = pick(building, view, new_call(time), is_plain) {
-            decisions = decisions.saturating_add(1);
-            if car.get() == 0 {
-                first = first.saturating_add(1);
-            }
-        }
-    }
-    (decisions, first)
-}
-
-/// Allots the open calls, and then decides new ones, none of which is allotted.
-pub(crate) fn decide(alloc: Global, load: &Load, is_plain: bool) -> Result<Decided, Fault> {
+/// Allots the open calls, and then decides as often as the load says.
+pub(crate) fn decide(alloc: Global, load: &Load) -> Result<Decided, Fault> {
     let building = Building::read(alloc, &text_of(alloc, load.cars)?)?;
     let mut decider = Decider::new(&building);
-    place(&mut decider, load.cars);
-    call(&mut decider, load.calls);
+    place_all(&mut decider, load.cars);
+    fill(&mut decider, load.calls);
     let calls = decider.register().open_count();
-    let (decisions, first) = picks(decider.building(), &decider.view(), load.times, is_plain);
-    Ok(Decided {
-        calls,
-        decisions,
-        first,
-    })
+    let mut decisions = load.times;
+    match load.kind {
+        Kind::Call => decisions = rounds(&mut decider, load.times, &Etd),
+        Kind::Plain => decisions = rounds(&mut decider, load.times, &PlainEtd),
+        Kind::Stops => {
+            let car = round(&mut decider, &Etd).unwrap_or_default();
+            stops(&mut decider, car, load.times);
+        }
+        Kind::Ahead => stops_ahead(&mut decider, Letter::default(), load.times),
+        Kind::Turn => turns(&mut decider, Letter::default(), load.times),
+    }
+    Ok(Decided { calls, decisions })
 }

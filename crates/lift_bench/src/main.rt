@@ -13,7 +13,7 @@ use std::env;
 use std::process::ExitCode;
 
 const LIST: &str = "\
-decide <cars> <calls> <times> schedule|plain
+decide <cars> <calls> <times> call|plain|stops|ahead|turn
 format <image> <half>
 fill <image>
 open <image>
@@ -28,12 +28,9 @@ fn run(rt: &HostRuntime) -> Result<(), Fault> {
     let words: Vec<String> = env::args(rt)?.skip(1).collect(rt.alloc())?;
     match workload_of(words.as_slice())? {
         Workload::List => print!(rt; "{LIST}")?,
-        Workload::Decide(load, is_plain) => {
-            let decided = deciding::decide(rt.alloc(), &load, is_plain)?;
-            println!(rt;
-                "calls {} decisions {} for car A {}",
-                decided.calls, decided.decisions, decided.first
-            )?;
+        Workload::Decide(load) => {
+            let decided = deciding::decide(rt.alloc(), &load)?;
+            println!(rt; "calls {} decisions {}", decided.calls, decided.decisions)?;
         }
         Workload::Format(image, half) => images::format(rt, image, half)?,
         Workload::Fill(image) => {

@@ -1,7 +1,7 @@
 //! What the words ask for.
 ghost use Rattle.std.specs.Prelude.{◌≤◌, IfOk};
 
-use crate::deciding::Load;
+use crate::deciding::{Kind, Load};
 use crate::fault::Fault;
 use lift_base::text::number_up_to;
 
@@ -9,8 +9,7 @@ use lift_base::text::number_up_to;
 #[derive(Clone, Copy)]
 pub(crate) enum Workload<'a> {
     List,
-    /// Decisions, by schedules or from nothing.
-    Decide(Load, bool),
+    Decide(Load),
     /// An empty journal with so many sectors in a half.
     Format(&'a str, u32),
     Fill(&'a str),
@@ -39,21 +38,31 @@ fn word(words: &[String], place: usize) -> &str {
     }
 }
 
-/// Decisions by these words.
-fn decisions<'a>(words: &'a [String]) -> Result<Workload<'a>, Fault> {
-    let load = Load {
-        cars: number(word(words, 1), 16)? as u8,
-        calls: number(word(words, 2), 512)?,
-        times: number(word(words, 3), u32::MAX)?,
-    };
-    let how = word(words, 4);
-    if how == "schedule" {
-        Ok(Workload::Decide(load, false))
-    } else if how == "plain" {
-        Ok(Workload::Decide(load, true))
+/// What is decided, by its name.
+fn kind(name: &str) -> Result<Kind, Fault> {
+    if name == "call" {
+        Ok(Kind::Call)
+    } else if name == "plain" {
+        Ok(Kind::Plain)
+    } else if name == "stops" {
+        Ok(Kind::Stops)
+    } else if name == "ahead" {
+        Ok(Kind::Ahead)
+    } else if name == "turn" {
+        Ok(Kind::Turn)
     } else {
         Err(Fault::Words)
     }
+}
+
+/// Decisions by these words.
+fn decisions<'a>(words: &'a [String]) -> Result<Workload<'a>, Fault> {
+    Ok(Workload::Decide(Load {
+        cars: number(word(words, 1), 16)? as u8,
+        calls: number(word(words, 2), 512)?,
+        times: number(word(words, 3), u32::MAX)?,
+        kind: kind(word(words, 4))?,
+    }))
 }
 
 /// What is done with a file, by the name of the workload.

@@ -1,6 +1,10 @@
-//! The tests of `lift_keeper`: batches made safe, and registers found again in journals.
+//! The tests of `lift_keeper`: what is decided, batches made safe, and registers found again in journals.
 #![tactic(auto)]
 
+#[cfg(test)]
+mod decisions;
+#[cfg(test)]
+mod full;
 #[cfg(test)]
 mod journals;
 #[cfg(test)]
@@ -11,3 +15,5 @@ mod openings;
 mod recoveries;
 #[cfg(test)]
 mod replaced;
+#[cfg(test)]
+mod schedules;

@@ -1,2 +1,3 @@
 pub mod Highest
 pub mod Group
+pub mod InTurn

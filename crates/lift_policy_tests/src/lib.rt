@@ -6,6 +6,8 @@ mod group;
 #[cfg(test)]
 mod highest;
 #[cfg(test)]
+mod in_turn;
+#[cfg(test)]
 mod picks;
 #[cfg(test)]
 mod places;

@@ -33,7 +33,8 @@ fn the_other_way(rt: HostRuntime) -> Result<(), Fail> {
     let mut group = placed(&rt)?;
     assert!(rt; group.allot(0, 1, &call(0, 5, 1), 0));
     assert!(rt; group.pick(&Etd, &call(5, 2, 1)) == Some(letter(1)));
-    // 6000 against 19000
+    assert!(rt; group.wait(0, &call(5, 2, 1)) == Some(19000));
+    assert!(rt; group.wait(1, &call(5, 2, 1)) == Some(6000));
     assert!(rt; group.pick(&ShortestWait, &call(5, 2, 1)) == Some(letter(1)));
     Ok(())
 }

@@ -55,6 +55,7 @@ fn a_checkpoint_is_spelled(rt: HostRuntime) -> Result<(), Fail> {
     Ok(())
 }
 
+/// Its records give the register of the two entries, with the terminals' last commands and the count of done calls.
 #[test]
 fn a_checkpoint_is_read(rt: HostRuntime) -> Result<(), Fail> {
     let building = Building::read(rt.alloc(), DEMO).ok().ok_or("refused")?;
@@ -65,6 +66,17 @@ fn a_checkpoint_is_read(rt: HostRuntime) -> Result<(), Fail> {
     assert!(rt; register.open_rows(car(0)) == [row(1, 5, 1, true)].as_slice());
     assert!(rt; register.base_fits(&building, &Record::Done { count: 0 }));
     assert!(rt; !register.base_fits(&building, &Record::Done { count: 1 }));
+    let mut grown = Register::empty(Shape::default());
+    assert!(rt; take(&mut grown, &building, &call(1, 5, 1)));
+    assert!(rt; !register.is_same(&grown));
+    assert!(rt; take(&mut grown, &building, &stop(1, 0, Dir::Up)));
+    assert!(rt; register.is_same(&grown));
+    for terminal in [kiosk(0), Terminal::of_car(car(0))] {
+        assert!(rt; register.last_number(terminal) == 1);
+        assert!(rt; register.last(terminal) == grown.last(terminal));
+    }
+    assert!(rt; register.last_number(kiosk(1)) == 0);
+    assert!(rt; register.done() == 0 && grown.done() == 0);
     Ok(())
 }
 

@@ -1,6 +1,7 @@
 //! 500 changes of a schedule, each compared with the same made from nothing.
 
 use super::parts::{DEMO, are_within, at, call, row, stop};
+use arrayvec::ArrayVec;
 use lift_base::{Dir, Position, Row};
 use lift_building::Building;
 use lift_cost::{NewCall, cost_of, degradation, degradation_of, etd, etd_of, total_cost};
@@ -36,14 +37,20 @@ impl Numbers {
         }
     }
 
+    /// Two floors that differ.
+    fn floors(&mut self) -> (u8, u8) {
+        let (from, on) = (self.floor(), self.next() % 9 + 1);
+        (from, (from + on as u8) % 10)
+    }
+
     fn row(&mut self) -> Row {
-        let (from, to) = (self.floor(), self.floor());
+        let (from, to) = self.floors();
         let persons = (self.next() % 15 + 1) as u8;
         row(from, to, persons, false)
     }
 
     fn call(&mut self) -> NewCall {
-        let (from, to) = (self.floor(), self.floor());
+        let (from, to) = self.floors();
         let persons = (self.next() % 15 + 1) as u8;
         call(from, to, persons)
     }
@@ -94,7 +101,16 @@ fn compare_halts(
     }
     assert!(rt; anew.rows().len() <= 32);
     assert!(rt; anew.halts() == schedule.halts());
-    assert!(rt; anew.halts_with(more).as_slice() == schedule.halts_with(more).as_slice());
+    let halts_with = schedule.halts_with(more);
+    assert!(rt; anew.halts_with(more) == halts_with);
+    let mut all: ArrayVec<Row, 33> = ArrayVec::new();
+    for row in rows {
+        assert!(rt; all.len() < 33);
+        all.push(*row);
+    }
+    assert!(rt; all.len() < 33);
+    all.push(*more);
+    assert!(rt; halts_with == stop_list(&all, *position));
 }
 
 /// The calls that are open after a stop.
