@@ -92,18 +92,19 @@ fn place_all(decider: &mut Decider, cars: u8) {
     }
 }
 
-/// The goal of a call from this floor: another one, and none of the new call's.
-fn goal(from: u32, round: u32) -> Floor {
-    let place = ((from + 5 * (round % 11) + 11) % 62) as u8;
-    floor(if place < FROM { place } else { place + 1 })
+/// The goal of the open call at this place: another floor than its own, and none of the new call's.
+fn goal(place: u32) -> Floor {
+    let number = (place % 46 + 5 * (place / 46 % 11) + 11) % 62;
+    let number = number as u8;
+    floor(if number < FROM { number } else { number + 1 })
 }
 
 /// So many calls, from the kiosks below the new call's in turn; each goes to the car with the fewest.
 fn fill(decider: &mut Decider, calls: u32) {
     for place in 0..calls {
-        let from = place % 46;
-        let body = Body::Call(goal(from, place / 46), Party::default());
-        let _reply = command(decider, kiosk(from as u8), &body, &FewestOpen);
+        let from = kiosk((place % 46) as u8);
+        let body = Body::Call(goal(place), Party::default());
+        let _reply = command(decider, from, &body, &FewestOpen);
     }
 }
 

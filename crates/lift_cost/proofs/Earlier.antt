@@ -49,7 +49,7 @@ ahead_of_halt plan direct a s b t g b-in g-in ahead = record {
 pub ahead_at_same : (plan : Plan) (a s b t g : ℕ) → g < plan.floors → IsAhead plan a s b t → IsAhead plan g (s + flight_ms plan a g + plan.door_ms) g (t + flight_ms plan b g + plan.door_ms)
 ahead_at_same plan a s b t g g-in ahead = record { no_later = λ f f-in. let now = ahead.no_later g g-in in omega arith }
 
-not_here : (g h : Halt) (gs : List Halt) → ((k : Halt) → same_halt g k ≡ true → has_halt k gs ≡ false) → has_halt h gs ≡ true → same_halt g h ≡ false
+pub not_here : (g h : Halt) (gs : List Halt) → ((k : Halt) → same_halt g k ≡ true → has_halt k gs ≡ false) → has_halt h gs ≡ true → same_halt g h ≡ false
 not_here g h gs differ has =
     elim (cases_Bool (same_halt g h)) [
       | inl here ↦ absurd (let missing = differ h here in cc)

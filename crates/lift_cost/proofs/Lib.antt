@@ -1,2 +1,3 @@
 pub mod Earlier
 pub mod Costs
+pub mod Times

@@ -5,9 +5,11 @@
 mod among;
 mod call;
 mod cost;
+mod laws;
 mod scheduled;
 
 pub use among::arrival_at;
 pub use call::{NewCall, waiting_row};
 pub use cost::{degradation, etd, total_cost};
+pub use laws::arrivals_add_up;
 pub use scheduled::{cost_of, degradation_of, etd_of};

@@ -1,6 +1,7 @@
 -- A policy that reads the register.
 use Rattle.std.specs.Prelude.{ℕ, ◌≡◌, ◌+◌, ◌%◌, List, Contains, length, slice_get, Some}
-use Rattle.lift_register.specs.Register.{RegisterState, open_count}
+use Rattle.lift_register.specs.Register.{RegisterState}
+use Rattle.lift_register.specs.Balanced.{open_count}
 use Rattle.lift_policy.specs.Eligible.{Choice}
 
 -- the eligible cars one after another, by how many calls were ever taken
