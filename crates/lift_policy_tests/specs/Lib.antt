@@ -1,3 +1,2 @@
 pub mod Highest
 pub mod Group
-pub mod InTurn

@@ -1,6 +1,6 @@
 //! A policy that reads the register: the eligible cars in turn.
 
-ghost use Rattle.lift_policy_tests.specs.InTurn.{InTurnChoice};
+ghost use Rattle.std.specs.Prelude.{Contains};
 
 use super::group::{DEMO, Group, call, letter};
 use lift_base::{Dir, Letter};
@@ -12,7 +12,7 @@ use std::test::Fail;
 struct InTurn;
 
 impl Policy for InTurn {
-    ghost chooses = { λ _. InTurnChoice };
+    ghost chooses = { λ _ _ _ _ eligible car. Contains eligible car };
 
     fn choose(
         &self,
@@ -27,7 +27,7 @@ impl Policy for InTurn {
         letters[calls % letters.len()]
     }
 
-    ghost only_members = { λ policy plan view call eligible car h. h.member };
+    ghost only_members = { λ policy plan view call eligible car h. h };
 }
 
 #[test]
