@@ -103,9 +103,8 @@ fn compare_one(
     let schedule = view.schedule(car);
     assert!(rt; schedule.is_some());
     if let Some(schedule) = schedule {
-        let position = schedule.position();
-        assert!(rt; schedule.halts() == stop_list(rows, position).as_slice());
-        assert!(rt; schedule.next_stop() == next_stop(rows, position));
+        assert!(rt; schedule.halts() == stop_list(rows, schedule.position()).as_slice());
+        assert!(rt; schedule.next_stop() == next_stop(rows, schedule.position()));
     }
     let plain = plain_cost(building, view, call, car);
     assert!(rt; plain.is_some() && Etd::cost(building, view, call, car) == plain);

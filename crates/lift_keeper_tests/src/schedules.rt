@@ -38,7 +38,7 @@ impl Numbers {
     /// next, and one of a stop and a place anywhere.
     fn command(&mut self, decider: &Decider) -> (Terminal, Body) {
         let kind = self.next() % 8;
-        let car = letter(self.next() % 3);
+        let car = letter((self.next() % 3) as u8);
         let (at, dir) = (floor(self.floor()), self.dir());
         let told = match kind {
             0..=3 => {
@@ -58,13 +58,12 @@ impl Numbers {
 
 /// Where a car goes next, by the rules, from nothing.
 fn next_of(decider: &Decider, car: Letter) -> Option<Stop> {
-    let view = decider.view();
-    let position = view.position(car)?;
-    next_stop(view.open_rows(car), position)
+    let position = decider.view().position(car)?;
+    next_stop(decider.register().open_rows(car), position)
 }
 
-fn letter(index: u32) -> Letter {
-    Letter::new(index as u8).unwrap_or_default()
+fn letter(index: u8) -> Letter {
+    Letter::new(index).unwrap_or_default()
 }
 
 /// The command with its terminal's next number, and a place with 0.
@@ -93,16 +92,15 @@ fn told(reply: &Reply, body: &Body) -> Option<Position> {
 }
 
 /// A car's schedule is its open calls, with the halts that are made from nothing.
-fn compare_one(rt: &impl Abort, decider: &Decider, car: Letter, position: Position) {
-    let view = decider.view();
-    let rows = view.open_rows(car);
-    let schedule = view.schedule(car);
+fn compare_one(rt: &impl Abort, decider: &Decider, car: Letter, position: &Position) {
+    let rows = decider.register().open_rows(car);
+    let schedule = &decider.schedules()[usize::from(car.get())];
     assert!(rt; schedule.is_some());
     if let Some(schedule) = schedule {
-        assert!(rt; schedule.position() == position && schedule.rows() == rows);
-        assert!(rt; schedule.halts() == stop_list(rows, position).as_slice());
-        assert!(rt; schedule.next_stop() == next_stop(rows, position));
-        let mut anew = Schedule::new(position);
+        assert!(rt; schedule.position() == *position && schedule.rows() == rows);
+        assert!(rt; schedule.halts() == stop_list(rows, *position).as_slice());
+        assert!(rt; schedule.next_stop() == next_stop(rows, *position));
+        let mut anew = Schedule::new(*position);
         for row in rows {
             assert!(rt; anew.rows().len() <= 32);
             anew.insert(*row);
@@ -114,11 +112,11 @@ fn compare_one(rt: &impl Abort, decider: &Decider, car: Letter, position: Positi
 /// The same of each of the three cars that has told where it is; the others have no schedule and no calls.
 fn compare(rt: &impl Abort, decider: &Decider, positions: &[Option<Position>; 3]) {
     for (index, position) in positions.iter().enumerate() {
-        let car = letter(index as u32);
+        let car = letter(index as u8);
         match position {
-            Some(position) => compare_one(rt, decider, car, *position),
+            Some(position) => compare_one(rt, decider, car, position),
             None => {
-                assert!(rt; decider.view().schedule(car).is_none());
+                assert!(rt; decider.view().position(car).is_none());
                 assert!(rt; decider.register().open_rows(car).is_empty());
             }
         }

@@ -5,7 +5,7 @@ ghost use Rattle.std.specs.Prelude.{◌≡◌, ◌<◌};
 use lift_base::{Dir, Entry, Floor, Halt, Letter, Number, Party, Position, Terminal};
 use lift_building::Building;
 use lift_cost::{NewCall, arrival_at, waiting_row};
-use lift_policy::{Eligible, Policy, View, schedules_at};
+use lift_policy::{Eligible, Policy, View, schedule_of, schedules_at};
 use lift_register::Register;
 use lift_stops::pass_of;
 use std::marker::Model;
@@ -110,17 +110,21 @@ impl Group {
 
     /// When a car that takes a call too is where its passengers wait, in ms, none before it has told where it is.
     pub(crate) fn wait(&self, car: u8, call: &NewCall) -> Option<u64> {
-        let schedules = schedules_at(&self.register, &self.positions);
-        let view = View::new(&self.register, &schedules);
-        let schedule = view.schedule(letter(car))?;
+        if car >= 16 {
+            return None;
+        }
+        let position = self.positions[usize::from(car)]?;
+        let schedule = schedule_of(&self.register, letter(car), position);
         if schedule.rows().len() > 32 {
             return None;
         }
-        let (row, position) = (waiting_row(call), schedule.position());
-        let pass = pass_of(&row, position);
-        let floor = call.from;
+        let row = waiting_row(call);
         let halts = schedule.halts_with(&row);
-        Some(arrival_at(&self.building, position, &halts, &Halt { pass, floor }))
+        let halt = Halt {
+            pass: pass_of(&row, schedule.position()),
+            floor: call.from,
+        };
+        Some(arrival_at(&self.building, schedule.position(), &halts, &halt))
     }
 
     /// The car that a policy picks for a call, none where none is eligible.

@@ -71,7 +71,7 @@ fn ask(decider: &mut Decider, terminal: Terminal, told: u32, body: &Body) -> Rep
 }
 
 /// What each call of kiosk 0 for one person to these floors is answered, in turn, with all cars at floor 0.
-fn check(rt: &impl Abort, building: &Building, calls: &[(u8, u8)]) {
+fn check(rt: &impl Abort, building: &Building, calls: &[(u8, u8); 4]) {
     let mut decider = Decider::new(building);
     for index in 0..3 {
         let body = Body::Place(floor(0), Dir::Up);
