@@ -78,8 +78,8 @@ module _ {D P : Type 0} (before after : ClerkState D P) where
   reopening_moves reopens nothing faults is_honest (Err fault) opens stays same honest = moves_refused nothing faults stays same
 
   -- where the clerk was told of all asks
-  follows_told : (w : World) (own : List Event) (given : List Taken) → Follows w own given after → (events : List Event) × (end : World) × (goes events w ≡ Some end) × IsMachineOf end after
-  follows_told w own given k = (k.before ++ own, k.end, k.possible, k.shows)
+  follows_told : (w : World) (own : List Event) (given : List Taken) (safe : List Entry) → Follows w own given safe after → (events : List Event) × (end : World) × (goes events w ≡ Some end) × IsMachineOf end after
+  follows_told w own given safe k = (k.before ++ own, k.end, k.possible, k.shows)
 
   told_by_fault : (fault : KeeperFault) (choice : Choice) → ToldLooksAgree D P → FailuresAreFailures D P choice → BrokenTurnsAreBroken D P
       → (fault ≡ Journal Disk → Fails choice before after) → (fault ≡ Journal Broken → IsBrokenTurn before after) → (fault ≡ Journal Broken → before.keeper.writer.is_broken ≡ true)
@@ -87,17 +87,17 @@ module _ {D P : Type 0} (before after : ClerkState D P) where
   told_by_fault fault choice told failures broken f r b (inl e) w m knows =
       let t = f e in
       let k = failures w before after t m (told w before t.turn.visits m t.turn.serves.finds knows) in
-      follows_told w _ _ (k.1 0)
+      follows_told w _ _ _ (k.1 0)
   told_by_fault fault choice told failures broken f r b (inr e) w m knows =
       let t = r e in
       let k = broken w before after t (b e) m (told w before t.visits m t.serves.finds knows) in
-      follows_told w _ _ k.1
+      follows_told w _ _ _ k.1
 
   pub turn_moves_told : (choice : Choice) → ToldLooksAgree D P → TurnsAreTurns D P choice → FailuresAreFailures D P choice → BrokenTurnsAreBroken D P → (result : Result Counts KeeperFault)
       → IfOk result (λ counts. Turns choice before after counts) → (result ≡ Err (Journal Disk) → Fails choice before after)
       → (result ≡ Err (Journal Broken) → IsBrokenTurn before after) → (result ≡ Err (Journal Broken) → before.keeper.writer.is_broken ≡ true)
       → IfErr result (λ fault. (fault ≡ Journal Disk) ⊎ (fault ≡ Journal Broken)) → MovesWhereTold before after
   turn_moves_told choice told turns failures broken (Ok counts) t f r b causes =
-      λ w m knows. (let k = turns w before after counts t m (told w before t.turn.visits m t.turn.serves.finds knows) in follows_told w _ _ (k.1 0))
+      λ w m knows. (let k = turns w before after counts t m (told w before t.turn.visits m t.turn.serves.finds knows) in follows_told w _ _ _ (k.1 0))
   turn_moves_told choice told turns failures broken (Err fault) t f r b causes =
       told_by_fault fault choice told failures broken (λ e. f (ap (λ (x : KeeperFault). Err x) e)) (λ e. r (ap (λ (x : KeeperFault). Err x) e)) (λ e. b (ap (λ (x : KeeperFault). Err x) e)) causes
