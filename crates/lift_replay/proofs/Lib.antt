@@ -1,4 +1,5 @@
 pub mod CarTexts
 pub mod Hearing
 pub mod Words
+pub mod Sources
 pub mod Written

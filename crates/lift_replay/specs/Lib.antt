@@ -3,4 +3,5 @@ pub mod Known
 pub mod Reading
 pub mod Report
 pub mod Segment
+pub mod Source
 pub mod Terminals

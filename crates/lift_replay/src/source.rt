@@ -1,14 +1,17 @@
 //! The text of a script: its building, and its lines.
 
-ghost use Rattle.std.specs.Prelude.{◌≡◌, ◌<◌, ◌≤◌, ◌+◌, ◌^◌, length, IfSome, IfNone};
+ghost use Rattle.std.specs.Prelude.{◌≡◌, ◌<◌, ◌≤◌, ◌+◌, ◌^◌, ◌∷◌, [], length, string_bytes, IfSome, IfNone, IfOk};
+ghost use Rattle.std.specs.Str.Lines.{lines};
+ghost use Rattle.lift_replay.specs.Source.{IsScript, LacksDivider};
 
 use std::alloc::{AllocError, Global};
 
 /// A line without its end (a line feed, with a carriage return before it or none), and what stands behind it; none where
 /// the text is at its end. The last line may lack its end.
 fn next_line(text: &str) -> Option<(&str, &str)>
+    ensures first { IfSome result (λ found. lines text.now ≡ found.0.now ∷ lines found.1.now) }
     ensures shorter { IfSome result (λ found. length found.1.now < length text.now) }
-    ensures over { IfNone result (length text.now ≡ 0) }
+    ensures over { IfNone result (text.now ≡ []) }
 {
     if text.is_empty() {
         return None;
@@ -27,7 +30,10 @@ fn next_line(text: &str) -> Option<(&str, &str)>
 pub fn split_script<'a>(
     alloc: Global,
     text: &'a str,
-) -> Result<Option<(String, &'a str)>, AllocError> {
+) -> Result<Option<(String, &'a str)>, AllocError>
+    ensures found { IfOk result (λ found. IfSome found (λ parts. IsScript text.now (string_bytes parts.0) (lines parts.1.now))) }
+    ensures none { IfOk result (λ found. IfNone found (LacksDivider text.now)) }
+{
     let mut building = String::new(alloc);
     let mut rest = text;
     for _ in 0..=text.len() {
@@ -41,7 +47,7 @@ pub fn split_script<'a>(
         building.push('\n')?;
         rest = behind;
     }
-    Ok(None)
+    unreachable!()
 }
 
 /// The lines of a script that are still to be carried out.
@@ -73,10 +79,12 @@ impl<'a> Lines<'a> {
 
     /// The next line with its number, counted from 1; none where there are no more.
     pub fn next(&mut self) -> Option<(usize, &'a str)>
+        ensures first { IfSome result (λ found. lines self.old.rest.now ≡ found.1.now ∷ lines self.new.rest.now) }
         ensures number { IfSome result (λ found. found.0 ≡ self.old.count + 1) }
         ensures counted { IfSome result (λ found. self.new.count ≡ found.0) }
         ensures shorter { IfSome result (λ found. length self.new.rest.now < length self.old.rest.now) }
-        ensures over { IfNone result ((length self.old.rest.now ≡ 0) × (self.new ≡ self.old)) }
+        ensures over { IfNone result (self.old.rest.now ≡ []) }
+        ensures kept { IfNone result (self.new ≡ self.old) }
     {
         let (line, behind) = next_line(self.rest)?;
         self.rest = behind;

@@ -1,0 +1,76 @@
+-- The first line of a text.
+use Rattle.std.proofs.Common.{◌≡◌, ◌≢◌, ℕ, suc, ◌+◌, ◌-◌, ◌<◌, ◌≤◌, ◌==◌, Bool, true, false, cond, List, [], ◌∷◌, ◌++◌, length, get_or, take, All, refl, sym, ap, ◌∙◌, arith, subst}
+use Rattle.std.proofs.lemmas.Bool.{ne_eqb, eq-eqb}
+use Rattle.std.proofs.lemmas.Grind.{common_steps}
+use Rattle.std.proofs.lemmas.List.{append_assoc, append-nil, flat_map_more}
+use Rattle.std.proofs.lemmas.List.Elements.{All-append, All-cons, All-nil}
+use Rattle.std.proofs.lemmas.List.Splits.{slice_split_none, slice_split_at, length-slice_split}
+use Rattle.std.specs.List.{slice_split}
+use Rattle.std.specs.Str.Lines.{lines, lines_of_parts, strip_carriage_return}
+use Rattle.lift_replay.specs.Source.{IsScript, LacksDivider, divider, ended}
+
+abbrev is_end : ℕ → Bool
+is_end b = b == 10
+
+no_end : (xs : List ℕ) → ((k : ℕ) → k < length xs → get_or xs k 0 ≢ 10) → All (λ b. is_end b ≡ false) xs
+no_end xs free k d inside =
+    let same : get_or xs k d ≡ get_or xs k 0 = grind (arith, common_steps) in
+    ne_eqb _ 10 (λ e. free k inside (sym same ∙ e))
+
+-- a text with no end of a line is one line
+pub last_line : (text : List ℕ) → 0 < length text → ((k : ℕ) → k < length text → get_or text k 0 ≢ 10) → lines text ≡ text ∷ lines []
+last_line text some free =
+    ap lines_of_parts (slice_split_none is_end text (no_end text free)) ∙ ap (λ t. cond t [] (text ∷ [])) (ne_eqb (length text) 0 (λ z. omega arith))
+
+more_parts : (x : List ℕ) (parts : List (List ℕ)) → 0 < length parts → lines_of_parts (x ∷ parts) ≡ strip_carriage_return x ∷ lines_of_parts parts
+more_parts x [] some = absurd (omega arith)
+more_parts x (y ∷ more) some = refl
+
+-- what stands before the first end of a line is the first line
+cut_line : (text line behind : List ℕ) → text ≡ line ++ (10 ∷ behind) → ((k : ℕ) → k < length line → get_or line k 0 ≢ 10) → lines text ≡ strip_carriage_return line ∷ lines behind
+cut_line text line behind is free =
+    ap lines is ∙ ap lines_of_parts (slice_split_at is_end line 10 behind (no_end line free) refl)
+    ∙ more_parts line (slice_split is_end behind) (omega (arith, length-slice_split is_end behind))
+
+whole : (line : List ℕ) → ((front : List ℕ) → line ≢ front ++ (13 ∷ [])) → strip_carriage_return line ≡ line
+whole [] none = refl
+whole (b ∷ line) none =
+    ap (λ t. cond t (take (length (b ∷ line) - 1) (b ∷ line)) (b ∷ line))
+    (ne_eqb _ 13 (λ e. none (take (length (b ∷ line) - 1) (b ∷ line)) (let last : get_or (b ∷ line) (length (b ∷ line) - 1) 0 ≡ 13 = e in grind (arith, common_steps))))
+
+stripped : (line front : List ℕ) → line ≡ front ++ (13 ∷ []) → strip_carriage_return line ≡ front
+stripped line front e =
+    let last : get_or line (length line - 1) 0 ≡ 13 = grind (arith, common_steps) in
+    let before : take (length line - 1) line ≡ front = grind (arith, common_steps) in
+    ap (λ t. cond t (take (length line - 1) line) line) (eq-eqb _ 13 last) ∙ before
+
+pub whole_line : (text line behind : List ℕ) → (text ≡ line ++ (10 ∷ behind)) × ((k : ℕ) → k < length line → get_or line k 0 ≢ 10)
+    → ((front : List ℕ) → line ≢ front ++ (13 ∷ [])) → lines text ≡ line ∷ lines behind
+whole_line text line behind parts none = cut_line text line behind parts.0 parts.1 ∙ ap (λ first. first ∷ lines behind) (whole line none)
+
+pub stripped_line : (text line front behind : List ℕ) → (text ≡ line ++ (10 ∷ behind)) × ((k : ℕ) → k < length line → get_or line k 0 ≢ 10)
+    → line ≡ front ++ (13 ∷ []) → lines text ≡ front ∷ lines behind
+stripped_line text line front behind parts e = cut_line text line behind parts.0 parts.1 ∙ ap (λ first. first ∷ lines behind) (stripped line front e)
+
+-- so far no line is a divider
+abbrev pub Above : (text rest building : List ℕ) → Type 0
+Above text rest building = (above : List (List ℕ)) × (lines text ≡ above ++ lines rest) × All (λ line. line ≢ divider) above × (building ≡ ended above)
+
+pub none_above : (text : List ℕ) → Above text text []
+none_above text = ([], refl, All-nil (λ line. line ≢ divider), refl)
+
+pub one_above : (text rest behind line building more : List ℕ) → Above text rest building → lines rest ≡ line ∷ lines behind → line ≢ divider
+    → more ≡ building ++ (line ++ 10 ∷ []) → Above text behind more
+one_above text rest behind line building more before first other is = (
+  before.0 ++ line ∷ [],
+  before.1 ∙ ap (λ below. before.0 ++ below) first ∙ sym (append_assoc before.0 (line ∷ []) (lines behind)),
+  All-append (λ l. l ≢ divider) before.0 (line ∷ []) before.2 (All-cons (λ l. l ≢ divider) line [] other (All-nil (λ l. l ≢ divider))),
+  is ∙ ap (λ so_far. so_far ++ (line ++ 10 ∷ [])) before.3 ∙ flat_map_more (λ (l : List ℕ). l ++ 10 ∷ []) [] before.0 line,
+)
+
+pub script_of : (text rest building behind : List ℕ) → Above text rest building → lines rest ≡ divider ∷ lines behind → IsScript text building (lines behind)
+script_of text rest building behind before first =
+    record { above = before.0; split = before.1 ∙ ap (λ below. before.0 ++ below) first; first = before.2; ends = before.3 }
+
+pub lacks_divider : (text building : List ℕ) → Above text [] building → LacksDivider text
+lacks_divider text building before = subst (All (λ line. line ≢ divider)) (sym (before.1 ∙ append-nil before.0)) before.2
