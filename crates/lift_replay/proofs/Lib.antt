@@ -1,5 +1,6 @@
 pub mod CarTexts
 pub mod Hearing
 pub mod Words
+pub mod Prices
 pub mod Sources
 pub mod Written

@@ -9,6 +9,7 @@ mod piece;
 pub mod report;
 mod script;
 mod segment;
+mod shown;
 mod source;
 mod station;
 mod terminals;

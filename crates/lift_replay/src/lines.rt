@@ -3,23 +3,20 @@
 ghost use Rattle.std.specs.Prelude.{◌≡◌, ◌≢◌, ◌<◌, ◌↔◌, ◌++◌, length, string_bytes, IsTrue};
 ghost use Rattle.lift_replay.specs.Known.{IsKnown};
 ghost use Rattle.lift_replay.specs.Report.{bad_text};
-ghost use Rattle.lift_policy.specs.View.{IsViewIn};
 
 use crate::line::ScriptLine;
 use crate::parsing::parse;
 use crate::report::{
-    push_bad, push_cost, push_fault, push_halt, push_refused, push_rows, push_spent, push_turn,
-    push_waiting,
+    push_bad, push_fault, push_rows, push_spent, push_turn, push_waiting,
 };
+use crate::shown::{push_costs_between, push_stops};
 use crate::station::Station;
-use lift_base::{Body, Floor, Halt, Letter, Number, Party, Reason, Terminal};
+use lift_base::{Body, Floor, Letter, Number, Party, Terminal};
 use lift_building::Building;
 use lift_cost::NewCall;
 use lift_desk::AskRefusal;
 use lift_disk::Outcome;
-use lift_policy::{Eligible, Etd, View};
 use std::alloc::AllocError;
-use std::fmt::Write;
 
 /// Whether all lines were carried out, or one of them, or the text before them, was malformed.
 #[derive(Clone, Copy, PartialEq, Eq)]
@@ -68,88 +65,6 @@ fn push_turn_of(report: &mut String, station: &mut Station) -> Result<(), AllocE
         Err(fault) => push_fault(report, "turn", fault.number())?,
     }
     station.terminals.push_all_heard(report)
-}
-
-/// Halts in their order, or that there are none.
-fn push_halts(report: &mut String, halts: &[Halt]) -> Result<(), AllocError> {
-    if halts.is_empty() {
-        return report.push_str(" -");
-    }
-    for halt in halts {
-        push_halt(report, halt)?;
-    }
-    Ok(())
-}
-
-/// The stop list of a car, if it has told where it is.
-fn push_stops(report: &mut String, view: &View, car: Letter) -> Result<(), AllocError> {
-    write!(report, "stops {car}")?;
-    match view.schedule(car) {
-        None => report.push_str(" unplaced")?,
-        Some(schedule) => push_halts(report, schedule.halts())?,
-    }
-    report.push('\n')
-}
-
-/// What a call would cost a car.
-fn push_cost_of(
-    report: &mut String,
-    building: &Building,
-    view: &View,
-    call: &NewCall,
-    car: Letter,
-) -> Result<(), AllocError>
-    requires possible { IsViewIn building.now view.now }
-    requires from { call.now.from < building.now.floors }
-    requires to { call.now.to < building.now.floors }
-{
-    match Etd::cost(building, view, call, car) {
-        Some(cost) => push_cost(report, car, cost),
-        None => Ok(()),
-    }
-}
-
-/// What a call would cost each car that may take it, or that there is none.
-fn push_costs(
-    report: &mut String,
-    building: &Building,
-    view: &View,
-    call: &NewCall,
-) -> Result<(), AllocError>
-    requires possible { IsViewIn building.now view.now }
-    requires from { call.now.from < building.now.floors }
-    requires to { call.now.to < building.now.floors }
-{
-    match Eligible::among(building, view, *call) {
-        None => report.push_str(" -"),
-        Some(eligible) => {
-            for car in eligible.letters() {
-                push_cost_of(report, building, view, call, *car)?;
-            }
-            Ok(())
-        }
-    }
-}
-
-/// The costs of a call between two floors, or the cause for which it would be refused wherever the cars are.
-fn push_costs_between(
-    report: &mut String,
-    building: &Building,
-    view: &View,
-    call: &NewCall,
-) -> Result<(), AllocError>
-    requires possible { IsViewIn building.now view.now }
-    requires from { call.now.from < building.now.floors }
-{
-    report.push_str("cost")?;
-    if call.to.get() >= building.floors() {
-        push_refused(report, Reason::NoSuchFloor)?;
-    } else if call.to == call.from {
-        push_refused(report, Reason::SameFloor)?;
-    } else {
-        push_costs(report, building, view, call)?;
-    }
-    report.push('\n')
 }
 
 /// Whether the building has the car or the kiosk that a line names, if it names one.
