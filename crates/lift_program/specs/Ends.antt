@@ -10,7 +10,7 @@ use Rattle.lift_journal.specs.declared.fault.JournalFault.TheVariants.{Disk}
 use Rattle.lift_keeper.specs.declared.fault.KeeperFault.TheVariants.{Journal as OfJournal}
 use Rattle.lift_replay.specs.declared.lines.Verdict.TheVariants.{Good, Bad}
 use Rattle.lift_replay.specs.Reading.{IsRead}
-use Rattle.lift_replay.specs.Report.{AppendsBadReport}
+use Rattle.lift_replay.specs.Script.{AppendsBadReport}
 use Rattle.lift_program.specs.Faults.{fault_text, usage_text}
 use Rattle.lift_program.specs.Output.{IsTold}
 use Rattle.lift_program.specs.Showing.{IsShown, IsOpeningFault}

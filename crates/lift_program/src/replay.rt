@@ -1,7 +1,7 @@
 //! The carrying out of a script.
 
 ghost use Rattle.std.specs.Prelude.{◌≡◌, true, false, IfErr};
-ghost use Rattle.lift_replay.specs.Report.{AppendsBadReport};
+ghost use Rattle.lift_replay.specs.Script.{AppendsBadReport};
 ghost use Rattle.lift_program.specs.Ends.{IsFileFault, IsReadOrFailed};
 
 use crate::fault::Fault;

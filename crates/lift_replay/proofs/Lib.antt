@@ -3,4 +3,6 @@ pub mod Hearing
 pub mod Words
 pub mod Prices
 pub mod Sources
-pub mod Written
+pub mod Runs
+pub mod Told
+pub mod Whole

@@ -48,3 +48,8 @@ IsInRange (Cut outcome) = IsOutcomeInRange outcome
 -- The words of this line ask for this. What spells nothing in range is malformed.
 abbrev pub Spells : List ℕ → ScriptLine → Type 0
 Spells line wanted = (words : List (List ℕ)) × AreWords line words × AskFor words wanted × IsInRange wanted
+
+-- empty lines, and those that begin with `#`, ask for nothing
+abbrev pub IsSkipped : List ℕ → Type 0
+IsSkipped [] = Unit {0}
+IsSkipped (first ∷ others) = first ≡ 35

@@ -2,7 +2,9 @@ pub mod Grammar
 pub mod Known
 pub mod Reading
 pub mod Report
+pub mod Script
 pub mod Segment
 pub mod Shown
 pub mod Source
 pub mod Terminals
+pub mod Told

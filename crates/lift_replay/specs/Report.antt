@@ -1,5 +1,5 @@
 -- The lines of a report.
-use Rattle.std.specs.Prelude.{ℕ, ◌≡◌, ◌≢◌, ◌⊎◌, Bool, true, false, List, [], ◌∷◌, ◌++◌, codes, nat_lt, if◌then◌else◌, Option}
+use Rattle.std.specs.Prelude.{ℕ, ◌≡◌, ◌⊎◌, Bool, true, false, List, [], ◌∷◌, ◌++◌, codes, nat_lt, if◌then◌else◌, Option}
 use Rattle.std.specs.Fmt.{decimal}
 use Rattle.std.specs.List.{flat_map}
 use Rattle.std.specs.Io.KnownBytes.{Appends}
@@ -101,20 +101,16 @@ floors_text Memory = []
 abbrev pub building_text : BuildingFault → List ℕ
 building_text fault = codes "BUILDING " ++ decimal (fault_number fault) ++ floors_text fault ++ 10 ∷ []
 
--- Why nothing of a script is carried out: it is too long, it is no UTF-8, it has no `---`, or its building is refused,
--- but not for want of memory, which is no fault of the script.
-abbrev pub IsRefusal : List ℕ → Type 0
-IsRefusal report = (report ≡ codes "TOO LONG\n") ⊎ ((report ≡ codes "NOT TEXT\n") ⊎ ((report ≡ codes "NO SCRIPT\n")
-    ⊎ ((fault : BuildingFault) × (fault ≢ Memory) × (report ≡ building_text fault))))
+-- nothing, or lines that each have their end
+abbrev pub IsWholeLines : List ℕ → Type 0
+IsWholeLines text = (text ≡ []) ⊎ ((front : List ℕ) × (text ≡ front ++ 10 ∷ []))
 
--- the last line is a malformed line's
-abbrev pub EndsBad : List ℕ → Type 0
-EndsBad report = (above : List ℕ) × (line : ℕ) × (report ≡ above ++ bad_text line)
+-- below whole lines stands the one that names this malformed line
+abbrev pub EndsBad : ℕ → List ℕ → Type 0
+EndsBad number report = (above : List ℕ) × IsWholeLines above × (report ≡ above ++ bad_text number)
 
--- The report of a bad script tells its cause: it is a refusal, or its last line is the malformed line's.
-abbrev pub TellsCause : List ℕ → Type 0
-TellsCause report = IsRefusal report ⊎ EndsBad report
-
--- what was written is the report of a bad script
-abbrev pub AppendsBadReport : (old new : Option (List ℕ)) → Type 0
-AppendsBadReport old new = (report : List ℕ) × TellsCause report × Appends old new report
+-- The report grew by this. A part of it was written, behind what had been kept back, and the rest is kept back.
+pub record Reports (old new : Option (List ℕ)) (before after added : List ℕ) : Type 0 where
+  pub written : List ℕ
+  pub appends : Appends old new written
+  pub same : before ++ added ≡ written ++ after

@@ -1,21 +1,25 @@
 //! What each line of a script does, and what it reports.
 
-ghost use Rattle.std.specs.Prelude.{◌≡◌, ◌≢◌, ◌<◌, ◌↔◌, ◌++◌, length, string_bytes, IsTrue};
+ghost use Rattle.std.specs.Prelude.{◌≡◌, ◌<◌, ◌+◌, ◌↔◌, ◌++◌, ℕ, List, length, string_bytes, IsTrue, OnOk, IfOk, codes};
+ghost use Rattle.lift_building.specs.Plan.{kiosk_floor_of};
+ghost use Rattle.lift_policy.specs.Step.{view_of};
 ghost use Rattle.lift_replay.specs.Known.{IsKnown};
-ghost use Rattle.lift_replay.specs.Report.{bad_text};
+ghost use Rattle.lift_replay.specs.Report.{register_text};
+ghost use Rattle.lift_replay.specs.Shown.{stops_text, costs_text};
+ghost use Rattle.lift_replay.specs.Told.{Asks, TurnTells, OutcomeTells, Tells, LineTells, shown_text, end_of};
 
 use crate::line::ScriptLine;
 use crate::parsing::parse;
-use crate::report::{
-    push_bad, push_fault, push_rows, push_spent, push_turn, push_waiting,
-};
+use crate::report::{push_bad, push_fault, push_rows, push_spent, push_turn, push_waiting};
 use crate::shown::{push_costs_between, push_stops};
 use crate::station::Station;
 use lift_base::{Body, Floor, Letter, Number, Party, Terminal};
 use lift_building::Building;
+use lift_clerk::Clerk;
 use lift_cost::NewCall;
 use lift_desk::AskRefusal;
-use lift_disk::Outcome;
+use lift_disk::{FuseDisk, Outcome};
+use lift_policy::Etd;
 use std::alloc::AllocError;
 
 /// Whether all lines were carried out, or one of them, or the text before them, was malformed.
@@ -46,6 +50,9 @@ fn push_ask(
     body: Body,
 ) -> Result<(), AllocError>
     requires { terminal < length station.old.terminals.seats.items }
+    ensures asks { OnOk result ((told : List ℕ)
+        × Asks station.old.terminals.seats.items station.new.terminals.seats.items terminal number body told
+        × (string_bytes report.new ≡ string_bytes report.old ++ told)) }
     ensures building { station.new.building ≡ station.old.building }
     ensures clerk { station.new.clerk ≡ station.old.clerk }
 {
@@ -56,14 +63,29 @@ fn push_ask(
     }
 }
 
-/// One turn: what it took and added, or its fault, and then what each terminal hears.
+/// One turn, and what it took and added, or its fault.
+fn push_taken(
+    report: &mut String,
+    clerk: &mut Clerk<'_, '_, FuseDisk, Etd>,
+) -> Result<(), AllocError>
+    ensures tells { OnOk result ((told : List ℕ) × TurnTells clerk.old clerk.new told × (string_bytes report.new ≡ string_bytes report.old ++ told)) }
+    ensures desk { clerk.new.desk ≡ clerk.old.desk }
+    ensures plan { clerk.new.keeper.writer.plan ≡ clerk.old.keeper.writer.plan }
+{
+    match clerk.turn() {
+        Ok(counts) => push_turn(report, counts.taken, counts.accepted),
+        Err(fault) => push_fault(report, "turn", fault.number()),
+    }
+}
+
+/// One turn, and then what each terminal hears.
 fn push_turn_of(report: &mut String, station: &mut Station) -> Result<(), AllocError>
+    ensures outcome { OnOk result ((told : List ℕ)
+        × OutcomeTells station.old.clerk station.new.clerk station.old.terminals.seats.items station.new.terminals.seats.items told
+        × (string_bytes report.new ≡ string_bytes report.old ++ told)) }
     ensures building { station.new.building ≡ station.old.building }
 {
-    match station.clerk.turn() {
-        Ok(counts) => push_turn(report, counts.taken, counts.accepted)?,
-        Err(fault) => push_fault(report, "turn", fault.number())?,
-    }
+    push_taken(report, &mut station.clerk)?;
     station.terminals.push_all_heard(report)
 }
 
@@ -85,7 +107,10 @@ fn is_known(building: &Building, line: &ScriptLine) -> bool
 }
 
 /// The stop list of a car, where it is known to be safe.
-fn show_stops(report: &mut String, station: &Station, car: Letter) -> Result<(), AllocError> {
+fn show_stops(report: &mut String, station: &Station, car: Letter) -> Result<(), AllocError>
+    ensures { OnOk result (string_bytes report.new
+        ≡ string_bytes report.old ++ shown_text station.now.clerk (codes "stops") (stops_text (view_of station.now.clerk.keeper.state) car)) }
+{
     let keeper = station.clerk.keeper();
     if keeper.is_broken() {
         return push_fault(report, "stops", BROKEN);
@@ -102,6 +127,9 @@ fn show_costs(
     party: Party,
 ) -> Result<(), AllocError>
     requires known { kiosk < length station.now.building.now.kiosks }
+    ensures { OnOk result (string_bytes report.new ≡ string_bytes report.old ++ shown_text station.now.clerk (codes "cost")
+        (costs_text station.now.building.now (view_of station.now.clerk.keeper.state)
+        (record { from = kiosk_floor_of station.now.building.now kiosk; to = to; party = party }))) }
 {
     let keeper = station.clerk.keeper();
     if keeper.is_broken() {
@@ -115,7 +143,10 @@ fn show_costs(
 }
 
 /// The open calls, where they are known to be safe.
-fn show_rows(report: &mut String, station: &Station) -> Result<(), AllocError> {
+fn show_rows(report: &mut String, station: &Station) -> Result<(), AllocError>
+    ensures { OnOk result (string_bytes report.new
+        ≡ string_bytes report.old ++ shown_text station.now.clerk (codes "rows") (register_text station.now.clerk.keeper.state.register)) }
+{
     let keeper = station.clerk.keeper();
     if keeper.is_broken() {
         return push_fault(report, "rows", BROKEN);
@@ -132,6 +163,9 @@ fn push_call(
     body: Body,
 ) -> Result<(), AllocError>
     requires { kiosk < length station.old.building.now.kiosks }
+    ensures asks { OnOk result ((told : List ℕ)
+        × Asks station.old.terminals.seats.items station.new.terminals.seats.items (16 + kiosk) number body told
+        × (string_bytes report.new ≡ string_bytes report.old ++ told)) }
     ensures building { station.new.building ≡ station.old.building }
     ensures clerk { station.new.clerk ≡ station.old.clerk }
 {
@@ -142,13 +176,17 @@ fn push_call(
     }
 }
 
-/// Carries out a line. The answer is what a power cut leaves, where it asks for one.
+/// Carries out a line. The answer is what ends the lines at this desk, if it does.
 fn carry_out(
     report: &mut String,
     station: &mut Station,
     line: &ScriptLine,
-) -> Result<Option<Outcome>, AllocError>
+) -> Result<Option<End>, AllocError>
     requires known { IsKnown station.old.building.now line.now }
+    ensures tells { OnOk result ((told : List ℕ)
+        × Tells station.old.building.now station.old.clerk station.new.clerk station.old.terminals.seats.items station.new.terminals.seats.items line.now told
+        × (string_bytes report.new ≡ string_bytes report.old ++ told)) }
+    ensures end { IfOk result (λ end. end ≡ end_of line.now) }
     ensures building { station.new.building ≡ station.old.building }
 {
     let _cars = station.building.cars();
@@ -187,7 +225,7 @@ fn carry_out(
         } => show_costs(report, station, kiosk, floor, party)?,
         ScriptLine::Rows => show_rows(report, station)?,
         ScriptLine::Fuse { calls } => station.clerk.arm(calls),
-        ScriptLine::Cut { outcome } => return Ok(Some(outcome)),
+        ScriptLine::Cut { outcome } => return Ok(Some(End::Cut(outcome))),
     }
     Ok(None)
 }
@@ -201,20 +239,16 @@ pub fn push_line(
     text: &str,
     number: usize,
 ) -> Result<Option<End>, AllocError>
-    ensures bad { result ≡ Ok (Some (End.Run Verdict.Bad)) → string_bytes report.new ≡ string_bytes report.old ++ bad_text number }
-    ensures on { result ≢ Ok (Some (End.Run Verdict.Good)) }
+    ensures tells { IfOk result (λ end. (told : List ℕ)
+        × LineTells station.old.building.now station.old.clerk station.new.clerk station.old.terminals.seats.items station.new.terminals.seats.items text.now number end told
+        × (string_bytes report.new ≡ string_bytes report.old ++ told)) }
     ensures building { station.new.building ≡ station.old.building }
 {
     if text.is_empty() || text.starts_with('#') {
         return Ok(None);
     }
     match parse(text) {
-        Some(line) if is_known(station.building, &line) => {
-            match carry_out(report, station, &line)? {
-                None => Ok(None),
-                Some(outcome) => Ok(Some(End::Cut(outcome))),
-            }
-        }
+        Some(line) if is_known(station.building, &line) => carry_out(report, station, &line),
         _ => {
             push_bad(report, number)?;
             Ok(Some(End::Run(Verdict::Bad)))

@@ -1,9 +1,11 @@
 //! A whole script, from its bytes to its report.
 
-ghost use Rattle.std.specs.Prelude.{◌≡◌, ◌≢◌, ◌⊎◌, ◌≤◌, ◌++◌, ℕ, List, [], length, string_bytes, true, false, OnOk};
-ghost use Rattle.std.specs.Io.KnownBytes.{Appends};
+ghost use Rattle.std.specs.Prelude.{◌≡◌, ◌≢◌, ◌⊎◌, ◌≤◌, ◌++◌, ℕ, List, [], All, length, string_bytes, true, false, OnOk};
+ghost use Rattle.std.specs.Io.KnownBytes.{Consumes, Appends};
 ghost use Rattle.lift_replay.specs.Reading.{IsRead};
-ghost use Rattle.lift_replay.specs.Report.{IsRefusal, EndsBad, AppendsBadReport};
+ghost use Rattle.lift_replay.specs.Report.{Reports, building_text};
+ghost use Rattle.lift_replay.specs.Script.{IsGoodLine, EndsAtFirstBad, TellsOfText, TellsCause, IsGoodText, IsGoodScript, ReadsAndWrites, AppendsBadReport};
+ghost use Rattle.lift_replay.specs.Source.{lines_in};
 ghost use Rattle.lift_replay.specs.declared.script.ReplayFault.TheVariants.{Memory as NoMemory, Write as NoOutput};
 
 use crate::input::{InputFault, read_all};
@@ -62,10 +64,9 @@ const MOST_CALLS: u32 = 2_097_152;
 
 /// A report of one line, for a script of which nothing is carried out.
 fn refuse<W: Write>(writer: &mut W, report: &str) -> Result<Verdict, ReplayFault>
-    requires refusal { IsRefusal report.now }
     ensures output { result ≢ Err ReplayFault.Read }
     ensures not_good { result ≢ Ok Verdict.Good }
-    ensures bad { result ≡ Ok Verdict.Bad → AppendsBadReport (W.contents writer.old) (W.contents writer.new) }
+    ensures bad { OnOk result (Appends (W.contents writer.old) (W.contents writer.new) report.now) }
 {
     put_all(writer, report.as_bytes())?;
     Ok(Verdict::Bad)
@@ -79,7 +80,8 @@ fn refuse_building<W: Write>(
 ) -> Result<Verdict, ReplayFault>
     ensures output { result ≢ Err ReplayFault.Read }
     ensures not_good { result ≢ Ok Verdict.Good }
-    ensures bad { result ≡ Ok Verdict.Bad → AppendsBadReport (W.contents writer.old) (W.contents writer.new) }
+    ensures memory { fault ≡ BuildingFault.Memory → result ≡ Err ReplayFault.Memory }
+    ensures bad { OnOk result ((fault ≢ BuildingFault.Memory) × Appends (W.contents writer.old) (W.contents writer.new) (building_text fault)) }
 {
     if fault == BuildingFault::Memory {
         return Err(ReplayFault::Memory);
@@ -99,8 +101,9 @@ fn add_segments<W: Write>(
     writer: &mut W,
 ) -> Result<Verdict, ReplayFault>
     ensures output { result ≢ Err ReplayFault.Read }
-    ensures bad { result ≡ Ok Verdict.Bad → (written : List ℕ) × Appends (W.contents writer.old) (W.contents writer.new) written
-        × EndsBad (written ++ string_bytes piece.new) }
+    ensures bad { result ≡ Ok Verdict.Bad → (added : List ℕ) × EndsAtFirstBad building.now 0 (lines_in text.now) added
+        × Reports (W.contents writer.old) (W.contents writer.new) (string_bytes piece.old) (string_bytes piece.new) added }
+    ensures good { result ≡ Ok Verdict.Good → All (IsGoodLine building.now) (lines_in text.now) }
 {
     let mut lines = Lines::new(text);
     let mut keeper = first_keeper(alloc, building)?;
@@ -122,7 +125,9 @@ fn run_lines<W: Write>(
     writer: &mut W,
 ) -> Result<Verdict, ReplayFault>
     ensures output { result ≢ Err ReplayFault.Read }
-    ensures bad { result ≡ Ok Verdict.Bad → AppendsBadReport (W.contents writer.old) (W.contents writer.new) }
+    ensures bad { result ≡ Ok Verdict.Bad → (report : List ℕ) × EndsAtFirstBad building.now 0 (lines_in lines.now) report
+        × Appends (W.contents writer.old) (W.contents writer.new) report }
+    ensures good { result ≡ Ok Verdict.Good → All (IsGoodLine building.now) (lines_in lines.now) }
 {
     let mut piece = String::with_capacity(alloc, ROOM_BYTES)?;
     let end = add_segments(alloc, building, lines, &mut piece, writer);
@@ -135,7 +140,8 @@ fn run_lines<W: Write>(
 /// Carries out a script that has come whole.
 fn run_text<W: Write>(alloc: Global, text: &str, writer: &mut W) -> Result<Verdict, ReplayFault>
     ensures output { result ≢ Err ReplayFault.Read }
-    ensures bad { result ≡ Ok Verdict.Bad → AppendsBadReport (W.contents writer.old) (W.contents writer.new) }
+    ensures bad { result ≡ Ok Verdict.Bad → (report : List ℕ) × TellsOfText text.now report × Appends (W.contents writer.old) (W.contents writer.new) report }
+    ensures good { result ≡ Ok Verdict.Good → IsGoodText text.now }
 {
     let Some((building, lines)) = split_script(alloc, text)? else {
         return refuse(writer, "NO SCRIPT\n");
@@ -164,7 +170,12 @@ pub fn run<R: Read + Drop, W: Write>(
     ensures read { OnOk result (IsRead R.remaining input.old input.new) }
     ensures output { result ≡ Err ReplayFault.Write → IsRead R.remaining input.old input.new }
     ensures good { result ≡ Ok Verdict.Good → input.new.ended ≡ true }
-    ensures bad { result ≡ Ok Verdict.Bad → AppendsBadReport (W.contents writer.old) (W.contents writer.new) }
+    // The report of a bad script tells its cause, and of a good one every line could be carried out.
+    ensures bad { result ≡ Ok Verdict.Bad
+        → ReadsAndWrites R.remaining W.contents TellsCause input.old.reader input.new.reader writer.old writer.new }
+    ensures appends { result ≡ Ok Verdict.Bad → AppendsBadReport (W.contents writer.old) (W.contents writer.new) }
+    ensures whole { result ≡ Ok Verdict.Good
+        → (bytes : List ℕ) × Consumes (R.remaining input.old.reader) (R.remaining input.new.reader) bytes × IsGoodScript bytes }
 {
     let bytes = match read_all(alloc, input, MOST_BYTES, MOST_CALLS) {
         Ok(bytes) => bytes,

@@ -2,8 +2,10 @@
 
 ghost use Rattle.std.specs.Prelude.{◌≡◌, ◌≢◌, ◌<◌, ◌≤◌, ◌++◌, List, ℕ, [], length, string_bytes, false, OnOk, IfOk};
 ghost use Rattle.std.specs.Io.KnownBytes.{Appends};
-ghost use Rattle.lift_replay.specs.Report.{EndsBad, cut_text};
+ghost use Rattle.lift_replay.specs.Report.{IsWholeLines, Reports, cut_text};
+ghost use Rattle.lift_replay.specs.Script.{LeadsTo, EndsAtFirstBad};
 ghost use Rattle.lift_replay.specs.Segment.{IfCut, IsCut};
+ghost use Rattle.lift_replay.specs.Source.{lines_in};
 
 use crate::lines::{End, Verdict, push_line};
 use crate::piece::put_large_piece;
@@ -37,10 +39,14 @@ fn add_lines<W: Write>(
     writer: &mut W,
 ) -> Result<End, ReplayFault>
     ensures output { result ≢ Err ReplayFault.Read }
-    ensures written { OnOk result ((written : List ℕ) × Appends (W.contents writer.old) (W.contents writer.new) written) }
-    ensures bad { result ≡ Ok (End.Run Verdict.Bad) → (written : List ℕ) × Appends (W.contents writer.old) (W.contents writer.new) written
-        × EndsBad (written ++ string_bytes piece.new) }
-    ensures good { result ≡ Ok (End.Run Verdict.Good) → length lines.new.rest.now ≡ 0 }
+    ensures reports { OnOk result ((added : List ℕ) × IsWholeLines added
+        × Reports (W.contents writer.old) (W.contents writer.new) (string_bytes piece.old) (string_bytes piece.new) added) }
+    ensures bad { result ≡ Ok (End.Run Verdict.Bad) → (added : List ℕ)
+        × EndsAtFirstBad station.old.building.now lines.old.count (lines_in lines.old.rest.now) added
+        × Reports (W.contents writer.old) (W.contents writer.new) (string_bytes piece.old) (string_bytes piece.new) added }
+    ensures passed { IfOk result (λ end. end ≢ End.Run Verdict.Bad
+        → LeadsTo station.old.building.now lines.old.count (lines_in lines.old.rest.now) lines.new.count (lines_in lines.new.rest.now)) }
+    ensures good { result ≡ Ok (End.Run Verdict.Good) → lines.new.rest.now ≡ [] }
     ensures shorter { OnOk result (length lines.new.rest.now ≤ length lines.old.rest.now) }
     ensures cut { IfOk result (λ end. IsCut end → length lines.new.rest.now < length lines.old.rest.now) }
     ensures building { station.new.building ≡ station.old.building }
@@ -72,8 +78,7 @@ fn add_cut<W: Write>(
     writer: &mut W,
 ) -> Result<(), ReplayFault>
     ensures output { result ≢ Err ReplayFault.Read }
-    ensures written { OnOk result ((written : List ℕ) × Appends (W.contents writer.old) (W.contents writer.new) written
-        × (string_bytes piece.old ++ cut_text calls ≡ written ++ string_bytes piece.new)) }
+    ensures reports { OnOk result (Reports (W.contents writer.old) (W.contents writer.new) (string_bytes piece.old) (string_bytes piece.new) (cut_text calls)) }
 {
     let mut report = String::new(alloc);
     push_cut(&mut report, calls)?;
@@ -94,10 +99,14 @@ pub fn add_segment<'b, W: Write>(
     requires plan { keeper.writer.plan ≡ building.now }
     requires settled { keeper.state.batch ≡ [] }
     ensures output { result ≢ Err ReplayFault.Read }
-    ensures written { OnOk result ((written : List ℕ) × Appends (W.contents writer.old) (W.contents writer.new) written) }
-    ensures bad { result ≡ Ok (SegmentEnd.Run Verdict.Bad) → (written : List ℕ) × Appends (W.contents writer.old) (W.contents writer.new) written
-        × EndsBad (written ++ string_bytes piece.new) }
-    ensures good { result ≡ Ok (SegmentEnd.Run Verdict.Good) → length lines.new.rest.now ≡ 0 }
+    ensures reports { OnOk result ((added : List ℕ) × IsWholeLines added
+        × Reports (W.contents writer.old) (W.contents writer.new) (string_bytes piece.old) (string_bytes piece.new) added) }
+    ensures bad { result ≡ Ok (SegmentEnd.Run Verdict.Bad) → (added : List ℕ)
+        × EndsAtFirstBad building.now lines.old.count (lines_in lines.old.rest.now) added
+        × Reports (W.contents writer.old) (W.contents writer.new) (string_bytes piece.old) (string_bytes piece.new) added }
+    ensures passed { IfOk result (λ end. end ≢ SegmentEnd.Run Verdict.Bad
+        → LeadsTo building.now lines.old.count (lines_in lines.old.rest.now) lines.new.count (lines_in lines.new.rest.now)) }
+    ensures good { result ≡ Ok (SegmentEnd.Run Verdict.Good) → lines.new.rest.now ≡ [] }
     ensures cut { IfOk result (λ end. IfCut end (λ keeper. length lines.new.rest.now < length lines.old.rest.now)) }
     ensures plan { IfOk result (λ end. IfCut end (λ keeper. keeper.writer.plan ≡ building.now)) }
     ensures settled { IfOk result (λ end. IfCut end (λ keeper. keeper.state.batch ≡ [])) }

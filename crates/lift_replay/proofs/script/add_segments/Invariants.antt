@@ -1,10 +1,13 @@
-use Rattle.std.proofs.Common.{◌≡◌, ◌+◌, ◌≤◌, ℕ, List, [], length}
-use Rattle.std.specs.Io.KnownBytes.{Appends}
+use Rattle.std.proofs.Common.{◌≡◌, ◌+◌, ◌≤◌, ℕ, List, [], length, string_bytes}
+use Rattle.lift_replay.specs.Report.{IsWholeLines, Reports}
+use Rattle.lift_replay.specs.Script.{LeadsTo}
+use Rattle.lift_replay.specs.Source.{lines_in}
 use Rattle.lift_replay.proofs.script.add_segments.Given as goal
 
 abbrev pub invariant-loop : goal.invariant-loop
 invariant-loop g l = record {
-  written : (report : List ℕ) × Appends (g.W.Write.contents l.fn.writer) (g.W.Write.contents l.writer) report;
+  reports : (added : List ℕ) × IsWholeLines added × Reports (g.W.Write.contents l.fn.writer) (g.W.Write.contents l.writer) (string_bytes l.fn.piece) (string_bytes l.piece) added;
+  leads : LeadsTo l.fn.building 0 (lines_in l.fn.text) l.lines.count (lines_in l.lines.rest.now);
   left : l.counter + length l.lines.rest.now ≤ length l.fn.text;
   plan : l.keeper.writer.plan ≡ l.fn.building;
   settled : l.keeper.state.batch ≡ [];
