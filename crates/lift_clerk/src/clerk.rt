@@ -16,7 +16,8 @@ ghost use Rattle.lift_clerk.specs.Clerk.{IsClerk, IsToldAt};
 ghost use Rattle.lift_clerk.specs.Turn.{IsTurn, IsFailedTurn, IsBrokenTurn, IsEither, entries_in};
 
 use crate::counts::Counts;
-use crate::scan::{answer_all, scan};
+use crate::scan::{Answer, answer_all, scan};
+use arrayvec::ArrayVec;
 use lift_desk::{ClerkSeat, Desk, Seat};
 use lift_disk::{Arm, Disk};
 use lift_journal::JournalFault;
@@ -32,6 +33,8 @@ pub struct Clerk<'d, 'b, D: Disk, P: Policy + Drop> {
     seat: ClerkSeat,
     keeper: Keeper<'b, D>,
     policy: P,
+    /// Room for the answers of a turn, so that none is made for each.
+    answers: ArrayVec<Answer, 63>,
 }
 
 impl<'d, 'b, D: Disk, P: Policy + Drop> Model for Clerk<'d, 'b, D, P> {
@@ -57,6 +60,7 @@ impl<'d, 'b, D: Disk, P: Policy + Drop> Clerk<'d, 'b, D, P> {
             seat,
             keeper,
             policy,
+            answers: ArrayVec::new(),
         }
     }
 
@@ -133,20 +137,26 @@ impl<'d, 'b, D: Disk, P: Policy + Drop> Clerk<'d, 'b, D, P> {
             → StopsCommit self.old.keeper.writer.plan self.old.keeper.writer.half self.old.keeper.writer.is_second self.old.keeper.writer.used
             self.old.keeper.writer.register self.new.keeper.writer.doubt (D.state self.old.keeper.writer.device) (D.state self.new.keeper.writer.device) }
     {
-        let answers = scan(self.desk, &mut self.seat, &mut self.keeper, &self.policy);
+        scan(
+            self.desk,
+            &mut self.seat,
+            &mut self.keeper,
+            &self.policy,
+            &mut self.answers,
+        );
         let counts = Counts {
-            taken: answers.len(),
+            taken: self.answers.len(),
             accepted: self.keeper.pending(),
         };
         let _shown = self.keeper.register();
         match self.keeper.commit() {
             Ok(()) => {
-                answer_all(self.desk, &mut self.seat, &answers, true);
+                answer_all(self.desk, &mut self.seat, &self.answers, true);
                 Ok(counts)
             }
             Err(fault) => {
                 let _failed = self.keeper.is_broken();
-                answer_all(self.desk, &mut self.seat, &answers, false);
+                answer_all(self.desk, &mut self.seat, &self.answers, false);
                 Err(fault)
             }
         }

@@ -81,23 +81,23 @@ pub fn scan<D: Disk, P: Policy>(
     seat: &mut ClerkSeat,
     keeper: &mut Keeper<'_, D>,
     policy: &P,
-) -> ArrayVec<Answer, 63>
+    answers: &mut ArrayVec<Answer, 63>,
+)
     requires seated { IsClerkOf desk.now seat.old }
     requires settled { keeper.old.writer.is_broken ≡ false → keeper.old.state.batch ≡ [] }
     ensures scans { Scans (P.chooses policy.now) keeper.old.writer.plan keeper.old.writer.is_broken seat.old seat.new
-        keeper.old.state keeper.new.state result.items (length desk.now) }
+        keeper.old.state keeper.new.state answers.new.items (length desk.now) }
     ensures seated { IsClerkOf desk.now seat.new }
     ensures writer { keeper.new.writer ≡ keeper.old.writer }
 {
     decisions_keep(policy);
-    let mut answers = ArrayVec::new();
+    answers.clear();
     for t in 0..desk.len() {
         let terminal = Terminal::new(t as u8).unwrap();
         let ask = desk.look(seat, terminal);
         let answer = answer_to(keeper, policy, terminal, &ask);
-        push_some(&mut answers, answer);
+        push_some(answers, answer);
     }
-    answers
 }
 
 /// Stores the answers: what was decided where it is safe, else Unknown.

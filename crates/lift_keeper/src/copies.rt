@@ -46,17 +46,16 @@ pub fn apply_all(register: &mut Register, building: &Building, entries: &[Entry]
     }
 }
 
-/// The records that keep these entries.
-pub fn records_of(batch: &ArrayVec<Entry, 63>) -> ArrayVec<Record, 63>
+/// The records that keep these entries, in the place of others.
+pub fn put_records(batch: &ArrayVec<Entry, 63>, records: &mut ArrayVec<Record, 63>)
     requires lawful { All (λ (e : EntryValue). IsLawful (record_of e)) batch.now.items }
-    ensures kept { result.items ≡ map record_of batch.now.items }
-    ensures length { length result.items ≡ length batch.now.items }
-    ensures lawful { All IsLawful result.items }
-    ensures entries { All IsEntry result.items }
+    ensures kept { records.new.items ≡ map record_of batch.now.items }
+    ensures length { length records.new.items ≡ length batch.now.items }
+    ensures lawful { All IsLawful records.new.items }
+    ensures entries { All IsEntry records.new.items }
 {
-    let mut records = ArrayVec::new();
+    records.clear();
     for place in 0..batch.len() {
-        push_some(&mut records, Some(Record::of_entry(&batch[place])));
+        push_some(records, Some(Record::of_entry(&batch[place])));
     }
-    records
 }

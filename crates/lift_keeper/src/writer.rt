@@ -13,12 +13,12 @@ ghost use Rattle.lift_keeper.specs.Images.{IsImageOf, IsImageIn, IsInDoubt};
 ghost use Rattle.lift_keeper.specs.Reopening.{Reopens, RefusesReopening, FailsBy};
 ghost use Rattle.lift_keeper.specs.Writer.{Guards, StopsCommit, commit_calls, commit_writes, commit_used, commit_second};
 
-use crate::copies::{apply_all, records_of};
+use crate::copies::{apply_all, put_records};
 use crate::fault::KeeperFault;
 use crate::opening::recover;
 use crate::store::store;
 use arrayvec::ArrayVec;
-use lift_base::Entry;
+use lift_base::{Entry, Record};
 use lift_building::Building;
 use lift_disk::{Arm, Disk};
 use lift_journal::{Journal, JournalFault};
@@ -37,6 +37,8 @@ pub struct Writer<'b, D: Disk> {
     doubt: Snapshot<ArrayVec<Entry, 63>>,
     /// The journal when it was last opened.
     opened: Snapshot<Journal<D>>,
+    /// Room for the records of a batch, so that none is made for each.
+    records: ArrayVec<Record, 63>,
 }
 
 impl<'b, D: Disk> Model for Writer<'b, D> {
@@ -86,6 +88,7 @@ impl<'b, D: Disk> Writer<'b, D> {
                     is_broken: false,
                     doubt: Snapshot::of(&ArrayVec::new()),
                     opened,
+                    records: ArrayVec::new(),
                 })
             }
             Err(fault) => Err((journal.into_disk(), fault)),
@@ -158,8 +161,8 @@ impl<'b, D: Disk> Writer<'b, D> {
         if batch.is_empty() {
             return Ok(());
         }
-        let records = records_of(batch);
-        match store(&mut self.journal, &self.register, &records) {
+        put_records(batch, &mut self.records);
+        match store(&mut self.journal, &self.register, &self.records) {
             Ok(()) => {
                 apply_all(&mut self.register, self.building, batch);
                 Ok(())

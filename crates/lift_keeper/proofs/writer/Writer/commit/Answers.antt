@@ -10,8 +10,8 @@ use Rattle.lift_keeper.proofs.Guarding.{keeps_safe, now_after}
 use Rattle.lift_keeper.proofs.Writers.{guards_of, safe_of, broken_writer, nothing_in, none_more, none_acknowledged}
 use Rattle.lift_keeper.proofs.writer.Writer.commit.Goals as goal
 
-pub records_of-records-requires : goal.records_of-records-requires
-records_of-records-requires g c =
+pub put_records-requires : goal.put_records-requires
+put_records-requires g c =
     let fit = subst (λ (v : WriterView g.row.D.Denot). v.is_broken ≡ false → FitFrom v.plan v.register c.args.batch.now.items) (sym c.self.view_is) c.requires.fits in
     record { lawful = all_lawful c.self.inside.building.now c.self.inside.register c.args.batch.now.items (fit c.if-self.false) }
 
@@ -37,7 +37,7 @@ returns-in-Ok-clause-acknowledged g c =
     let fit = subst (λ (v : WriterView g.row.D.Denot). v.is_broken ≡ false → FitFrom v.plan v.register batch) (sym c.self.view_is) c.requires.fits in
     subst (λ (v : WriterView g.row.D.Denot). LeavesNow new (IsImageOf v.plan (register_of v.register batch))) c.self.view_is
     (keeps_safe w.building.now c.store.new.journal.shape c.store.new.journal.is_second c.store.new.journal.used (register_of w.register batch) new
-    (c.in-Ok.ensures.keeps w.building.now batch c.records_of-records.ensures.kept (fit c.if-self.false) guards))
+    (c.in-Ok.ensures.keeps w.building.now batch c.put_records.ensures.kept (fit c.if-self.false) guards))
 
 pub returns-in-Err-clause-in_doubt : goal.returns-in-Err-clause-in_doubt
 returns-in-Err-clause-in_doubt g c _ =
@@ -49,7 +49,7 @@ returns-in-Err-clause-in_doubt g c _ =
     let fit = subst (λ (v : WriterView g.row.D.Denot). v.is_broken ≡ false → FitFrom v.plan v.register batch) (sym c.self.view_is) c.requires.fits in
     subst (λ (v : WriterView g.row.D.Denot). LeavesNow new (IsInDoubt v.plan v.register batch)) c.self.view_is
     (now_after old new (IsInDoubt w.building.now w.register batch)
-    (c.store.ensures.any_moment w.building.now batch c.records_of-records.ensures.kept (fit c.if-self.false) guards) (g.met.D.Disk.counts_now c.store.new.journal.device))
+    (c.store.ensures.any_moment w.building.now batch c.put_records.ensures.kept (fit c.if-self.false) guards) (g.met.D.Disk.counts_now c.store.new.journal.device))
 
 pub invariant_of-self-in-Err : goal.invariant_of-self-in-Err
 invariant_of-self-in-Err g c =
@@ -60,7 +60,7 @@ invariant_of-self-in-Err g c =
     let guards = guards_of w.building.now w.journal w.register w.doubt.value.items (g.D.Disk.state w.opened.value.device).failures w.is_broken old c.self.invariant c.if-self.false in
     let fit = subst (λ (v : WriterView g.row.D.Denot). v.is_broken ≡ false → FitFrom v.plan v.register batch) (sym c.self.view_is) c.requires.fits in
     let leaves = now_after old new (IsInDoubt w.building.now w.register batch)
-    (c.store.ensures.any_moment w.building.now batch c.records_of-records.ensures.kept (fit c.if-self.false) guards) (g.met.D.Disk.counts_now c.store.new.journal.device) in
+    (c.store.ensures.any_moment w.building.now batch c.put_records.ensures.kept (fit c.if-self.false) guards) (g.met.D.Disk.counts_now c.store.new.journal.device) in
     let kept : batch ≡ c.of.result.value.items = cc (c.of.ensures) in
     let failed = c.in-Err.ensures.failed in
     broken_writer w.building.now c.store.new.journal w.register c.of.result.value.items (g.D.Disk.state w.opened.value.device).failures true new refl

@@ -6,7 +6,7 @@ use Rattle.lift_base.specs.History.{record_of}
 use Rattle.lift_base.specs.Records.{IsLawful}
 use Rattle.lift_journal.specs.Order.{IsEntry}
 use Rattle.lift_keeper.proofs.Applying.{are_entries, are_lawful}
-use Rattle.lift_keeper.proofs.copies.records_of.Goals as goal
+use Rattle.lift_keeper.proofs.copies.put_records.Goals as goal
 
 pub returns-clause-lawful : goal.returns-clause-lawful
 returns-clause-lawful c =
