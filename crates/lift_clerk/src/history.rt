@@ -5,7 +5,7 @@ ghost use Rattle.lift_base.specs.declared.history.Entry.{Entry};
 ghost use Rattle.lift_disk.specs.Disk.{MayLeave, LeavesNow};
 ghost use Rattle.lift_register.specs.Register.{empty};
 ghost use Rattle.lift_desk.specs.Seats.{IsClerkOf, OwesNothing, clerk_of};
-ghost use Rattle.lift_keeper.specs.Reopening.{RefusesReopening};
+ghost use Rattle.lift_keeper.specs.Reopening.{Reopens as Recovers, RefusesReopening};
 ghost use Rattle.lift_world.specs.declared.event.Taken.{Taken};
 ghost use Rattle.lift_clerk.specs.Machine.{Reopens, Stays};
 ghost use Rattle.lift_clerk.specs.Laws.{CallLaws};
@@ -61,6 +61,9 @@ pub fn begin_over<'d, 'b, D: Disk, P: Policy + Drop>(
     requires seated { IsClerkOf desk.now seat }
     requires answered { OwesNothing seat }
     requires unused { seat ≡ clerk_of desk.now }
+    ensures parts { IfOk result (λ clerk. (clerk.desk ≡ desk.now) × (clerk.seat ≡ seat) × (clerk.policy ≡ policy) × (clerk.keeper.writer.plan ≡ building.now)) }
+    ensures recovers { IfOk result (λ clerk. Recovers building.now (D.state disk) (D.state clerk.keeper.writer.device)
+        clerk.keeper.writer.register clerk.keeper.writer.half clerk.keeper.writer.is_second clerk.keeper.writer.used) }
     ensures first { IfOk result (λ clerk. clerk.keeper.writer.register ≡ empty → History P.chooses clerk [] []) }
     ensures again { IfOk result (λ clerk. (D.state disk).is_honest → GoesOnOver P.chooses building.now (D.state clerk.keeper.writer.device).image clerk) }
     ensures seen { IfOk result (λ clerk. (D.state disk).is_honest → MayLeave (D.state disk) (D.state clerk.keeper.writer.device).image) }
@@ -94,6 +97,7 @@ pub fn turn_shows_letters<D: Disk, P: Policy + Drop>(
     ensures rests { result ≡ Err (KeeperFault.Journal JournalFault.Broken)
         → BrokenTurnShows P.chooses clerk.old clerk.new (D.state clerk.old.keeper.writer.device) (D.state clerk.new.keeper.writer.device) }
     ensures causes { IfErr result (λ fault. (fault ≡ KeeperFault.Journal JournalFault.Disk) ⊎ (fault ≡ KeeperFault.Journal JournalFault.Broken)) }
+    ensures kept { (clerk.new.desk ≡ clerk.old.desk) × (clerk.new.policy ≡ clerk.old.policy) }
 {
     histories_are_runs::<D, P>();
     crash_shows_letters(clerk);
@@ -107,6 +111,7 @@ pub fn reopening_shows_letters<D: Disk, P: Policy + Drop>(
     ensures opens { OnOk result ((D.state clerk.old.keeper.writer.device).is_honest → Reopens clerk.old clerk.new) }
     ensures stays { OnErr result (Stays clerk.old clerk.new) }
     ensures same { OnErr result ((clerk.new.keeper.writer.is_broken ≡ true) ⊎ (clerk.new.keeper.writer.is_broken ≡ clerk.old.keeper.writer.is_broken)) }
+    ensures kept { (clerk.new.desk ≡ clerk.old.desk) × (clerk.new.policy ≡ clerk.old.policy) }
     ensures moments { MomentsShow P.chooses clerk.old clerk.old.keeper.writer.doubt (D.state clerk.old.keeper.writer.device) (D.state clerk.new.keeper.writer.device) }
 {
     histories_are_runs::<D, P>();

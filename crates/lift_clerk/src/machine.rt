@@ -92,6 +92,7 @@ pub fn turn_once<D: Disk, P: Policy + Drop>(
     ensures rests { result ≡ Err (KeeperFault.Journal JournalFault.Broken) → IsBrokenTurn clerk.old clerk.new }
     ensures broken { result ≡ Err (KeeperFault.Journal JournalFault.Broken) → clerk.old.keeper.writer.is_broken ≡ true }
     ensures causes { IfErr result (λ fault. (fault ≡ KeeperFault.Journal JournalFault.Disk) ⊎ (fault ≡ KeeperFault.Journal JournalFault.Broken)) }
+    ensures kept { (clerk.new.desk ≡ clerk.old.desk) × (clerk.new.policy ≡ clerk.old.policy) }
     ensures any_moment { clerk.old.keeper.writer.is_broken ≡ false → LeavesOnly (D.state clerk.old.keeper.writer.device) (D.state clerk.new.keeper.writer.device)
         (IsEither clerk.old.keeper.writer.plan clerk.old.keeper.writer.register clerk.new.keeper.state.register) }
 {
@@ -105,6 +106,7 @@ pub fn reopen_once<D: Disk, P: Policy + Drop>(
     ensures opens { OnOk result ((D.state clerk.old.keeper.writer.device).is_honest → Reopens clerk.old clerk.new) }
     ensures stays { OnErr result (Stays clerk.old clerk.new) }
     ensures same { OnErr result ((clerk.new.keeper.writer.is_broken ≡ true) ⊎ (clerk.new.keeper.writer.is_broken ≡ clerk.old.keeper.writer.is_broken)) }
+    ensures kept { (clerk.new.desk ≡ clerk.old.desk) × (clerk.new.policy ≡ clerk.old.policy) }
     ensures any_moment { LeavesOnly (D.state clerk.old.keeper.writer.device) (D.state clerk.new.keeper.writer.device)
         (IsInDoubt clerk.old.keeper.writer.plan clerk.old.keeper.writer.register clerk.old.keeper.writer.doubt) }
 {
@@ -121,6 +123,7 @@ pub fn turn_moves_the_machine<D: Disk, P: Policy + Drop>(
     ensures rests { result ≡ Err (KeeperFault.Journal JournalFault.Broken) → IsBrokenTurn clerk.old clerk.new }
     ensures broken { result ≡ Err (KeeperFault.Journal JournalFault.Broken) → clerk.old.keeper.writer.is_broken ≡ true }
     ensures causes { IfErr result (λ fault. (fault ≡ KeeperFault.Journal JournalFault.Disk) ⊎ (fault ≡ KeeperFault.Journal JournalFault.Broken)) }
+    ensures kept { (clerk.new.desk ≡ clerk.old.desk) × (clerk.new.policy ≡ clerk.old.policy) }
     ensures moves { Moves clerk.old clerk.new }
     ensures told { MovesWhereTold clerk.old clerk.new }
 {
@@ -136,6 +139,7 @@ pub fn reopening_moves_the_machine<D: Disk, P: Policy + Drop>(
     ensures opens { OnOk result ((D.state clerk.old.keeper.writer.device).is_honest → Reopens clerk.old clerk.new) }
     ensures stays { OnErr result (Stays clerk.old clerk.new) }
     ensures same { OnErr result ((clerk.new.keeper.writer.is_broken ≡ true) ⊎ (clerk.new.keeper.writer.is_broken ≡ clerk.old.keeper.writer.is_broken)) }
+    ensures kept { (clerk.new.desk ≡ clerk.old.desk) × (clerk.new.policy ≡ clerk.old.policy) }
     ensures moves { (D.state clerk.old.keeper.writer.device).is_honest → Moves clerk.old clerk.new }
 {
     reopenings_are_the_machines::<D, P>();

@@ -3,6 +3,7 @@ pub mod Hearing
 pub mod Words
 pub mod Prices
 pub mod Sources
+pub mod Recovered
 pub mod Runs
 pub mod Told
 pub mod Whole

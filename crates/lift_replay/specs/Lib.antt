@@ -1,6 +1,7 @@
 pub mod Grammar
 pub mod Known
 pub mod Reading
+pub mod Recovering
 pub mod Report
 pub mod Script
 pub mod Segment

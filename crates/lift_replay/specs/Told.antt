@@ -3,6 +3,8 @@ use Rattle.std.specs.Prelude.{ℕ, ◌≡◌, ◌⊎◌, ◌+◌, true, List, []
 use Rattle.lift_base.specs.declared.command.Body.{Body}
 use Rattle.lift_base.specs.declared.command.Body.TheVariants.{Call as Calls, Stop as Stopping, Place as Placing}
 use Rattle.lift_building.specs.Plan.{Plan, kiosk_floor_of}
+use Rattle.lift_disk.specs.Disk.{IsUnchanged, IsTold}
+use Rattle.lift_disk.specs.Faults.{AllAfter, fuse_state_of}
 use Rattle.lift_disk.specs.declared.fuse.FuseDisk.{FuseDisk}
 use Rattle.lift_policy.specs.Choices.{IsEtdChoice}
 use Rattle.lift_policy.specs.Step.{view_of}
@@ -66,6 +68,12 @@ Tells plan old new seats after (Cost kiosk floor party) text =
 Tells plan old new seats after Rows text = text ≡ shown_text old (codes "rows") (register_text old.keeper.state.register)
 Tells plan old new seats after (Fuse calls) text = text ≡ []
 Tells plan old new seats after (Cut outcome) text = text ≡ []
+
+-- The device of the clerk is told to fail every call after so many, and nothing else changes.
+pub record IsArmed (calls : ℕ) (old new : ScriptClerk) : Type 0 where
+  pub told : IsTold (AllAfter calls (fuse_state_of old.keeper.writer.device).calls) (fuse_state_of new.keeper.writer.device)
+  pub unchanged : IsUnchanged (fuse_state_of old.keeper.writer.device) (fuse_state_of new.keeper.writer.device)
+  pub rest : new ≡ record old { keeper = record old.keeper { writer = record old.keeper.writer { device = new.keeper.writer.device } } }
 
 -- a power cut ends the lines at this desk, and no other line does
 abbrev pub end_of : ScriptLine → Option End

@@ -6,7 +6,9 @@ ghost use Rattle.lift_policy.specs.Step.{view_of};
 ghost use Rattle.lift_replay.specs.Known.{IsKnown};
 ghost use Rattle.lift_replay.specs.Report.{register_text};
 ghost use Rattle.lift_replay.specs.Shown.{stops_text, costs_text};
-ghost use Rattle.lift_replay.specs.Told.{Asks, TurnTells, OutcomeTells, Tells, LineTells, shown_text, end_of};
+ghost use Rattle.lift_replay.specs.Told.{Asks, TurnTells, OutcomeTells, Tells, LineTells, IsArmed, shown_text, end_of};
+ghost use Rattle.lift_replay.specs.declared.line.ScriptLine.TheVariants.{Fuse, Cut as CutLine};
+ghost use Rattle.lift_disk.specs.declared.outcome.Outcome.{Outcome as Cut};
 
 use crate::line::ScriptLine;
 use crate::parsing::parse;
@@ -187,6 +189,8 @@ fn carry_out(
         × Tells station.old.building.now station.old.clerk station.new.clerk station.old.terminals.seats.items station.new.terminals.seats.items line.now told
         × (string_bytes report.new ≡ string_bytes report.old ++ told)) }
     ensures end { IfOk result (λ end. end ≡ end_of line.now) }
+    ensures fuse { (calls : ℕ) → line.now ≡ Fuse calls → OnOk result (IsArmed calls station.old.clerk station.new.clerk × (station.new.terminals ≡ station.old.terminals)) }
+    ensures cut { (outcome : Cut) → line.now ≡ CutLine outcome → OnOk result (station.new ≡ station.old) }
     ensures building { station.new.building ≡ station.old.building }
 {
     let _cars = station.building.cars();

@@ -1,10 +1,14 @@
 //! The group that a script runs between two power cuts: its terminals, and its clerk over a device in memory.
 
 ghost use Rattle.std.specs.Prelude.{◌≡◌, ◌+◌, length, false, [], IfOk};
+ghost use Rattle.lift_disk.specs.Disk.{IsUnarmed};
 ghost use Rattle.lift_disk.specs.Faults.{fuse_state_of};
+ghost use Rattle.lift_disk.specs.Outcomes.{IsLeftBy};
+ghost use Rattle.lift_register.specs.Register.{empty};
 ghost use Rattle.lift_desk.specs.Seats.{AreSeatsOf, IsClerkOf, OwesNothing, seats_from};
 ghost use Rattle.lift_keeper.specs.Decider.{starting};
 ghost use Rattle.lift_keeper.specs.Reopening.{Reopens};
+ghost use Rattle.lift_replay.specs.Recovering.{Recovers};
 
 use crate::terminals::Terminals;
 use lift_base::Memory;
@@ -34,6 +38,9 @@ pub struct Station<'d, 'b> {
 fn keeper_over(disk: FuseDisk, building: &Building) -> Result<Keeper<'_, FuseDisk>, Memory>
     ensures opens { IfOk result (λ keeper. Reopens building.now (fuse_state_of disk) (fuse_state_of keeper.writer.device)
         keeper.writer.register keeper.writer.half keeper.writer.is_second keeper.writer.used) }
+    ensures image { IfOk result (λ keeper. (fuse_state_of keeper.writer.device).image ≡ (fuse_state_of disk).image) }
+    ensures recovers { IfOk result (λ keeper. Recovers building.now (fuse_state_of keeper.writer.device).image keeper.writer.register) }
+    ensures unarmed { IfOk result (λ keeper. IsUnarmed (fuse_state_of disk) → IsUnarmed (fuse_state_of keeper.writer.device)) }
     ensures state { IfOk result (λ keeper. keeper.state ≡ starting keeper.writer.register) }
     ensures plan { IfOk result (λ keeper. keeper.writer.plan ≡ building.now) }
     ensures whole { IfOk result (λ keeper. (keeper.writer.is_broken ≡ false) × (keeper.writer.doubt ≡ [])) }
@@ -46,6 +53,8 @@ fn keeper_over(disk: FuseDisk, building: &Building) -> Result<Keeper<'_, FuseDis
 
 /// The keeper over a formatted device in memory: nobody has called.
 pub fn first_keeper(alloc: Global, building: &Building) -> Result<Keeper<'_, FuseDisk>, Memory>
+    ensures empty { IfOk result (λ keeper. keeper.writer.register ≡ empty) }
+    ensures unarmed { IfOk result (λ keeper. IsUnarmed (fuse_state_of keeper.writer.device)) }
     ensures state { IfOk result (λ keeper. keeper.state ≡ starting keeper.writer.register) }
     ensures plan { IfOk result (λ keeper. keeper.writer.plan ≡ building.now) }
     ensures whole { IfOk result (λ keeper. (keeper.writer.is_broken ≡ false) × (keeper.writer.doubt ≡ [])) }
@@ -94,6 +103,9 @@ impl<'d, 'b> Station<'d, 'b> {
 
     /// The power is cut, and comes back: the keeper that recovers what is left, over a device that fails no call by itself.
     pub fn cut(self, outcome: Outcome) -> Result<Keeper<'b, FuseDisk>, Memory>
+        ensures left { IfOk result (λ keeper. IsLeftBy outcome (fuse_state_of self.entry.clerk.keeper.writer.device) (fuse_state_of keeper.writer.device).image) }
+        ensures recovers { IfOk result (λ keeper. Recovers self.entry.building.now (fuse_state_of keeper.writer.device).image keeper.writer.register) }
+        ensures unarmed { IfOk result (λ keeper. IsUnarmed (fuse_state_of keeper.writer.device)) }
         ensures state { IfOk result (λ keeper. keeper.state ≡ starting keeper.writer.register) }
         ensures plan { IfOk result (λ keeper. keeper.writer.plan ≡ self.entry.building.now) }
         ensures whole { IfOk result (λ keeper. (keeper.writer.is_broken ≡ false) × (keeper.writer.doubt ≡ [])) }
