@@ -72,8 +72,8 @@ impl<'d, 'b, D: Disk, P: Policy + Drop> Clerk<'d, 'b, D, P> {
         &self.keeper
     }
 
-    /// Tells it what a terminal has asked so far, and the terminal what was answered there so far. From then on a turn takes at
-    /// least that ask, and the terminal hears at least that answer. It stores nothing.
+    /// Tells it what a terminal has asked so far, and the terminal what was answered there so far. Behind a later turn
+    /// that ask is taken, and behind a later `hear` that answer is heard. It stores nothing.
     pub fn tell(&mut self, seat: &mut Seat)
         requires { IsSeatOf self.old.desk seat.old }
         ensures seat { seat.new ≡ seat_with seat.old (with_told_answers seat.old.view (view_at self.old.seat seat.old.terminal).answered) }

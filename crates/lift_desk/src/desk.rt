@@ -219,8 +219,8 @@ impl Desk {
         place.answer(table, reply)
     }
 
-    /// Tells the clerk what the terminal has asked so far, and the terminal what the clerk has answered so far: from then on a
-    /// look finds at least that ask, and a `hear` that answer. It stores nothing, and gives nothing of what it loads.
+    /// Tells the clerk what the terminal has asked so far, and the terminal what the clerk has answered so far: behind a
+    /// later look that ask is taken, and behind a later `hear` that answer is heard. It stores nothing, and gives nothing of what it loads.
     pub fn tell(&self, seat: &mut Seat, clerk: &mut ClerkSeat)
         requires seat { IsSeatOf self.now seat.old }
         requires clerk { IsClerkOf self.now clerk.old }

@@ -46,6 +46,6 @@ between_text plan view call =
 abbrev pub costs_text : Plan → ViewState → NewCall → List ℕ
 costs_text plan view call = codes "cost" ++ between_text plan view call ++ 10 ∷ []
 
--- A line that shows more than what is safe while nothing is broken, and the fault of a broken journal else.
+-- What is shown while nothing is broken, and the fault of a broken journal in its place else.
 abbrev pub unless_broken : Bool → List ℕ → List ℕ → List ℕ
 unless_broken is_broken line shown = if is_broken then fault_text line 5 else shown

@@ -56,7 +56,8 @@ OutcomeTells old new seats after text =
 abbrev pub shown_text : ScriptClerk → List ℕ → List ℕ → List ℕ
 shown_text clerk line text = unless_broken clerk.keeper.writer.is_broken line text
 
--- what a line tells in a building, to a clerk and terminals, and how it leaves them
+-- What a line tells in a building, to a clerk and terminals. Of an ask it says how the terminals are left, of a turn how both
+-- are; of other lines it says nothing of that.
 abbrev pub Tells : Plan → (old new : ScriptClerk) → (seats after : List TerminalSeat) → ScriptLine → List ℕ → Type 0
 Tells plan old new seats after (Place car floor dir) text = Asks seats after car 0 (Placing floor dir) text
 Tells plan old new seats after (Call kiosk number floor party) text = Asks seats after (16 + kiosk) number (Calls floor party) text

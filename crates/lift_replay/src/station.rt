@@ -34,7 +34,8 @@ pub struct Station<'d, 'b> {
     ghost count: { length terminals.seats.items ≡ 16 + length building.now.kiosks },
 }
 
-/// The keeper over a device in memory, of which an opening fails only where a growth was refused.
+/// The keeper over a device in memory that is honest, unarmed and formatted for the building: there an opening fails only
+/// where a growth was refused, which no clause says. Each refusal is told so.
 fn keeper_over(disk: FuseDisk, building: &Building) -> Result<Keeper<'_, FuseDisk>, Memory>
     ensures opens { IfOk result (λ keeper. Reopens building.now (fuse_state_of disk) (fuse_state_of keeper.writer.device)
         keeper.writer.register keeper.writer.half keeper.writer.is_second keeper.writer.used) }

@@ -55,8 +55,8 @@ MovesTo (Some w) old possible new = (possible ≡ true) × (new ≡ w)
 abbrev pub Moves : World → Event → Bool → World → Type 0
 Moves old event possible new = MovesTo (next old event) old possible new
 
--- Where memory may be wanting: an event that makes a list longer, and only where it is possible; of a take, where the
--- terminal's ask may be looked at. The device's calls and a cut want none.
+-- Where memory may be wanting: only where the event is possible; of a take, where the terminal's ask may be looked at. The
+-- device's calls before the second sync and a cut want none.
 abbrev pub MayWant : World → Event → Type 0
 MayWant w (Ask terminal number body) = IsSome (next w (Ask terminal number body))
 MayWant w (Take terminal letter) = may_take w terminal ≡ true

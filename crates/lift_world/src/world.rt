@@ -594,8 +594,9 @@ impl<'b> World<'b> {
         Ok(true)
     }
 
-    /// One event. False where it isn't possible, and then, as for want of memory, nothing changed. Memory is wanted only by
-    /// an event that makes a list longer, where it is possible; by a take, where the terminal's ask may be looked at.
+    /// One event. False where it isn't possible, and then, as for want of memory, nothing changed. Memory is wanted
+    /// neither by the device's calls before the second sync nor by a cut, and by others only where they are possible; by a
+    /// take, where the terminal's ask may be looked at.
     pub fn step(&mut self, event: &Event) -> Result<bool, Memory>
         ensures ok { IfOk result (λ possible. Moves self.old event.now possible self.new) }
         ensures err { OnErr result (self.new ≡ self.old) }
