@@ -108,16 +108,16 @@ all_hear_whole (old ∷ olds) (new ∷ news) told (line, others, one, rest, is) 
     same_whole (line ++ others) told is (whole_append line others (hears_whole old new line one) (all_hear_whole olds news others rest))
 
 tells_whole : (plan : Plan) (old new : ScriptClerk) (seats after : List TerminalSeat) (wanted : ScriptLine) (told : List ℕ) → Tells plan old new seats after wanted told → IsWholeLines told
-tells_whole plan old new seats after (Place car floor dir) told is = asks_whole seats after car 0 (Placing floor dir) told is
-tells_whole plan old new seats after (Call kiosk number floor party) told is = asks_whole seats after (16 + kiosk) number (Calls floor party) told is
-tells_whole plan old new seats after (Stop car number floor dir) told is = asks_whole seats after car number (Stopping floor dir) told is
+tells_whole plan old new seats after (Place car floor dir) told is = asks_whole seats after car 0 (Placing floor dir) told is.0
+tells_whole plan old new seats after (Call kiosk number floor party) told is = asks_whole seats after (16 + kiosk) number (Calls floor party) told is.0
+tells_whole plan old new seats after (Stop car number floor dir) told is = asks_whole seats after car number (Stopping floor dir) told is.0
 tells_whole plan old new seats after Turn told (head, heard, turn, all, is) =
     same_whole (head ++ heard) told is (whole_append head heard (turn_whole old new head turn) (all_hear_whole seats after heard all))
-tells_whole plan old new seats after (Stops car) told is = same_whole _ told is (unless_whole old.keeper.writer.is_broken (codes "stops") _ (stops_whole (view_of old.keeper.state) car))
-tells_whole plan old new seats after (Cost kiosk floor party) told is = same_whole _ told is (unless_whole old.keeper.writer.is_broken (codes "cost") _ (costs_whole plan (view_of old.keeper.state) (record { from = kiosk_floor_of plan kiosk; to = floor; party = party })))
-tells_whole plan old new seats after Rows told is = same_whole _ told is (unless_whole old.keeper.writer.is_broken (codes "rows") _ (register_whole old.keeper.state.register))
-tells_whole plan old new seats after (Fuse calls) told is = inl is
-tells_whole plan old new seats after (Cut outcome) told is = inl is
+tells_whole plan old new seats after (Stops car) told is = same_whole _ told is.0 (unless_whole old.keeper.writer.is_broken (codes "stops") _ (stops_whole (view_of old.keeper.state) car))
+tells_whole plan old new seats after (Cost kiosk floor party) told is = same_whole _ told is.0 (unless_whole old.keeper.writer.is_broken (codes "cost") _ (costs_whole plan (view_of old.keeper.state) (record { from = kiosk_floor_of plan kiosk; to = floor; party = party })))
+tells_whole plan old new seats after Rows told is = same_whole _ told is.0 (unless_whole old.keeper.writer.is_broken (codes "rows") _ (register_whole old.keeper.state.register))
+tells_whole plan old new seats after (Fuse calls) told is = inl is.0
+tells_whole plan old new seats after (Cut outcome) told is = inl is.0
 
 pub line_whole : (plan : Plan) (old new : ScriptClerk) (seats after : List TerminalSeat) (line : List ℕ) (number : ℕ) (end : Option End) (told : List ℕ)
     → LineTells plan old new seats after line number end told → IsWholeLines told

@@ -56,25 +56,30 @@ OutcomeTells old new seats after text =
 abbrev pub shown_text : ScriptClerk → List ℕ → List ℕ → List ℕ
 shown_text clerk line text = unless_broken clerk.keeper.writer.is_broken line text
 
--- What a line tells in a building, to a clerk and terminals. Of an ask it says how the terminals are left, of a turn how both
--- are; of other lines it says nothing of that.
-abbrev pub Tells : Plan → (old new : ScriptClerk) → (seats after : List TerminalSeat) → ScriptLine → List ℕ → Type 0
-Tells plan old new seats after (Place car floor dir) text = Asks seats after car 0 (Placing floor dir) text
-Tells plan old new seats after (Call kiosk number floor party) text = Asks seats after (16 + kiosk) number (Calls floor party) text
-Tells plan old new seats after (Stop car number floor dir) text = Asks seats after car number (Stopping floor dir) text
-Tells plan old new seats after Turn text = OutcomeTells old new seats after text
-Tells plan old new seats after (Stops car) text = text ≡ shown_text old (codes "stops") (stops_text (view_of old.keeper.state) car)
-Tells plan old new seats after (Cost kiosk floor party) text =
-    text ≡ shown_text old (codes "cost") (costs_text plan (view_of old.keeper.state) (record { from = kiosk_floor_of plan kiosk; to = floor; party = party }))
-Tells plan old new seats after Rows text = text ≡ shown_text old (codes "rows") (register_text old.keeper.state.register)
-Tells plan old new seats after (Fuse calls) text = text ≡ []
-Tells plan old new seats after (Cut outcome) text = text ≡ []
-
 -- The device of the clerk is told to fail every call after so many, and nothing else changes.
 pub record IsArmed (calls : ℕ) (old new : ScriptClerk) : Type 0 where
   pub told : IsTold (AllAfter calls (fuse_state_of old.keeper.writer.device).calls) (fuse_state_of new.keeper.writer.device)
   pub unchanged : IsUnchanged (fuse_state_of old.keeper.writer.device) (fuse_state_of new.keeper.writer.device)
   pub rest : new ≡ record old { keeper = record old.keeper { writer = record old.keeper.writer { device = new.keeper.writer.device } } }
+
+-- the clerk and the terminals are as before
+pub record Rests (old new : ScriptClerk) (seats after : List TerminalSeat) : Type 0 where
+  pub clerk : new ≡ old
+  pub terminals : after ≡ seats
+
+-- what a line tells in a building, to a clerk and terminals, and how it leaves them
+abbrev pub Tells : Plan → (old new : ScriptClerk) → (seats after : List TerminalSeat) → ScriptLine → List ℕ → Type 0
+Tells plan old new seats after (Place car floor dir) text = Asks seats after car 0 (Placing floor dir) text × (new ≡ old)
+Tells plan old new seats after (Call kiosk number floor party) text = Asks seats after (16 + kiosk) number (Calls floor party) text × (new ≡ old)
+Tells plan old new seats after (Stop car number floor dir) text = Asks seats after car number (Stopping floor dir) text × (new ≡ old)
+Tells plan old new seats after Turn text = OutcomeTells old new seats after text
+Tells plan old new seats after (Stops car) text = (text ≡ shown_text old (codes "stops") (stops_text (view_of old.keeper.state) car)) × Rests old new seats after
+Tells plan old new seats after (Cost kiosk floor party) text =
+    (text ≡ shown_text old (codes "cost") (costs_text plan (view_of old.keeper.state) (record { from = kiosk_floor_of plan kiosk; to = floor; party = party })))
+    × Rests old new seats after
+Tells plan old new seats after Rows text = (text ≡ shown_text old (codes "rows") (register_text old.keeper.state.register)) × Rests old new seats after
+Tells plan old new seats after (Fuse calls) text = (text ≡ []) × IsArmed calls old new × (after ≡ seats)
+Tells plan old new seats after (Cut outcome) text = (text ≡ []) × Rests old new seats after
 
 -- a power cut ends the lines at this desk, and no other line does
 abbrev pub end_of : ScriptLine → Option End
@@ -82,8 +87,8 @@ end_of (Cut outcome) = Some (Power outcome)
 end_of line = None
 
 -- the line is skipped
-abbrev pub Skips : List ℕ → Option End → List ℕ → Type 0
-Skips line end text = IsSkipped line × (end ≡ None) × (text ≡ [])
+abbrev pub Skips : (old new : ScriptClerk) → (seats after : List TerminalSeat) → List ℕ → Option End → List ℕ → Type 0
+Skips old new seats after line end text = IsSkipped line × (end ≡ None) × (text ≡ []) × Rests old new seats after
 
 -- the line asks for something that the building knows, and it is carried out
 abbrev pub CarriesOut : Plan → (old new : ScriptClerk) → (seats after : List TerminalSeat) → List ℕ → Option End → List ℕ → Type 0
@@ -91,9 +96,9 @@ CarriesOut plan old new seats after line end text =
     (wanted : ScriptLine) × Spells line wanted × IsKnown plan wanted × Tells plan old new seats after wanted text × (end ≡ end_of wanted)
 
 -- the line is malformed, and ends the run
-abbrev pub Refuses : Plan → List ℕ → ℕ → Option End → List ℕ → Type 0
-Refuses plan line number end text = IsBadLine plan line × (end ≡ Some (Over Bad)) × (text ≡ bad_text number)
+abbrev pub Refuses : Plan → (old new : ScriptClerk) → (seats after : List TerminalSeat) → List ℕ → ℕ → Option End → List ℕ → Type 0
+Refuses plan old new seats after line number end text = IsBadLine plan line × (end ≡ Some (Over Bad)) × (text ≡ bad_text number) × Rests old new seats after
 
 abbrev pub LineTells : Plan → (old new : ScriptClerk) → (seats after : List TerminalSeat) → List ℕ → ℕ → Option End → List ℕ → Type 0
 LineTells plan old new seats after line number end text =
-    Skips line end text ⊎ (CarriesOut plan old new seats after line end text ⊎ Refuses plan line number end text)
+    Skips old new seats after line end text ⊎ (CarriesOut plan old new seats after line end text ⊎ Refuses plan old new seats after line number end text)

@@ -16,6 +16,7 @@ returns-then-is_empty-clause-tells c = (
     ],
     refl,
     refl,
+    record { clerk = refl; terminals = refl },
   ),
   sym (append-nil (string_bytes c.args.report.now)),
 )
@@ -34,6 +35,7 @@ returns-in_ok-push_bad-in_default-clause-tells c =
         ),
         refl,
         refl,
+        record { clerk = refl; terminals = refl },
       )),
       c.in_ok-push_bad-in_default.ensures,
     )
