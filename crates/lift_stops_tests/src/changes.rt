@@ -39,8 +39,9 @@ impl Numbers {
 
     /// Two floors that differ.
     fn floors(&mut self) -> (u8, u8) {
-        let (from, on) = (self.floor(), self.next() % 9 + 1);
-        (from, (from + on as u8) % 10)
+        let from = self.next() % 10;
+        let to = (from + self.next() % 9 + 1) % 10;
+        (from as u8, to as u8)
     }
 
     fn row(&mut self) -> Row {
