@@ -1,6 +1,7 @@
 -- One more answer is stored.
-use Rattle.std.proofs.Common.{◌≡◌, ℕ, suc, ◌+◌, ◌<◌, ◌≤◌, Bool, false, List, [], ◌∷◌, ◌++◌, take, length, get_or, refl, sym, ap, ◌∙◌, subst, arith}
+use Rattle.std.proofs.Common.{◌≡◌, ℕ, suc, ◌+◌, ◌<◌, ◌≤◌, Bool, false, List, [], ◌∷◌, ◌++◌, take, length, get_or, All, refl, sym, ap, ◌∙◌, subst, arith}
 use Rattle.std.proofs.lemmas.List.{length-map, length-take-le, take_all}
+use Rattle.std.proofs.lemmas.List.Elements.{All-append, All-cons, All-nil}
 use Rattle.std.proofs.Math.ListN.{get_or-map}
 use Rattle.std.proofs.Math.Seq.{take-suc}
 use Rattle.lift_base.specs.declared.command.Reply.{Reply}
@@ -63,6 +64,22 @@ stored_at places visits seat now next answers items is_safe n a scanned same ins
     ∙ ap (λ l. clerk_with l here.k (with_answer (view_at l here.k) (reply_word (length (view_at l here.k).taken) (number_of (last_of (view_at l here.k).taken)) reply))) before
     ∙ here.stored (view_at (served places visits (take n replies)) here.k) refl
     ∙ ap (served places visits) (last ∙ ap (λ m. take m replies) one)
+
+-- the replies so far, with the one that was stored last
+module _ (P : Reply → Type 0) (answers items : List Answer) (is_safe : Bool) (n : ℕ) where
+  pub all_told : (a : Answer) → items ≡ answers → n < length answers → a ≡ get_or items n a → All P (take n (replies_told is_safe answers)) → P (told is_safe a.reply)
+      → All P (take (n + 1) (replies_told is_safe answers))
+  all_told a same inside is before last =
+      let replies = replies_told is_safe answers in
+      let reply = told is_safe a.reply in
+      let one : suc n ≡ n + 1 = omega arith in
+      let more : take n replies ++ reply ∷ [] ≡ take (suc n) replies =
+      ap (λ r. take n replies ++ r ∷ []) (ap (λ (b : Answer). told is_safe b.reply) (is ∙ ap (λ l. get_or l n a) same) ∙ sym (get_or-map (λ (b : Answer). told is_safe b.reply) answers n a))
+      ∙ sym (take-suc replies n reply (omega (arith, length-map answers (λ (b : Answer). told is_safe b.reply)))) in
+      subst (λ m. All P (take m replies)) one (subst (All P) more (All-append P (take n replies) (reply ∷ []) before (All-cons P reply [] last (All-nil P))))
+
+  pub told_all : length answers ≤ n → All P (take n (replies_told is_safe answers)) → All P (replies_told is_safe answers)
+  told_all all before = subst (All P) (take_all n (replies_told is_safe answers) (omega (arith, length-map answers (λ (b : Answer). told is_safe b.reply)))) before
 
 -- all of them
 pub stored_all : (places : List ClerkPlace) (visits : List Visit) (seat : List ClerkPlace) (answers : List Answer) (is_safe : Bool) (n : ℕ) → length answers ≤ n

@@ -3,6 +3,7 @@ use Rattle.std.proofs.Common.{ℕ, ◌≡◌, ◌≤◌, Bool, true, false, List
 use Rattle.std.specs.Prelude.{IsTrue, unwrap_or, option_and_then}
 use Rattle.std.specs.List.{AllByRecursion, flat_map}
 use Rattle.std.proofs.lemmas.Bool.{false≢true}
+use Rattle.std.proofs.lemmas.List.{append-nil}
 use Rattle.lift_base.specs.declared.command.Reply.{Reply}
 use Rattle.lift_building.specs.Plan.{Plan}
 use Rattle.lift_policy.specs.Eligible.{Choice, any_eligible}
@@ -86,22 +87,44 @@ pub record Asked (w : World) (cs : List Command) : Type 0 where
   pub theirs : AllByRecursion (λ (e : Event). IsTrue (is_of_terminals e)) events
   pub heard : List Answer
   pub possible : goes events w ≡ Some (asked_on w (fresh w cs) heard)
+  pub alone : fresh w cs ≡ [] → (events ≡ []) × (heard ≡ w.heard)
   pub found : AreFound (asked_on w (fresh w cs) heard) cs
 
 module _ (laws : Laws) (w : World) (reached : IsReached w) where
   hears : HearsInOrder w
   hears = subst (λ (v : World). HearsInOrder v) reached.1 (laws.hears w.building reached.0)
 
-  pub ask : (splits : (t : ℕ) → Splits w t) → IsResting w → (cs : List Command) → LooksAgree w cs → AreApart cs → Asked w cs
-  ask splits k cs agree apart =
+  -- where all of them stand nothing is asked
+  asks_none : (splits : (t : ℕ) → Splits w t) → IsResting w → (cs : List Command) → LooksAgree w cs → AreApart cs → fresh w cs ≡ [] → Asked w cs
+  asks_none splits k cs agree apart none =
+      let here : World = asked_on w (fresh w cs) w.heard in
+      record {
+        events = [];
+        heard = w.heard;
+        theirs = tt;
+        possible = ap (λ (xs : List Command). Some (record w { asked = xs })) (sym (ap (λ (xs : List Command). w.asked ++ xs) none ∙ append-nil w.asked));
+        alone = λ none. (refl, refl);
+        found = all_found w splits k.nothing laws.looks k.on k.few cs w.heard cs agree apart (subst (λ (xs : List Command). AreFound here xs) (sym none) tt);
+      }
+
+  asks_some : (splits : (t : ℕ) → Splits w t) → IsResting w → (cs : List Command) → LooksAgree w cs → AreApart cs → (c : Command) (rest : List Command) → fresh w cs ≡ c ∷ rest → Asked w cs
+  asks_some splits k cs agree apart c rest some =
       let s = laws.asks w (fresh w cs) k.on k.few hears (fresh_answered w splits k.nothing cs apart) in
       record {
         events = s.0;
         heard = s.1;
         theirs = s.2;
         possible = s.3;
+        alone = λ none. (let wrong : c ∷ rest ≡ [] = sym some ∙ none in cc);
         found = all_found w splits k.nothing laws.looks k.on k.few cs s.1 cs agree apart s.4;
       }
+
+  by_fresh : (splits : (t : ℕ) → Splits w t) → IsResting w → (cs : List Command) → LooksAgree w cs → AreApart cs → (xs : List Command) → fresh w cs ≡ xs → Asked w cs
+  by_fresh splits k cs agree apart [] e = asks_none splits k cs agree apart e
+  by_fresh splits k cs agree apart (c ∷ rest) e = asks_some splits k cs agree apart c rest e
+
+  pub ask : (splits : (t : ℕ) → Splits w t) → IsResting w → (cs : List Command) → LooksAgree w cs → AreApart cs → Asked w cs
+  ask splits k cs agree apart = by_fresh splits k cs agree apart (fresh w cs) refl
 
   pub reaches : (events : List Event) (end : World) → goes events w ≡ Some end → end.building ≡ w.building → IsReached end
   reaches events end e b = (

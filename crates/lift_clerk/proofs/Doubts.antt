@@ -46,6 +46,7 @@ pub record EndsBroken (w : World) (own : List Event) (cs : List Command) (end : 
   pub theirs : AllByRecursion (λ (e : Event). IsTrue (is_of_terminals e)) first
   pub possible : goes (first ++ own) w ≡ Some end
   pub ends : Ends w cs (unknowns cs) end
+  pub alone : fresh w cs ≡ [] → (first ≡ []) × (end.heard ≡ w.heard)
 
 pub record Doubts (end : World) (safe batch : List Entry) : Type 0 where
   pub rest : IsBrokenAtRest end
@@ -106,6 +107,7 @@ module _ (laws : Laws) (w : World) where
               answered = ap (λ (ts : List Taken). w.answered ++ map answer_of ts) unknown;
               given = ap (λ (ts : List Taken). w.given ++ ts) unknown;
             };
+            alone = a.alone;
           },
           record {
             rest = laws.failures_rest w1 (c ∷ cs) (reply ∷ rs) state GateWritten rest1;
@@ -138,6 +140,7 @@ module _ (laws : Laws) (w : World) where
       theirs = tt;
       possible = refl;
       ends = record { building = refl; asked = sym (append-nil w.asked); answered = sym (append-nil w.answered); given = sym (append-nil w.given) };
+      alone = λ none. (refl, refl);
     },
     record { rest = rest; safe_is = refl; batch_is = refl },
     refl,
@@ -158,6 +161,7 @@ module _ (laws : Laws) (w : World) where
               theirs = a.theirs;
               possible = goes_behind a.events (broken_events (c ∷ cs) t.0) w w1 a.possible ∙ t.1;
               ends = record { building = refl; asked = refl; answered = refl; given = refl };
+              alone = a.alone;
             },
             record { rest = laws.broken_rest w1 (c ∷ cs) state rest1; safe_is = still_safe w state.batch rest; batch_is = still_in_doubt w state.batch rest },
             refl,
@@ -182,7 +186,7 @@ failures_are_failures laws choice any w before after t m agree =
           let k = e.1 folds in
           let ends : Ends w cs t.turn.replies k.0 = subst (λ (xs : List Reply). Ends w cs xs k.0) (sym t.turn.run.1) k.1.ends in
           follows laws w before after m t.turn.visits t.turn.replies t.turn.serves agree t.same_plan (failed_events cs e.0 folds GateWritten (length state.batch)) k.0
-          (record { first = k.1.first; theirs = k.1.theirs; possible = k.1.possible; ends = ends }) (safe_list w) k.2.safe_is
+          (record { first = k.1.first; theirs = k.1.theirs; possible = k.1.possible; ends = ends; alone = k.1.alone }) (safe_list w) k.2.safe_is
           (λ whole. not_both after.keeper.writer.is_broken whole t.breaks)
           (λ broken. record {
             at_rest = k.2.rest;
@@ -201,7 +205,7 @@ broken_turns_are_broken laws w before after t was_broken m agree =
     let ends : Ends w cs t.replies k.1 = subst (λ (xs : List Reply). Ends w cs xs k.1) (sym t.run.0) k.2.ends in (
       k.0,
       follows laws w before after m t.visits t.replies t.serves agree (ap (λ (x : KeeperView _). x.writer.plan) t.rests) (events_while_broken cs k.0) k.1
-          (record { first = k.2.first; theirs = k.2.theirs; possible = k.2.possible; ends = ends }) (safe_list w) k.3.safe_is
+          (record { first = k.2.first; theirs = k.2.theirs; possible = k.2.possible; ends = ends; alone = k.2.alone }) (safe_list w) k.3.safe_is
           (λ whole. not_both before.keeper.writer.is_broken (ap (λ (x : KeeperView _). x.writer.is_broken) (sym t.rests) ∙ whole) was_broken)
           (λ broken. subst (λ (x : KeeperView _). ShowsBroken k.1 x) (sym t.rests) (record {
             at_rest = k.3.rest;

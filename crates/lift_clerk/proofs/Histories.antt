@@ -16,12 +16,12 @@ use Rattle.lift_world.specs.World.{World, start, register_after, safe_list}
 use Rattle.lift_world.specs.Headline.{StillNames}
 use Rattle.lift_world.specs.Turns.{with_replies}
 use Rattle.lift_clerk.specs.declared.counts.Counts.{Counts}
-use Rattle.lift_clerk.specs.Clerk.{ClerkState}
+use Rattle.lift_clerk.specs.Clerk.{ClerkState, IsToldAt}
 use Rattle.lift_clerk.specs.Turn.{IsBrokenTurn, IsEither}
 use Rattle.lift_clerk.specs.Visits.{commands_of}
 use Rattle.lift_clerk.specs.Machine.{IsReached, Follows, Turns, Fails, Reopens, Stays, Begins, kept_of, IsKept, IsKeptAtGate, Shows, CutsShowLetters}
 use Rattle.lift_clerk.specs.Laws.{CallLaws}
-use Rattle.lift_clerk.specs.History.{History, Began, Turned, Failed, TurnedWhileBroken, Reopened, Stayed, CutBetween, CutWithin, CutWithinFailure}
+use Rattle.lift_clerk.specs.History.{History, Began, Turned, Failed, TurnedWhileBroken, Reopened, Stayed, Told, CutBetween, CutWithin, CutWithinFailure}
 use Rattle.lift_clerk.specs.History.{BeginsOver, IsRunOf, HistoriesAreRuns, acknowledged_in, ShowsGiven, CrashesShowGiven, CrashesInTurnsShowGiven, CrashesInFailuresShowGiven}
 use Rattle.lift_clerk.proofs.Moved.{all_agree}
 
@@ -118,6 +118,16 @@ module _ {D P : Type 0} (chooses : P → Choice) (laws : CallLaws D P chooses) w
     stay_run s (inl is) = fault_run before.keeper.writer.is_broken refl s is
     stay_run s (inr same) = same_run s same
 
+    tell_run : (terminal : ℕ) (words : List ℕ) → IsToldAt before after terminal words → IsRunOf after safe given
+    tell_run terminal words is = record {
+      world = r.world;
+      shows = laws.told r.world before after terminal words is r.shows;
+      waits = r.waits;
+      safe_is = r.safe_is;
+      given_is = r.given_is;
+      building = subst (λ (c : ClerkState D P). IsBuilding c.keeper.writer.plan) (sym is) r.building;
+    }
+
     -- what a cut may leave
     here : (keep : List Entry → List Entry) (left : Image) → IsKept r.world (keep (safe_list r.world)) left → MayCut plan (keep safe) given left
     here keep left k = record {
@@ -165,6 +175,7 @@ module _ {D P : Type 0} (chooses : P → Choice) (laws : CallLaws D P chooses) w
   run_of clerk safe given (TurnedWhileBroken h t was) = broken_run _ clerk _ _ (run_of _ _ _ h) t was
   run_of clerk safe given (Reopened h o) = reopening_run _ clerk _ _ (run_of _ _ _ h) o
   run_of clerk safe given (Stayed h same one) = stay_run _ clerk _ _ (run_of _ _ _ h) same one
+  run_of clerk safe given (Told h terminal words is) = tell_run _ clerk _ _ (run_of _ _ _ h) terminal words is
   run_of clerk safe given (CutBetween h doubt b) =
       let r = run_of _ _ _ h in restart _ _ _ _ clerk r.building (cut_between _ clerk _ _ r _ doubt) b
   run_of clerk safe given (CutWithin h t either b) =

@@ -17,3 +17,7 @@ pub mod Told
 pub mod Histories
 pub mod Moments
 pub mod Begun
+pub mod Groups
+pub mod Stood
+pub mod Pasts
+pub mod Passed

@@ -75,9 +75,9 @@ module _ {D P : Type 0} (laws : Laws) (w : World) (before after : ClerkState D P
   abbrev Keeps : OneOf → Type 0
   Keeps o = (kept : Kept) × IsTrue (may_keep w kept) × (after.keeper.writer.register ≡ register_after (outcome w kept)) × Follows w (Reopen kept ∷ []) [] (safe o) after
 
-  leads_to : (o : OneOf) (kept : Kept) (end : World) → next w (Reopen kept) ≡ Some end → IsAtRest end → end.building ≡ w.building → end.asked ≡ w.asked → end.answered ≡ w.answered → end.given ≡ w.given
+  leads_to : (o : OneOf) (kept : Kept) (end : World) → next w (Reopen kept) ≡ Some end → IsAtRest end → end.building ≡ w.building → end.asked ≡ w.asked → end.heard ≡ w.heard → end.answered ≡ w.answered → end.given ≡ w.given
       → end.positions ≡ unplaced → register_after end.accepted ≡ after.keeper.writer.register → end.accepted ≡ safe o → Follows w (Reopen kept ∷ []) [] (safe o) after
-  leads_to o kept end e k b a s g p reg same_safe = record {
+  leads_to o kept end e k b a h s g p reg same_safe = record {
     before = [];
     of_terminals = tt;
     end = end;
@@ -86,6 +86,7 @@ module _ {D P : Type 0} (laws : Laws) (w : World) (before after : ClerkState D P
     safe_is = safe_all end k ∙ same_safe;
     waits = λ none t. ap (λ (xs : List Answer). drop (count_by (is_answer_to t) xs) (filter (asks t) end.asked)) s
         ∙ ap (λ (xs : List Command). drop (count_by (is_answer_to t) w.answered) (filter (asks t) xs)) a ∙ none t;
+    alone = λ none. (refl, a, h);
     shows = record {
       building = b ∙ m.building ∙ sym r.same_plan;
       reached = reaches laws w m.reached (Reopen kept ∷ []) end (goes_once w end (Reopen kept) e) b;
@@ -108,13 +109,13 @@ module _ {D P : Type 0} (laws : Laws) (w : World) (before after : ClerkState D P
         Safe,
         refl,
         reg,
-        leads_to r.one_of Safe end ((laws.running_reopenings w).opens wh.at_rest) ((laws.running_reopenings w).rests wh.at_rest) refl refl refl refl refl
+        leads_to r.one_of Safe end ((laws.running_reopenings w).opens wh.at_rest) ((laws.running_reopenings w).rests wh.at_rest) refl refl refl refl refl refl
             (ap register_after (sym (safe_all w wh.at_rest)) ∙ sym reg) (sym (safe_all w wh.at_rest) ∙ sym (nothing_kept (safe_list w) before.keeper.writer.doubt r.one_of wh.no_doubt)),
       )
 
   keeping : (o : OneOf) (kept : Kept) → IsBrokenAtRest w → IsTrue (may_keep w kept) → after.keeper.writer.register ≡ register_after (outcome w kept) → outcome w kept ≡ safe o → Keeps o
   keeping o kept rest may reg same_safe =
-      let t = laws.reopenings w kept rest may in (kept, may, reg, leads_to o kept (reopened w kept) t.0 t.1 refl refl refl refl refl (sym reg) same_safe)
+      let t = laws.reopenings w kept rest may in (kept, may, reg, leads_to o kept (reopened w kept) t.0 t.1 refl refl refl refl refl refl (sym reg) same_safe)
 
   by_doubt : (doubt : List Entry) → before.keeper.writer.doubt ≡ doubt → (br : ShowsBroken w before.keeper)
       → (e : after.keeper.writer.register ≡ register_of before.keeper.writer.register before.keeper.writer.doubt) → Keeps (inr e)
@@ -164,6 +165,7 @@ failed_reopenings_are_faults laws w before after s was is m =
       given_is = sym (append-nil w.given);
       safe_is = refl;
       waits = λ none. none;
+      alone = λ none. (refl, refl, refl);
       shows = record {
         building = m.building ∙ sym s.same_plan;
         reached = reaches laws w m.reached (Fault ∷ []) end (goes_once w end Fault fault) refl;

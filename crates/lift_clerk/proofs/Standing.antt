@@ -7,12 +7,13 @@ use Rattle.std.proofs.lemmas.List.{append-nil, length-append, reverse-append}
 use Rattle.std.proofs.lemmas.List.Elements.{filter-append}
 use Rattle.std.proofs.lemmas.List.Sums.{length-filter}
 use Rattle.std.proofs.Math.Seq.{drop-append_seam}
+use Rattle.lift_base.specs.declared.command.Reply.{Reply}
 use Rattle.lift_policy.specs.declared.command.Command.{Command}
 use Rattle.lift_world.specs.declared.event.Answer.{Answer}
 use Rattle.lift_world.specs.declared.event.Taken.{Taken}
 use Rattle.lift_world.specs.World.{World, is_off, asks, is_answer_to}
 use Rattle.lift_world.specs.Next.{unanswered}
-use Rattle.lift_world.specs.Turns.{AreFound}
+use Rattle.lift_world.specs.Turns.{AreFound, with_replies}
 use Rattle.lift_world.specs.Tie.{Finds}
 use Rattle.lift_world.specs.Asking.{AreAnswered, asked_on}
 use Rattle.lift_world.specs.Among.{LooksFindAsks}
@@ -57,6 +58,17 @@ module _ (w : World) where
   abbrev pub fresh : List Command → List Command
   fresh [] = []
   fresh (c ∷ cs) = keep (waiting_in w c.terminal) c (fresh cs)
+
+  keeps_none : (ws : List Command) (c : Command) (rest : List Command) → ws ≢ [] → rest ≡ [] → keep ws c rest ≡ []
+  keeps_none [] c rest some none = absurd (some refl)
+  keeps_none (x ∷ xs) c rest some none = none
+
+  -- where an ask waits at each of these terminals nothing is still to be asked
+  pub fresh_none : (cs : List Command) (rs : List Reply) → length rs ≡ length cs
+      → AllByRecursion (λ (t : Taken). waiting_in w t.terminal ≢ []) (with_replies cs rs) → fresh cs ≡ []
+  fresh_none [] rs l h = refl
+  fresh_none (c ∷ cs) [] l h = absurd (omega arith)
+  fresh_none (c ∷ cs) (r ∷ rs) l h = keeps_none (waiting_in w c.terminal) c (fresh cs) h.0 (fresh_none cs rs (omega arith) h.1)
 
   abbrev AreFree : List Command → Type 0
   AreFree cs = AllByRecursion (λ (d : Command). waiting_in w d.terminal ≡ []) cs

@@ -1,5 +1,5 @@
 -- What the worlds behind a turn show.
-use Rattle.std.proofs.Common.{ℕ, ◌≡◌, true, false, List, [], ◌∷◌, ◌++◌, length, take, drop, Option, Some, refl, sym, ap, subst, ◌∙◌, arith}
+use Rattle.std.proofs.Common.{ℕ, ◌≡◌, ◌≢◌, true, false, List, [], ◌∷◌, ◌++◌, length, take, drop, Option, Some, refl, sym, ap, subst, ◌∙◌, arith}
 use Rattle.std.specs.Prelude.{IsTrue}
 use Rattle.std.specs.List.{AllByRecursion}
 use Rattle.std.proofs.Math.Seq.{take-length, drop-length}
@@ -15,6 +15,7 @@ use Rattle.lift_policy.specs.Step.{State}
 use Rattle.lift_policy.specs.Run.{Run}
 use Rattle.lift_policy.specs.declared.command.Command.{Command}
 use Rattle.lift_world.specs.declared.event.Event.{Event}
+use Rattle.lift_world.specs.declared.event.Taken.{Taken}
 use Rattle.lift_world.specs.World.{World, state_of, state_at, safe_list, register_after}
 use Rattle.lift_world.specs.Next.{goes}
 use Rattle.lift_world.specs.Asking.{asked_on}
@@ -23,10 +24,10 @@ use Rattle.lift_world.specs.Policies.{RunsAreAny}
 use Rattle.lift_world.specs.Turns.{IsAtRest, with_replies, turned, turn_events}
 use Rattle.lift_clerk.specs.Clerk.{ClerkState}
 use Rattle.lift_clerk.specs.Visits.{Visit, Serves, commands_of, served}
-use Rattle.lift_clerk.specs.Machine.{IsMachineOf, ShowsWords, ShowsWhole, ShowsBroken, LooksAgree, WaitsNowhere, Follows, events_of_turn, TurnsAreTurns}
+use Rattle.lift_clerk.specs.Machine.{IsMachineOf, ShowsWords, ShowsWhole, ShowsBroken, LooksAgree, WaitsNowhere, waiting_in, Follows, events_of_turn, TurnsAreTurns}
 use Rattle.lift_clerk.specs.Laws.{Laws}
 use Rattle.lift_clerk.proofs.Served.{view_after, all_apart}
-use Rattle.lift_clerk.proofs.Standing.{fresh, Splits, Asks, waiting_is, asks_after}
+use Rattle.lift_clerk.proofs.Standing.{fresh, fresh_none, Splits, Asks, waiting_is, asks_after}
 use Rattle.lift_clerk.proofs.Words.{Ends, splits_of, words_after}
 use Rattle.lift_clerk.proofs.Asked.{Asked, ask, reaches, rests, goes_behind, run_in, not_both}
 
@@ -40,6 +41,7 @@ module _ {D P : Type 0} (laws : Laws) (w : World) (before after : ClerkState D P
     pub theirs : AllByRecursion (λ (e : Event). IsTrue (is_of_terminals e)) first
     pub possible : goes (first ++ own) w ≡ Some end
     pub ends : Ends w commands rs end
+    pub alone : fresh w commands ≡ [] → (first ≡ []) × (end.heard ≡ w.heard)
 
   module _ (visits : List Visit) (rs : List Reply) (serves : Serves before.seat after.seat visits rs) (agree : LooksAgree w (commands_of 0 visits))
       (same_plan : after.keeper.writer.plan ≡ before.keeper.writer.plan) where
@@ -63,6 +65,12 @@ module _ {D P : Type 0} (laws : Laws) (w : World) (before after : ClerkState D P
           waiting_is end t (splits_of end t (view_at (served before.seat visits rs) t) (stored t))
           ∙ (more t).none (sym (waiting_is w t (splits t)) ∙ none t)
 
+      alone : AllByRecursion (λ (c : Taken). waiting_in w c.terminal ≢ []) (with_replies found rs) → (k.first ≡ []) × (end.asked ≡ w.asked) × (end.heard ≡ w.heard)
+      alone some =
+          let none : fresh w found ≡ [] = fresh_none w found rs serves.one_reply_each some in
+          let still = k.alone none in
+          (still.0, k.ends.asked ∙ ap (λ (xs : List Command). w.asked ++ xs) none ∙ append-nil w.asked, still.1)
+
       pub follows : (after.keeper.writer.is_broken ≡ false → ShowsWhole end after.keeper) → (after.keeper.writer.is_broken ≡ true → ShowsBroken end after.keeper)
           → Follows w own (with_replies found rs) safe after
       follows whole broken = record {
@@ -73,6 +81,7 @@ module _ {D P : Type 0} (laws : Laws) (w : World) (before after : ClerkState D P
         given_is = k.ends.given;
         safe_is = same_safe;
         waits = waits;
+        alone = alone;
         shows = record {
           building = k.ends.building ∙ m.building ∙ sym same_plan;
           reached = reaches laws w m.reached (k.first ++ own) end k.possible k.ends.building;
@@ -106,6 +115,7 @@ pub record EndsWell (w : World) (own : List Event) (cs : List Command) (rs : Lis
   pub end : World
   pub possible : goes (before ++ own) w ≡ Some end
   pub ends : Ends w cs rs end
+  pub alone : fresh w cs ≡ [] → (before ≡ []) × (end.heard ≡ w.heard)
   pub rest : IsAtRest end
   pub accepted : end.accepted ≡ w.accepted ++ state.batch
   pub positions : end.positions ≡ state.positions
@@ -134,6 +144,7 @@ module _ (laws : Laws) (w : World) (rest : IsAtRest w) where
           end = w;
           possible = refl;
           ends = record { building = refl; asked = sym (append-nil w.asked); answered = sym (append-nil w.answered); given = sym (append-nil w.given) };
+          alone = λ none. (refl, refl);
           rest = rest;
           accepted = sym (append-nil w.accepted) ∙ ap (λ (xs : List Entry). w.accepted ++ xs) (sym none);
           positions = ap (λ (s : State). s.positions) (sym r);
@@ -152,6 +163,7 @@ module _ (laws : Laws) (w : World) (rest : IsAtRest w) where
           end = turned w1 (c ∷ cs) (reply ∷ rs) state;
           possible = goes_behind a.events (turn_events (c ∷ cs) t.0 folds (length state.batch)) w w1 a.possible ∙ t.1 folds;
           ends = record { building = refl; asked = refl; answered = refl; given = refl };
+          alone = a.alone;
           rest = laws.turns_rest w1 (c ∷ cs) (reply ∷ rs) state rest1;
           accepted = refl;
           positions = refl;
@@ -174,7 +186,7 @@ turns_are_turns laws choice any w before after counts t m agree =
           let register : register_after k.end.accepted ≡ state.register =
           ap register_after (k.accepted ∙ ap (λ (xs : List Entry). xs ++ state.batch) (sym safe)) ∙ register_with laws.registers w state.batch before.keeper.writer.register wh.safe ∙ sym t.turn.safe in
           follows laws w before after m t.turn.visits t.turn.replies t.turn.serves agree t.same_plan (events_of_turn cs e.0 folds (length state.batch)) k.end
-          (record { first = k.before; theirs = k.theirs; possible = k.possible; ends = k.ends })
+          (record { first = k.before; theirs = k.theirs; possible = k.possible; ends = k.ends; alone = k.alone })
           (safe_list w ++ state.batch) (safe_all k.end k.rest ∙ k.accepted ∙ ap (λ (xs : List Entry). xs ++ state.batch) (sym safe))
           (λ whole. record {
             at_rest = k.rest;

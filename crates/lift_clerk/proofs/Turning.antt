@@ -1,11 +1,12 @@
 -- A turn, of its scan, its commit and its answers.
-use Rattle.std.proofs.Common.{◌≡◌, ◌⊎◌, ⊎_elim, ◌<◌, Bool, true, false, List, [], ◌∷◌, length, refl, sym, ap, ◌∙◌, subst, arith}
+use Rattle.std.proofs.Common.{◌≡◌, ◌⊎◌, ⊎_elim, ◌<◌, Bool, true, false, List, [], ◌∷◌, All, length, refl, sym, ap, ◌∙◌, subst, arith}
 use Rattle.std.proofs.lemmas.List.{length-map}
 use Rattle.atomic_table.specs.Seated.{TableId}
 use Rattle.lift_base.specs.declared.history.Entry.{Entry}
 use Rattle.lift_base.specs.declared.command.Reply.{Reply}
 use Rattle.lift_building.specs.Plan.{Plan}
 use Rattle.lift_register.specs.Register.{register_of}
+use Rattle.lift_desk.specs.Words.{IsReply}
 use Rattle.lift_desk.specs.Seats.{ClerkPlace, IsClerkOf, OwesNothing}
 use Rattle.lift_policy.specs.declared.command.Command.{Command}
 use Rattle.lift_policy.specs.Eligible.{Choice}
@@ -22,12 +23,13 @@ use Rattle.lift_clerk.proofs.Answered.{many-commands, told_unknown}
 
 -- each look is answered
 pub serves_all : (desk : List TableId) (places seat next : List ClerkPlace) (visits : List Visit) (answers : List Answer) (is_safe : Bool) → length visits ≡ length desk → IsClerkOf desk places
-    → IsScanned places visits seat answers → next ≡ served places visits (replies_told is_safe answers) → Serves places next visits (replies_told is_safe answers)
-serves_all desk places seat next visits answers is_safe count seated scanned is = record {
+    → IsScanned places visits seat answers → next ≡ served places visits (replies_told is_safe answers) → All IsReply (replies_told is_safe answers) → Serves places next visits (replies_told is_safe answers)
+serves_all desk places seat next visits answers is_safe count seated scanned is in_range = record {
   each_once = count ∙ sym (ap length seated) ∙ length-map places (λ (p : ClerkPlace). p.table);
   finds = scanned.finds;
   one_reply_each = length-map answers _ ∙ many-commands answers (commands_of 0 visits) scanned.terminals;
   stored = is;
+  in_range = in_range;
 }
 
 -- and then nothing is owed
@@ -63,7 +65,7 @@ nothing_waits batch is_broken settled whole = ⊎_elim (λ none. none) (λ broke
 pub failed_turn : {D P : Type 0} (desk : List TableId) (choice : Choice) (old new : ClerkState D P) (seat : List ClerkPlace) (decided : State) (answers : List Answer)
     → IsClerkOf desk old.seat
     → (scans : Scans choice old.keeper.writer.plan old.keeper.writer.is_broken old.seat seat old.keeper.state decided answers (length desk))
-    → new.seat ≡ served old.seat scans.visits (replies_told false answers)
+    → new.seat ≡ served old.seat scans.visits (replies_told false answers) → All IsReply (replies_told false answers)
     → (old.keeper.state.batch ≡ []) ⊎ (old.keeper.writer.is_broken ≡ true)
     → old.keeper.writer.is_broken ≡ false
     → new.keeper.state ≡ decided
@@ -71,13 +73,13 @@ pub failed_turn : {D P : Type 0} (desk : List TableId) (choice : Choice) (old ne
     → new.keeper.writer.doubt ≡ decided.batch
     → decided.register ≡ register_of old.keeper.writer.register decided.batch
     → IsFailedTurn choice old new
-failed_turn desk choice old new seat decided answers seated scans stored settled whole same some doubt register =
+failed_turn desk choice old new seat decided answers seated scans stored in_range settled whole same some doubt register =
     let commands = commands_of 0 scans.visits in
     let many = many-commands answers commands scans.scanned.terminals in
     record {
       visits = scans.visits;
       replies = replies_told false answers;
-      serves = serves_all desk old.seat seat new.seat scans.visits answers false scans.count seated scans.scanned stored;
+      serves = serves_all desk old.seat seat new.seat scans.visits answers false scans.count seated scans.scanned stored in_range;
       begins = nothing_waits old.keeper.state.batch old.keeper.writer.is_broken settled whole;
       run = (
         (
@@ -95,19 +97,19 @@ failed_turn desk choice old new seat decided answers seated scans stored settled
 pub broken_turn : {D P : Type 0} (desk : List TableId) (choice : Choice) (old new : ClerkState D P) (seat : List ClerkPlace) (answers : List Answer) (between : KeeperView D)
     → IsClerkOf desk old.seat
     → (scans : Scans choice old.keeper.writer.plan old.keeper.writer.is_broken old.seat seat old.keeper.state between.state answers (length desk))
-    → new.seat ≡ served old.seat scans.visits (replies_told false answers)
+    → new.seat ≡ served old.seat scans.visits (replies_told false answers) → All IsReply (replies_told false answers)
     → old.keeper.writer.is_broken ≡ true
     → between.writer ≡ old.keeper.writer
     → new.keeper ≡ between
     → IsBrokenTurn old new
-broken_turn desk choice old new seat answers between seated scans stored broken writer same =
+broken_turn desk choice old new seat answers between seated scans stored in_range broken writer same =
     let commands = commands_of 0 scans.visits in
     let many = many-commands answers commands scans.scanned.terminals in
     let rests = rest_of choice old.keeper.writer.plan old.keeper.writer.is_broken old.keeper.state between.state commands (replies_in answers) broken scans.decides in
     record {
       visits = scans.visits;
       replies = replies_told false answers;
-      serves = serves_all desk old.seat seat new.seat scans.visits answers false scans.count seated scans.scanned stored;
+      serves = serves_all desk old.seat seat new.seat scans.visits answers false scans.count seated scans.scanned stored in_range;
       run = (told_unknown answers commands many, ap (λ k. k.state) same ∙ rests);
       rests = same ∙ same_keeper between old.keeper rests writer;
     }

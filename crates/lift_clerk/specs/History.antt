@@ -1,5 +1,5 @@
 -- What can have happened to a group, over all its clerks, faults, reopenings and power cuts, and what every crash then shows.
-use Rattle.std.specs.Prelude.{◌≡◌, ◌⊎◌, true, List, [], ◌++◌, All, Contains}
+use Rattle.std.specs.Prelude.{ℕ, ◌≡◌, ◌⊎◌, true, List, [], ◌++◌, All, Contains}
 use Rattle.std.specs.List.{flat_map}
 use Rattle.lift_base.specs.declared.history.Entry.{Entry}
 use Rattle.lift_building.specs.Plan.{Plan, IsBuilding}
@@ -12,7 +12,7 @@ use Rattle.lift_world.specs.World.{World, register_after, safe_list, told_in}
 use Rattle.lift_world.specs.Headline.{StillNames}
 use Rattle.lift_world.specs.Turns.{with_replies}
 use Rattle.lift_clerk.specs.declared.counts.Counts.{Counts}
-use Rattle.lift_clerk.specs.Clerk.{ClerkState}
+use Rattle.lift_clerk.specs.Clerk.{ClerkState, IsToldAt}
 use Rattle.lift_clerk.specs.Turn.{IsBrokenTurn, IsEither}
 use Rattle.lift_clerk.specs.Visits.{commands_of}
 use Rattle.lift_clerk.specs.Machine.{IsMachineOf, WaitsNowhere, Turns, Fails, Reopens, Stays, Begins, kept_of}
@@ -49,6 +49,10 @@ pub data History {D P : Type 0} (chooses : P → Choice) : ClerkState D P → Li
   Stayed : {before after : ClerkState D P} {safe : List Entry} {given : List Taken}
       → History chooses before safe given → Stays before after
       → (after.keeper.writer.is_broken ≡ true) ⊎ (after.keeper.writer.is_broken ≡ before.keeper.writer.is_broken)
+      → History chooses after safe given
+  -- The clerk is told what a terminal has asked: its next turn finds that. Nothing is safe or answered that wasn't.
+  Told : {before after : ClerkState D P} {safe : List Entry} {given : List Taken}
+      → History chooses before safe given → (terminal : ℕ) (words : List ℕ) → IsToldAt before after terminal words
       → History chooses after safe given
   -- The power is cut between two calls or at any moment of a reopening, which leaves this image. A clerk begins over it.
   CutBetween : {before after : ClerkState D P} {safe : List Entry} {given : List Taken} {image : Image} → History chooses before safe given

@@ -14,7 +14,7 @@ use Rattle.lift_world.specs.Beside.{GoesAreRuns, RunsJoin}
 use Rattle.lift_world.specs.Headline.{HearsInOrder, RecoversAcknowledged, RecoversLetters}
 use Rattle.lift_world.specs.Possible.{ReopensAfterCut, Seals, PullsInTurn, CallsInOrder}
 use Rattle.lift_world.specs.Turns.{IsAtRest, HasRun, RunsAreTakes, TurnsAreRuns, FailuresAreRuns, BrokenTurnsAreRuns, TurnsEndAtRest, FailuresEndAtRest, BrokenTurnsEndAtRest, ReopeningsEndAtRest, RunningReopeningsEndAtRest, FailedReopeningsEndAtRest, CutsEndAtRest}
-use Rattle.lift_clerk.specs.Machine.{TurnsAreTurns, FailuresAreFailures, BrokenTurnsAreBroken, ReopeningsAreReopenings, FailedReopeningsAreFaults, NothingIsNoEvent}
+use Rattle.lift_clerk.specs.Machine.{TurnsAreTurns, FailuresAreFailures, BrokenTurnsAreBroken, ReopeningsAreReopenings, FailedReopeningsAreFaults, NothingIsNoEvent, TellsAreNoEvents}
 use Rattle.lift_clerk.specs.Machine.{BeginsAtStart, BeginsAfterCrash, CrashesAreCuts, CrashesWithinTurns, CrashesWithinFailures, CutsShowLetters}
 
 pub record Laws : Type 0 where
@@ -52,6 +52,7 @@ pub record CallLaws (D P : Type 0) (chooses : P → Choice) : Type 0 where
   pub reopening : ReopeningsAreReopenings D P
   pub fault : FailedReopeningsAreFaults D P
   pub nothing : NothingIsNoEvent D P
+  pub told : TellsAreNoEvents D P
   pub first : BeginsAtStart D P
   pub recovery : BeginsAfterCrash D P
   pub cut : CrashesAreCuts D P

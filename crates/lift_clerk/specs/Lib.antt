@@ -5,3 +5,5 @@ pub mod Scanning
 pub mod Machine
 pub mod Laws
 pub mod History
+pub mod Group
+pub mod Past

@@ -122,7 +122,8 @@ abbrev pub WaitsNowhere : World → Type 0
 WaitsNowhere w = (terminal : ℕ) → waiting_in w terminal ≡ []
 
 -- Terminals hear and ask, and then these events, each possible in its place, lead to a world that is this clerk's. These
--- commands were given their answers meanwhile, and these entries are safe then. Where no ask waited none waits then.
+-- commands were given their answers meanwhile, and these entries are safe then. Where no ask waited none waits then. Where
+-- one waited at each terminal that was answered, terminals do nothing, and what they asked and heard is as before.
 pub record Follows {D P : Type 0} (w : World) (events : List Event) (given : List Taken) (safe : List Entry) (after : ClerkState D P) : Type 0 where
   pub before : List Event
   pub of_terminals : AllByRecursion (λ (e : Event). IsTrue (is_of_terminals e)) before
@@ -131,6 +132,7 @@ pub record Follows {D P : Type 0} (w : World) (events : List Event) (given : Lis
   pub given_is : end.given ≡ w.given ++ given
   pub safe_is : safe_list end ≡ safe
   pub waits : WaitsNowhere w → WaitsNowhere end
+  pub alone : AllByRecursion (λ (c : Taken). waiting_in w c.terminal ≢ []) given → (before ≡ []) × (end.asked ≡ w.asked) × (end.heard ≡ w.heard)
   pub shows : IsMachineOf end after
 
 -- the events of a turn, of which there are none where nothing was taken

@@ -1,10 +1,10 @@
 -- One scan of all terminals: what each look found, and which replies were stored.
-use Rattle.std.specs.Prelude.{ℕ, suc, ◌≡◌, List, [], ◌∷◌, ◌++◌, length, Option, Some, None, IsSome, IfSome}
+use Rattle.std.specs.Prelude.{ℕ, suc, ◌≡◌, List, [], ◌∷◌, ◌++◌, length, All, Option, Some, None, IsSome, IfSome}
 use mathlib.Core.List.{IsPrefix}
 use Rattle.lift_base.specs.declared.command.Reply.{Reply}
 use Rattle.lift_desk.specs.declared.view.ClerkView.{ClerkView}
 use Rattle.lift_desk.specs.declared.words.Ask.{Ask}
-use Rattle.lift_desk.specs.Words.{number_of, reply_word}
+use Rattle.lift_desk.specs.Words.{number_of, reply_word, IsReply}
 use Rattle.lift_desk.specs.Spelled.{IsAsk}
 use Rattle.lift_desk.specs.Steps.{with_taking, with_answer}
 use Rattle.lift_desk.specs.Seats.{ClerkPlace, placed_at, TakesOf, IsToldAsk}
@@ -60,9 +60,10 @@ served [] (visit ∷ visits) replies = []
 served (place ∷ places) (visit ∷ visits) replies =
     placed_at place.table (with_reply (with_taking place.view visit.word) visit.found replies) ∷ served places visits (replies_behind visit.found replies)
 
--- The clerk has looked once at each of its terminals, in rising order, has stored one reply for each ask that it took, and nothing else.
+-- The clerk has looked once at each of its terminals, in rising order, has stored one reply for each ask that it took, and nothing else. So each reply's word has no other reading.
 pub record Serves (old new : List ClerkPlace) (visits : List Visit) (replies : List Reply) : Type 0 where
   pub each_once : length visits ≡ length old
   pub finds : Finds old visits
   pub one_reply_each : length replies ≡ length (commands_of 0 visits)
   pub stored : new ≡ served old visits replies
+  pub in_range : All IsReply replies

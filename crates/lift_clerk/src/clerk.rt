@@ -64,6 +64,13 @@ impl<'d, 'b, D: Disk, P: Policy + Drop> Clerk<'d, 'b, D, P> {
         }
     }
 
+    /// The desk that it scans.
+    pub fn desk(&self) -> &'d Desk
+        ensures { result.now ≡ self.now.desk }
+    {
+        self.desk
+    }
+
     /// Its keeper, to be read.
     pub fn keeper(&self) -> &Keeper<'b, D>
         ensures value { result.now ≡ self.now.keeper }

@@ -15,8 +15,8 @@ ghost use Rattle.lift_clerk.specs.History.{GoesOnOver, ShowsGiven, ShowsEither, 
 use crate::clerk::Clerk;
 use crate::counts::Counts;
 use crate::machine::{
-    crashes_are_the_machines, reopen_once, reopenings_are_the_machines, turn_once,
-    turns_are_the_machines,
+    crashes_are_the_machines, reopen_once, reopenings_are_the_machines, told_asks_are_found,
+    turn_once, turns_are_the_machines,
 };
 use lift_building::Building;
 use lift_desk::{ClerkSeat, Desk};
@@ -26,15 +26,16 @@ use lift_keeper::{Keeper, KeeperFault};
 use lift_policy::Policy;
 
 // What is proved of each call.
-fn call_laws<D: Disk, P: Policy>()
+pub(crate) fn call_laws<D: Disk, P: Policy>()
     ensures { CallLaws D P P.chooses }
 {
     turns_are_the_machines::<D, P>();
     reopenings_are_the_machines::<D, P>();
     crashes_are_the_machines::<D, P>();
+    told_asks_are_found::<D, P>();
 }
 
-/// Whatever has happened to a group, over all its clerks, turns, faults, reopenings and power cuts, some run of the machine
+/// Whatever has happened to a group, over all its clerks, turns, tells, faults, reopenings and power cuts, some run of the machine
 /// leads there, in which just the same commands were answered. So a crash at any moment leaves an image that reads as the
 /// register of what is safe, or of that with the batch on its way. These entries hold each that was ever acknowledged, and
 /// each letter that was ever given still names its car.

@@ -4,12 +4,16 @@
 
 mod clerk;
 mod counts;
+mod group;
 mod history;
 mod machine;
 mod scan;
 
 pub use clerk::Clerk;
 pub use counts::Counts;
+pub use group::{
+    ask_once, hear_once, pasts_are_runs, pasts_go_on, terminals_are_the_machines, turn_goes_on,
+};
 pub use history::{
     begin_over, crash_shows_letters, histories_are_runs, reopening_shows_letters,
     turn_shows_letters,

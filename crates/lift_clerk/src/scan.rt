@@ -1,9 +1,10 @@
 //! One scan of the desk's terminals, and the answers to what it found.
 
-ghost use Rattle.std.specs.Prelude.{◌≡◌, ◌<◌, ◌≤◌, ◌+◌, [], length, true, false};
+ghost use Rattle.std.specs.Prelude.{◌≡◌, ◌<◌, ◌≤◌, ◌+◌, [], length, All, true, false};
 ghost use Rattle.std.specs.Option.{option_to_list};
 ghost use Rattle.lift_base.specs.declared.command.Reply.{Reply as ReplyValue};
 ghost use Rattle.lift_desk.specs.Seats.{ClerkPlace, IsClerkOf};
+ghost use Rattle.lift_desk.specs.Words.{IsReply};
 ghost use Rattle.lift_policy.specs.Step.{Step};
 ghost use Rattle.lift_clerk.specs.Visits.{Visit, command_at, served};
 ghost use Rattle.lift_clerk.specs.Scanning.{Decides, IsScanned, Scans, terminals_in, terminals_of, replies_in, replies_told, told};
@@ -106,6 +107,7 @@ pub fn answer_all(desk: &Desk, seat: &mut ClerkSeat, answers: &ArrayVec<Answer, 
     requires scanned { (places : _) × (visits : _) × IsScanned places visits seat.old answers.now.items }
     ensures stored { (places : _) (visits : _) → IsScanned places visits seat.old answers.now.items
         → seat.new ≡ served places visits (replies_told is_safe answers.now.items) }
+    ensures in_range { All IsReply (replies_told is_safe answers.now.items) }
     ensures seated { IsClerkOf desk.now seat.new }
 {
     for place in 0..answers.len() {

@@ -74,6 +74,10 @@ pub fn degradation(building: &Building, position: Position, rows: &[Row], call: 
     // With the time of the new passengers it is the total cost, so nothing is cut off at 0.
     ensures parts { result + own_etd building.now position rows.now call
         ≡ total_cost building.now position rows.now call }
+
+    // The sum with the new call is the sum without it, the new passengers' own time, and this: nobody arrives sooner.
+    ensures sums { result + own_etd building.now position rows.now call + total_etd building.now position rows.now
+        ≡ total_etd building.now position (with_call rows.now call) }
 {
     let (cost, own) = added(building, &position, rows, &call);
     cost - own

@@ -76,6 +76,11 @@ pub fn degradation_of(building: &Building, schedule: &Schedule, call: NewCall) -
     // With the time of the new passengers it is the total cost, so nothing is cut off at 0.
     ensures parts { result + own_etd building.now schedule.now.position schedule.now.rows call
         ≡ total_cost building.now schedule.now.position schedule.now.rows call }
+
+    // The sum with the new call is the sum without it, the new passengers' own time, and this: nobody arrives sooner.
+    ensures sums { result + own_etd building.now schedule.now.position schedule.now.rows call
+        + total_etd building.now schedule.now.position schedule.now.rows
+        ≡ total_etd building.now schedule.now.position (with_call schedule.now.rows call) }
 {
     let (cost, own) = added(building, schedule, &call);
     cost - own

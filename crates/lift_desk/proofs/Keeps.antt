@@ -1,8 +1,8 @@
 -- Each step keeps the rule of its table.
 use Rattle.std.proofs.Common.{◌≡◌, ◌≢◌, ℕ, zero, suc, ◌<◌, ◌≤◌, Bool, true, false, true≢false, List, [], ◌∷◌, ◌++◌, map, length, set, get_or, refl, sym, ap, ◌∙◌, subst, ⊎_elim, arith}
-use Rattle.std.specs.Prelude.{nat_lt, nat_eq, ◌&&◌, if◌then◌else◌}
+use Rattle.std.specs.Prelude.{nat_lt, nat_eq, ◌&&◌, if◌then◌else◌, Contains}
 use Rattle.std.proofs.lemmas.List.{length_push, length-map}
-use Rattle.std.proofs.lemmas.List.Elements.{All-push}
+use Rattle.std.proofs.lemmas.List.Elements.{All-push, Contains-append_left}
 use Rattle.std.proofs.lemmas.Bool.Decides.{nat_tests}
 use mathlib.Core.List.{IsPrefix, map-append}
 use mathlib.Core.Option.{none, some, some-injective, some-ne-none}
@@ -12,9 +12,9 @@ use Rattle.atomic_table.proofs.Lists.{at_set, at_snoc}
 use Rattle.lift_desk.specs.declared.view.ClerkView.{ClerkView}
 use Rattle.lift_desk.specs.declared.view.View.{View}
 use Rattle.lift_desk.specs.Words.{turn_of, number_of, last_of, IsAskWord, IsReplyWord}
-use Rattle.lift_desk.specs.Rule.{blank, opening_view, united, terminal_part, clerk_part, note_of, ahead_of, told_by, stamp_of, CountTurns, Lists, IsInOrder, IsAhead, Fits, IsKept}
+use Rattle.lift_desk.specs.Rule.{blank, opening_view, united, terminal_part, clerk_part, note_of, ahead_of, told_by, ahead_note_of, noted_by, stamp_of, CountTurns, Lists, IsInOrder, IsAhead, Fits, IsKept}
 use Rattle.lift_desk.specs.Steps.{with_ask, with_answer, with_hearing, with_look, with_taking, is_new, is_awaited, at_terminal, at_clerk, Asked, Answered, Looked, LookedAhead, Heard, Met, Compared}
-use Rattle.lift_desk.proofs.WordLists.{last_of-push, CountTurns-push, turn_of-last_of, CountTurns-prefix, CountTurns-stamped, prefix_length, stamped_length, prefix_whole, prefix_refl, prefix_nil, prefix_push, prefix_next, stamped_next, stamped_same, All-last_of, IsAhead-push, IsAhead-prefix, IsAhead-take}
+use Rattle.lift_desk.proofs.WordLists.{last_of-push, CountTurns-push, turn_of-last_of, CountTurns-prefix, CountTurns-stamped, prefix_length, stamped_length, prefix_whole, prefix_refl, prefix_nil, prefix_push, prefix_next, stamped_next, stamped_same, All-last_of, IsAhead-push, IsAhead-prefix, IsAhead-take, turn_at_most, turn_is_last}
 
 abbrev M : Type 0
 M = Me (Unit {0}) View
@@ -64,6 +64,7 @@ asks_keep slots id me word may free turn spelled s r _ at _ =
       told = mine.told;
       told_answers = mine.told_answers;
       told_asks = prefix_push v.clerk.told l.asked word mine.told_asks;
+      noted = λ any. Contains-append_left l.asked (word ∷ []) v.noted (mine.noted any);
     } in (
       w,
       keeps,
@@ -82,6 +83,7 @@ asks_keep slots id me word may free turn spelled s r _ at _ =
               told = f.told;
               told_answers = f.told_answers;
               told_asks = prefix_push u.clerk.told l.asked word f.told_asks;
+              noted = λ any. Contains-append_left l.asked (word ∷ []) u.noted (f.noted any);
             });
       },
       refl,
@@ -142,7 +144,7 @@ looks_so s r id v may not_ahead at false is =
     let below : turn_of n ≤ turn_of (last_of v.clerk.taken) = le_of _ _ is in
     let all : v.clerk.taken ≡ l.asked = a.1 ∙ prefix_whole l.taken l.asked o.taken (omega arith) in
     let w = at_clerk v (record { taken = v.clerk.taken; answered = v.clerk.answered; looks = suc v.clerk.looks; last = get_or s.words 0 0; told = v.clerk.told }) in
-    let mine : Fits r.terminal r.clerk l id w = record { asks = f.asks; answers = f.answers; looks_ahead = f.looks_ahead; told = f.told; told_answers = f.told_answers; told_asks = f.told_asks } in (
+    let mine : Fits r.terminal r.clerk l id w = record { asks = f.asks; answers = f.answers; looks_ahead = f.looks_ahead; told = f.told; told_answers = f.told_answers; told_asks = f.told_asks; noted = f.noted } in (
       record {
         terminal = r.terminal;
         clerk = r.clerk;
@@ -185,6 +187,7 @@ looks_so s r id v may not_ahead at true is =
       told = f.told;
       told_answers = f.told_answers;
       told_asks = f.told_asks;
+      noted = f.noted;
     } in
     let taken_same : length v.clerk.taken ≡ length l.taken = ap length a.1 in
     let answered_same : length v.clerk.answered ≡ length l.answered = ap length a.2 in (
@@ -202,6 +205,7 @@ looks_so s r id v may not_ahead at true is =
               told = g.told;
               told_answers = g.told_answers;
               told_asks = g.told_asks;
+              noted = g.noted;
             });
       },
       λ _. (subst IsAskWord (sym n_is) (All-last_of IsAskWord l.asked o.asks_spelled (omega arith)), omega arith, omega arith),
@@ -213,7 +217,20 @@ pub looks_keep : (slots id : ℕ) (me : M) → me.0.answers ≡ true → me.0.lo
 looks_keep slots id me may not_ahead s r _ at _ =
     let n : ℕ = get_or s.words 0 0 in
     let so = looks_so s r id me.0 may not_ahead at (nat_lt (turn_of (last_of me.0.clerk.taken)) (turn_of n)) refl in
-    (at_clerk me.0 (with_taking me.0.clerk n), keeps, tt, so.0, (refl, refl, so.1, so.2))
+    let l = r.lists in
+    let f = r.views id me.0 at in
+    let c = counts l r.in_order in
+    let n_is : n ≡ last_of l.asked = ap (λ z. get_or z 0 0) r.words in
+    let last_is : turn_of (last_of me.0.clerk.taken) ≡ length l.taken = ap (λ z. turn_of (last_of z)) (f.answers may).1 ∙ c.taken in
+    let one_open = c.one_open in
+    let heard_le = c.heard_le in
+    let answered_le = c.answered_le in
+    let found : is_new me.0.clerk me.0.noted ≡ true → n ≡ me.0.noted = λ new.
+    let above : turn_of (last_of me.0.clerk.taken) < turn_of me.0.noted = lt_of _ _ new in
+    let there = f.noted (λ none. let zero : turn_of me.0.noted ≡ 0 = ap turn_of none in omega arith) in
+    let at_most = turn_at_most l.asked me.0.noted r.in_order.turns there in
+    n_is ∙ sym (turn_is_last l.asked me.0.noted r.in_order.turns there (omega arith)) in
+    (at_clerk me.0 (with_taking me.0.clerk n), keeps, tt, so.0, (refl, refl, so.1, so.2, found))
 
 pub answers_keep : (slots id : ℕ) (me : M) (word : ℕ) → me.0.answers ≡ true → length me.0.clerk.taken ≡ suc (length me.0.clerk.answered)
     → stamp_of word ≡ stamp_of (last_of me.0.clerk.taken) → IsReplyWord word
@@ -245,6 +262,7 @@ answers_keep slots id me word may owed stamp spelled s r _ at _ =
       told = prefix_push v.told l.answered word f.told;
       told_answers = prefix_push v.terminal.told l.answered word f.told_answers;
       told_asks = f.told_asks;
+      noted = f.noted;
     } in (
       w,
       keeps,
@@ -263,6 +281,7 @@ answers_keep slots id me word may owed stamp spelled s r _ at _ =
               told = prefix_push u.told l.answered word g.told;
               told_answers = prefix_push u.terminal.told l.answered word g.told_answers;
               told_asks = g.told_asks;
+              noted = g.noted;
             });
       },
       refl,
@@ -297,7 +316,7 @@ hears_so s r id v may at false is =
     let below : turn_of n ≤ length v.terminal.heard = heard_all (length v.terminal.heard) (length v.terminal.asked) (turn_of n) is (omega arith) (omega arith) in
     let all : v.terminal.heard ≡ l.answered = a.2 ∙ prefix_whole l.heard l.answered o.heard (omega arith) in
     let w = at_terminal v (with_look v.terminal (get_or s.words 1 0)) in
-    let mine : Fits r.terminal r.clerk l id w = record { asks = f.asks; answers = f.answers; looks_ahead = f.looks_ahead; told = f.told; told_answers = f.told_answers; told_asks = f.told_asks } in (
+    let mine : Fits r.terminal r.clerk l id w = record { asks = f.asks; answers = f.answers; looks_ahead = f.looks_ahead; told = f.told; told_answers = f.told_answers; told_asks = f.told_asks; noted = f.noted } in (
       record {
         terminal = r.terminal;
         clerk = r.clerk;
@@ -343,6 +362,7 @@ hears_so s r id v may at true is =
       told = f.told;
       told_answers = f.told_answers;
       told_asks = f.told_asks;
+      noted = f.noted;
     } in (
       record {
         terminal = r.terminal;
@@ -358,6 +378,7 @@ hears_so s r id v may at true is =
               told = g.told;
               told_answers = g.told_answers;
               told_asks = g.told_asks;
+              noted = g.noted;
             });
       },
       λ _. (
@@ -391,7 +412,7 @@ meets_keep slots id me may s r _ at _ =
     let n : ℕ = get_or s.words 1 0 in
     let n_is : n ≡ last_of l.answered = ap (λ z. get_or z 1 0) r.words in
     let w = at_terminal v (with_look v.terminal n) in
-    let mine : Fits r.terminal r.clerk l id w = record { asks = f.asks; answers = f.answers; looks_ahead = f.looks_ahead; told = f.told; told_answers = f.told_answers; told_asks = f.told_asks } in (
+    let mine : Fits r.terminal r.clerk l id w = record { asks = f.asks; answers = f.answers; looks_ahead = f.looks_ahead; told = f.told; told_answers = f.told_answers; told_asks = f.told_asks; noted = f.noted } in (
       w,
       keeps,
       tt,
@@ -433,7 +454,7 @@ begins = record {
 }
   where
     one : (seat : ℕ) (v : View) → get_elem? (opening_view ∷ []) seat ≡ some v → Fits 0 0 (record { asked = []; taken = []; answered = []; heard = [] }) seat v
-    one zero v e = subst (Fits 0 0 (record { asked = []; taken = []; answered = []; heard = [] }) 0) (some-injective opening_view v e) (record { asks = λ _. (refl, refl, refl); answers = λ _. (refl, refl, refl); looks_ahead = λ k. off k; told = prefix_nil []; told_answers = prefix_nil []; told_asks = prefix_nil [] })
+    one zero v e = subst (Fits 0 0 (record { asked = []; taken = []; answered = []; heard = [] }) 0) (some-injective opening_view v e) (record { asks = λ _. (refl, refl, refl); answers = λ _. (refl, refl, refl); looks_ahead = λ k. off k; told = prefix_nil []; told_answers = prefix_nil []; told_asks = prefix_nil []; noted = λ any. absurd (any refl) })
     one (suc seat) v e = absurd (some-ne-none v (sym e))
 
 at_end : (l : List View) (a b : View) (j : ℕ) → get_elem? l j ≢ some b → get_elem? (l ++ a ∷ []) j ≡ some b → j ≡ length l
@@ -452,12 +473,12 @@ parts_split id v asks answers s r at =
     let right = clerk_part v in
     let vs = set s.views id (terminal_part v) in
     let Old : ℕ → View → Type 0 = λ j u. (u.asks ≡ true → (j ≡ r.terminal) × (u.terminal.asked ≡ l.asked) × (u.terminal.heard ≡ l.heard)) × (u.answers ≢ true) × (u.looks_ahead ≡ true → IsAhead l.asked u.clerk.taken)
-    × IsPrefix u.told l.answered × IsPrefix u.terminal.told l.answered × IsPrefix u.clerk.told l.asked in
-    let left_fits : Old id (terminal_part v) = ((λ _. a), (λ k. off k), (λ k. off k), prefix_nil l.answered, subst (λ z. IsPrefix z l.answered) (sym b.2) (prefix_refl l.answered), prefix_nil l.asked) in
+    × IsPrefix u.told l.answered × IsPrefix u.terminal.told l.answered × IsPrefix u.clerk.told l.asked × (u.noted ≢ 0 → Contains l.asked u.noted) in
+    let left_fits : Old id (terminal_part v) = ((λ _. a), (λ k. off k), (λ k. off k), prefix_nil l.answered, subst (λ z. IsPrefix z l.answered) (sym b.2) (prefix_refl l.answered), prefix_nil l.asked, (λ any. absurd (any refl))) in
     let old : (j : ℕ) (u : View) → get_elem? vs j ≡ some u → Old j u = λ j u e.
     ⊎_elim
     (λ (x : (j ≡ id) × (terminal_part v ≡ u)). subst (λ (y : ℕ × View). Old y.0 y.1) (λ i. (sym x.0 i, x.1 i)) left_fits)
-    (λ (x : (j ≢ id) × (get_elem? s.views j ≡ some u)). let g = r.views j u x.1 in (g.asks, (λ k. x.0 ((g.answers k).0 ∙ sym b.0)), g.looks_ahead, g.told, g.told_answers, g.told_asks))
+    (λ (x : (j ≢ id) × (get_elem? s.views j ≡ some u)). let g = r.views j u x.1 in (g.asks, (λ k. x.0 ((g.answers k).0 ∙ sym b.0)), g.looks_ahead, g.told, g.told_answers, g.told_asks, g.noted))
     (at_set s.views id j (terminal_part v) u e) in
     record {
       terminal = r.terminal;
@@ -466,7 +487,7 @@ parts_split id v asks answers s r at =
       words = r.words;
       in_order = r.in_order;
       views = λ j u e. ⊎_elim
-          (λ (x : get_elem? vs j ≡ some u). let g = old j u x in record { asks = g.0; answers = λ k. absurd (g.1 k); looks_ahead = g.2; told = g.3; told_answers = g.4; told_asks = g.5 })
+          (λ (x : get_elem? vs j ≡ some u). let g = old j u x in record { asks = g.0; answers = λ k. absurd (g.1 k); looks_ahead = g.2; told = g.3; told_answers = g.4; told_asks = g.5; noted = g.6 })
           (λ (is : right ≡ u). record {
             asks = λ k. off (ap (λ (y : View). y.asks) is ∙ k);
             answers = λ k. (at_end vs right u j (λ x. (old j u x).1 k) e, ap (λ (y : View). y.clerk.taken) (sym is) ∙ b.1, ap (λ (y : View). y.clerk.answered) (sym is) ∙ b.2);
@@ -474,6 +495,7 @@ parts_split id v asks answers s r at =
             told = subst (λ (z : View). IsPrefix z.told l.answered) is (prefix_nil l.answered);
             told_answers = subst (λ (z : View). IsPrefix z.terminal.told l.answered) is (prefix_nil l.answered);
             told_asks = subst (λ (z : View). IsPrefix z.clerk.told l.asked) is (subst (λ z. IsPrefix z l.asked) (sym a.1) (prefix_refl l.asked));
+            noted = subst (λ (z : View). z.noted ≢ 0 → Contains l.asked z.noted) is (λ any. absurd (any refl));
           })
           (at_snoc vs right u j e);
     }
@@ -503,6 +525,7 @@ tells_split id v may s r at =
       told = subst (λ z. IsPrefix z r.lists.answered) (sym a.2) (prefix_refl r.lists.answered);
       told_answers = prefix_nil r.lists.answered;
       told_asks = prefix_nil r.lists.asked;
+      noted = λ any. absurd (any refl);
     })
 
 pub ahead_split : (id : ℕ) (v : View) → v.answers ≡ true → Splits IsKept id v v (ahead_of v)
@@ -517,6 +540,7 @@ ahead_split id v may s r at =
       told = prefix_nil r.lists.answered;
       told_answers = prefix_nil r.lists.answered;
       told_asks = f.told_asks;
+      noted = λ any. absurd (any refl);
     })
 
 blank_fits : (terminal clerk : ℕ) (l : Lists) (seat : ℕ) → Fits terminal clerk l seat blank
@@ -527,6 +551,7 @@ blank_fits terminal clerk l seat = record {
   told = prefix_nil l.answered;
   told_answers = prefix_nil l.answered;
   told_asks = prefix_nil l.asked;
+  noted = λ any. absurd (any refl);
 }
 
 -- a seat is spent, and another may have learned what it was told
@@ -547,7 +572,31 @@ tells_join id v other u s r at apart there =
     let f = r.views id v at in
     let was : get_elem? s.views other ≡ some u = ⊎_elim (λ (x : (other ≡ id) × (told_by v u ≡ u)). absurd (apart x.0)) (λ (x : (other ≢ id) × (get_elem? s.views other ≡ some u)). x.1) (at_set s.views id other (told_by v u) u there) in
     let g = r.views other u was in
-    spends id v other u (told_by v u) s r (record { asks = f.asks; answers = f.answers; looks_ahead = f.looks_ahead; told = g.told; told_answers = f.told_answers; told_asks = f.told_asks })
+    spends id v other u (told_by v u) s r (record { asks = f.asks; answers = f.answers; looks_ahead = f.looks_ahead; told = g.told; told_answers = f.told_answers; told_asks = f.told_asks; noted = f.noted })
+
+-- a seat ahead notes the last ask that it took
+pub notes_split : (id : ℕ) (v : View) → v.looks_ahead ≡ true → Splits IsKept id v v (ahead_note_of v)
+notes_split id v may s r at =
+    adds id v (ahead_note_of v) s r at (λ j. record {
+      asks = λ k. off k;
+      answers = λ k. off k;
+      looks_ahead = λ k. off k;
+      told = prefix_nil r.lists.answered;
+      told_answers = prefix_nil r.lists.answered;
+      told_asks = prefix_nil r.lists.asked;
+      noted = last_asked r.lists.asked v.clerk.taken ((r.views id v at).looks_ahead may);
+    })
+  where
+    last_asked : (asked taken : List ℕ) → IsAhead asked taken → last_of taken ≢ 0 → Contains asked (last_of taken)
+    last_asked asked [] h any = absurd (any refl)
+    last_asked asked (x ∷ taken) h any = All-last_of (Contains asked) (x ∷ taken) h.asked_all (omega arith)
+
+pub notes_join : (id : ℕ) (v : View) (other : ℕ) (u : View) → Joins IsKept id v other u (noted_by v u) blank
+notes_join id v other u s r at apart there =
+    let f = r.views id v at in
+    let was : get_elem? s.views other ≡ some u = ⊎_elim (λ (x : (other ≡ id) × (noted_by v u ≡ u)). absurd (apart x.0)) (λ (x : (other ≢ id) × (get_elem? s.views other ≡ some u)). x.1) (at_set s.views id other (noted_by v u) u there) in
+    let g = r.views other u was in
+    spends id v other u (noted_by v u) s r (record { asks = f.asks; answers = f.answers; looks_ahead = f.looks_ahead; told = f.told; told_answers = f.told_answers; told_asks = f.told_asks; noted = g.noted })
 
 pub ahead_join : (id : ℕ) (v : View) (other : ℕ) (u : View) → Joins IsKept id v other u v blank
 ahead_join id v other u s r at apart there = spends id v other u v s r (r.views id v at)
@@ -569,6 +618,7 @@ unites_join id v other c asks answers s r at apart there =
       told = prefix_nil l.answered;
       told_answers = f.told_answers;
       told_asks = g.told_asks;
+      noted = λ any. absurd (any refl);
     } in record {
       terminal = r.terminal;
       clerk = id;
@@ -585,6 +635,7 @@ unites_join id v other c asks answers s r at apart there =
             told = h.told;
             told_answers = h.told_answers;
             told_asks = h.told_asks;
+            noted = h.noted;
           })
           (at_set s.views id j w y e));
     }
@@ -634,6 +685,7 @@ ahead_so s r id v may no_answer at b is =
       told = f.told;
       told_answers = f.told_answers;
       told_asks = f.told_asks;
+      noted = f.noted;
     } in (
       record {
         terminal = r.terminal;

@@ -176,3 +176,22 @@ stamped_same (x ∷ w ∷ xs) (y ∷ []) e h = absurd (cc)
 stamped_same (x ∷ w ∷ xs) (y ∷ z ∷ ys) e h =
     let rest : map stamp_of (w ∷ xs) ≡ map stamp_of (z ∷ ys) = cc in
     stamped_same (w ∷ xs) (z ∷ ys) rest (omega arith)
+
+-- the turn of a word is its place, so the last word is the only one with the last turn
+turn_within : (k : ℕ) (xs : List ℕ) (x i : ℕ) → CountTurns k xs → i < length xs → get_or xs i x ≡ x → turn_of x ≡ k + i
+turn_within k [] x i h below is = absurd (omega arith)
+turn_within k (y ∷ ys) x zero h below is = sym (ap turn_of is) ∙ h.0 ∙ omega arith
+turn_within k (y ∷ ys) x (suc i) h below is = let r = turn_within (suc k) ys x i h.1 (omega arith) is in omega arith
+
+last_at : (xs : List ℕ) (x i : ℕ) → suc i ≡ length xs → get_or xs i x ≡ x → x ≡ last_of xs
+last_at [] x i e is = absurd (omega arith)
+last_at (y ∷ []) x zero e is = sym is
+last_at (y ∷ []) x (suc i) e is = absurd (omega arith)
+last_at (y ∷ z ∷ ys) x zero e is = absurd (omega arith)
+last_at (y ∷ z ∷ ys) x (suc i) e is = last_at (z ∷ ys) x i (omega arith) is
+
+pub turn_at_most : (xs : List ℕ) (x : ℕ) → CountTurns 1 xs → Contains xs x → turn_of x ≤ length xs
+turn_at_most xs x h c = let below = c.1 in let is = turn_within 1 xs x c.0 h c.1 c.2 in omega arith
+
+pub turn_is_last : (xs : List ℕ) (x : ℕ) → CountTurns 1 xs → Contains xs x → turn_of x ≡ length xs → x ≡ last_of xs
+turn_is_last xs x h c e = let is = turn_within 1 xs x c.0 h c.1 c.2 in last_at xs x c.0 (omega arith) c.2

@@ -120,3 +120,17 @@ taken_only v = record { taken = v.taken; answered = []; looks = 0; last = 0; tol
 -- a seat ahead of each of the clerk's
 abbrev pub ahead_from : List ClerkPlace → List ClerkPlace
 ahead_from clerk = map (λ (p : ClerkPlace). placed_at p.table (taken_only p.view)) clerk
+
+-- a note of an ask that was taken ahead: its table, and its word; where it is not seated, it stands in for one
+pub record NoteState : Type 0 where
+  pub seated : Bool
+  pub table : TableId
+  pub word : ℕ
+
+-- the note is of this terminal's table
+abbrev pub IsNoteOf : List TableId → ℕ → NoteState → Type 0
+IsNoteOf desk terminal note = (note.seated ≡ true) × (slice_index_or desk terminal no_table ≡ note.table)
+
+-- the word says this ask, and it is later than all that was taken
+abbrev pub Says : ClerkView → ℕ → Ask → Type 0
+Says v word ask = IsAsk ask × TakesAheadOf v word (Some ask)

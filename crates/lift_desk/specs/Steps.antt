@@ -52,10 +52,10 @@ abbrev pub lists_of : TerminalView → ClerkView → Lists
 lists_of t c = record { asked = t.asked; taken = c.taken; answered = c.answered; heard = t.heard }
 
 abbrev pub at_terminal : View → TerminalView → View
-at_terminal v terminal = record { asks = v.asks; answers = v.answers; looks_ahead = v.looks_ahead; terminal = terminal; clerk = v.clerk; told = v.told }
+at_terminal v terminal = record { asks = v.asks; answers = v.answers; looks_ahead = v.looks_ahead; terminal = terminal; clerk = v.clerk; told = v.told; noted = v.noted }
 
 abbrev pub at_clerk : View → ClerkView → View
-at_clerk v clerk = record { asks = v.asks; answers = v.answers; looks_ahead = v.looks_ahead; terminal = v.terminal; clerk = clerk; told = v.told }
+at_clerk v clerk = record { asks = v.asks; answers = v.answers; looks_ahead = v.looks_ahead; terminal = v.terminal; clerk = clerk; told = v.told; noted = v.noted }
 
 abbrev pub Asked : Step (Unit {0}) → Seated → ℕ → Seated → Type 0
 Asked step before found after = after ≡ (at_terminal before.0 (with_ask before.0.terminal step.first), before.1)
@@ -63,13 +63,14 @@ Asked step before found after = after ≡ (at_terminal before.0 (with_ask before
 abbrev pub Answered : Step (Unit {0}) → Seated → ℕ → Seated → Type 0
 Answered step before found after = after ≡ (at_clerk before.0 (with_answer before.0.clerk step.first), before.1)
 
--- it is the ask word that is loaded; an ask that is taken is spelled, and all before it was answered; then all that the clerk was told of is taken
+-- it is the ask word that is loaded; an ask that is taken is spelled, and all before it was answered; then all that the clerk was told of is taken; an ask that a note says is found, where it is new
 abbrev pub Looked : Step (Unit {0}) → Seated → ℕ → Seated → Type 0
 Looked step before found after =
     (step.word ≡ 0)
     × (after ≡ (at_clerk before.0 (with_taking before.0.clerk found), before.1))
     × (is_new before.0.clerk found ≡ true → IsAskWord found × (turn_of found ≡ suc (length before.0.clerk.taken)) × (length before.0.clerk.answered ≡ length before.0.clerk.taken))
     × IsPrefix before.0.clerk.told (with_taking before.0.clerk found).taken
+    × (is_new before.0.clerk before.0.noted ≡ true → found ≡ before.0.noted)
 
 -- an ask that is taken ahead of the answers is spelled; its turn is no earlier than that of the last ask which the seat was told of, and that ask is the only one with its turn
 abbrev pub LookedAhead : Step (Unit {0}) → Seated → ℕ → Seated → Type 0

@@ -1,5 +1,5 @@
 //! The desk: a table for each terminal, with the terminal's seat and the clerk's.
-ghost use Rattle.std.specs.Prelude.{◌≡◌, ℕ, ◌<◌, ◌≤◌, ◌↔◌, IsTrue, IsSome, suc, length, OnOk, OnErr, IfOk, IfSome, Some, Err, [], slice_get, vec_len};
+ghost use Rattle.std.specs.Prelude.{◌≡◌, ℕ, ◌<◌, ◌≤◌, ◌^◌, ◌↔◌, IsTrue, IsSome, suc, length, OnOk, OnErr, IfOk, IfSome, Some, Err, [], ◌∷◌, ◌++◌, slice_get, vec_len};
 ghost use Rattle.lift_base.specs.declared.command.Reply.{Reply};
 ghost use Rattle.lift_desk.specs.declared.words.Ask.{Ask};
 ghost use Rattle.lift_desk.specs.Rule.{terminal_view, clerk_view, IsInOrder};
@@ -7,9 +7,10 @@ ghost use mathlib.Core.List.{IsPrefix};
 ghost use Rattle.lift_desk.specs.Words.{turn_of, last_of, number_of, ask_word, reply_word, IsReply};
 ghost use Rattle.lift_desk.specs.Steps.{with_ask, with_answer, with_hearing, with_look, with_taking, with_told_answers, with_told_asks, lists_of};
 ghost use Rattle.lift_desk.specs.Spelled.{IsAsk};
-ghost use Rattle.lift_desk.specs.Seats.{IsSeatOf, IsClerkOf, seat_with, clerk_with, view_at, Waits, Owes, OwesNothing, HearsOf, TakesOf, IsToldAnswer, IsToldAsk, IsToldAhead, seats_from, clerk_of, ahead_from, TakesAheadOf, AreSeatsOf};
+ghost use Rattle.lift_desk.specs.Seats.{IsSeatOf, IsClerkOf, seat_with, clerk_with, view_at, Waits, Owes, OwesNothing, HearsOf, TakesOf, IsToldAnswer, IsToldAsk, IsToldAhead, IsNoteOf, Says, seats_from, clerk_of, ahead_from, TakesAheadOf, AreSeatsOf};
 
 use crate::ahead::AheadPlace;
+use crate::note::Note;
 use crate::place::Place;
 use crate::seat::{AskRefusal, Chair, DeskTable, Seat};
 use crate::view::Seats;
@@ -198,7 +199,34 @@ impl Desk {
         let at = usize::from(terminal.get());
         let table = &self.tables[at];
         let place = &mut clerk.places[at];
-        place.look(table)
+        place.look(table, None)
+    }
+
+    /// Looks once for an ask of the terminal that is new to the clerk, by a seat that reads a note first: an ask that a seat
+    /// ahead took is found, where it is new to the clerk too.
+    pub fn look_for(&self, clerk: &mut ClerkSeat, terminal: Terminal, note: Note) -> Option<Ask>
+        requires clerk { IsClerkOf self.now clerk.old }
+        requires terminal { terminal < length self.now }
+        requires note { IsNoteOf self.now terminal note }
+        ensures looked { (word : ℕ)
+            × (clerk.new ≡ clerk_with clerk.old terminal (with_taking (view_at clerk.old terminal) word))
+            × TakesOf (view_at clerk.old terminal) word result }
+        ensures even { IsSome result
+            → length (view_at clerk.old terminal).answered ≡ length (view_at clerk.old terminal).taken }
+        ensures owes { IfSome result (λ ask. Owes (view_at clerk.new terminal)
+            × (number_of (last_of (view_at clerk.new terminal).taken) ≡ ask.number)) }
+        ensures known { IsPrefix (view_at clerk.old terminal).told (view_at clerk.new terminal).taken }
+        ensures finds { (ask : Ask) → IsToldAsk (view_at clerk.old terminal) ask → result ≡ Some ask }
+        // The ask that was noted, and no other, where none as late was taken here.
+        ensures noted { (ask : Ask) → Says (view_at clerk.old terminal) note.word ask
+            → (result ≡ Some ask) × ((view_at clerk.new terminal).taken ≡ (view_at clerk.old terminal).taken ++ note.word ∷ []) }
+        ensures in_range { IfSome result IsAsk }
+        ensures stays { IsClerkOf self.now clerk.new }
+    {
+        let at = usize::from(terminal.get());
+        let table = &self.tables[at];
+        let place = &mut clerk.places[at];
+        place.look(table, Some(note))
     }
 
     /// Stores the answer to the last ask that the clerk took of the terminal.
@@ -285,12 +313,30 @@ impl Desk {
         ensures finds { (ask : Ask) → IsToldAhead (view_at ahead.old terminal) ask
             → IsSome result × (turn_of (last_of (view_at ahead.new terminal).taken) ≡ length (view_at ahead.old terminal).told → result ≡ Some ask) }
         ensures in_range { IfSome result IsAsk }
+        // The last ask that the seats took is the one that the call gives.
+        ensures last { IfSome result (λ ask. last_of (view_at ahead.new terminal).taken
+            ≡ ask_word (turn_of (last_of (view_at ahead.new terminal).taken)) ask.number ask.body) }
+        ensures turn { IsSome result → turn_of (last_of (view_at ahead.new terminal).taken) < 2 ^ 20 }
         ensures stays { IsClerkOf self.now ahead.new }
     {
         let at = usize::from(terminal.get());
         let table = &self.tables[at];
         let place = &mut ahead.places[at];
         place.take(table)
+    }
+
+    /// A note of the last ask that these seats took of the terminal, for the clerk's look there.
+    pub fn note(&self, ahead: &mut TakeSeat, terminal: Terminal) -> Note
+        requires ahead { IsClerkOf self.now ahead.old }
+        requires terminal { terminal < length self.now }
+        ensures of { IsNoteOf self.now terminal result }
+        ensures word { result.word ≡ last_of (view_at ahead.old terminal).taken }
+        ensures same { ahead.new ≡ ahead.old }
+    {
+        let at = usize::from(terminal.get());
+        let table = &self.tables[at];
+        let place = &mut ahead.places[at];
+        place.note(table)
     }
 
     /// Gives the seats ahead back to the clerk.

@@ -4,6 +4,7 @@
 mod ahead;
 mod desk;
 mod laws;
+mod note;
 mod place;
 mod seat;
 mod view;
@@ -11,6 +12,7 @@ mod words;
 
 pub use desk::{ClerkSeat, Desk, DeskParts, TakeSeat};
 pub use laws::words_are_asks_and_replies;
+pub use note::Note;
 pub use seat::{AskRefusal, Seat};
 pub use view::{ClerkView, DeskRule, TerminalView, View};
 pub use words::{Ask, ask_word, read_ask, read_reply, reply_word, turn_of};

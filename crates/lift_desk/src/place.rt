@@ -1,16 +1,17 @@
 //! The clerk's seat at one table.
-ghost use Rattle.std.specs.Prelude.{◌≡◌, ℕ, ◌<◌, ◌^◌, ◌↔◌, IsTrue, IsSome, IfSome, Some, suc, length, true, false, []};
+ghost use Rattle.std.specs.Prelude.{◌≡◌, ℕ, ◌<◌, ◌^◌, ◌↔◌, IsTrue, IsSome, IfSome, Some, suc, length, true, false, [], ◌∷◌, ◌++◌};
 ghost use mathlib.Core.List.{IsPrefix};
 ghost use Rattle.lift_desk.specs.Words.{turn_of, last_of, number_of, reply_word};
 ghost use Rattle.lift_desk.specs.declared.words.Ask.{Ask};
-ghost use Rattle.lift_desk.specs.Rule.{clerk_view, no_answers, IsInOrder};
+ghost use Rattle.lift_desk.specs.Rule.{clerk_view, no_answers, with_note, IsInOrder};
 ghost use Rattle.lift_desk.specs.Steps.{with_answer, with_taking, with_told_answers, with_told_asks, lists_of};
 ghost use Rattle.lift_desk.specs.Spelled.{IsAsk};
-ghost use Rattle.lift_desk.specs.Seats.{ClerkPlace, placed_at, taken_only, Owes, TakesOf, IsToldAsk, seat_with};
+ghost use Rattle.lift_desk.specs.Seats.{ClerkPlace, placed_at, taken_only, Owes, TakesOf, IsToldAsk, Says, seat_with};
 
 use crate::ahead::AheadPlace;
+use crate::note::Note;
 use crate::seat::{Chair, DeskTable, Seat};
-use crate::view::{Ahead, Answers, Looks, Tells, View};
+use crate::view::{Ahead, Answers, Looks, Notes, Tells, View};
 use crate::words::{Ask, read_ask, reply_word, turn_of};
 use atomic_table::Badge;
 use lift_base::{Number, Reply};
@@ -55,6 +56,19 @@ impl Default for Place {
     }
 }
 
+// The seat reads a note, if there is one.
+fn read_note(table: &DeskTable, seat: &mut Chair, note: Option<Note>)
+    requires table { (seat.old.table_id ≡ table.now.shared.table_id) × (table.now.shared.table_id.words ≡ 2) }
+    requires note { IfSome note (λ n. (n.seated ≡ true) × (n.table ≡ seat.old.table_id)) }
+    ensures same { (seat.new.table_id ≡ seat.old.table_id) × (seat.new.id ≡ seat.old.id) }
+    ensures noted { (word : ℕ) × (seat.new.me ≡ (with_note seat.old.me.0 word, seat.old.me.1)) × IfSome note (λ n. word ≡ n.word) }
+{
+    match note {
+        Some(note) => table.shared.join_seat::<Notes>(seat, note.into_seat()),
+        None => {}
+    }
+}
+
 impl Place {
     pub(crate) fn new(seat: Chair) -> Place
         requires { seat.me ≡ (clerk_view, []) }
@@ -69,9 +83,11 @@ impl Place {
         }
     }
 
-    pub(crate) fn look(&mut self, table: &DeskTable) -> Option<Ask>
+    // Reads the note of an ask that was taken ahead, if there is one, and then looks once.
+    pub(crate) fn look(&mut self, table: &DeskTable, note: Option<Note>) -> Option<Ask>
         requires table { (self.old.table ≡ table.now.shared.table_id) × (table.now.shared.table_id.words ≡ 2) }
         requires seated { self.old.seated ≡ true }
+        requires note { IfSome note (λ n. (n.seated ≡ true) × (n.table ≡ self.old.table)) }
         ensures looked { (word : ℕ) × (self.new ≡ placed_at self.old.table (with_taking self.old.view word))
             × TakesOf self.old.view word result }
         ensures even { IsSome result → length self.old.view.answered ≡ length self.old.view.taken }
@@ -79,9 +95,12 @@ impl Place {
         ensures in_range { IfSome result IsAsk }
         ensures known { IsPrefix self.old.view.told self.new.view.taken }
         ensures finds { (ask : Ask) → IsToldAsk self.old.view ask → result ≡ Some ask }
+        ensures noted { IfSome note (λ n. (ask : Ask) → Says self.old.view n.word ask
+            → (result ≡ Some ask) × (self.new.view.taken ≡ self.old.view.taken ++ n.word ∷ [])) }
     {
         let badge = mem::replace(&mut self.badge, Badge::blank());
         let mut seat = badge.into_seat::<()>();
+        read_note(table, &mut seat, note);
         let word = table.shared.load::<Looks>(&mut seat, 0);
         self.badge = seat.into_badge();
         let turn = turn_of(word);

@@ -28,6 +28,8 @@ pub record JournalView (D : Type 0) : Type 0 where
   pub is_second : Bool
   -- the sectors of the picked half before its closing gate
   pub used : ℕ
+  -- the number of the next batch
+  pub number : ℕ
   -- how many calls of the device had failed when it was last opened
   pub opened : ℕ
   -- a call of the device has failed, and no reopening has succeeded since

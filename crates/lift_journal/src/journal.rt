@@ -1,11 +1,11 @@
 //! Batches of records, each in the journal whole or not at all.
-ghost use Rattle.std.specs.Prelude.{ℕ, ◌≡◌, ◌≤◌, ◌<◌, ◌+◌, ◌-◌, ◌++◌, ◌⊎◌, ◌↔◌, List, [], ◌∷◌, IsTrue, length, OnOk, true, false, not, All, Ok, Err, IsErrOf, IfOk, IfErr, OnErr};
+ghost use Rattle.std.specs.Prelude.{ℕ, ◌≡◌, ◌≤◌, ◌<◌, ◌+◌, ◌-◌, ◌++◌, ◌⊎◌, ◌↔◌, if◌then◌else◌, None, List, [], ◌∷◌, IsTrue, length, OnOk, true, false, not, All, Ok, Err, IsErrOf, IfOk, IfErr, OnErr};
 ghost use Rattle.lift_base.specs.declared.history.Record.{Record as RecordValue};
 ghost use Rattle.lift_base.specs.History.{IsWithinLimits};
 ghost use Rattle.lift_base.specs.Records.{IsLawful};
 ghost use Rattle.lift_disk.specs.Disk.{LeavesNow, LeavesOnly, MayLeave, IsSynced, Image, RunsOn};
 ghost use Rattle.lift_register.specs.Base.{base_records};
-ghost use Rattle.lift_journal.specs.Checkpoint.{checkpoint_of, sectors_for};
+ghost use Rattle.lift_journal.specs.Checkpoint.{batch_count, checkpoint_of, sectors_for};
 ghost use Rattle.lift_journal.specs.Layout.{bodies, Batch, new_batch, records_of, Holds, Picks, used};
 ghost use Rattle.std.specs.Option.{option_map};
 ghost use Rattle.lift_journal.specs.Order.{IsEntry};
@@ -50,7 +50,7 @@ impl<D: Disk> Model for Journal<D> {
 
     ghost Value = { JournalView D };
 
-    ghost view = { λ j. record { device = j.device; shape = j.shape; is_second = nat_lt 2 j.start; used = j.gate - j.start; opened = (D.state j.opened.value).failures; is_broken = j.is_broken } };
+    ghost view = { λ j. record { device = j.device; shape = j.shape; is_second = nat_lt 2 j.start; used = j.gate - j.start; number = j.number; opened = (D.state j.opened.value).failures; is_broken = j.is_broken } };
 
     ghost invariant = { λ j. IsJournal j.shape j.start j.gate j.number j.is_broken (D.state j.opened.value).failures (D.state j.device) };
 }
@@ -93,7 +93,7 @@ impl<D: Disk> Model for FormerPlace<D> {
 
     ghost Value = { JournalView D };
 
-    ghost view = { λ f. record { device = f.device.value; shape = f.shape; is_second = nat_lt 2 f.start; used = f.gate - f.start; opened = (D.state f.opened.value).failures; is_broken = f.is_broken } };
+    ghost view = { λ f. record { device = f.device.value; shape = f.shape; is_second = nat_lt 2 f.start; used = f.gate - f.start; number = f.number; opened = (D.state f.opened.value).failures; is_broken = f.is_broken } };
 
     ghost invariant = { λ f. IsJournal f.shape f.start f.gate f.number f.is_broken (D.state f.opened.value).failures (D.state f.device.value) };
 }
@@ -197,6 +197,8 @@ impl<D: Disk> Journal<D> {
         ensures second { self.new.is_second ≡ self.old.is_second }
         ensures opened { self.new.opened ≡ self.old.opened }
         ensures used { OnOk result (self.new.used ≡ self.old.used + bodies (length batch.now.items) + 1) }
+        ensures number { OnOk result (self.new.number ≡ self.old.number + 1) }
+        ensures kept { OnErr result ((self.new.used ≡ self.old.used) × (self.new.number ≡ self.old.number)) }
     {
         if self.is_broken {
             return Err(JournalFault::Broken);
@@ -246,7 +248,9 @@ impl<D: Disk> Journal<D> {
         ensures half { OnOk result (LeavesNow (D.state self.new.device) (Picks self.new.is_second)) }
         ensures switched { OnOk result (self.new.is_second ≡ not self.old.is_second) }
         ensures kept { OnErr result ((self.new.is_second ≡ self.old.is_second) × (self.new.used ≡ self.old.used)) }
+        ensures unnumbered { OnErr result (self.new.number ≡ self.old.number) }
         ensures used { OnOk result (self.new.used ≡ sectors_for (length (base_records register.now))) }
+        ensures number { OnOk result (self.new.number ≡ batch_count (length (base_records register.now)) + 1) }
         // Behind a checkpoint any batch has room.
         ensures roomy { OnOk result ((count : ℕ) → self.new.used + bodies count + 2 ≤ self.new.shape.half) }
         ensures joined { records_of (checkpoint_of (base_records register.now)) ≡ base_records register.now }
@@ -314,6 +318,11 @@ impl<D: Disk> Journal<D> {
         ensures causes { IfErr result (λ fault. IsOfCursor fault) }
         ensures same { (self.new.shape ≡ self.old.shape) × (self.new.used ≡ self.old.used) × (self.new.opened ≡ self.old.opened) }
         ensures second { self.new.is_second ≡ self.old.is_second }
+        ensures number { self.new.number ≡ self.old.number }
+        // At any device: the end is told only behind all used sectors, and damage only of the cursor's own gate.
+        ensures ends { result ≡ Ok None → self.old.used ≤ cursor.old.skipped }
+        ensures at_gate { (s : _) → IsErrOf result (JournalFault.Damaged s)
+            → s ≡ (if self.old.is_second then self.old.shape.half + 2 else 2) + cursor.old.skipped }
     {
         if self.is_broken {
             return Err(JournalFault::Broken);
@@ -354,6 +363,7 @@ impl<D: Disk> Journal<D> {
         ensures stays { IfErr result (λ fault. (fault ≡ JournalFault.Disk) ⊎ (self.new.is_broken ≡ self.old.is_broken)) }
         ensures same { OnErr result ((self.new.shape ≡ self.old.shape) × (self.new.used ≡ self.old.used) × (self.new.opened ≡ self.old.opened)) }
         ensures second { OnErr result (self.new.is_second ≡ self.old.is_second) }
+        ensures number { OnErr result (self.new.number ≡ self.old.number) }
     {
         match self.reopen_from() {
             Ok(_former) => Ok(()),
@@ -374,6 +384,7 @@ impl<D: Disk> Journal<D> {
         ensures stays { IfErr result (λ fault. (fault ≡ JournalFault.Disk) ⊎ (self.new.is_broken ≡ self.old.is_broken)) }
         ensures same { OnErr result ((self.new.shape ≡ self.old.shape) × (self.new.used ≡ self.old.used) × (self.new.opened ≡ self.old.opened)) }
         ensures second { OnErr result (self.new.is_second ≡ self.old.is_second) }
+        ensures number { OnErr result (self.new.number ≡ self.old.number) }
     {
         let device = Snapshot::of(&self.device);
         match find_place(&mut self.device) {
@@ -412,6 +423,7 @@ impl<D: Disk> Journal<D> {
         ensures device { self.new.device ≡ self.old.device }
         ensures same { (self.new.shape ≡ former.shape) × (self.new.used ≡ former.used) × (self.new.opened ≡ former.opened) }
         ensures second { self.new.is_second ≡ former.is_second }
+        ensures number { self.new.number ≡ former.number }
         ensures breaks { self.old.is_broken ≡ true → self.new.is_broken ≡ true }
         ensures stays { self.old.is_broken ≡ false → self.new.is_broken ≡ former.is_broken }
     {

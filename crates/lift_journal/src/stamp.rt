@@ -4,13 +4,16 @@ ghost use Rattle.lift_base.specs.declared.history.Shape.{Shape as ShapeValue};
 ghost use Rattle.lift_base.specs.History.{IsWithinLimits};
 ghost use Rattle.lift_journal.specs.Layout.{filled, stamp_bytes};
 
+use byteorder::{BigEndian, ByteOrder};
 use lift_base::Shape;
 
 /// The stamp of this shape.
 pub fn stamp_of(shape: &Shape) -> [u8; 512]
     ensures { result ≡ filled 1 (stamp_bytes shape.now) }
 {
-    let [a, b, c, d] = shape.half.to_be_bytes();
+    let mut sectors = [0; 4];
+    BigEndian::write_u32(&mut sectors, shape.half);
+    let [a, b, c, d] = sectors;
     let mut stamp = [0; 512];
     stamp[..16].copy_from_slice(&[
         0x4C,
@@ -42,7 +45,7 @@ pub fn read_stamp(stamp: &[u8; 512]) -> Option<Shape>
         floors: stamp[8],
         cars: stamp[9],
         kiosks: stamp[10],
-        half: u32::from_be_bytes([stamp[12], stamp[13], stamp[14], stamp[15]]),
+        half: BigEndian::read_u32(&stamp[12..16]),
     };
     if shape.is_within_limits() && stamp_of(&shape) == *stamp {
         Some(shape)

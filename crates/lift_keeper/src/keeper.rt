@@ -119,6 +119,13 @@ impl<'b, D: Disk> Keeper<'b, D> {
         self.decider.schedules()
     }
 
+    /// The building that it decides for, which its journal is of.
+    pub fn building(&self) -> &'b Building
+        ensures { result.now ≡ self.now.writer.plan }
+    {
+        self.decider.building()
+    }
+
     /// What a policy sees.
     pub fn view(&self) -> View
         ensures { result ≡ view_of self.now.state }

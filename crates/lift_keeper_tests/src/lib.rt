@@ -1,10 +1,7 @@
-//! The tests of `lift_keeper`: what is decided, batches made safe, and registers found again in journals.
+//! The tests of `lift_keeper`: batches made safe, and registers found again in journals. Cases of decisions are data, tried
+//! by `lift_figure_cases`.
 #![tactic(auto)]
 
-#[cfg(test)]
-mod decisions;
-#[cfg(test)]
-mod full;
 #[cfg(test)]
 mod journals;
 #[cfg(test)]
@@ -15,5 +12,3 @@ mod openings;
 mod recoveries;
 #[cfg(test)]
 mod replaced;
-#[cfg(test)]
-mod schedules;

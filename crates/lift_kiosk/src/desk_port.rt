@@ -5,7 +5,7 @@ ghost use Rattle.lift_desk.specs.Seats.{IsSeatOf};
 ghost use Rattle.lift_desk.specs.Words.{IsBody, IsReply};
 
 use crate::port::Port;
-use lift_base::{Body, Number, ProofCount, Reply};
+use lift_base::{Body, Number, ProofCount, Reply, Terminal};
 use lift_desk::{AskRefusal, Desk, Seat};
 use std::marker::Model;
 use std::thread;
@@ -40,6 +40,13 @@ impl<'d> DeskPort<'d> {
             seat,
             rests: ProofCount::new(),
         }
+    }
+
+    /// The terminal of its seat.
+    pub fn terminal(&self) -> Terminal
+        ensures { result ≡ self.now.seat.terminal }
+    {
+        self.seat.terminal()
     }
 
     /// The seat, for the next session.

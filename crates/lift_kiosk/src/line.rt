@@ -12,7 +12,7 @@ pub const MOST_BYTES: usize = 64;
 
 /// A line without its line feed: a byte more than a line may have, since a carriage return belongs to its end.
 #[derive(Drop)]
-pub(crate) struct Line {
+pub struct Line {
     pub bytes: ArrayVec<u8, 65>,
     /// More bytes came than are kept.
     pub is_longer: bool,
@@ -42,7 +42,7 @@ impl Line {
 
 /// Why no line came.
 #[derive(Clone, Copy)]
-pub(crate) enum NoLine {
+pub enum NoLine {
     /// The reader was at its end.
     AtEnd,
     /// All calls of the reader were used.
@@ -67,10 +67,7 @@ fn next_byte<R: Read + Drop>(reader: &mut Counted<R>) -> Result<Option<u8>, Read
 }
 
 /// A line, where its line feed comes within the calls of the reader that are left.
-pub(crate) fn read_line<R: Read + Drop>(
-    reader: &mut Counted<R>,
-    left: &mut u32,
-) -> Result<Line, NoLine>
+pub fn read_line<R: Read + Drop>(reader: &mut Counted<R>, left: &mut u32) -> Result<Line, NoLine>
     ensures line { IfOk result (λ found. (line : List ℕ) × Keeps65 line found.bytes.items found.is_longer
         × GivesLine line (source_of R.remaining reader.old) (source_of R.remaining reader.new)) }
     ensures closed { result ≡ Err NoLine.AtEnd → (part : List ℕ) × (mid : Source)

@@ -13,7 +13,7 @@ use lift_base::text::{MOST_WORDS, words_of};
 use std::str;
 
 /// A line without the carriage return before its line feed.
-fn without_return(bytes: &[u8]) -> &[u8]
+pub fn without_return(bytes: &[u8]) -> &[u8]
     ensures { result.now ≡ strip_carriage_return bytes.now }
 {
     match bytes {

@@ -21,7 +21,6 @@ pub trait Policy {
         requires possible { IsViewIn building.now view.now }
         requires from { call.from < building.now.floors }
         requires to { call.to < building.now.floors }
-        requires all { eligible ≡ eligible_cars building.now view.now call }
         ensures member { Contains eligible result }
         ensures chosen { chooses self.now building.now view.now call eligible result };
 

@@ -1,14 +1,15 @@
 -- What the rows of `format` and `show` say of their words.
-use Rattle.std.proofs.Common.{◌≡◌, ◌<◌, Option, Some, None, List, ℕ, Bor, codes, option_map, ap, sym, subst, ◌∙◌, arith}
+use Rattle.std.proofs.Common.{◌≡◌, ◌<◌, ◌^◌, Option, Some, None, List, ℕ, Bor, codes, option_map, ap, sym, subst, ◌∙◌, arith}
 use Rattle.std.specs.Prelude.{IfNone}
 use Rattle.std.specs.Fmt.{decimal}
 use Rattle.std.proofs.lemmas.Fmt.{decimal_injective}
 use Rattle.clap.specs.Words.{Row, Text, first_of, first_value, rows_of}
 use Rattle.clap.specs.declared.parser.matches.Found.{Found}
 use Rattle.clap.proofs.WalkLemmas.{first_value-rows}
-use Rattle.lift_program.specs.Words.{IsFormat, IsShow, IsHalf}
+use Rattle.lift_program.specs.Words.{IsCount, IsFormat, IsPolicy, IsShow, IsServe, IsHalf}
+use Rattle.lift_policy.specs.declared.shipped.Shipped.{Shipped}
 use Rattle.lift_program.specs.declared.words.Request.{Request}
-use Rattle.lift_program.specs.declared.words.Request.TheVariants.{Replay, Format, Show}
+use Rattle.lift_program.specs.declared.words.Request.TheVariants.{Replay, Format, Show, Serve}
 
 pub if_none : {A : Type 0} (r : Option A) (P : Type 0) → P → IfNone r P
 if_none None P p = p
@@ -22,26 +23,31 @@ text_in f id given is same given_is = sym (first_value-rows f id) ∙ sym same �
 pub no_image : (rows : List Row) → first_of (codes "image") rows ≡ None → (request : Request) → IsFormat rows request → ⊥
 no_image rows none Replay is = is
 no_image rows none (Show image building) is = is
+no_image rows none (Serve image building port sessions policy) is = is
 no_image rows none (Format image building half) is = let bad = sym is.0 ∙ none in cc
 
 pub no_building : (rows : List Row) → first_of (codes "building") rows ≡ None → (request : Request) → IsFormat rows request → ⊥
 no_building rows none Replay is = is
 no_building rows none (Show image building) is = is
+no_building rows none (Serve image building port sessions policy) is = is
 no_building rows none (Format image building half) is = let bad = sym is.1 ∙ none in cc
 
 pub no_half : (rows : List Row) (word : Option Text) → first_of (codes "half") rows ≡ word → ((half : ℕ) → IsHalf word half → ⊥) → (request : Request) → IsFormat rows request → ⊥
 no_half rows word same none Replay is = is
 no_half rows word same none (Show image building) is = is
+no_half rows word same none (Serve image building port sessions policy) is = is
 no_half rows word same none (Format image building half) is = none half (subst (λ w. IsHalf w half) same is.2)
 
 pub no_image_to_show : (rows : List Row) → first_of (codes "image") rows ≡ None → (request : Request) → IsShow rows request → ⊥
 no_image_to_show rows none Replay is = is
 no_image_to_show rows none (Format image building half) is = is
+no_image_to_show rows none (Serve image building port sessions policy) is = is
 no_image_to_show rows none (Show image building) is = let bad = sym is.0 ∙ none in cc
 
 pub no_building_to_show : (rows : List Row) → first_of (codes "building") rows ≡ None → (request : Request) → IsShow rows request → ⊥
 no_building_to_show rows none Replay is = is
 no_building_to_show rows none (Format image building half) is = is
+no_building_to_show rows none (Serve image building port sessions policy) is = is
 no_building_to_show rows none (Show image building) is = let bad = sym is.1 ∙ none in cc
 
 -- a number below 64 spells no other one
@@ -50,3 +56,40 @@ too_small word text number same spelled small half is = go (subst (λ w. IsHalf 
   where
     go : IsHalf (Some text) half → ⊥
     go said = let equal = decimal_injective number half (omega arith) (omega (arith, said)) (sym spelled ∙ said.0) in omega (arith, equal, said, small)
+
+pub no_image_to_serve : (rows : List Row) → first_of (codes "image") rows ≡ None → (request : Request) → IsServe rows request → ⊥
+no_image_to_serve rows none Replay is = is
+no_image_to_serve rows none (Format image building half) is = is
+no_image_to_serve rows none (Show image building) is = is
+no_image_to_serve rows none (Serve image building port sessions policy) is = let bad = sym is.0 ∙ none in cc
+
+pub no_building_to_serve : (rows : List Row) → first_of (codes "building") rows ≡ None → (request : Request) → IsServe rows request → ⊥
+no_building_to_serve rows none Replay is = is
+no_building_to_serve rows none (Format image building half) is = is
+no_building_to_serve rows none (Show image building) is = is
+no_building_to_serve rows none (Serve image building port sessions policy) is = let bad = sym is.1 ∙ none in cc
+
+pub no_port : (rows : List Row) (word : Option Text) → first_of (codes "port") rows ≡ word → ((count : ℕ) → IsCount 65535 word count → ⊥) → (request : Request) → IsServe rows request → ⊥
+no_port rows word same none Replay is = is
+no_port rows word same none (Format image building half) is = is
+no_port rows word same none (Show image building) is = is
+no_port rows word same none (Serve image building port sessions policy) is = none port (subst (λ w. IsCount 65535 w port) same is.2)
+
+pub no_sessions : (rows : List Row) (word : Option Text) → first_of (codes "sessions") rows ≡ word → ((count : ℕ) → IsCount 1000000 word count → ⊥) → (request : Request) → IsServe rows request → ⊥
+no_sessions rows word same none Replay is = is
+no_sessions rows word same none (Format image building half) is = is
+no_sessions rows word same none (Show image building) is = is
+no_sessions rows word same none (Serve image building port sessions policy) is = none sessions (subst (λ w. IsCount 1000000 w sessions) same is.3)
+
+pub no_policy : (rows : List Row) (word : Option Text) → first_of (codes "policy") rows ≡ word → ((policy : Shipped) → IsPolicy word policy → ⊥) → (request : Request) → IsServe rows request → ⊥
+no_policy rows word same none Replay is = is
+no_policy rows word same none (Format image building half) is = is
+no_policy rows word same none (Show image building) is = is
+no_policy rows word same none (Serve image building port sessions policy) is = none policy (subst (λ w. IsPolicy w policy) same is.4)
+
+-- nought is no count
+pub no_count : (most : ℕ) (word : Option Text) (text : Text) (number : ℕ) → most < 2 ^ 32 → word ≡ Some text → text ≡ decimal number → number < 1 → (count : ℕ) → IsCount most word count → ⊥
+no_count most word text number small same spelled none count is = go (subst (λ w. IsCount most w count) same is)
+  where
+    go : IsCount most (Some text) count → ⊥
+    go said = let equal = decimal_injective number count (omega arith) (omega (arith, said, small)) (sym spelled ∙ said.0) in omega (arith, equal, said, none)

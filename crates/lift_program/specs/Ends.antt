@@ -1,5 +1,7 @@
 -- How the program ends, and what it says of it.
-use Rattle.std.specs.Prelude.{ℕ, ◌≡◌, ◌⊎◌, ◌+◌, ◌*◌, List, [], ◌∷◌, ◌++◌, Option, Some, None, IfSome, true, false}
+use Rattle.std.specs.Prelude.{ℕ, ◌≡◌, ◌⊎◌, ◌+◌, ◌*◌, List, [], ◌∷◌, ◌++◌, Option, Some, None, IfSome, true, false, codes}
+use Rattle.std.specs.Fmt.{decimal}
+use Rattle.std.specs.Io.KnownBytes.{Appends}
 use Rattle.clap.specs.Words.{Text}
 use Rattle.lift_base.specs.Input.{InputState}
 use Rattle.lift_base.specs.Output.{OutputState}
@@ -8,19 +10,22 @@ use Rattle.lift_disk.specs.Files.{file_state_of}
 use Rattle.lift_disk.specs.declared.file.FileDisk.{FileDisk}
 use Rattle.lift_journal.specs.declared.fault.JournalFault.TheVariants.{Disk}
 use Rattle.lift_keeper.specs.declared.fault.KeeperFault.TheVariants.{Journal as OfJournal}
+use Rattle.lift_replay.specs.declared.lines.Verdict.{Verdict}
 use Rattle.lift_replay.specs.declared.lines.Verdict.TheVariants.{Good, Bad}
 use Rattle.lift_replay.specs.Reading.{IsRead}
-use Rattle.lift_replay.specs.Script.{AppendsBadReport}
+use Rattle.lift_replay.specs.Replaying.{Writes}
+use Rattle.lift_replay.specs.Replaying.{IsReport as IsScriptReport}
 use Rattle.lift_program.specs.Faults.{fault_text, usage_text}
 use Rattle.lift_program.specs.Output.{IsTold}
+use Rattle.lift_program.specs.Serving.{IsServing}
 use Rattle.lift_program.specs.Showing.{IsShown, IsOpeningFault}
 use Rattle.lift_program.specs.Words.{Asks}
 use Rattle.lift_program.specs.declared.fault.Fault.{Fault}
-use Rattle.lift_program.specs.declared.fault.Fault.TheVariants.{Building, Journal, File, Memory}
+use Rattle.lift_program.specs.declared.fault.Fault.TheVariants.{Building, Journal, File, Memory, Network, Thread}
 use Rattle.lift_program.specs.declared.end.End.{End}
-use Rattle.lift_program.specs.declared.end.End.TheVariants.{Replayed, Formatted, Shown, Failed, OtherWords}
+use Rattle.lift_program.specs.declared.end.End.TheVariants.{Replayed, Formatted, Shown, Served, Failed, OtherWords}
 use Rattle.lift_program.specs.declared.words.Request.{Request}
-use Rattle.lift_program.specs.declared.words.Request.TheVariants.{Replay, Format, Show}
+use Rattle.lift_program.specs.declared.words.Request.TheVariants.{Replay, Format, Show, Serve}
 
 -- 0 where all was done, 1 for a bad script or a fault, 2 for other words
 abbrev pub status_of : End → ℕ
@@ -28,6 +33,8 @@ status_of (Replayed Good) = 0
 status_of (Replayed Bad) = 1
 status_of (Formatted disk) = 0
 status_of (Shown disk) = 0
+status_of (Served port None) = 0
+status_of (Served port (Some fault)) = 1
 status_of (Failed fault) = 1
 status_of OtherWords = 2
 
@@ -36,6 +43,8 @@ abbrev pub line_of : End → Option (List ℕ)
 line_of (Replayed verdict) = None
 line_of (Formatted disk) = None
 line_of (Shown disk) = None
+line_of (Served port None) = None
+line_of (Served port (Some fault)) = Some (fault_text fault ++ 10 ∷ [])
 line_of (Failed fault) = Some (fault_text fault ++ 10 ∷ [])
 line_of OtherWords = Some (usage_text ++ 10 ∷ [])
 
@@ -51,6 +60,7 @@ abbrev pub IsMadeFor : Request → FileDisk → Type 0
 IsMadeFor Replay disk = ⊥
 IsMadeFor (Format image building half) disk = IsMadeWith half disk
 IsMadeFor (Show image building) disk = ⊥
+IsMadeFor (Serve image building port sessions policy) disk = ⊥
 
 -- a file, or want of memory
 abbrev pub IsFileFault : Fault → Type 0
@@ -62,6 +72,8 @@ IsFormatFault (Building fault) = (text : List ℕ) × IsFirstFault text fault
 IsFormatFault (Journal fault) = fault ≡ OfJournal Disk
 IsFormatFault File = Unit {0}
 IsFormatFault Memory = Unit {0}
+IsFormatFault Network = ⊥
+IsFormatFault Thread = ⊥
 
 -- a file, want of memory, or what an opening may be refused for
 abbrev pub IsShowingFault : Fault → Type 0
@@ -69,6 +81,8 @@ IsShowingFault (Building fault) = ⊥
 IsShowingFault (Journal fault) = IsOpeningFault fault
 IsShowingFault File = Unit {0}
 IsShowingFault Memory = Unit {0}
+IsShowingFault Network = ⊥
+IsShowingFault Thread = ⊥
 
 -- these, or the first fault of a building's text
 abbrev pub IsShowFault : Fault → Type 0
@@ -76,6 +90,26 @@ IsShowFault (Building fault) = (text : List ℕ) × IsFirstFault text fault
 IsShowFault (Journal fault) = IsShowingFault (Journal fault)
 IsShowFault File = IsShowingFault File
 IsShowFault Memory = IsShowingFault Memory
+IsShowFault Network = ⊥
+IsShowFault Thread = ⊥
+
+-- these, or the port
+abbrev pub IsServeFault : Fault → Type 0
+IsServeFault (Building fault) = IsShowFault (Building fault)
+IsServeFault (Journal fault) = IsShowFault (Journal fault)
+IsServeFault File = Unit {0}
+IsServeFault Memory = Unit {0}
+IsServeFault Network = Unit {0}
+IsServeFault Thread = ⊥
+
+-- what the serving itself may be undone for: a failed call of the device, and what it takes
+abbrev pub IsServingFault : Fault → Type 0
+IsServingFault (Building fault) = ⊥
+IsServingFault (Journal fault) = fault ≡ OfJournal Disk
+IsServingFault File = ⊥
+IsServingFault Memory = Unit {0}
+IsServingFault Network = Unit {0}
+IsServingFault Thread = Unit {0}
 
 -- A script was read, or couldn't be: a call of its reader failed, or all were used and its end was not found.
 abbrev pub IsReadOrFailed : {R : Type 0} → (R → Option (List ℕ)) → (old new : InputState R) → Type 0
@@ -87,24 +121,35 @@ abbrev pub IsFaultOf : Request → Fault → Type 0
 IsFaultOf Replay fault = IsFileFault fault
 IsFaultOf (Format image building half) fault = IsFormatFault fault
 IsFaultOf (Show image building) fault = IsShowFault fault
+IsFaultOf (Serve image building port sessions policy) fault = IsServeFault fault
 
 -- the open calls of a journal were asked for
 abbrev pub AsksToShow : Request → Type 0
 AsksToShow Replay = ⊥
 AsksToShow (Format image building half) = ⊥
 AsksToShow (Show image building) = Unit {0}
+AsksToShow (Serve image building port sessions policy) = ⊥
+
+-- a building was to be served on this port, and the serving came to this
+abbrev pub IsServedFor : Request → ℕ → Option Fault → Type 0
+IsServedFor Replay port fault = ⊥
+IsServedFor (Format image building half) port fault = ⊥
+IsServedFor (Show image building) port fault = ⊥
+IsServedFor (Serve image building asked sessions policy) port fault = (port ≡ asked) × IsServing policy fault
 
 -- it asks for no report
 abbrev pub IsUnwritten : Request → Type 0
 IsUnwritten Replay = ⊥
 IsUnwritten (Format image building half) = Unit {0}
 IsUnwritten (Show image building) = ⊥
+IsUnwritten (Serve image building port sessions policy) = ⊥
 
 -- what a request may come to
 abbrev pub IsEndFor : Request → End → Type 0
 IsEndFor request (Replayed verdict) = request ≡ Replay
 IsEndFor request (Formatted disk) = IsMadeFor request disk
 IsEndFor request (Shown disk) = AsksToShow request
+IsEndFor request (Served port fault) = IsServedFor request port fault × IfSome fault IsServingFault
 IsEndFor request (Failed fault) = IsFaultOf request fault
 IsEndFor request OtherWords = ⊥
 
@@ -119,13 +164,23 @@ IsReportOfFault (Building fault) before after = after ≡ before
 IsReportOfFault (Journal fault) before after = after ≡ before
 IsReportOfFault File before after = Unit {0}
 IsReportOfFault Memory before after = Unit {0}
+IsReportOfFault Network before after = after ≡ before
+IsReportOfFault Thread before after = Unit {0}
 
--- what was written, by the end: of a bad script a report that tells its cause, and of a journal that was shown its open calls
+-- what is said where a port is served
+abbrev pub serving_text : ℕ → List ℕ
+serving_text port = codes "serving " ++ decimal port ++ 10 ∷ []
+
+-- what was written is the report of a script, with this verdict
+abbrev pub IsReplayed : Verdict → (before after : Option (List ℕ)) → Type 0
+IsReplayed verdict before after = (bytes : List ℕ) × Writes (IsScriptReport bytes) before after verdict
+
+-- what was written, by the end: of a script its report, and of a journal that was shown its open calls
 abbrev pub IsReport : End → (before after : Option (List ℕ)) → Type 0
-IsReport (Replayed Good) before after = Unit {0}
-IsReport (Replayed Bad) before after = AppendsBadReport before after
+IsReport (Replayed verdict) before after = IsReplayed verdict before after
 IsReport (Formatted disk) before after = after ≡ before
 IsReport (Shown disk) before after = IsShown disk before after
+IsReport (Served port fault) before after = Appends before after (serving_text port)
 IsReport (Failed fault) before after = IsReportOfFault fault before after
 IsReport OtherWords before after = after ≡ before
 

@@ -1,5 +1,5 @@
 -- What the program says of a fault, and of words that it doesn't know.
-use Rattle.std.specs.Prelude.{ℕ, List, [], ◌∷◌, ◌++◌, codes}
+use Rattle.std.specs.Prelude.{ℕ, Bool, true, false, List, [], ◌∷◌, ◌++◌, Option, Some, None, codes}
 use Rattle.std.specs.Fmt.{decimal}
 use Rattle.lift_building.specs.Text.{fault_number as building_number}
 use Rattle.lift_building.specs.declared.fault.BuildingFault.{BuildingFault}
@@ -10,8 +10,10 @@ use Rattle.lift_keeper.specs.declared.fault.KeeperFault.{KeeperFault}
 use Rattle.lift_keeper.specs.declared.fault.KeeperFault.TheVariants.{Journal as OfJournal, OtherBuilding, BadEntry}
 use Rattle.lift_replay.specs.declared.script.ReplayFault.{ReplayFault}
 use Rattle.lift_replay.specs.declared.script.ReplayFault.TheVariants.{Memory as NoMemory, Read, Write}
+use Rattle.lift_serve.specs.declared.serving.ServeFault.{ServeFault}
+use Rattle.lift_serve.specs.declared.serving.ServeFault.TheVariants.{Network as NoNetwork, Thread as NoThread, Memory as NoGrowth}
 use Rattle.lift_program.specs.declared.fault.Fault.{Fault}
-use Rattle.lift_program.specs.declared.fault.Fault.TheVariants.{Building, Journal, File, Memory}
+use Rattle.lift_program.specs.declared.fault.Fault.TheVariants.{Building, Journal, File, Memory, Network, Thread}
 
 -- a building's fault by its number, a detour with its three floors
 abbrev pub building_text : BuildingFault → List ℕ
@@ -38,6 +40,8 @@ fault_text (Building fault) = building_text fault
 fault_text (Journal fault) = journal_text fault
 fault_text File = codes "liftd: file"
 fault_text Memory = codes "liftd: memory"
+fault_text Network = codes "liftd: network"
+fault_text Thread = codes "liftd: thread"
 
 -- the line of words that are those of no command
 abbrev pub usage_text : List ℕ
@@ -53,3 +57,11 @@ abbrev pub of_replay : ReplayFault → Fault
 of_replay NoMemory = Memory
 of_replay Read = File
 of_replay Write = File
+
+-- what a serving is undone for: a device that failed, whatever else there was, and else the first fault of the rest
+abbrev pub served_fault : (is_broken : Bool) → Option ServeFault → Option Fault
+served_fault true fault = Some (Journal (OfJournal Disk))
+served_fault false None = None
+served_fault false (Some NoNetwork) = Some Network
+served_fault false (Some NoThread) = Some Thread
+served_fault false (Some NoGrowth) = Some Memory

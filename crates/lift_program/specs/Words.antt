@@ -3,8 +3,10 @@ use Rattle.std.specs.Prelude.{◌≡◌, ◌≤◌, ◌⊎◌, ℕ, true, List, 
 use Rattle.std.specs.Fmt.{decimal}
 use Rattle.clap.specs.Words.{AddsSubcommand, App, Row, Rule, Text, app_of, new_app, new_rule, with_rule, with_subcommand, first_of, subcommand_of, fault_of}
 use Rattle.clap.specs.declared.builder.command.Command.{Command}
+use Rattle.lift_policy.specs.declared.shipped.Shipped.{Shipped}
+use Rattle.lift_policy.specs.declared.shipped.Shipped.TheVariants.{Etd, FewestOpen, ShortestWait}
 use Rattle.lift_program.specs.declared.words.Request.{Request}
-use Rattle.lift_program.specs.declared.words.Request.TheVariants.{Replay, Format, Show}
+use Rattle.lift_program.specs.declared.words.Request.TheVariants.{Replay, Format, Show, Serve}
 
 -- a plain word that has to be there
 abbrev pub word_rule : Text → Rule
@@ -26,6 +28,10 @@ format_app = with_rule (app_on (codes "format")) (option_rule (codes "half"))
 abbrev pub show_app : App
 show_app = app_on (codes "show")
 
+-- `serve <image> <building> --port <p> --sessions <n> [--policy etd|fewest|wait]`
+abbrev pub serve_app : App
+serve_app = with_rule (with_rule (with_rule (app_on (codes "serve")) (option_rule (codes "port"))) (option_rule (codes "sessions"))) (option_rule (codes "policy"))
+
 -- `replay`
 abbrev pub replay_app : App
 replay_app = new_app (codes "replay")
@@ -40,7 +46,7 @@ bare_app = record (new_app (codes "liftd")) { top = record (new_app (codes "lift
 
 -- the program with its commands
 abbrev pub liftd_app : App
-liftd_app = with_subcommand (with_subcommand (with_subcommand bare_app replay_app.top) format_app.top) show_app.top
+liftd_app = with_subcommand (with_subcommand (with_subcommand (with_subcommand bare_app replay_app.top) format_app.top) show_app.top) serve_app.top
 
 -- the sectors in a half: 64, or what the option's word spells, 64 to 1,000,000
 abbrev pub IsHalf : Option Text → ℕ → Type 0
@@ -54,19 +60,49 @@ IsFormat rows (Format image building half) = (first_of (codes "image") rows ≡ 
     × (first_of (codes "building") rows ≡ Some building.now)
     × IsHalf (first_of (codes "half") rows) half
 IsFormat rows (Show image building) = ⊥
+IsFormat rows (Serve image building port sessions policy) = ⊥
 
 -- what the words behind `show` ask for
 abbrev pub IsShow : List Row → Request → Type 0
 IsShow rows Replay = ⊥
 IsShow rows (Format image building half) = ⊥
+IsShow rows (Serve image building port sessions policy) = ⊥
 IsShow rows (Show image building) = (first_of (codes "image") rows ≡ Some image.now) × (first_of (codes "building") rows ≡ Some building.now)
+
+-- a number from 1 to the most that the option's word spells
+abbrev pub IsCount : (most : ℕ) → Option Text → ℕ → Type 0
+IsCount most None count = ⊥
+IsCount most (Some word) count = (word ≡ decimal count) × (1 ≤ count) × (count ≤ most)
+
+-- how a policy is named
+abbrev pub IsPolicyWord : Text → Shipped → Type 0
+IsPolicyWord word (Etd policy) = word ≡ codes "etd"
+IsPolicyWord word (FewestOpen policy) = word ≡ codes "fewest"
+IsPolicyWord word (ShortestWait policy) = word ≡ codes "wait"
+
+-- the policy that the option's word names: without one, that of the least cost
+abbrev pub IsPolicy : Option Text → Shipped → Type 0
+IsPolicy None policy = IsPolicyWord (codes "etd") policy
+IsPolicy (Some word) policy = IsPolicyWord word policy
+
+-- what the words behind `serve` ask for
+abbrev pub IsServe : List Row → Request → Type 0
+IsServe rows Replay = ⊥
+IsServe rows (Format image building half) = ⊥
+IsServe rows (Show image building) = ⊥
+IsServe rows (Serve image building port sessions policy) = (first_of (codes "image") rows ≡ Some image.now)
+    × (first_of (codes "building") rows ≡ Some building.now)
+    × IsCount 65535 (first_of (codes "port") rows) port
+    × IsCount 1000000 (first_of (codes "sessions") rows) sessions
+    × IsPolicy (first_of (codes "policy") rows) policy
 
 -- what a command asks for; without one a script is carried out
 abbrev pub IsFor : Option (Text × List Row) → Request → Type 0
 IsFor None request = request ≡ Replay
 IsFor (Some command) request = ((command.0 ≡ codes "replay") × (request ≡ Replay))
     ⊎ (((command.0 ≡ codes "format") × IsFormat command.1 request)
-    ⊎ ((command.0 ≡ codes "show") × IsShow command.1 request))
+    ⊎ (((command.0 ≡ codes "show") × IsShow command.1 request)
+    ⊎ ((command.0 ≡ codes "serve") × IsServe command.1 request)))
 
 -- The grammar of the commands takes the words, and they ask for this.
 abbrev pub Asks : List Text → Request → Type 0
@@ -77,3 +113,4 @@ abbrev pub IsInRange : Request → Type 0
 IsInRange Replay = Unit {0}
 IsInRange (Format image building half) = (64 ≤ half) × (half ≤ 1000000)
 IsInRange (Show image building) = Unit {0}
+IsInRange (Serve image building port sessions policy) = (1 ≤ port) × (port ≤ 65535) × (1 ≤ sessions) × (sessions ≤ 1000000)

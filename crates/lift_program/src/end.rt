@@ -20,6 +20,8 @@ pub enum End {
     Formatted(FileDisk),
     /// The open calls of the journal on this file were written.
     Shown(FileDisk),
+    /// The building was served on this port; a fault that did not end that is told.
+    Served(u16, Option<Fault>),
     /// The work is undone.
     Failed(Fault),
     /// The words are those of no command.
@@ -36,6 +38,8 @@ impl End {
             End::Replayed(Verdict::Bad) => 1,
             End::Formatted(_) => 0,
             End::Shown(_) => 0,
+            End::Served(_, None) => 0,
+            End::Served(_, Some(_)) => 1,
             End::Failed(_) => 1,
             End::OtherWords => 2,
         }
@@ -50,6 +54,8 @@ impl End {
             End::Replayed(_) => {}
             End::Formatted(_) => {}
             End::Shown(_) => {}
+            End::Served(_, None) => {}
+            End::Served(_, Some(fault)) => fault.tell(errors),
             End::Failed(fault) => fault.tell(errors),
             End::OtherWords => tell(errors, b"liftd: usage\n"),
         }

@@ -32,6 +32,10 @@ pub enum Fault {
     File,
     /// A growth was refused.
     Memory,
+    /// The port couldn't be had, or failed.
+    Network,
+    /// A thread couldn't be started.
+    Thread,
 }
 
 impl From<AllocError> for Fault {
@@ -161,6 +165,8 @@ impl Fault {
             Fault::Journal(fault) => journal_line(fault),
             Fault::File => plain_line("liftd: file"),
             Fault::Memory => plain_line("liftd: memory"),
+            Fault::Network => plain_line("liftd: network"),
+            Fault::Thread => plain_line("liftd: thread"),
         }
     }
 

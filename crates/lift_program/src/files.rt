@@ -8,10 +8,15 @@ use crate::fault::Fault;
 use lift_disk::{FileDisk, FileFault};
 use std::alloc::Global;
 use std::fs::{File, Files};
+use std::os::fd::AsRawFd;
 use std::{fs, io};
 
+/// The last descriptor of the standard streams.
+const STANDARD_ERROR: i32 = 2;
+
 /// The text that a file holds. What isn't a file, as a pipe or a terminal, isn't opened, so that nothing waits for its
-/// other end.
+/// other end. A file that got the descriptor of a standard stream, which the program began without, is refused: what is
+/// printed would be written into it, or into the next file that is opened.
 pub fn text_in<F: Files<File = File>>(rt: &F, alloc: Global, path: &str) -> Result<String, Fault>
     ensures { IfErr result IsFileFault }
 {
@@ -19,6 +24,9 @@ pub fn text_in<F: Files<File = File>>(rt: &F, alloc: Global, path: &str) -> Resu
         return Err(Fault::File);
     }
     let file = File::open(rt, path).map_err(Fault::of_file)?;
+    if file.as_raw_fd() <= STANDARD_ERROR {
+        return Err(Fault::File);
+    }
     io::read_to_string(alloc, file).map_err(Fault::of_file)
 }
 

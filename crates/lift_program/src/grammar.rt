@@ -2,7 +2,7 @@
 
 ghost use Rattle.std.specs.Prelude.{◌≡◌, false, IfOk};
 ghost use Rattle.clap.specs.Words.{app_of, rule_of};
-ghost use Rattle.lift_program.specs.Words.{liftd_app, bare_app, replay_app, format_app, show_app, word_rule, option_rule, IsCommand};
+ghost use Rattle.lift_program.specs.Words.{liftd_app, bare_app, replay_app, format_app, show_app, serve_app, word_rule, option_rule, IsCommand};
 
 use clap::{Arg, Command};
 use std::alloc::{AllocError, Global};
@@ -49,6 +49,18 @@ fn show_command<'a>(alloc: Global) -> Result<Command<'a>, AllocError>
         .arg(word(alloc, "building"))
 }
 
+/// `serve <image> <building> --port <p> --sessions <n> [--policy etd|fewest|wait]`.
+fn serve_command<'a>(alloc: Global) -> Result<Command<'a>, AllocError>
+    ensures { IfOk result (IsCommand serve_app) }
+{
+    Command::new(alloc, "serve")
+        .arg(word(alloc, "image"))?
+        .arg(word(alloc, "building"))?
+        .arg(option(alloc, "port"))?
+        .arg(option(alloc, "sessions"))?
+        .arg(option(alloc, "policy"))
+}
+
 /// The program by itself, whose first word is not its name.
 fn bare<'a>(alloc: Global) -> Command<'a>
     ensures { app_of result ≡ bare_app }
@@ -63,8 +75,10 @@ pub fn grammar<'a>(alloc: Global) -> Result<Command<'a>, AllocError>
     let replay = replay_command(alloc);
     let format = format_command(alloc)?;
     let show = show_command(alloc)?;
+    let serve = serve_command(alloc)?;
     bare(alloc)
         .subcommand(replay)?
         .subcommand(format)?
-        .subcommand(show)
+        .subcommand(show)?
+        .subcommand(serve)
 }

@@ -1,4 +1,4 @@
-//! What the program `liftd` does: it carries out scripts, makes journals on files, and shows what they hold.
+//! What the program `liftd` does: it carries out scripts, makes journals on files, shows what they hold, and serves buildings on sockets.
 #![tactic(auto)]
 
 mod end;
@@ -8,6 +8,7 @@ mod format;
 mod grammar;
 mod output;
 mod replay;
+mod serve;
 mod show;
 mod starting;
 mod words;

@@ -1,8 +1,8 @@
 //! The carrying out of a script.
 
-ghost use Rattle.std.specs.Prelude.{◌≡◌, true, false, IfErr};
-ghost use Rattle.lift_replay.specs.Script.{AppendsBadReport};
-ghost use Rattle.lift_program.specs.Ends.{IsFileFault, IsReadOrFailed};
+ghost use Rattle.std.specs.Prelude.{◌≡◌, true, false, IfOk, IfErr};
+ghost use Rattle.lift_replay.specs.Replaying.{ReportsInput};
+ghost use Rattle.lift_program.specs.Ends.{IsFileFault, IsReadOrFailed, IsReplayed};
 
 use crate::fault::Fault;
 use lift_base::text::Counted;
@@ -20,7 +20,9 @@ pub fn replay<R: Read + Drop, W: Write>(
     requires unhurt { input.old.failed ≡ false }
     requires before_end { input.old.ended ≡ false }
     ensures good { result ≡ Ok Verdict.Good → input.new.ended ≡ true }
-    ensures bad { result ≡ Ok Verdict.Bad → AppendsBadReport (W.contents writer.old) (W.contents writer.new) }
+    // What was written is the report of the script, and the verdict is that of it: of the reader's input, where that is known.
+    ensures report { IfOk result (λ verdict. ReportsInput (R.remaining input.old.reader) (W.contents writer.old) (W.contents writer.new) verdict) }
+    ensures told { IfOk result (λ verdict. IsReplayed verdict (W.contents writer.old) (W.contents writer.new)) }
     ensures fault { IfErr result IsFileFault }
     ensures cause { result ≡ Err Fault.File → IsReadOrFailed R.remaining input.old input.new }
 {

@@ -13,6 +13,7 @@ use crate::end::End;
 use crate::fault::Fault;
 use crate::format::format;
 use crate::replay::replay;
+use crate::serve::serve;
 use crate::show::show;
 use crate::words::{Request, request_of};
 use lift_base::text::{Counted, Watched};
@@ -21,15 +22,22 @@ use std::convert::AsStr;
 use std::fs::{File, Files};
 use std::io;
 use std::io::{ErrorKind, Read, Write};
+use std::net::{Net, TcpListener, TcpStream};
+use std::sync::Wait;
+use std::thread::Threads;
+use std::time::Clock;
 
 /// Does what the request asks for.
-fn done<F: Files<File = File>, R: Read + Drop, W: Write>(
-    rt: &F,
-    alloc: Global,
-    request: Request<'_>,
-    input: &mut Counted<R>,
-    writer: &mut W,
-) -> End
+fn done<
+    F: Files<File = File>
+        + Threads
+        + Wait
+        + Clock
+        + Net<Listener = TcpListener, Stream = TcpStream>
+        + Sync,
+    R: Read + Drop,
+    W: Write,
+>(rt: &F, alloc: Global, request: Request<'_>, input: &mut Counted<R>, writer: &mut W) -> End
     requires range { IsInRange request }
     requires fresh { input.old.calls ≡ 0 }
     requires unhurt { input.old.failed ≡ false }
@@ -58,6 +66,16 @@ fn done<F: Files<File = File>, R: Read + Drop, W: Write>(
             Ok(disk) => End::Shown(disk),
             Err(fault) => End::Failed(fault),
         },
+        Request::Serve {
+            image,
+            building,
+            port,
+            sessions,
+            policy,
+        } => match serve(rt, alloc, image, building, port, sessions, policy, writer) {
+            Ok(fault) => End::Served(port, fault),
+            Err(fault) => End::Failed(fault),
+        },
     }
 }
 
@@ -78,7 +96,18 @@ pub fn not_given<E: Write + Drop>(error: io::Error, errors: &mut Watched<E>) -> 
 
 /// Does what the words behind the program's name ask for, and answers how it ended. A fault writes its line to
 /// `errors`, and so do other words.
-fn carry_out<F: Files<File = File>, S: AsStr, R: Read + Drop, W: Write, E: Write + Drop>(
+fn carry_out<
+    F: Files<File = File>
+        + Threads
+        + Wait
+        + Clock
+        + Net<Listener = TcpListener, Stream = TcpStream>
+        + Sync,
+    S: AsStr,
+    R: Read + Drop,
+    W: Write,
+    E: Write + Drop,
+>(
     rt: &F,
     alloc: Global,
     words: &[S],
@@ -95,7 +124,7 @@ fn carry_out<F: Files<File = File>, S: AsStr, R: Read + Drop, W: Write, E: Write
     ensures told { IfSome (line_of result) (IsTold E.contents errors.old errors.new) }
     // and what was done tells nothing.
     ensures quiet { line_of result ≡ None → errors.new ≡ errors.old }
-    // The report of a bad script tells the cause, and a journal's are its open calls.
+    // A script's report is what it says, and a journal's are its open calls.
     ensures report { IsReport result (W.contents writer.old) (W.contents writer.new) }
     // Nothing is reported where neither was asked for.
     ensures unwritten { ((request : Wanted) → Asks (map S.text words.now) request → IsUnwritten request)
@@ -117,14 +146,18 @@ fn carry_out<F: Files<File = File>, S: AsStr, R: Read + Drop, W: Write, E: Write
 
 /// Does what the words behind the program's name ask for, and answers the status: 0 where all was done, 1 for a bad
 /// script or a fault, 2 for other words. A fault writes its line to `errors`, and so do other words.
-pub fn start<F: Files<File = File>, S: AsStr, R: Read + Drop, W: Write, E: Write + Drop>(
-    rt: &F,
-    alloc: Global,
-    words: &[S],
-    reader: R,
-    writer: &mut W,
-    errors: &mut Watched<E>,
-) -> u8
+pub fn start<
+    F: Files<File = File>
+        + Threads
+        + Wait
+        + Clock
+        + Net<Listener = TcpListener, Stream = TcpStream>
+        + Sync,
+    S: AsStr,
+    R: Read + Drop,
+    W: Write,
+    E: Write + Drop,
+>(rt: &F, alloc: Global, words: &[S], reader: R, writer: &mut W, errors: &mut Watched<E>) -> u8
     // It is the status of an end that the words come to, with its report, and which is told,
     ensures status { IsStatusFor E.contents (map S.text words.now) (W.contents writer.old) (W.contents writer.new) errors.old errors.new result }
     // and nothing is reported where neither a replay nor a journal's open calls were asked for.

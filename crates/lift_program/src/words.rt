@@ -2,13 +2,15 @@
 
 ghost use Rattle.std.specs.Prelude.{◌≡◌, ◌≤◌, ℕ, map, option_map, IfOk, IfSome, IfNone};
 ghost use Rattle.clap.specs.Words.{rows_of, found_of, subcommand_rows_of};
-ghost use Rattle.lift_program.specs.Words.{Asks, IsFor, IsFormat, IsShow, IsHalf, IsInRange};
+ghost use Rattle.lift_program.specs.Words.{Asks, IsCount, IsFor, IsFormat, IsShow, IsServe, IsHalf, IsInRange, IsPolicy, IsPolicyWord};
+ghost use Rattle.lift_policy.specs.declared.shipped.Shipped.{Shipped as ShippedValue};
 ghost use Rattle.lift_program.specs.declared.words.Request.{Request as Wanted};
 
 use crate::grammar::grammar;
 use clap::ArgMatches;
 use clap::error::ErrorKind;
 use lift_base::text::number_up_to;
+use lift_policy::{Etd, FewestOpen, Shipped, ShortestWait};
 use std::alloc::{AllocError, Global};
 use std::convert::AsStr;
 
@@ -29,7 +31,21 @@ pub enum Request<'a> {
         image: &'a str,
         building: &'a str,
     },
+    /// Serve the building in the file `building` on a port of this machine, with the journal in the file `image`.
+    Serve {
+        image: &'a str,
+        building: &'a str,
+        /// 1 to 65,535.
+        port: u16,
+        /// How many connections are to end, 1 to 1,000,000.
+        sessions: u32,
+        policy: Shipped,
+    },
 }
+
+const MOST_PORT: u32 = 65_535;
+
+const MOST_SESSIONS: u32 = 1_000_000;
 
 const LEAST_HALF: u32 = 64;
 
@@ -75,6 +91,64 @@ fn show_of<'a>(matches: &ArgMatches<'a>) -> Option<Request<'a>>
     Some(Request::Show { image, building })
 }
 
+/// The number, from 1 to `most`, that an option's word names.
+fn count_of(word: Option<&str>, most: u32) -> Option<u32>
+    ensures some { IfSome result (λ count. IsCount most (option_map (λ w. w.now) word.entry) count) }
+    ensures limits { IfSome result (λ count. (1 ≤ count) × (count ≤ most)) }
+    ensures none { IfNone result ((count : ℕ) → IsCount most (option_map (λ w. w.now) word.entry) count → ⊥) }
+{
+    let word = word?;
+    let count = number_up_to(word, most)?;
+    if count < 1 { None } else { Some(count) }
+}
+
+/// The policy that a word names.
+fn policy_named(word: &str) -> Option<Shipped>
+    ensures some { IfSome result (λ policy. IsPolicyWord word.now policy) }
+    ensures none { IfNone result ((policy : ShippedValue) → IsPolicyWord word.now policy → ⊥) }
+{
+    if word == "etd" {
+        Some(Shipped::Etd(Etd))
+    } else if word == "fewest" {
+        Some(Shipped::FewestOpen(FewestOpen))
+    } else if word == "wait" {
+        Some(Shipped::ShortestWait(ShortestWait))
+    } else {
+        None
+    }
+}
+
+/// The policy that an option's word names; that of the least cost where it is absent.
+fn policy_of(word: Option<&str>) -> Option<Shipped>
+    ensures some { IfSome result (λ policy. IsPolicy (option_map (λ w. w.now) word.entry) policy) }
+    ensures none { IfNone result ((policy : ShippedValue) → IsPolicy (option_map (λ w. w.now) word.entry) policy → ⊥) }
+{
+    match word {
+        None => Some(Shipped::Etd(Etd)),
+        Some(word) => policy_named(word),
+    }
+}
+
+/// What the words behind `serve` ask for.
+fn serve_of<'a>(matches: &ArgMatches<'a>) -> Option<Request<'a>>
+    ensures some { IfSome result (λ request. IsServe (rows_of (found_of matches.now)) request) }
+    ensures range { IfSome result (λ request. IsInRange request) }
+    ensures none { IfNone result ((request : Wanted) → IsServe (rows_of (found_of matches.now)) request → ⊥) }
+{
+    let image = matches.get_str("image")?;
+    let building = matches.get_str("building")?;
+    let port = count_of(matches.get_str("port"), MOST_PORT)?;
+    let sessions = count_of(matches.get_str("sessions"), MOST_SESSIONS)?;
+    let policy = policy_of(matches.get_str("policy"))?;
+    Some(Request::Serve {
+        image,
+        building,
+        port: port as u16,
+        sessions,
+        policy,
+    })
+}
+
 /// What the words ask for, by the command among them.
 fn found_in<'a>(matches: &ArgMatches<'a>) -> Option<Request<'a>>
     ensures some { IfSome result (λ request. IsFor (subcommand_rows_of matches.now) request) }
@@ -90,6 +164,8 @@ fn found_in<'a>(matches: &ArgMatches<'a>) -> Option<Request<'a>>
                 format_of(matches)
             } else if name == "show" {
                 show_of(matches)
+            } else if name == "serve" {
+                serve_of(matches)
             } else {
                 None
             }

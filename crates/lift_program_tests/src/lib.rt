@@ -1,9 +1,8 @@
-//! Tests of `lift_program`: words, journals made on real files, and what is shown of them.
+//! Tests of `lift_program` that can't stand in text files: streams that fail, and a journal that
+//! keepers write. The command lines and images stand in `lift_script_cases`.
 #![tactic(auto)]
 
 #[cfg(test)]
-mod command_lines;
+mod kept;
 #[cfg(test)]
-mod images;
-#[cfg(test)]
-mod shows;
+mod streams;

@@ -1,20 +1,20 @@
 -- The seats of a desk's terminals, and what they hear.
-use Rattle.std.proofs.Common.{◌≡◌, ℕ, zero, suc, ◌+◌, ◌<◌, ◌≤◌, List, [], ◌∷◌, ◌++◌, length, get_or, set, take, None, refl, sym, ap, ◌∙◌, inl, inr, Bool, true, false, get_or-set_other, arith}
+use Rattle.std.proofs.Common.{◌≡◌, ℕ, zero, suc, ◌+◌, ◌<◌, ◌≤◌, List, [], ◌∷◌, ◌++◌, length, get_or, set, take, None, Some, refl, sym, ap, ◌∙◌, inl, inr, Bool, true, false, get_or-set_other, arith}
 use Rattle.std.proofs.lemmas.List.{append_assoc, append-nil, get_or_default, take-set, length-set}
 use Rattle.std.proofs.lemmas.Grind.{get_or-set_at}
 use Rattle.std.proofs.lemmas.Bool.{cases_eq, false≢true, true≢false}
 use Rattle.std.specs.Prelude.{◌||◌}
 use Rattle.atomic_table.specs.Seated.{TableId}
-use Rattle.lift_desk.specs.Seats.{TerminalSeat, AreSeatsOf, Waits, seats_from}
-use Rattle.lift_desk.specs.Seats.{seat_with}
+use Rattle.lift_base.specs.declared.command.Reply.{Reply}
+use Rattle.lift_desk.specs.Seats.{TerminalSeat, AreSeatsOf, Waits, IsToldAnswer, seats_from, seat_with}
 use Rattle.lift_desk.specs.Steps.{with_hearing, is_awaited}
 use Rattle.lift_replay.specs.Terminals.{AreTerminalsOf, IsSpanned, AllHear, HasHeard, Hears, no_seat, seat_at}
 
-count_from : (k : ℕ) (desk : List TableId) → length (seats_from k desk) ≡ length desk
+pub count_from : (k : ℕ) (desk : List TableId) → length (seats_from k desk) ≡ length desk
 count_from k [] = refl
 count_from k (table ∷ desk) = ap suc (count_from (suc k) desk)
 
-own_from : (k : ℕ) (desk : List TableId) (i : ℕ) → i < length (seats_from k desk) → (seat_at (seats_from k desk) i).terminal ≡ k + i
+pub own_from : (k : ℕ) (desk : List TableId) (i : ℕ) → i < length (seats_from k desk) → (seat_at (seats_from k desk) i).terminal ≡ k + i
 own_from k [] i below = absurd (omega (arith, below))
 own_from k (table ∷ desk) zero below = omega arith
 own_from k (table ∷ desk) (suc i) below = own_from (suc k) desk i (omega (arith, below)) ∙ omega arith
@@ -98,9 +98,10 @@ rests_at seats i k seat at inside is quiet =
 -- a terminal that looks and hears nothing
 pub hears_none : (seats : List TerminalSeat) (i k : ℕ) (seat new : TerminalSeat) (word : ℕ) → k ≡ i → i < length seats → seat ≡ get_or seats k seat
     → Waits seat.view → new ≡ seat_with seat (with_hearing seat.view word) → is_awaited seat.view word ≡ false
+    → ((answer : Reply) → IsToldAnswer seat.view answer → None ≡ Some answer)
     → Hears (seat_at seats i) (seat_at (set seats k new) i) []
-hears_none seats i k seat new word at inside is waits looked nothing =
-    let heard : HasHeard seat new [] = record { word = word; reply = None; waited = waits; looked = looked; hears = nothing; shown = refl } in
+hears_none seats i k seat new word at inside is waits looked nothing finds =
+    let heard : HasHeard seat new [] = record { word = word; reply = None; waited = waits; looked = looked; hears = nothing; shown = refl; finds = finds } in
     rw (same_seat seats i k seat at inside is) (rw (other_seat seats i k new at inside) (inr heard))
 
 -- a terminal at its turn: those before it have heard, and those behind it are as they were

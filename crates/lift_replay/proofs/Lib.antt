@@ -6,4 +6,15 @@ pub mod Sources
 pub mod Recovered
 pub mod Runs
 pub mod Told
-pub mod Whole
+pub mod InStep
+pub mod Groups
+pub mod LineSteps
+pub mod Once
+pub mod OneReport
+pub mod Telling
+pub mod Found
+pub mod Built
+pub mod Spelled
+pub mod Total
+pub mod Fronts
+pub mod Taken

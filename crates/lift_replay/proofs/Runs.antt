@@ -1,68 +1,26 @@
 -- From line to line of a script.
-use Rattle.std.proofs.Common.{◌≡◌, ℕ, ◌+◌, List, [], ◌∷◌, ◌++◌, length-append, sym, ap, ◌∙◌, subst, inl, inr, arith, All}
-use Rattle.std.specs.Prelude.{Option, Result, Ok}
+use Rattle.std.proofs.Common.{◌≡◌, ℕ, List, [], ◌++◌, sym, ap, ◌∙◌, subst, refl, false}
+use Rattle.std.specs.Prelude.{Option}
 use Rattle.std.proofs.lemmas.List.{append_assoc, append-nil}
-use Rattle.std.proofs.lemmas.List.Elements.{All-append, All-cons, All-nil}
 use Rattle.std.specs.Io.KnownBytes.{Appends}
 use Rattle.std.proofs.KnownBytes.{Appends-nil, Appends-trans}
 use Rattle.lift_building.specs.Plan.{Plan}
 use Rattle.lift_replay.specs.declared.lines.End.{End}
-use Rattle.lift_replay.specs.declared.lines.End.TheVariants.{Run as Over}
+use Rattle.lift_replay.specs.declared.lines.End.TheVariants.{Run as Over, Cut as Power}
 use Rattle.lift_replay.specs.declared.lines.Verdict.{Verdict}
-use Rattle.lift_replay.specs.declared.lines.Verdict.TheVariants.{Bad}
 use Rattle.lift_replay.specs.declared.segment.SegmentEnd.{SegmentEnd}
-use Rattle.lift_replay.specs.declared.segment.SegmentEnd.TheVariants.{Run}
-use Rattle.lift_replay.specs.Report.{Reports, IsWholeLines, EndsBad, bad_text}
-use Rattle.lift_replay.specs.Script.{IsGoodLine, IsBadLine, IsFirstBad, LeadsTo, EndsAtFirstBad}
-
-pub leads_new : (plan : Plan) (count : ℕ) (script rest : List (List ℕ)) → rest ≡ script → count ≡ 0 → LeadsTo plan 0 script count rest
-leads_new plan count script rest same none = record { passed = []; split = sym same; good = All-nil (IsGoodLine plan); place = none }
-
-pub leads_more : (plan : Plan) (count later next : ℕ) (script rest behind : List (List ℕ)) (line : List ℕ) → LeadsTo plan count script later rest → rest ≡ line ∷ behind
-    → IsGoodLine plan line → next ≡ later + 1 → LeadsTo plan count script next behind
-leads_more plan count later next script rest behind line before first good is = record {
-  passed = before.passed ++ line ∷ [];
-  split = before.split ∙ ap (λ below. before.passed ++ below) first ∙ sym (append_assoc before.passed (line ∷ []) behind);
-  good = All-append (IsGoodLine plan) before.passed (line ∷ []) before.good (All-cons (IsGoodLine plan) line [] good (All-nil (IsGoodLine plan)));
-  place = omega (arith, before.place, is, length-append before.passed (line ∷ []));
-}
-
-pub leads_on : (plan : Plan) (count later next : ℕ) (script rest behind : List (List ℕ)) → LeadsTo plan count script later rest → LeadsTo plan later rest next behind
-    → LeadsTo plan count script next behind
-leads_on plan count later next script rest behind first more = record {
-  passed = first.passed ++ more.passed;
-  split = first.split ∙ ap (λ below. first.passed ++ below) more.split ∙ sym (append_assoc first.passed more.passed behind);
-  good = All-append (IsGoodLine plan) first.passed more.passed first.good more.good;
-  place = omega (arith, first.place, more.place, length-append first.passed more.passed);
-}
-
-pub first_bad : (plan : Plan) (count later number : ℕ) (script rest behind : List (List ℕ)) (line : List ℕ) → LeadsTo plan count script later rest → rest ≡ line ∷ behind
-    → IsBadLine plan line → number ≡ later + 1 → IsFirstBad plan count script number
-first_bad plan count later number script rest behind line before first bad is = record {
-  before = before.passed;
-  line = line;
-  behind = behind;
-  split = before.split ∙ ap (λ below. before.passed ++ below) first;
-  good = before.good;
-  bad = bad;
-  place = omega (arith, before.place, is);
-}
-
-first_bad_on : (plan : Plan) (count later number : ℕ) (script rest : List (List ℕ)) → LeadsTo plan count script later rest → IsFirstBad plan later rest number → IsFirstBad plan count script number
-first_bad_on plan count later number script rest first bad = record {
-  before = first.passed ++ bad.before;
-  line = bad.line;
-  behind = bad.behind;
-  split = first.split ∙ ap (λ below. first.passed ++ below) bad.split ∙ sym (append_assoc first.passed bad.before (bad.line ∷ bad.behind));
-  good = All-append (IsGoodLine plan) first.passed bad.before first.good bad.good;
-  bad = bad.bad;
-  place = omega (arith, first.place, bad.place, length-append first.passed bad.before);
-}
-
--- no line is left
-pub all_good : (plan : Plan) (count later : ℕ) (script rest : List (List ℕ)) → LeadsTo plan count script later rest → rest ≡ [] → All (IsGoodLine plan) script
-all_good plan count later script rest before none =
-    subst (All (IsGoodLine plan)) (sym (before.split ∙ ap (λ below. before.passed ++ below) none ∙ append-nil before.passed)) before.good
+use Rattle.lift_replay.specs.declared.segment.SegmentEnd.TheVariants.{Run, Cut}
+use Rattle.lift_disk.specs.declared.fuse.FuseDisk.{FuseDisk}
+use Rattle.lift_disk.specs.declared.outcome.Outcome.{Outcome}
+use Rattle.lift_desk.specs.Seats.{TerminalSeat}
+use Rattle.lift_keeper.specs.Keeper.{KeeperView}
+use Rattle.lift_policy.specs.Step.{State}
+use Rattle.lift_register.specs.Balanced.{open_count}
+use Rattle.lift_replay.specs.Group.{GroupState, new_terminals, left_by, recovered}
+use Rattle.lift_replay.specs.Running.{TellsLines, Continues, LinesEnd, SegmentEnds}
+use Rattle.lift_replay.specs.Shows.{Shows, IsKept}
+use Rattle.lift_replay.specs.Told.{ScriptClerk, device_of}
+use Rattle.lift_replay.specs.Report.{Reports, cut_text}
 
 pub reports_none : (old : Option (List ℕ)) (piece : List ℕ) → Reports old old piece piece []
 reports_none old piece = record { written = []; appends = Appends-nil old; same = append-nil piece }
@@ -90,31 +48,47 @@ report_put old mid new piece after added none first last =
     let whole : added ≡ first.written ++ after = sym (ap (λ l. l ++ added) none) ∙ first.same in
     subst (Appends old new) (sym whole) (Appends-trans old mid new first.written after first.appends last)
 
-pub whole_append : (text more : List ℕ) → IsWholeLines text → IsWholeLines more → IsWholeLines (text ++ more)
-whole_append text more whole (inl none) = subst IsWholeLines (sym (ap (λ l. text ++ l) none ∙ append-nil text)) whole
-whole_append text more whole (inr ends) = inr (text ++ ends.0, ap (λ l. text ++ l) ends.1 ∙ sym (append_assoc text ends.0 (10 ∷ [])))
+-- lines that ended at a desk, with what a power cut leaves, and its report
+pub cut_goes_on : (plan : Plan) (count later : ℕ) (g : GroupState) (script rest : List (List ℕ)) (outcome : Outcome) (clerk : ScriptClerk) (seats : List TerminalSeat) (end : End) (keeper : KeeperView FuseDisk) (calls : ℕ) (old mid new : Option (List ℕ)) (piece next after : List ℕ)
+    → end ≡ Power outcome → (added : List ℕ) × LinesEnd plan count g script added later rest clerk seats end × Reports old mid piece next added
+    → ((h : GroupState) → Shows plan h clerk seats → (device_of clerk).is_short ≡ false → IsKept plan (recovered plan (left_by outcome h)) keeper)
+    → calls ≡ open_count keeper.state.register → Reports mid new next after (cut_text calls)
+    → (added : List ℕ) × SegmentEnds plan count g script added later rest (Cut keeper) × Reports old new piece after added
+cut_goes_on plan count later g script rest outcome clerk seats end keeper calls old mid new piece next after is (added, ends, reports) kept calls_is cut =
+    let power = subst (LinesEnd plan count g script added later rest clerk seats) is ends in
+    let now = kept power.0 power.1 power.2 in
+    let text : cut_text (open_count (left_by outcome power.0).register) ≡ cut_text calls = sym (ap cut_text (calls_is ∙ ap (λ (s : State). open_count s.register) now.stands.1)) in (
+      added ++ cut_text calls,
+      (recovered plan (left_by outcome power.0), now, refl, subst (λ t. Continues plan count g script (added ++ t) later (recovered plan (left_by outcome power.0)) rest) text power.3),
+      reports_on old mid new piece next after added (cut_text calls) reports cut,
+    )
 
--- the malformed line's report below what the good ones told
-pub ends_bad : (number : ℕ) (above told : List ℕ) → IsWholeLines above → told ≡ bad_text number → EndsBad number (above ++ told)
-ends_bad number above told whole is = (above, whole, ap (λ l. above ++ l) is)
+pub run_told : (plan : Plan) (count later : ℕ) (g : GroupState) (script rest : List (List ℕ)) (verdict : Verdict) (clerk : ScriptClerk) (seats : List TerminalSeat) (end : End) (old new : Option (List ℕ)) (piece after : List ℕ)
+    → end ≡ Over verdict → (added : List ℕ) × LinesEnd plan count g script added later rest clerk seats end × Reports old new piece after added
+    → (added : List ℕ) × TellsLines plan count g script added verdict × Reports old new piece after added
+run_told plan count later g script rest verdict clerk seats end old new piece after is (added, ends, reports) = (added, subst (LinesEnd plan count g script added later rest clerk seats) is ends, reports)
 
-pub ends_on : (plan : Plan) (count later : ℕ) (script rest : List (List ℕ)) (above report : List ℕ) → LeadsTo plan count script later rest → IsWholeLines above
-    → EndsAtFirstBad plan later rest report → EndsAtFirstBad plan count script (above ++ report)
-ends_on plan count later script rest above report before whole (number, bad, (last, lines, is)) = (
-  number,
-  first_bad_on plan count later number script rest before bad,
-  (above ++ last, whole_append above last whole lines, ap (λ l. above ++ l) is ∙ sym (append_assoc above last (bad_text number))),
+-- a segment behind those before it
+pub segment_more : (plan : Plan) (count later later2 : ℕ) (g next : GroupState) (script rest behind : List (List ℕ)) (before : List ℕ) (end : SegmentEnd) (keeper : KeeperView FuseDisk) (old mid new : Option (List ℕ)) (piece kept after : List ℕ)
+    → end ≡ Cut keeper → Continues plan count g script before later next rest → Reports old mid piece kept before
+    → (added : List ℕ) × SegmentEnds plan later next rest added later2 behind end × Reports mid new kept after added
+    → (all : List ℕ) × (last : GroupState) × IsKept plan last keeper × (last.terminals ≡ new_terminals plan) × Continues plan count g script all later2 last behind × Reports old new piece after all
+segment_more plan count later later2 g next script rest behind before end keeper old mid new piece kept after is leads reports (added, ends, more) =
+    let cut = subst (SegmentEnds plan later next rest added later2 behind) is ends in (
+      before ++ added,
+      cut.0,
+      cut.1,
+      cut.2,
+      λ text verdict tells. subst (λ t. TellsLines plan count g script t verdict) (sym (append_assoc before added text)) (leads (added ++ text) verdict (cut.3 text verdict tells)),
+      reports_on old mid new piece kept after before added reports more,
+    )
+
+pub segment_last : (plan : Plan) (count later later2 : ℕ) (g next : GroupState) (script rest behind : List (List ℕ)) (before : List ℕ) (end : SegmentEnd) (verdict : Verdict) (old mid new : Option (List ℕ)) (piece kept after : List ℕ)
+    → end ≡ Run verdict → Continues plan count g script before later next rest → Reports old mid piece kept before
+    → (added : List ℕ) × SegmentEnds plan later next rest added later2 behind end × Reports mid new kept after added
+    → (all : List ℕ) × TellsLines plan count g script all verdict × Reports old new piece after all
+segment_last plan count later later2 g next script rest behind before end verdict old mid new piece kept after is leads reports (added, ends, more) = (
+  before ++ added,
+  leads added verdict (subst (SegmentEnds plan later next rest added later2 behind) is ends),
+  reports_on old mid new piece kept after before added reports more,
 )
-
--- whole lines below whole lines
-pub reports_and : (old mid new : Option (List ℕ)) (piece next after more : List ℕ) → (added : List ℕ) × IsWholeLines added × Reports old mid piece next added
-    → IsWholeLines more → Reports mid new next after more → (added : List ℕ) × IsWholeLines added × Reports old new piece after added
-reports_and old mid new piece next after more first whole second =
-    (first.0 ++ more, whole_append first.0 more first.1 whole, reports_on old mid new piece next after first.0 more first.2 second)
-
--- a run that ended so
-pub run_ended : {E : Type 0} (verdict : Verdict) (result other : Result SegmentEnd E) → result ≡ other → result ≡ Ok (Run verdict) → other ≡ Ok (Run Bad) → verdict ≡ Bad
-run_ended verdict result other is first second = cc
-
-pub lines_ended : (verdict : Verdict) (end : End) → end ≡ Over verdict → end ≡ Over Bad → verdict ≡ Bad
-lines_ended verdict end first second = cc

@@ -1,11 +1,16 @@
 pub mod Grammar
+pub mod Group
 pub mod Known
+pub mod Law
 pub mod Reading
 pub mod Recovering
+pub mod Replaying
 pub mod Report
+pub mod Running
 pub mod Script
 pub mod Segment
 pub mod Shown
+pub mod Shows
 pub mod Source
 pub mod Terminals
 pub mod Told

@@ -1,8 +1,9 @@
 -- The lines of a report.
-use Rattle.std.specs.Prelude.{ℕ, ◌≡◌, ◌⊎◌, Bool, true, false, List, [], ◌∷◌, ◌++◌, codes, nat_lt, if◌then◌else◌, Option}
+use Rattle.std.specs.Prelude.{ℕ, ◌≡◌, Bool, true, false, List, [], ◌∷◌, ◌++◌, codes, nat_lt, if◌then◌else◌, Option}
 use Rattle.std.specs.Fmt.{decimal}
 use Rattle.std.specs.List.{flat_map}
 use Rattle.std.specs.Io.KnownBytes.{Appends}
+use mathlib.Core.List.{IsPrefix}
 use Rattle.lift_base.specs.Travel.{pass_number}
 use Rattle.lift_base.specs.Text.{letter_text, terminal_text, reply_text}
 use Rattle.lift_base.specs.declared.history.Row.{Row}
@@ -101,16 +102,18 @@ floors_text Memory = []
 abbrev pub building_text : BuildingFault → List ℕ
 building_text fault = codes "BUILDING " ++ decimal (fault_number fault) ++ floors_text fault ++ 10 ∷ []
 
--- nothing, or lines that each have their end
-abbrev pub IsWholeLines : List ℕ → Type 0
-IsWholeLines text = (text ≡ []) ⊎ ((front : List ℕ) × (text ≡ front ++ 10 ∷ []))
-
--- below whole lines stands the one that names this malformed line
-abbrev pub EndsBad : ℕ → List ℕ → Type 0
-EndsBad number report = (above : List ℕ) × IsWholeLines above × (report ≡ above ++ bad_text number)
+-- a front of this text was written
+abbrev pub AppendsFront : (old new : Option (List ℕ)) → List ℕ → Type 0
+AppendsFront old new text = (written : List ℕ) × IsPrefix written text × Appends old new written
 
 -- The report grew by this. A part of it was written, behind what had been kept back, and the rest is kept back.
 pub record Reports (old new : Option (List ℕ)) (before after added : List ℕ) : Type 0 where
   pub written : List ℕ
   pub appends : Appends old new written
   pub same : before ++ added ≡ written ++ after
+
+-- The report grew by a front of this. What was written, with what is kept back, is a front of what had been kept back and this.
+pub record ReportsPart (old new : Option (List ℕ)) (before after all : List ℕ) : Type 0 where
+  pub written : List ℕ
+  pub appends : Appends old new written
+  pub front : IsPrefix (written ++ after) (before ++ all)

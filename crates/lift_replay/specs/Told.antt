@@ -1,15 +1,19 @@
 -- What each line tells as it is carried out.
-use Rattle.std.specs.Prelude.{ℕ, ◌≡◌, ◌⊎◌, ◌+◌, true, List, [], ◌++◌, codes, length, slice_set, Option, Some, None}
+use Rattle.std.specs.Prelude.{ℕ, ◌≡◌, ◌⊎◌, ◌↔◌, ◌+◌, ◌<◌, ◌≤◌, true, false, List, [], ◌++◌, codes, length, slice_set, Option, Some, None}
 use Rattle.lift_base.specs.declared.command.Body.{Body}
 use Rattle.lift_base.specs.declared.command.Body.TheVariants.{Call as Calls, Stop as Stopping, Place as Placing}
 use Rattle.lift_building.specs.Plan.{Plan, kiosk_floor_of}
-use Rattle.lift_disk.specs.Disk.{IsUnchanged, IsTold}
+use Rattle.lift_disk.specs.Disk.{DiskState, IsUnchanged, IsTold}
 use Rattle.lift_disk.specs.Faults.{AllAfter, fuse_state_of}
 use Rattle.lift_disk.specs.declared.fuse.FuseDisk.{FuseDisk}
 use Rattle.lift_policy.specs.Choices.{IsEtdChoice}
 use Rattle.lift_policy.specs.Step.{view_of}
 use Rattle.lift_policy.specs.declared.policies.Etd.{Etd}
-use Rattle.lift_desk.specs.Seats.{TerminalSeat, Waits}
+use Rattle.lift_desk.specs.Seats.{TerminalSeat, ClerkPlace, Waits, view_at, clerk_with}
+use Rattle.lift_desk.specs.Spelled.{IsAsk}
+use Rattle.lift_desk.specs.Steps.{with_told_asks}
+use Rattle.lift_journal.specs.Told.{NoneFails, LastFails}
+use Rattle.lift_keeper.specs.Writer.{StopsCommit, commit_calls, commit_used, commit_second}
 use Rattle.lift_clerk.specs.Clerk.{ClerkState}
 use Rattle.lift_clerk.specs.Turn.{IsTurn, IsFailedTurn, IsBrokenTurn}
 use Rattle.lift_clerk.specs.declared.counts.Counts.{Counts}
@@ -23,7 +27,7 @@ use Rattle.lift_replay.specs.Known.{IsKnown}
 use Rattle.lift_replay.specs.Report.{waiting_text, spent_text, turn_text, fault_text, register_text, bad_text}
 use Rattle.lift_replay.specs.Script.{IsBadLine}
 use Rattle.lift_replay.specs.Shown.{stops_text, costs_text, unless_broken}
-use Rattle.lift_replay.specs.Terminals.{seat_at, having_asked, AllHear}
+use Rattle.lift_replay.specs.Terminals.{seat_at, having_asked, told_seat, AreTold, AllHear}
 
 -- the clerk of a script
 abbrev pub ScriptClerk : Type 0
@@ -33,24 +37,74 @@ ScriptClerk = ClerkState FuseDisk Etd
 abbrev pub IsSpent : TerminalSeat → Type 0
 IsSpent seat = length seat.view.asked ≡ 1048575
 
+-- The terminal asks this, and the clerk is told of it.
+pub record HasAsked (seats after : List TerminalSeat) (places known : List ClerkPlace) (terminal number : ℕ) (body : Body) : Type 0 where
+  pub asked : List TerminalSeat
+  pub asks : asked ≡ slice_set seats terminal (having_asked (seat_at seats terminal) number body)
+  pub in_range : IsAsk (record { number = number; body = body })
+  pub seat : after ≡ slice_set asked terminal (told_seat (seat_at asked terminal) (view_at places terminal))
+  pub knows : known ≡ clerk_with places terminal (with_told_asks (view_at places terminal) (seat_at asked terminal).view.asked)
+
 -- A terminal asks, and tells nothing. Where it still waits for an answer, or has used up its turns, it tells that.
-abbrev pub Asks : (seats after : List TerminalSeat) → (terminal number : ℕ) → Body → List ℕ → Type 0
-Asks seats after terminal number body text =
-    (Waits (seat_at seats terminal).view × (after ≡ seats) × (text ≡ waiting_text terminal number))
-    ⊎ (((¬ Waits (seat_at seats terminal).view) × IsSpent (seat_at seats terminal) × (after ≡ seats) × (text ≡ spent_text terminal number))
-    ⊎ ((¬ Waits (seat_at seats terminal).view) × (¬ IsSpent (seat_at seats terminal))
-    × (after ≡ slice_set seats terminal (having_asked (seat_at seats terminal) number body)) × (text ≡ [])))
+abbrev pub Asks : (seats after : List TerminalSeat) (places known : List ClerkPlace) → (terminal number : ℕ) → Body → List ℕ → Type 0
+Asks seats after places known terminal number body text =
+    (Waits (seat_at seats terminal).view × (after ≡ seats) × (known ≡ places) × (text ≡ waiting_text terminal number))
+    ⊎ (((¬ Waits (seat_at seats terminal).view) × IsSpent (seat_at seats terminal) × (after ≡ seats) × (known ≡ places) × (text ≡ spent_text terminal number))
+    ⊎ ((¬ Waits (seat_at seats terminal).view) × (¬ IsSpent (seat_at seats terminal)) × HasAsked seats after places known terminal number body × (text ≡ [])))
+
+-- but for the clerk's seats nothing of it has changed
+abbrev pub KeepsKeeper : (old new : ScriptClerk) → Type 0
+KeepsKeeper old new = new ≡ record old { seat = new.seat }
+
+-- what is said of the device of a clerk
+abbrev pub device_of : ScriptClerk → DiskState
+device_of clerk = fuse_state_of clerk.keeper.writer.device
+
+-- the turn's batch is safe: none of its calls failed
+pub record HasCommitted (old new : ScriptClerk) (accepted : ℕ) : Type 0 where
+  pub was_whole : old.keeper.writer.is_broken ≡ false
+  pub whole : new.keeper.writer.is_broken ≡ false
+  pub register : new.keeper.writer.register ≡ new.keeper.state.register
+  pub calls : (device_of new).calls ≡ (device_of old).calls + commit_calls old.keeper.writer.register old.keeper.writer.used old.keeper.writer.half accepted
+  pub used : new.keeper.writer.used ≡ commit_used old.keeper.writer.register old.keeper.writer.used old.keeper.writer.half accepted
+  pub second : new.keeper.writer.is_second ≡ commit_second old.keeper.writer.is_second old.keeper.writer.used old.keeper.writer.half accepted
+  pub none_fails : NoneFails (device_of old) (device_of new)
+
+-- the device has stopped the turn's commit: its last call failed
+pub record WasStopped (old new : ScriptClerk) : Type 0 where
+  pub was_whole : old.keeper.writer.is_broken ≡ false
+  pub broken : new.keeper.writer.is_broken ≡ true
+  pub register : new.keeper.writer.register ≡ old.keeper.writer.register
+  pub calls : (device_of new).calls
+      ≤ (device_of old).calls + commit_calls old.keeper.writer.register old.keeper.writer.used old.keeper.writer.half (length new.keeper.state.batch)
+  pub stops : StopsCommit old.keeper.writer.plan old.keeper.writer.half old.keeper.writer.is_second old.keeper.writer.used old.keeper.writer.register
+      new.keeper.writer.doubt (device_of old) (device_of new)
+  pub last_fails : LastFails (device_of old) (device_of new)
 
 -- What a turn took and accepted, or fault 1 where the device failed it, or fault 5 while the journal is broken.
 abbrev pub TurnTells : (old new : ScriptClerk) → List ℕ → Type 0
-TurnTells old new text = ((counts : Counts) × IsTurn IsEtdChoice old new counts × (text ≡ turn_text counts.taken counts.accepted))
-    ⊎ ((IsFailedTurn IsEtdChoice old new × (text ≡ fault_text (codes "turn") 1))
+TurnTells old new text = ((counts : Counts) × IsTurn IsEtdChoice old new counts × HasCommitted old new counts.accepted × (text ≡ turn_text counts.taken counts.accepted))
+    ⊎ ((IsFailedTurn IsEtdChoice old new × WasStopped old new × (text ≡ fault_text (codes "turn") 1))
     ⊎ ((old.keeper.writer.is_broken ≡ true) × IsBrokenTurn old new × (text ≡ fault_text (codes "turn") 5)))
 
--- what a turn tells, and below it what each terminal hears, by rising terminal
-abbrev pub OutcomeTells : (old new : ScriptClerk) → (seats after : List TerminalSeat) → List ℕ → Type 0
-OutcomeTells old new seats after text =
-    (head : List ℕ) × (heard : List ℕ) × TurnTells old new head × AllHear seats after heard × (text ≡ head ++ heard)
+-- what a turn leaves as it was
+pub record KeepsPlace (old new : ScriptClerk) : Type 0 where
+  pub plan : new.keeper.writer.plan ≡ old.keeper.writer.plan
+  pub half : new.keeper.writer.half ≡ old.keeper.writer.half
+  pub fuse : (call : ℕ) → (device_of new).calls < call → (device_of new).fails_at call ↔ (device_of old).fails_at call
+
+-- what a turn tells, and below it what each terminal hears, by rising terminal: all are told before what was answered
+pub record OutcomeTells (old new : ScriptClerk) (seats after : List TerminalSeat) (text : List ℕ) : Type 0 where
+  pub turned : ScriptClerk
+  pub told : List TerminalSeat
+  pub head : List ℕ
+  pub heard : List ℕ
+  pub tells : TurnTells old turned head
+  pub place : KeepsPlace old turned
+  pub knows : AreTold seats told turned.seat new.seat
+  pub rest : KeepsKeeper turned new
+  pub hear : AllHear told after heard
+  pub shown : text ≡ head ++ heard
 
 -- what a line tells that shows what the keeper has, while its journal is not broken
 abbrev pub shown_text : ScriptClerk → List ℕ → List ℕ → List ℕ
@@ -69,9 +123,9 @@ pub record Rests (old new : ScriptClerk) (seats after : List TerminalSeat) : Typ
 
 -- what a line tells in a building, to a clerk and terminals, and how it leaves them
 abbrev pub Tells : Plan → (old new : ScriptClerk) → (seats after : List TerminalSeat) → ScriptLine → List ℕ → Type 0
-Tells plan old new seats after (Place car floor dir) text = Asks seats after car 0 (Placing floor dir) text × (new ≡ old)
-Tells plan old new seats after (Call kiosk number floor party) text = Asks seats after (16 + kiosk) number (Calls floor party) text × (new ≡ old)
-Tells plan old new seats after (Stop car number floor dir) text = Asks seats after car number (Stopping floor dir) text × (new ≡ old)
+Tells plan old new seats after (Place car floor dir) text = Asks seats after old.seat new.seat car 0 (Placing floor dir) text × KeepsKeeper old new
+Tells plan old new seats after (Call kiosk number floor party) text = Asks seats after old.seat new.seat (16 + kiosk) number (Calls floor party) text × KeepsKeeper old new
+Tells plan old new seats after (Stop car number floor dir) text = Asks seats after old.seat new.seat car number (Stopping floor dir) text × KeepsKeeper old new
 Tells plan old new seats after Turn text = OutcomeTells old new seats after text
 Tells plan old new seats after (Stops car) text = (text ≡ shown_text old (codes "stops") (stops_text (view_of old.keeper.state) car)) × Rests old new seats after
 Tells plan old new seats after (Cost kiosk floor party) text =
@@ -93,7 +147,7 @@ Skips old new seats after line end text = IsSkipped line × (end ≡ None) × (t
 -- the line asks for something that the building knows, and it is carried out
 abbrev pub CarriesOut : Plan → (old new : ScriptClerk) → (seats after : List TerminalSeat) → List ℕ → Option End → List ℕ → Type 0
 CarriesOut plan old new seats after line end text =
-    (wanted : ScriptLine) × Spells line wanted × IsKnown plan wanted × Tells plan old new seats after wanted text × (end ≡ end_of wanted)
+    (wanted : ScriptLine) × Spells line wanted × IsKnown plan wanted × Tells plan old new seats after wanted text × (end ≡ end_of wanted) × (¬ IsSkipped line)
 
 -- the line is malformed, and ends the run
 abbrev pub Refuses : Plan → (old new : ScriptClerk) → (seats after : List TerminalSeat) → List ℕ → ℕ → Option End → List ℕ → Type 0

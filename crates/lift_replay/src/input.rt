@@ -1,7 +1,8 @@
 //! All bytes of a reader, within bounds.
 
 ghost use Rattle.std.specs.Prelude.{◌≡◌, ℕ, List, ◌+◌, ◌≤◌, ◌<◌, ◌^◌, ◌++◌, length, vec_len, IfOk, OnErr, OnOk, IfSome, ◌⊎◌, true, false};
-ghost use Rattle.std.specs.Io.KnownBytes.{Consumes, IsAtEnd};
+ghost use Rattle.std.specs.Io.KnownBytes.{Consumes, IsAtEnd, Keeps};
+ghost use Rattle.lift_replay.specs.Reading.{TakesUpTo};
 ghost use Rattle.lift_replay.specs.declared.input.InputFault.TheVariants.{Memory as NoMemory};
 
 use lift_base::text::{Counted, ReadFault};
@@ -39,6 +40,9 @@ fn read_some<R: Read + Drop>(
     ensures calls { input.new.calls ≡ input.old.calls + 1 }
     ensures gave { OnOk result ((more : List ℕ) × (bytes.new.items ≡ bytes.old.items ++ more)
         × Consumes (R.remaining input.old.reader) (R.remaining input.new.reader) more) }
+    ensures taken { (more : List ℕ) × (vec_len bytes.old + length more ≤ most + 1)
+        × Consumes (R.remaining input.old.reader) (R.remaining input.new.reader) more }
+    ensures kept { result ≡ Err InputFault.Read → Keeps (R.remaining input.old.reader) (R.remaining input.new.reader) }
     ensures end { result ≡ Ok false → IsAtEnd (R.remaining input.new.reader) }
     ensures found_end { result ≡ Ok false → input.new.ended ≡ true }
     ensures ended { IfOk result (λ came. came ≡ true → input.new.ended ≡ input.old.ended) }
@@ -75,7 +79,10 @@ pub fn read_all<R: Read + Drop>(
     ensures front { IfOk result (λ bytes.
         Consumes (R.remaining input.old.reader) (R.remaining input.new.reader) bytes.items) }
     ensures bound { IfOk result (λ bytes. vec_len bytes ≤ most + 1) }
-    ensures ended { IfOk result (λ bytes. vec_len bytes ≤ most → input.new.ended ≡ true) }
+    ensures ended { IfOk result (λ bytes. vec_len bytes ≤ most
+        → (input.new.ended ≡ true) × IsAtEnd (R.remaining input.new.reader)) }
+    ensures taken { TakesUpTo (most + 1) R.remaining input.old.reader input.new.reader }
+    ensures taken_till_fault { result ≡ Err InputFault.Read → TakesUpTo most R.remaining input.old.reader input.new.reader }
     ensures few_calls { input.new.calls ≤ calls }
     ensures unfailed { OnOk result (input.new.failed ≡ false) }
     ensures cause { result ≡ Err InputFault.Read

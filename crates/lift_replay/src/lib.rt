@@ -2,6 +2,7 @@
 #![tactic(auto)]
 
 mod input;
+mod law;
 mod line;
 mod lines;
 mod parsing;
@@ -15,6 +16,7 @@ mod station;
 mod terminals;
 
 pub use input::{InputFault, read_all};
+pub use law::each_script_has_one_report;
 pub use line::ScriptLine;
 pub use lines::Verdict;
 pub use parsing::parse;

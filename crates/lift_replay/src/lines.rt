@@ -6,7 +6,8 @@ ghost use Rattle.lift_policy.specs.Step.{view_of};
 ghost use Rattle.lift_replay.specs.Known.{IsKnown};
 ghost use Rattle.lift_replay.specs.Report.{register_text};
 ghost use Rattle.lift_replay.specs.Shown.{stops_text, costs_text};
-ghost use Rattle.lift_replay.specs.Told.{Asks, TurnTells, OutcomeTells, Tells, LineTells, IsArmed, shown_text, end_of};
+ghost use Rattle.lift_desk.specs.Seats.{IsClerkOf};
+ghost use Rattle.lift_replay.specs.Told.{Asks, KeepsKeeper, KeepsPlace, TurnTells, OutcomeTells, Tells, LineTells, IsArmed, shown_text, end_of};
 ghost use Rattle.lift_replay.specs.declared.line.ScriptLine.TheVariants.{Fuse, Cut as CutLine};
 ghost use Rattle.lift_disk.specs.declared.outcome.Outcome.{Outcome as Cut};
 
@@ -53,13 +54,16 @@ fn push_ask(
 ) -> Result<(), AllocError>
     requires { terminal < length station.old.terminals.seats.items }
     ensures asks { OnOk result ((told : List ℕ)
-        × Asks station.old.terminals.seats.items station.new.terminals.seats.items terminal number body told
+        × Asks station.old.terminals.seats.items station.new.terminals.seats.items station.old.clerk.seat station.new.clerk.seat terminal number body told
         × (string_bytes report.new ≡ string_bytes report.old ++ told)) }
     ensures building { station.new.building ≡ station.old.building }
-    ensures clerk { station.new.clerk ≡ station.old.clerk }
+    ensures clerk { KeepsKeeper station.old.clerk station.new.clerk }
 {
     match station.terminals.ask(terminal, number, body) {
-        Ok(()) => Ok(()),
+        Ok(()) => {
+            station.terminals.tell(&mut station.clerk, terminal.get());
+            Ok(())
+        }
         Err(AskRefusal::Waiting) => push_waiting(report, terminal, number),
         Err(AskRefusal::Spent) => push_spent(report, terminal, number),
     }
@@ -73,6 +77,8 @@ fn push_taken(
     ensures tells { OnOk result ((told : List ℕ) × TurnTells clerk.old clerk.new told × (string_bytes report.new ≡ string_bytes report.old ++ told)) }
     ensures desk { clerk.new.desk ≡ clerk.old.desk }
     ensures plan { clerk.new.keeper.writer.plan ≡ clerk.old.keeper.writer.plan }
+    ensures place { KeepsPlace clerk.old clerk.new }
+    ensures seated { IsClerkOf clerk.new.desk clerk.new.seat }
 {
     match clerk.turn() {
         Ok(counts) => push_turn(report, counts.taken, counts.accepted),
@@ -88,6 +94,7 @@ fn push_turn_of(report: &mut String, station: &mut Station) -> Result<(), AllocE
     ensures building { station.new.building ≡ station.old.building }
 {
     push_taken(report, &mut station.clerk)?;
+    station.terminals.tell_all(&mut station.clerk);
     station.terminals.push_all_heard(report)
 }
 
@@ -166,10 +173,10 @@ fn push_call(
 ) -> Result<(), AllocError>
     requires { kiosk < length station.old.building.now.kiosks }
     ensures asks { OnOk result ((told : List ℕ)
-        × Asks station.old.terminals.seats.items station.new.terminals.seats.items (16 + kiosk) number body told
+        × Asks station.old.terminals.seats.items station.new.terminals.seats.items station.old.clerk.seat station.new.clerk.seat (16 + kiosk) number body told
         × (string_bytes report.new ≡ string_bytes report.old ++ told)) }
     ensures building { station.new.building ≡ station.old.building }
-    ensures clerk { station.new.clerk ≡ station.old.clerk }
+    ensures clerk { KeepsKeeper station.old.clerk station.new.clerk }
 {
     let _limit = station.building.kiosks();
     match Terminal::of_kiosk(kiosk) {

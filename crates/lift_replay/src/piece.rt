@@ -1,6 +1,6 @@
 //! A report in pieces, so that the writer isn't called for each line.
 
-ghost use Rattle.std.specs.Prelude.{◌≡◌, ◌++◌, List, ℕ, [], take, string_bytes, OnOk, IfErr};
+ghost use Rattle.std.specs.Prelude.{◌≡◌, ◌++◌, List, ℕ, [], take, string_bytes, OnOk, OnErr, IfErr};
 ghost use Rattle.std.specs.Io.KnownBytes.{Appends};
 
 use lift_base::text::{WriteFault, put_all};
@@ -28,6 +28,7 @@ pub fn put_large_piece<W: Write>(writer: &mut W, piece: &mut String) -> Result<(
     ensures ok { OnOk result ((written : List ℕ) × Appends (W.contents writer.old) (W.contents writer.new) written
         × (string_bytes piece.old ≡ written ++ string_bytes piece.new)) }
     ensures front { IfErr result (λ fault. Appends (W.contents writer.old) (W.contents writer.new) (take fault.written (string_bytes piece.old))) }
+    ensures emptied { OnErr result (string_bytes piece.new ≡ []) }
 {
     if piece.len() < PIECE_BYTES {
         return Ok(());

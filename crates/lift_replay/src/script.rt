@@ -1,10 +1,12 @@
 //! A whole script, from its bytes to its report.
 
-ghost use Rattle.std.specs.Prelude.{◌≡◌, ◌≢◌, ◌⊎◌, ◌≤◌, ◌++◌, ℕ, List, [], All, length, string_bytes, true, false, OnOk};
-ghost use Rattle.std.specs.Io.KnownBytes.{Consumes, Appends};
-ghost use Rattle.lift_replay.specs.Reading.{IsRead};
-ghost use Rattle.lift_replay.specs.Report.{Reports, building_text};
-ghost use Rattle.lift_replay.specs.Script.{IsGoodLine, EndsAtFirstBad, TellsOfText, TellsCause, IsGoodText, IsGoodScript, ReadsAndWrites, AppendsBadReport};
+ghost use Rattle.std.specs.Prelude.{◌≡◌, ◌≢◌, ◌⊎◌, ◌+◌, ◌≤◌, ◌++◌, ℕ, List, [], length, string_bytes, true, false, OnOk, OnErr, IfOk};
+ghost use Rattle.std.specs.Io.KnownBytes.{Appends};
+ghost use Rattle.lift_replay.specs.Reading.{IsRead, TakesUpTo, most_bytes};
+ghost use Rattle.lift_replay.specs.Report.{AppendsFront, Reports, building_text};
+ghost use Rattle.lift_replay.specs.Group.{first_group};
+ghost use Rattle.lift_replay.specs.Running.{TellsLines, TellsPart};
+ghost use Rattle.lift_replay.specs.Replaying.{IsTextReport, ReportsFront, ReportsInput, Writes, WritesFront};
 ghost use Rattle.lift_replay.specs.Source.{lines_in};
 ghost use Rattle.lift_replay.specs.declared.script.ReplayFault.TheVariants.{Memory as NoMemory, Write as NoOutput};
 
@@ -67,6 +69,7 @@ fn refuse<W: Write>(writer: &mut W, report: &str) -> Result<Verdict, ReplayFault
     ensures output { result ≢ Err ReplayFault.Read }
     ensures not_good { result ≢ Ok Verdict.Good }
     ensures bad { OnOk result (Appends (W.contents writer.old) (W.contents writer.new) report.now) }
+    ensures front { OnErr result (AppendsFront (W.contents writer.old) (W.contents writer.new) report.now) }
 {
     put_all(writer, report.as_bytes())?;
     Ok(Verdict::Bad)
@@ -82,6 +85,8 @@ fn refuse_building<W: Write>(
     ensures not_good { result ≢ Ok Verdict.Good }
     ensures memory { fault ≡ BuildingFault.Memory → result ≡ Err ReplayFault.Memory }
     ensures bad { OnOk result ((fault ≢ BuildingFault.Memory) × Appends (W.contents writer.old) (W.contents writer.new) (building_text fault)) }
+    ensures front { OnErr result ((W.contents writer.new ≡ W.contents writer.old)
+        ⊎ ((fault ≢ BuildingFault.Memory) × AppendsFront (W.contents writer.old) (W.contents writer.new) (building_text fault))) }
 {
     if fault == BuildingFault::Memory {
         return Err(ReplayFault::Memory);
@@ -101,9 +106,10 @@ fn add_segments<W: Write>(
     writer: &mut W,
 ) -> Result<Verdict, ReplayFault>
     ensures output { result ≢ Err ReplayFault.Read }
-    ensures bad { result ≡ Ok Verdict.Bad → (added : List ℕ) × EndsAtFirstBad building.now 0 (lines_in text.now) added
-        × Reports (W.contents writer.old) (W.contents writer.new) (string_bytes piece.old) (string_bytes piece.new) added }
-    ensures good { result ≡ Ok Verdict.Good → All (IsGoodLine building.now) (lines_in text.now) }
+    ensures tells { IfOk result (λ verdict. (added : List ℕ) × TellsLines building.now 0 (first_group building.now) (lines_in text.now) added verdict
+        × Reports (W.contents writer.old) (W.contents writer.new) (string_bytes piece.old) (string_bytes piece.new) added) }
+    ensures front { OnErr result (TellsPart building.now 0 (first_group building.now) (lines_in text.now)
+        (W.contents writer.old) (W.contents writer.new) (string_bytes piece.old) (string_bytes piece.new)) }
 {
     let mut lines = Lines::new(text);
     let mut keeper = first_keeper(alloc, building)?;
@@ -125,9 +131,10 @@ fn run_lines<W: Write>(
     writer: &mut W,
 ) -> Result<Verdict, ReplayFault>
     ensures output { result ≢ Err ReplayFault.Read }
-    ensures bad { result ≡ Ok Verdict.Bad → (report : List ℕ) × EndsAtFirstBad building.now 0 (lines_in lines.now) report
-        × Appends (W.contents writer.old) (W.contents writer.new) report }
-    ensures good { result ≡ Ok Verdict.Good → All (IsGoodLine building.now) (lines_in lines.now) }
+    ensures tells { IfOk result (λ verdict.
+        Writes (TellsLines building.now 0 (first_group building.now) (lines_in lines.now)) (W.contents writer.old) (W.contents writer.new) verdict) }
+    ensures front { OnErr result
+        (WritesFront (TellsLines building.now 0 (first_group building.now) (lines_in lines.now)) (W.contents writer.old) (W.contents writer.new)) }
 {
     let mut piece = String::with_capacity(alloc, ROOM_BYTES)?;
     let end = add_segments(alloc, building, lines, &mut piece, writer);
@@ -140,8 +147,8 @@ fn run_lines<W: Write>(
 /// Carries out a script that has come whole.
 fn run_text<W: Write>(alloc: Global, text: &str, writer: &mut W) -> Result<Verdict, ReplayFault>
     ensures output { result ≢ Err ReplayFault.Read }
-    ensures bad { result ≡ Ok Verdict.Bad → (report : List ℕ) × TellsOfText text.now report × Appends (W.contents writer.old) (W.contents writer.new) report }
-    ensures good { result ≡ Ok Verdict.Good → IsGoodText text.now }
+    ensures tells { IfOk result (λ verdict. Writes (IsTextReport text.now) (W.contents writer.old) (W.contents writer.new) verdict) }
+    ensures front { OnErr result (WritesFront (IsTextReport text.now) (W.contents writer.old) (W.contents writer.new)) }
 {
     let Some((building, lines)) = split_script(alloc, text)? else {
         return refuse(writer, "NO SCRIPT\n");
@@ -153,7 +160,8 @@ fn run_text<W: Write>(alloc: Global, text: &str, writer: &mut W) -> Result<Verdi
 }
 
 /// Carries out a script: reads it whole, and writes its report in pieces of whole lines. The verdict is Bad where the
-/// script, its building or one of its lines is malformed. After `Read` nothing was written.
+/// script, its building or one of its lines is malformed. After `Read` nothing was written, and after `Memory` or `Write`
+/// a front of the report.
 pub fn run<R: Read + Drop, W: Write>(
     alloc: Global,
     input: &mut Counted<R>,
@@ -162,7 +170,9 @@ pub fn run<R: Read + Drop, W: Write>(
     requires fresh { input.old.calls ≡ 0 }
     requires unhurt { input.old.failed ≡ false }
     requires before_end { input.old.ended ≡ false }
-    ensures few_calls { input.new.calls ≤ 2097152 }
+    // What was written is the one report of the reader's input, and the verdict is that of it; else it is a front of it.
+    ensures report { IfOk result (λ verdict. ReportsInput (R.remaining input.old.reader) (W.contents writer.old) (W.contents writer.new) verdict) }
+    ensures front { OnErr result (ReportsFront (R.remaining input.old.reader) (W.contents writer.old) (W.contents writer.new)) }
     ensures unwritten { result ≡ Err ReplayFault.Read → W.contents writer.new ≡ W.contents writer.old }
     ensures unread { result ≡ Err ReplayFault.Read
         → (input.new.failed ≡ true) ⊎ ((input.new.calls ≡ 2097152) × (input.new.ended ≡ false)) }
@@ -170,12 +180,10 @@ pub fn run<R: Read + Drop, W: Write>(
     ensures read { OnOk result (IsRead R.remaining input.old input.new) }
     ensures output { result ≡ Err ReplayFault.Write → IsRead R.remaining input.old input.new }
     ensures good { result ≡ Ok Verdict.Good → input.new.ended ≡ true }
-    // The report of a bad script tells its cause, and of a good one every line could be carried out.
-    ensures bad { result ≡ Ok Verdict.Bad
-        → ReadsAndWrites R.remaining W.contents TellsCause input.old.reader input.new.reader writer.old writer.new }
-    ensures appends { result ≡ Ok Verdict.Bad → AppendsBadReport (W.contents writer.old) (W.contents writer.new) }
-    ensures whole { result ≡ Ok Verdict.Good
-        → (bytes : List ℕ) × Consumes (R.remaining input.old.reader) (R.remaining input.new.reader) bytes × IsGoodScript bytes }
+    // Reading stops a byte above what a script may have, and fails only below that.
+    ensures taken { TakesUpTo (most_bytes + 1) R.remaining input.old.reader input.new.reader }
+    ensures taken_till_fault { result ≡ Err ReplayFault.Read → TakesUpTo most_bytes R.remaining input.old.reader input.new.reader }
+    ensures few_calls { input.new.calls ≤ 2097152 }
 {
     let bytes = match read_all(alloc, input, MOST_BYTES, MOST_CALLS) {
         Ok(bytes) => bytes,

@@ -1,10 +1,11 @@
 //! What a script does between two power cuts.
 
-ghost use Rattle.std.specs.Prelude.{◌≡◌, ◌≢◌, ◌<◌, ◌≤◌, ◌++◌, List, ℕ, [], length, string_bytes, false, OnOk, IfOk};
-ghost use Rattle.std.specs.Io.KnownBytes.{Appends};
-ghost use Rattle.lift_replay.specs.Report.{IsWholeLines, Reports, cut_text};
-ghost use Rattle.lift_replay.specs.Script.{LeadsTo, EndsAtFirstBad};
+ghost use Rattle.std.specs.Prelude.{◌≡◌, ◌≢◌, ◌<◌, ◌≤◌, List, ℕ, [], length, string_bytes, OnOk, OnErr, IfOk};
+ghost use Rattle.lift_replay.specs.Group.{GroupState, new_terminals};
+ghost use Rattle.lift_replay.specs.Report.{Reports, ReportsPart, cut_text};
+ghost use Rattle.lift_replay.specs.Running.{LinesEnd, SegmentEnds, TellsPart};
 ghost use Rattle.lift_replay.specs.Segment.{IfCut, IsCut};
+ghost use Rattle.lift_replay.specs.Shows.{Shows, IsKept};
 ghost use Rattle.lift_replay.specs.Source.{lines_in};
 
 use crate::lines::{End, Verdict, push_line};
@@ -17,6 +18,7 @@ use lift_building::Building;
 use lift_desk::{Desk, DeskParts};
 use lift_disk::FuseDisk;
 use lift_keeper::Keeper;
+use lift_policy::decisions_are_computed;
 use std::alloc::Global;
 use std::io::Write;
 
@@ -29,8 +31,7 @@ pub enum SegmentEnd<'b> {
 }
 
 /// Carries out lines up to a power cut or to the end of the run, and adds what each reports to a piece of the report,
-/// which is written once it is large enough. What is left in the piece, also where a line could not be carried out, is of
-/// whole lines.
+/// which is written once it is large enough. What is left in the piece is of whole lines.
 fn add_lines<W: Write>(
     alloc: Global,
     station: &mut Station,
@@ -39,18 +40,19 @@ fn add_lines<W: Write>(
     writer: &mut W,
 ) -> Result<End, ReplayFault>
     ensures output { result ≢ Err ReplayFault.Read }
-    ensures reports { OnOk result ((added : List ℕ) × IsWholeLines added
+    // What they tell is what is computed, of whichever group the station shows.
+    ensures tells { IfOk result (λ end. (g : GroupState) → Shows station.old.building.now g station.old.clerk station.old.terminals.seats.items
+        → (added : List ℕ) × LinesEnd station.old.building.now lines.old.count g (lines_in lines.old.rest.now) added lines.new.count (lines_in lines.new.rest.now)
+        station.new.clerk station.new.terminals.seats.items end
         × Reports (W.contents writer.old) (W.contents writer.new) (string_bytes piece.old) (string_bytes piece.new) added) }
-    ensures bad { result ≡ Ok (End.Run Verdict.Bad) → (added : List ℕ)
-        × EndsAtFirstBad station.old.building.now lines.old.count (lines_in lines.old.rest.now) added
-        × Reports (W.contents writer.old) (W.contents writer.new) (string_bytes piece.old) (string_bytes piece.new) added }
-    ensures passed { IfOk result (λ end. end ≢ End.Run Verdict.Bad
-        → LeadsTo station.old.building.now lines.old.count (lines_in lines.old.rest.now) lines.new.count (lines_in lines.new.rest.now)) }
-    ensures good { result ≡ Ok (End.Run Verdict.Good) → lines.new.rest.now ≡ [] }
+    ensures front { OnErr result ((g : GroupState) → Shows station.old.building.now g station.old.clerk station.old.terminals.seats.items
+        → TellsPart station.old.building.now lines.old.count g (lines_in lines.old.rest.now)
+        (W.contents writer.old) (W.contents writer.new) (string_bytes piece.old) (string_bytes piece.new)) }
     ensures shorter { OnOk result (length lines.new.rest.now ≤ length lines.old.rest.now) }
     ensures cut { IfOk result (λ end. IsCut end → length lines.new.rest.now < length lines.old.rest.now) }
     ensures building { station.new.building ≡ station.old.building }
 {
+    decisions_are_computed();
     let mut report = String::new(alloc);
     for _ in 0..=lines.len() {
         let Some((number, line)) = lines.next() else {
@@ -79,6 +81,7 @@ fn add_cut<W: Write>(
 ) -> Result<(), ReplayFault>
     ensures output { result ≢ Err ReplayFault.Read }
     ensures reports { OnOk result (Reports (W.contents writer.old) (W.contents writer.new) (string_bytes piece.old) (string_bytes piece.new) (cut_text calls)) }
+    ensures front { OnErr result (ReportsPart (W.contents writer.old) (W.contents writer.new) (string_bytes piece.old) (string_bytes piece.new) (cut_text calls)) }
 {
     let mut report = String::new(alloc);
     push_cut(&mut report, calls)?;
@@ -99,14 +102,13 @@ pub fn add_segment<'b, W: Write>(
     requires plan { keeper.writer.plan ≡ building.now }
     requires settled { keeper.state.batch ≡ [] }
     ensures output { result ≢ Err ReplayFault.Read }
-    ensures reports { OnOk result ((added : List ℕ) × IsWholeLines added
+    // What they tell is what is computed, of whichever group the keeper is of.
+    ensures tells { IfOk result (λ end. (g : GroupState) → IsKept building.now g keeper.entry → g.terminals ≡ new_terminals building.now
+        → (added : List ℕ) × SegmentEnds building.now lines.old.count g (lines_in lines.old.rest.now) added lines.new.count (lines_in lines.new.rest.now) end
         × Reports (W.contents writer.old) (W.contents writer.new) (string_bytes piece.old) (string_bytes piece.new) added) }
-    ensures bad { result ≡ Ok (SegmentEnd.Run Verdict.Bad) → (added : List ℕ)
-        × EndsAtFirstBad building.now lines.old.count (lines_in lines.old.rest.now) added
-        × Reports (W.contents writer.old) (W.contents writer.new) (string_bytes piece.old) (string_bytes piece.new) added }
-    ensures passed { IfOk result (λ end. end ≢ SegmentEnd.Run Verdict.Bad
-        → LeadsTo building.now lines.old.count (lines_in lines.old.rest.now) lines.new.count (lines_in lines.new.rest.now)) }
-    ensures good { result ≡ Ok (SegmentEnd.Run Verdict.Good) → lines.new.rest.now ≡ [] }
+    ensures front { OnErr result ((g : GroupState) → IsKept building.now g keeper.entry → g.terminals ≡ new_terminals building.now
+        → TellsPart building.now lines.old.count g (lines_in lines.old.rest.now)
+        (W.contents writer.old) (W.contents writer.new) (string_bytes piece.old) (string_bytes piece.new)) }
     ensures cut { IfOk result (λ end. IfCut end (λ keeper. length lines.new.rest.now < length lines.old.rest.now)) }
     ensures plan { IfOk result (λ end. IfCut end (λ keeper. keeper.writer.plan ≡ building.now)) }
     ensures settled { IfOk result (λ end. IfCut end (λ keeper. keeper.state.batch ≡ [])) }

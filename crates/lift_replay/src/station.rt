@@ -8,7 +8,9 @@ ghost use Rattle.lift_register.specs.Register.{empty};
 ghost use Rattle.lift_desk.specs.Seats.{AreSeatsOf, IsClerkOf, OwesNothing, seats_from};
 ghost use Rattle.lift_keeper.specs.Decider.{starting};
 ghost use Rattle.lift_keeper.specs.Reopening.{Reopens};
+ghost use Rattle.lift_replay.specs.Group.{GroupState, first_group, left_by, recovered};
 ghost use Rattle.lift_replay.specs.Recovering.{Recovers};
+ghost use Rattle.lift_replay.specs.Shows.{Shows, IsKept};
 
 use crate::terminals::Terminals;
 use lift_base::Memory;
@@ -59,6 +61,7 @@ pub fn first_keeper(alloc: Global, building: &Building) -> Result<Keeper<'_, Fus
     ensures state { IfOk result (λ keeper. keeper.state ≡ starting keeper.writer.register) }
     ensures plan { IfOk result (λ keeper. keeper.writer.plan ≡ building.now) }
     ensures whole { IfOk result (λ keeper. (keeper.writer.is_broken ≡ false) × (keeper.writer.doubt ≡ [])) }
+    ensures kept { IfOk result (λ keeper. IsKept building.now (first_group building.now) keeper) }
 {
     let mut disk = FuseDisk::new(MemDisk::new(alloc, 2 * HALF + 2)?);
     match format(&mut disk, building.shape(HALF)) {
@@ -110,7 +113,12 @@ impl<'d, 'b> Station<'d, 'b> {
         ensures state { IfOk result (λ keeper. keeper.state ≡ starting keeper.writer.register) }
         ensures plan { IfOk result (λ keeper. keeper.writer.plan ≡ self.entry.building.now) }
         ensures whole { IfOk result (λ keeper. (keeper.writer.is_broken ≡ false) × (keeper.writer.doubt ≡ [])) }
+        // It is the keeper of the group that the cut leaves, of whichever group the station shows.
+        ensures kept { IfOk result (λ keeper. (g : GroupState) → Shows self.entry.building.now g self.entry.clerk self.entry.terminals.seats.items
+            → (fuse_state_of self.entry.clerk.keeper.writer.device).is_short ≡ false
+            → IsKept self.entry.building.now (recovered self.entry.building.now (left_by outcome g)) keeper) }
     {
+        let _placed = self.clerk.keeper().safe_register();
         let (_seat, keeper, _policy) = self.clerk.into_parts();
         let left = keeper.into_disk().into_inner().cut(outcome);
         keeper_over(FuseDisk::new(left), self.building)

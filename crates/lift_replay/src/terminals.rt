@@ -1,12 +1,19 @@
 //! The terminals' seats at a desk: what they ask, and what they hear.
 
 ghost use Rattle.std.specs.Prelude.{◌≡◌, ◌<◌, ◌++◌, ◌↔◌, List, ℕ, length, slice_set, string_bytes, true, OnOk, OnErr, IfOk};
-ghost use Rattle.lift_desk.specs.Seats.{AreSeatsOf, Waits, seats_from};
-ghost use Rattle.lift_replay.specs.Terminals.{AreTerminalsOf, IsSpanned, AllHear, Hears, having_asked, seat_at};
+ghost use Rattle.lift_desk.specs.Rule.{IsInOrder};
+ghost use Rattle.lift_desk.specs.Seats.{AreSeatsOf, IsClerkOf, Waits, seats_from, view_at};
+ghost use Rattle.lift_desk.specs.Spelled.{IsAsk};
+ghost use Rattle.lift_desk.specs.Steps.{lists_of};
+ghost use Rattle.lift_clerk.specs.Clerk.{IsToldAt};
+ghost use Rattle.lift_replay.specs.Terminals.{AreTerminalsOf, IsSpanned, AllHear, AreTold, Hears, having_asked, seat_at, told_seat};
 
 use crate::report::push_heard;
 use lift_base::{Body, Number, Terminal};
+use lift_clerk::Clerk;
 use lift_desk::{AskRefusal, Desk, Seat};
+use lift_disk::FuseDisk;
+use lift_policy::Etd;
 use std::alloc::AllocError;
 
 /// The seats of a desk's terminals, in order.
@@ -45,6 +52,7 @@ impl<'d> Terminals<'d> {
             × (length (seat_at self.old.seats.items terminal).view.asked ≡ 1048575)) }
         ensures asked { OnOk result (self.new.seats.items
             ≡ slice_set self.old.seats.items terminal (having_asked (seat_at self.old.seats.items terminal) number body)) }
+        ensures in_range { OnOk result (IsAsk (record { number = number; body = body })) }
         ensures kept { OnErr result (self.new.seats.items ≡ self.old.seats.items) }
         ensures desk { self.new.desk ≡ self.old.desk }
         ensures count { length self.new.seats.items ≡ length self.old.seats.items }
@@ -55,6 +63,32 @@ impl<'d> Terminals<'d> {
         self.first = self.first.min(index);
         self.end = self.end.max(index + 1);
         Ok(())
+    }
+
+    /// Tells the clerk what a terminal has asked so far, and the terminal what was answered there so far.
+    pub fn tell(&mut self, clerk: &mut Clerk<'_, '_, FuseDisk, Etd>, index: u8)
+        requires desk { clerk.old.desk ≡ self.old.desk.now }
+        requires inside { index < length self.old.seats.items }
+        ensures seats { self.new.seats.items
+            ≡ slice_set self.old.seats.items index (told_seat (seat_at self.old.seats.items index) (view_at clerk.old.seat index)) }
+        ensures told { IsToldAt clerk.old clerk.new index (seat_at self.old.seats.items index).view.asked }
+        ensures in_order { IsInOrder (lists_of (seat_at self.old.seats.items index).view (view_at clerk.old.seat index)) }
+        ensures desk { self.new.desk ≡ self.old.desk }
+    {
+        clerk.tell(&mut self.seats[usize::from(index)]);
+    }
+
+    /// Tells the clerk what each terminal has asked so far, and each terminal what was answered there so far.
+    pub fn tell_all(&mut self, clerk: &mut Clerk<'_, '_, FuseDisk, Etd>)
+        requires desk { clerk.old.desk ≡ self.old.desk.now }
+        requires places { length clerk.old.seat ≡ length self.old.seats.items }
+        ensures told { AreTold self.old.seats.items self.new.seats.items clerk.old.seat clerk.new.seat }
+        ensures rest { clerk.new ≡ record clerk.old { seat = clerk.new.seat } }
+        ensures desk { self.new.desk ≡ self.old.desk }
+    {
+        for index in 0..self.desk.len() {
+            self.tell(clerk, index as u8);
+        }
     }
 
     /// A terminal that waits looks for its answer, and the report shows what it hears. The answer is whether it waits on.

@@ -1,7 +1,6 @@
 //! A call on its way from a kiosk to the journal and back, by the layers that a script stands on.
 ghost use Rattle.lift_journal.specs.Order.{IsEntry};
 
-use super::scripts::DEMO;
 use arrayvec::ArrayVec;
 use lift_base::{Body, Dir, Entry, Floor, Letter, Number, Party, Record, Reply, Terminal};
 use lift_building::Building;
@@ -13,10 +12,28 @@ use lift_record::is_lawful;
 use std::alloc::Global;
 use std::test::Fail;
 
+/// Ten floors, a car, a kiosk at floor 0 and one at floor 5. Each flight takes 2 s and 1 s a floor,
+/// each stop 6 s.
+const DEMO: &str = "floors = 10
+door_ms = 6000
+kiosks = [0, 5]
+flight = [
+[0,3000,4000,5000,6000,7000,8000,9000,10000,11000],
+[3000,0,3000,4000,5000,6000,7000,8000,9000,10000],
+[4000,3000,0,3000,4000,5000,6000,7000,8000,9000],
+[5000,4000,3000,0,3000,4000,5000,6000,7000,8000],
+[6000,5000,4000,3000,0,3000,4000,5000,6000,7000],
+[7000,6000,5000,4000,3000,0,3000,4000,5000,6000],
+[8000,7000,6000,5000,4000,3000,0,3000,4000,5000],
+[9000,8000,7000,6000,5000,4000,3000,0,3000,4000],
+[10000,9000,8000,7000,6000,5000,4000,3000,0,3000],
+[11000,10000,9000,8000,7000,6000,5000,4000,3000,0]]
+[[cars]]
+places = 8
+";
+
 fn building(alloc: Global) -> Result<Building, Fail> {
-    let mut text = String::from_str(alloc, DEMO)?;
-    text.push_str("[[cars]]\nplaces = 8\n")?;
-    Ok(Building::read(alloc, &text).ok().ok_or("refused")?)
+    Ok(Building::read(alloc, DEMO).ok().ok_or("refused")?)
 }
 
 fn floor(number: u8) -> Floor {

@@ -1,21 +1,13 @@
-//! Tests of `lift_replay`: lines of scripts, the lines of a report, power cuts, and readers that end, fail or never end.
+//! Tests of `lift_replay` that can't stand in text files: readers and writers that end, fail or
+//! never end, memory that is refused, and a call's way through the layers below. Its scripts and
+//! lines stand in `lift_script_cases`.
 #![tactic(auto)]
 
 #[cfg(test)]
-mod checkpoints;
-#[cfg(test)]
-mod cuts;
+mod buildings;
 #[cfg(test)]
 mod first_call;
 #[cfg(test)]
-mod full;
-#[cfg(test)]
-mod grammar;
-#[cfg(test)]
 mod reading;
 #[cfg(test)]
-mod refusals;
-#[cfg(test)]
-mod reports;
-#[cfg(test)]
-mod scripts;
+mod streams;

@@ -1,4 +1,4 @@
-//! Readers that never end, fail or give a byte at a time.
+//! Readers that end, fail, never end or give a byte at a time.
 use lift_base::text::Counted;
 use lift_replay::{InputFault, read_all};
 use std::io;
@@ -6,8 +6,8 @@ use std::io::Read;
 
 /// A reader whose calls all fail.
 #[derive(Drop)]
-struct Failing {
-    calls: u32,
+pub(crate) struct Failing {
+    pub(crate) calls: u32,
 }
 
 impl Read for Failing {
@@ -44,37 +44,35 @@ fn bytes_within_bounds(rt: HostRuntime) {
         (b"turn A".as_slice(), 4, b"turn ".as_slice()),
     ] {
         let mut input = Counted::new(bytes);
-        let read = read_all(rt.alloc(), &mut input, most, 10);
-        assert!(rt; matches!(&read, Ok(found) if found.as_slice() == wanted));
-        assert!(rt; !input.failed());
+        let is_read = match read_all(rt.alloc(), &mut input, most, 10) {
+            Ok(found) => found.as_slice() == wanted,
+            Err(_) => false,
+        };
+        assert!(rt; is_read && !input.failed());
     }
 }
 
-/// A call that fails ends the reading, and a reader that never ends is left after so many calls.
+/// A call that fails ends the reading.
 #[test]
-fn readers_that_do_not_end(rt: HostRuntime) {
+fn a_reader_that_fails(rt: HostRuntime) {
     let mut reader = Failing { calls: 0 };
     let mut input = Counted::new(&mut reader);
-    assert!(rt;
-        matches!(
-            read_all(rt.alloc(), &mut input, 10, 10),
-            Err(InputFault::Read)
-        )
-    );
-    assert!(rt; input.failed());
+    let read = read_all(rt.alloc(), &mut input, 10, 10);
+    assert!(rt; matches!(read, Err(InputFault::Read)) && input.failed());
     assert!(rt; reader.calls == 1);
-    let mut reader = Endless { calls: 0 };
-    let mut input = Counted::new(&mut reader);
-    assert!(rt;
-        matches!(
-            read_all(rt.alloc(), &mut input, 100, 10),
-            Err(InputFault::Read)
-        )
-    );
-    assert!(rt; !input.failed());
-    assert!(rt; reader.calls == 10);
-    let mut reader = Endless { calls: 0 };
-    let mut input = Counted::new(&mut reader);
-    assert!(rt; matches!(read_all(rt.alloc(), &mut input, 5, 10), Ok(found) if found.len() == 6));
-    assert!(rt; reader.calls == 6);
+}
+
+/// A reader that never ends is left after so many calls, and once a byte more than wanted has come.
+#[test]
+fn a_reader_that_does_not_end(rt: HostRuntime) {
+    for (most, calls) in [(100, 10), (5, 6)] {
+        let mut reader = Endless { calls: 0 };
+        let mut input = Counted::new(&mut reader);
+        let is_read = match read_all(rt.alloc(), &mut input, most, 10) {
+            Ok(found) => most == 5 && found.len() == 6,
+            Err(fault) => most == 100 && matches!(fault, InputFault::Read),
+        };
+        assert!(rt; is_read && !input.failed());
+        assert!(rt; reader.calls == calls);
+    }
 }

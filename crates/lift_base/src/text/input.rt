@@ -60,7 +60,8 @@ impl<R: Read + Drop> Counted<R> {
         ensures gives { IfOk result (λ count.
             Consumes (R.remaining self.old.reader) (R.remaining self.new.reader) (take count buffer.new)) }
         ensures end { IfOk result (λ count. count ≡ 0 → 0 < length buffer.new → IsAtEnd (R.remaining self.new.reader)) }
-        ensures ended { IfOk result (λ count. self.new.ended ≡ (if count == 0 then true else self.old.ended)) }
+        ensures ended { IfOk result (λ count. 0 < length buffer.new → self.new.ended ≡ (if count == 0 then true else self.old.ended)) }
+        ensures roomless { IfOk result (λ count. length buffer.new ≡ 0 → self.new.ended ≡ self.old.ended) }
         ensures unfailed { OnOk result (self.new.failed ≡ self.old.failed) }
         ensures failed { OnErr result ((self.new.failed ≡ true) × (self.new.ended ≡ self.old.ended)) }
         ensures keeps { OnErr result (Keeps (R.remaining self.old.reader) (R.remaining self.new.reader)) }
@@ -68,7 +69,7 @@ impl<R: Read + Drop> Counted<R> {
         self.calls = ProofCount::next(&self.calls);
         match self.reader.read(buffer) {
             Ok(count) => {
-                if count == 0 {
+                if count == 0 && !buffer.is_empty() {
                     self.ended = true;
                 }
                 Ok(count)

@@ -1,9 +1,9 @@
-use Rattle.std.proofs.Common.{◌≡◌, ◌<◌, ◌∙◌, length, sym, ap, arith}
+use Rattle.std.proofs.Common.{◌≡◌, ◌<◌, ◌∙◌, length, sym, ap, subst, arith}
 use Rattle.std.proofs.lemmas.List.{length-map}
-use Rattle.lift_desk.specs.Words.{last_of, number_of, reply_word}
+use Rattle.lift_desk.specs.Words.{last_of, number_of, reply_word, IsReply}
 use Rattle.lift_desk.specs.Steps.{with_answer}
 use Rattle.lift_desk.specs.Seats.{ClerkPlace, view_at, clerk_with}
-use Rattle.lift_clerk.proofs.Answered.{answerable, owed_at, stored_at, stored_all}
+use Rattle.lift_clerk.proofs.Answered.{answerable, owed_at, stored_at, stored_all, all_told, told_all}
 use Rattle.lift_clerk.proofs.scan.answer_all.Goals as goal
 
 pub answer-requires-clause-terminal : goal.answer-requires-clause-terminal
@@ -43,6 +43,7 @@ loop-place-preserved c =
           stored_at places visits c.args.seat.now now c.answer.new.clerk answers c.deref.result.now c.args.is_safe c.loop-place.place a scanned c.deref.ensures.0 inside c.index-deref-place.is
           (i.stored places visits scanned)
           (c.answer.ensures.answered ∙ ap (λ r. clerk_with now a.terminal (with_answer (view_at now a.terminal) (reply_word (length (view_at now a.terminal).taken) (number_of (last_of (view_at now a.terminal).taken)) r))) c.told.ensures);
+      in_range = all_told IsReply answers c.deref.result.now c.args.is_safe c.loop-place.place a c.deref.ensures.0 inside c.index-deref-place.is i.in_range (subst IsReply c.told.ensures c.answer.ensures.in_range);
       seated = c.answer.ensures.stays;
     }
 
@@ -51,3 +52,9 @@ returns-clause-stored c = λ places visits scanned.
     let end = c.len-place-end.ensures.value in
     let ended = c.loop-place-test.false in
     stored_all places visits c.loop-place.seat c.args.answers.now.items c.args.is_safe c.loop-place.place (omega arith) (c.loop-place.invariant.stored places visits scanned)
+
+pub returns-clause-in_range : goal.returns-clause-in_range
+returns-clause-in_range c =
+    let end = c.len-place-end.ensures.value in
+    let ended = c.loop-place-test.false in
+    told_all IsReply c.args.answers.now.items c.args.answers.now.items c.args.is_safe c.loop-place.place (omega arith) c.loop-place.invariant.in_range

@@ -1,10 +1,12 @@
-use Rattle.std.proofs.Common.{rules, ◌≡◌, Ok}
-use Rattle.lift_replay.specs.declared.lines.Verdict.TheVariants.{Bad}
 use Rattle.lift_program.proofs.Writing.{kept_behind}
 use Rattle.lift_program.proofs.replay.replay.Goals as goal
 
-pub returns-clause-bad : goal.returns-clause-bad
-returns-clause-bad g c = λ is.
-    let ended : c.run.result ≡ Ok Bad = search rules in
-    let told = c.run.ensures.appends ended in
-    (told.0, told.1, told.2, kept_behind _ _ _ _ told.3 c.flush.ensures.bytes)
+pub returns-clause-report : goal.returns-clause-report
+returns-clause-report g c =
+    let told = c.in_ok-verdict.ensures.report in
+    (told.0, told.1, (told.2.0, told.2.1, kept_behind _ _ _ _ told.2.2 c.flush.ensures.bytes))
+
+pub returns-clause-told : goal.returns-clause-told
+returns-clause-told g c =
+    let told = c.in_ok-verdict.ensures.report in
+    (told.0, (told.2.0, told.2.1, kept_behind _ _ _ _ told.2.2 c.flush.ensures.bytes))

@@ -1,13 +1,16 @@
 use Rattle.std.proofs.Common.{◌≡◌, ◌+◌, ◌≤◌, ℕ, List, [], length, string_bytes}
-use Rattle.lift_replay.specs.Report.{IsWholeLines, Reports}
-use Rattle.lift_replay.specs.Script.{LeadsTo}
+use Rattle.lift_replay.specs.Group.{GroupState, first_group, new_terminals}
+use Rattle.lift_replay.specs.Running.{Continues}
+use Rattle.lift_replay.specs.Shows.{IsKept}
+use Rattle.lift_replay.specs.Report.{Reports}
 use Rattle.lift_replay.specs.Source.{lines_in}
 use Rattle.lift_replay.proofs.script.add_segments.Given as goal
 
 abbrev pub invariant-loop : goal.invariant-loop
 invariant-loop g l = record {
-  reports : (added : List ℕ) × IsWholeLines added × Reports (g.W.Write.contents l.fn.writer) (g.W.Write.contents l.writer) (string_bytes l.fn.piece) (string_bytes l.piece) added;
-  leads : LeadsTo l.fn.building 0 (lines_in l.fn.text) l.lines.count (lines_in l.lines.rest.now);
+  tells : (added : List ℕ) × (next : GroupState) × IsKept l.fn.building next l.keeper × (next.terminals ≡ new_terminals l.fn.building)
+      × Continues l.fn.building 0 (first_group l.fn.building) (lines_in l.fn.text) added l.lines.count next (lines_in l.lines.rest.now)
+      × Reports (g.W.Write.contents l.fn.writer) (g.W.Write.contents l.writer) (string_bytes l.fn.piece) (string_bytes l.piece) added;
   left : l.counter + length l.lines.rest.now ≤ length l.fn.text;
   plan : l.keeper.writer.plan ≡ l.fn.building;
   settled : l.keeper.state.batch ≡ [];

@@ -1,58 +1,113 @@
-use Rattle.std.proofs.Common.{◌≡◌, ◌≢◌, ◌++◌, ◌∙◌, Some, ap, subst, arith, string_bytes}
-use Rattle.lift_replay.specs.Script.{IsGoodLine, IsBadLine}
-use Rattle.lift_replay.specs.declared.lines.End.TheVariants.{Run}
-use Rattle.lift_replay.specs.declared.lines.Verdict.TheVariants.{Bad}
-use Rattle.lift_replay.proofs.Runs.{leads_more, first_bad, reports_kept, reports_put, reports_on, whole_append, ends_bad}
-use Rattle.lift_replay.proofs.Whole.{line_whole, line_good, line_bad}
+use Rattle.std.proofs.Common.{◌≡◌, ◌+◌, ◌++◌, ◌∙◌, Some, None, [], length, refl, sym, ap, subst, arith, string_bytes}
+use Rattle.lift_building.specs.Plan.{Plan}
+use Rattle.lift_replay.specs.Told.{LineTells}
+use Rattle.lift_replay.specs.Source.{lines_in}
+use Rattle.lift_replay.proofs.LineSteps.{line_goes_on, line_ends}
+use Rattle.std.proofs.lemmas.List.{append-nil}
+use Rattle.lift_replay.specs.Running.{TellsLines}
+use Rattle.lift_replay.specs.declared.lines.Verdict.TheVariants.{Good}
+use Rattle.lift_replay.proofs.Runs.{reports_kept, reports_put, reports_on}
+use Rattle.lift_replay.proofs.Fronts.{err_so, tells_kept, tells_more, tells_so_far, tells_torn}
 use Rattle.lift_replay.proofs.segment.add_lines.Goals as goal
-
-pub returns-in-Some-end-clause-reports : goal.returns-in-Some-end-clause-reports
-returns-in-Some-end-clause-reports g c =
-    let tells = c.in_ok-end.ensures.tells in
-    let told_is : c.deref.result.now ≡ tells.0 = c.deref.ensures ∙ tells.2 ∙ ap (λ bytes. bytes ++ tells.0) c.clear.ensures.bytes in
-    let piece_is : string_bytes c.push_str.new.self ≡ string_bytes c.loop.piece ++ tells.0 = c.in_ok-push_str.ensures.bytes ∙ ap (λ bytes. string_bytes c.loop.piece ++ bytes) told_is in
-    let so_far = c.loop.invariant.reports in
-    let whole = whole_append so_far.0 tells.0 so_far.1 (line_whole c.loop.station.building.now c.loop.station.clerk c.push_line.new.station.clerk c.loop.station.terminals.seats.items c.push_line.new.station.terminals.seats.items c.in-Some.line.now c.in-Some.number c.in_ok-end.end tells.0 tells.1) in
-    (so_far.0 ++ tells.0, whole, reports_on _ _ _ _ _ _ so_far.0 tells.0 so_far.2 (reports_kept _ (string_bytes c.loop.piece) (string_bytes c.push_str.new.self) tells.0 piece_is))
-
-pub returns-in-Some-end-clause-bad : goal.returns-in-Some-end-clause-bad
-returns-in-Some-end-clause-bad g c = λ is.
-    let bad : c.in_ok-end.end ≡ Some (Run Bad) = cc in
-    let tells = c.in_ok-end.ensures.tells in
-    let told_is : c.deref.result.now ≡ tells.0 = c.deref.ensures ∙ tells.2 ∙ ap (λ bytes. bytes ++ tells.0) c.clear.ensures.bytes in
-    let piece_is : string_bytes c.push_str.new.self ≡ string_bytes c.loop.piece ++ tells.0 = c.in_ok-push_str.ensures.bytes ∙ ap (λ bytes. string_bytes c.loop.piece ++ bytes) told_is in
-    let so_far = c.loop.invariant.reports in
-    let same : c.loop.station.building.now ≡ c.args.station.now.building.now = λ i. (c.loop.invariant.building i).now in
-    let line = line_bad c.loop.station.building.now c.loop.station.clerk c.push_line.new.station.clerk c.loop.station.terminals.seats.items c.push_line.new.station.terminals.seats.items c.in-Some.line.now c.in-Some.number c.in_ok-end.end tells.0 tells.1 bad in
-    let first = first_bad _ _ _ c.in-Some.number _ _ _ c.in-Some.line.now c.loop.invariant.leads c.in-Some.ensures.first (subst (λ plan. IsBadLine plan c.in-Some.line.now) same line.0) c.in-Some.ensures.number in
-    (so_far.0 ++ tells.0, (c.in-Some.number, first, ends_bad c.in-Some.number so_far.0 tells.0 so_far.1 line.1), reports_on _ _ _ _ _ _ so_far.0 tells.0 so_far.2 (reports_kept _ (string_bytes c.loop.piece) (string_bytes c.push_str.new.self) tells.0 piece_is))
-
-pub returns-in-Some-end-clause-passed : goal.returns-in-Some-end-clause-passed
-returns-in-Some-end-clause-passed g c = λ other.
-    let none : c.in_ok-end.end ≢ Some (Run Bad) = λ bad. other (let e : c.in-Some-end.end ≡ Run Bad = cc in e) in
-    let tells = c.in_ok-end.ensures.tells in
-    let same : c.loop.station.building.now ≡ c.args.station.now.building.now = λ i. (c.loop.invariant.building i).now in
-    let good : IsGoodLine c.args.station.now.building.now c.in-Some.line.now = subst (λ plan. IsGoodLine plan c.in-Some.line.now) same (line_good c.loop.station.building.now c.loop.station.clerk c.push_line.new.station.clerk c.loop.station.terminals.seats.items c.push_line.new.station.terminals.seats.items c.in-Some.line.now c.in-Some.number c.in_ok-end.end tells.0 tells.1 (none)) in
-    leads_more _ _ _ _ _ _ _ c.in-Some.line.now c.loop.invariant.leads c.in-Some.ensures.first good (c.in-Some.ensures.counted ∙ c.in-Some.ensures.number)
 
 pub loop-preserved : goal.loop-preserved
 loop-preserved g c =
-    let none : c.in_ok-end.end ≢ Some (Run Bad) = λ bad. (let is = c.in_default-end.is in cc) in
     let tells = c.in_ok-end.ensures.tells in
     let told_is : c.deref.result.now ≡ tells.0 = c.deref.ensures ∙ tells.2 ∙ ap (λ bytes. bytes ++ tells.0) c.clear.ensures.bytes in
     let piece_is : string_bytes c.push_str.new.self ≡ string_bytes c.loop.piece ++ tells.0 = c.in_ok-push_str.ensures.bytes ∙ ap (λ bytes. string_bytes c.loop.piece ++ bytes) told_is in
-    let so_far = c.loop.invariant.reports in
-    let whole = whole_append so_far.0 tells.0 so_far.1 (line_whole c.loop.station.building.now c.loop.station.clerk c.push_line.new.station.clerk c.loop.station.terminals.seats.items c.push_line.new.station.terminals.seats.items c.in-Some.line.now c.in-Some.number c.in_ok-end.end tells.0 tells.1) in
     let same : c.loop.station.building.now ≡ c.args.station.now.building.now = λ i. (c.loop.invariant.building i).now in
-    let good : IsGoodLine c.args.station.now.building.now c.in-Some.line.now = subst (λ plan. IsGoodLine plan c.in-Some.line.now) same (line_good c.loop.station.building.now c.loop.station.clerk c.push_line.new.station.clerk c.loop.station.terminals.seats.items c.push_line.new.station.terminals.seats.items c.in-Some.line.now c.in-Some.number c.in_ok-end.end tells.0 tells.1 (none)) in
     record {
-      reports = (
-        so_far.0 ++ tells.0,
-        whole,
-        reports_on _ _ _ _ _ _ so_far.0 tells.0 so_far.2
-            (reports_put _ _ (string_bytes c.loop.piece) (string_bytes c.push_str.new.self) _ tells.0 piece_is c.in_ok-put_large_piece.ensures.ok),
-      );
-      leads = leads_more _ _ _ _ _ _ _ c.in-Some.line.now c.loop.invariant.leads c.in-Some.ensures.first good (c.in-Some.ensures.counted ∙ c.in-Some.ensures.number);
+      tells = λ group shows.
+          (let before = c.loop.invariant.tells group shows in
+          let number = c.next.new.self.count in
+          let plan : Plan = c.args.station.now.building.now in
+          let line : LineTells plan c.loop.station.clerk c.push_line.new.station.clerk c.loop.station.terminals.seats.items c.push_line.new.station.terminals.seats.items c.in-Some.line.now number None tells.0 =
+          subst (λ n. LineTells plan c.loop.station.clerk c.push_line.new.station.clerk c.loop.station.terminals.seats.items c.push_line.new.station.terminals.seats.items c.in-Some.line.now n None tells.0) (sym c.in-Some.ensures.counted)
+          (subst (λ p. LineTells p c.loop.station.clerk c.push_line.new.station.clerk c.loop.station.terminals.seats.items c.push_line.new.station.terminals.seats.items c.in-Some.line.now c.in-Some.number None tells.0) same
+          (subst (λ end. LineTells c.loop.station.building.now c.loop.station.clerk c.push_line.new.station.clerk c.loop.station.terminals.seats.items c.push_line.new.station.terminals.seats.items c.in-Some.line.now c.in-Some.number end tells.0) c.in_default-end.is tells.1)) in
+          let more = line_goes_on c.decisions_are_computed.ensures.etd plan before.1 c.loop.station.clerk c.push_line.new.station.clerk c.loop.station.terminals.seats.items c.push_line.new.station.terminals.seats.items
+          before.2 (subst (λ (p : Plan). length c.loop.station.terminals.seats.items ≡ 16 + length p.kiosks) same c.loop.station.count) (sym c.is_short.ensures ∙ c.if-is_short.false)
+          c.args.lines.now.count c.loop.lines.count group (lines_in c.args.lines.now.rest.now) (lines_in c.loop.lines.rest.now) (lines_in c.next.new.self.rest.now) c.in-Some.line.now before.0 tells.0 number
+          c.in-Some.ensures.first (c.in-Some.ensures.counted ∙ c.in-Some.ensures.number) before.3 line in (
+            before.0 ++ tells.0,
+            more.0,
+            more.1,
+            more.2,
+            reports_on _ _ _ _ _ _ before.0 tells.0 before.4
+                (reports_put _ _ (string_bytes c.loop.piece) (string_bytes c.push_str.new.self) _ tells.0 piece_is c.in_ok-put_large_piece.ensures.ok),
+          ));
       left = omega (arith, c.loop.invariant.left, c.in-Some.ensures.shorter);
       building = c.in_ok-end.ensures.building ∙ c.loop.invariant.building;
     }
+
+pub returns-in-Some-end-clause-tells : goal.returns-in-Some-end-clause-tells
+returns-in-Some-end-clause-tells g c = λ group shows.
+    let tells = c.in_ok-end.ensures.tells in
+    let told_is : c.deref.result.now ≡ tells.0 = c.deref.ensures ∙ tells.2 ∙ ap (λ bytes. bytes ++ tells.0) c.clear.ensures.bytes in
+    let piece_is : string_bytes c.push_str.new.self ≡ string_bytes c.loop.piece ++ tells.0 = c.in_ok-push_str.ensures.bytes ∙ ap (λ bytes. string_bytes c.loop.piece ++ bytes) told_is in
+    let same : c.loop.station.building.now ≡ c.args.station.now.building.now = λ i. (c.loop.invariant.building i).now in
+    (let before = c.loop.invariant.tells group shows in
+    let number = c.next.new.self.count in
+    let plan : Plan = c.args.station.now.building.now in
+    let line : LineTells plan c.loop.station.clerk c.push_line.new.station.clerk c.loop.station.terminals.seats.items c.push_line.new.station.terminals.seats.items c.in-Some.line.now number (Some c.in-Some-end.end) tells.0 =
+    subst (λ n. LineTells plan c.loop.station.clerk c.push_line.new.station.clerk c.loop.station.terminals.seats.items c.push_line.new.station.terminals.seats.items c.in-Some.line.now n (Some c.in-Some-end.end) tells.0) (sym c.in-Some.ensures.counted)
+    (subst (λ p. LineTells p c.loop.station.clerk c.push_line.new.station.clerk c.loop.station.terminals.seats.items c.push_line.new.station.terminals.seats.items c.in-Some.line.now c.in-Some.number (Some c.in-Some-end.end) tells.0) same
+    (subst (λ end. LineTells c.loop.station.building.now c.loop.station.clerk c.push_line.new.station.clerk c.loop.station.terminals.seats.items c.push_line.new.station.terminals.seats.items c.in-Some.line.now c.in-Some.number end tells.0) c.in-Some-end.is tells.1)) in
+    let more = line_ends c.decisions_are_computed.ensures.etd plan before.1 c.loop.station.clerk c.push_line.new.station.clerk c.loop.station.terminals.seats.items c.push_line.new.station.terminals.seats.items
+    before.2 (subst (λ (p : Plan). length c.loop.station.terminals.seats.items ≡ 16 + length p.kiosks) same c.loop.station.count) (sym c.is_short.ensures ∙ c.if-is_short.false)
+    c.args.lines.now.count c.loop.lines.count group (lines_in c.args.lines.now.rest.now) (lines_in c.loop.lines.rest.now) (lines_in c.next.new.self.rest.now) c.in-Some.line.now before.0 tells.0 number
+    c.in-Some.ensures.first (c.in-Some.ensures.counted ∙ c.in-Some.ensures.number) before.3 c.in-Some-end.end line in (
+      before.0 ++ tells.0,
+      more,
+      reports_on _ _ _ _ _ _ before.0 tells.0 before.4 (reports_kept _ (string_bytes c.loop.piece) (string_bytes c.push_str.new.self) tells.0 piece_is),
+    ))
+
+pub returns-in_default-clause-tells : goal.returns-in_default-clause-tells
+returns-in_default-clause-tells g c = λ group shows.
+    let before = c.loop.invariant.tells group shows in
+    let none : lines_in c.loop.lines.rest.now ≡ [] = ap lines_in c.in_default.ensures.over in (
+      before.0,
+      subst (λ t. TellsLines c.args.station.now.building.now c.args.lines.now.count group (lines_in c.args.lines.now.rest.now) t Good) (append-nil before.0)
+          (before.3 [] Good (subst (λ l. TellsLines c.args.station.now.building.now c.loop.lines.count before.1 l [] Good) (sym none) (refl, refl))),
+      before.4,
+    )
+
+pub returns-in_err-end-clause-front : goal.returns-in_err-end-clause-front
+returns-in_err-end-clause-front g c = err_so c.from_residual.result (λ group shows.
+    let before = c.loop.invariant.tells group shows in
+    tells_so_far c.args.station.now.building.now c.args.lines.now.count c.loop.lines.count group before.1 (lines_in c.args.lines.now.rest.now) (lines_in c.loop.lines.rest.now) _ _ _ _ before.0 before.3 before.4)
+
+pub returns-then-is_short-clause-front : goal.returns-then-is_short-clause-front
+returns-then-is_short-clause-front g c = λ group shows.
+    let before = c.loop.invariant.tells group shows in
+    tells_so_far c.args.station.now.building.now c.args.lines.now.count c.loop.lines.count group before.1 (lines_in c.args.lines.now.rest.now) (lines_in c.loop.lines.rest.now) _ _ _ _ before.0 before.3 before.4
+
+pub returns-in_err-push_str-clause-front : goal.returns-in_err-push_str-clause-front
+returns-in_err-push_str-clause-front g c = err_so c.from_residual-in_err-push_str.result (λ group shows.
+    let before = c.loop.invariant.tells group shows in
+    let kept : string_bytes c.push_str.new.self ≡ string_bytes c.loop.piece = c.in_err-push_str.ensures.bytes in
+    tells_kept c.args.station.now.building.now c.args.lines.now.count group (lines_in c.args.lines.now.rest.now) _ _ _ (string_bytes c.loop.piece) (string_bytes c.push_str.new.self) kept
+    (tells_so_far c.args.station.now.building.now c.args.lines.now.count c.loop.lines.count group before.1 (lines_in c.args.lines.now.rest.now) (lines_in c.loop.lines.rest.now) _ _ _ _ before.0 before.3 before.4))
+
+pub returns-in_err-put_large_piece-clause-front : goal.returns-in_err-put_large_piece-clause-front
+returns-in_err-put_large_piece-clause-front g c =
+    let tells = c.in_ok-end.ensures.tells in
+    let told_is : c.deref.result.now ≡ tells.0 = c.deref.ensures ∙ tells.2 ∙ ap (λ bytes. bytes ++ tells.0) c.clear.ensures.bytes in
+    let piece_is : string_bytes c.push_str.new.self ≡ string_bytes c.loop.piece ++ tells.0 = c.in_ok-push_str.ensures.bytes ∙ ap (λ bytes. string_bytes c.loop.piece ++ bytes) told_is in
+    let same : c.loop.station.building.now ≡ c.args.station.now.building.now = λ i. (c.loop.invariant.building i).now in
+    err_so c.from_residual-in_err-put_large_piece.result (λ group shows.
+    (let before = c.loop.invariant.tells group shows in
+    let number = c.next.new.self.count in
+    let plan : Plan = c.args.station.now.building.now in
+    let line : LineTells plan c.loop.station.clerk c.push_line.new.station.clerk c.loop.station.terminals.seats.items c.push_line.new.station.terminals.seats.items c.in-Some.line.now number None tells.0 =
+    subst (λ n. LineTells plan c.loop.station.clerk c.push_line.new.station.clerk c.loop.station.terminals.seats.items c.push_line.new.station.terminals.seats.items c.in-Some.line.now n None tells.0) (sym c.in-Some.ensures.counted)
+    (subst (λ p. LineTells p c.loop.station.clerk c.push_line.new.station.clerk c.loop.station.terminals.seats.items c.push_line.new.station.terminals.seats.items c.in-Some.line.now c.in-Some.number None tells.0) same
+    (subst (λ end. LineTells c.loop.station.building.now c.loop.station.clerk c.push_line.new.station.clerk c.loop.station.terminals.seats.items c.push_line.new.station.terminals.seats.items c.in-Some.line.now c.in-Some.number end tells.0) c.in_default-end.is tells.1)) in
+    let more = line_goes_on c.decisions_are_computed.ensures.etd plan before.1 c.loop.station.clerk c.push_line.new.station.clerk c.loop.station.terminals.seats.items c.push_line.new.station.terminals.seats.items
+    before.2 (subst (λ (p : Plan). length c.loop.station.terminals.seats.items ≡ 16 + length p.kiosks) same c.loop.station.count) (sym c.is_short.ensures ∙ c.if-is_short.false)
+    c.args.lines.now.count c.loop.lines.count group (lines_in c.args.lines.now.rest.now) (lines_in c.loop.lines.rest.now) (lines_in c.next.new.self.rest.now) c.in-Some.line.now before.0 tells.0 number
+    c.in-Some.ensures.first (c.in-Some.ensures.counted ∙ c.in-Some.ensures.number) before.3 line in
+    tells_more plan c.args.lines.now.count number group more.0 (lines_in c.args.lines.now.rest.now) (lines_in c.next.new.self.rest.now) _ _ _ _ _ _ (before.0 ++ tells.0) more.2
+    (reports_on _ _ _ _ _ _ before.0 tells.0 before.4 (reports_kept _ (string_bytes c.loop.piece) (string_bytes c.push_str.new.self) tells.0 piece_is))
+    (tells_torn plan number more.0 (lines_in c.next.new.self.rest.now) _ _ _ (string_bytes c.push_str.new.self) (string_bytes c.put_large_piece.new.piece)
+    c.in_err-put_large_piece.ensures.front c.in_err-put_large_piece.ensures.emptied)))

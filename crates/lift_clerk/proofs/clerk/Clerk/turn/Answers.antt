@@ -17,7 +17,7 @@ returns-in-Ok-clause-answered g c =
     let s = c.self.inside in
     let scans = c.scan.ensures.scans in
     let answers = c.scan.new.answers.items in
-    let serves = serves_all s.desk.now s.seat c.scan.new.seat c.answer_all.new.seat scans.visits answers true scans.count c.self.invariant.seated scans.scanned (c.answer_all.ensures.stored s.seat scans.visits scans.scanned) in
+    let serves = serves_all s.desk.now s.seat c.scan.new.seat c.answer_all.new.seat scans.visits answers true scans.count c.self.invariant.seated scans.scanned (c.answer_all.ensures.stored s.seat scans.visits scans.scanned) c.answer_all.ensures.in_range in
     serves_rest s.seat c.answer_all.new.seat scans.visits (replies_told true answers) serves c.self.invariant.answered
 
 pub returns-in-Err-clause-answered : goal.returns-in-Err-clause-answered
@@ -25,7 +25,7 @@ returns-in-Err-clause-answered g c =
     let s = c.self.inside in
     let scans = c.scan.ensures.scans in
     let answers = c.scan.new.answers.items in
-    let serves = serves_all s.desk.now s.seat c.scan.new.seat c.answer_all-in-Err.new.seat scans.visits answers false scans.count c.self.invariant.seated scans.scanned (c.answer_all-in-Err.ensures.stored s.seat scans.visits scans.scanned) in
+    let serves = serves_all s.desk.now s.seat c.scan.new.seat c.answer_all-in-Err.new.seat scans.visits answers false scans.count c.self.invariant.seated scans.scanned (c.answer_all-in-Err.ensures.stored s.seat scans.visits scans.scanned) c.answer_all-in-Err.ensures.in_range in
     serves_rest s.seat c.answer_all-in-Err.new.seat scans.visits (replies_told false answers) serves c.self.invariant.answered
 
 pub invariant_of-self : goal.invariant_of-self
@@ -33,7 +33,7 @@ invariant_of-self g c =
     let s = c.self.inside in
     let scans = c.scan.ensures.scans in
     let answers = c.scan.new.answers.items in
-    let serves = serves_all s.desk.now s.seat c.scan.new.seat c.answer_all.new.seat scans.visits answers true scans.count c.self.invariant.seated scans.scanned (c.answer_all.ensures.stored s.seat scans.visits scans.scanned) in
+    let serves = serves_all s.desk.now s.seat c.scan.new.seat c.answer_all.new.seat scans.visits answers true scans.count c.self.invariant.seated scans.scanned (c.answer_all.ensures.stored s.seat scans.visits scans.scanned) c.answer_all.ensures.in_range in
     record {
       seated = c.answer_all.ensures.seated;
       answered = serves_rest s.seat c.answer_all.new.seat scans.visits (replies_told true answers) serves c.self.invariant.answered;
@@ -45,7 +45,7 @@ invariant_of-self-in-Err g c =
     let s = c.self.inside in
     let scans = c.scan.ensures.scans in
     let answers = c.scan.new.answers.items in
-    let serves = serves_all s.desk.now s.seat c.scan.new.seat c.answer_all-in-Err.new.seat scans.visits answers false scans.count c.self.invariant.seated scans.scanned (c.answer_all-in-Err.ensures.stored s.seat scans.visits scans.scanned) in
+    let serves = serves_all s.desk.now s.seat c.scan.new.seat c.answer_all-in-Err.new.seat scans.visits answers false scans.count c.self.invariant.seated scans.scanned (c.answer_all-in-Err.ensures.stored s.seat scans.visits scans.scanned) c.answer_all-in-Err.ensures.in_range in
     record {
       seated = c.answer_all-in-Err.ensures.seated;
       answered = serves_rest s.seat c.answer_all-in-Err.new.seat scans.visits (replies_told false answers) serves c.self.invariant.answered;
@@ -67,7 +67,7 @@ returns-in-Err-clause-fails g c = λ of_disk.
     let whole : between.writer.is_broken ≡ false = is_whole between.writer.is_broken (λ broken. let other = commit.broken.1 broken in cc) in
     let shown = c.register-shown.ensures in
     subst (λ (v : ClerkState g.row.D.Denot g.row.P.Denot). IsFailedTurn (g.P.Policy.chooses v.policy) v new) c.self.view_is
-    (failed_turn s.desk.now (g.P.Policy.chooses s.policy) old new c.scan.new.seat between.state answers c.self.invariant.seated scans (c.answer_all-in-Err.ensures.stored s.seat scans.visits scans.scanned) c.self.invariant.settled
+    (failed_turn s.desk.now (g.P.Policy.chooses s.policy) old new c.scan.new.seat between.state answers c.self.invariant.seated scans (c.answer_all-in-Err.ensures.stored s.seat scans.visits scans.scanned) c.answer_all-in-Err.ensures.in_range c.self.invariant.settled
     (sym (ap (λ (w : WriterView g.row.D.Denot). w.is_broken) writer) ∙ whole)
     commit.unmoved.0
     (λ none. let ok = (commit.empty whole none).0 in absurd (cc))
@@ -85,5 +85,5 @@ returns-in-Err-clause-rests g c = λ was.
     let new : ClerkState g.row.D.Denot g.row.P.Denot = record { desk = s.desk.now; seat = c.answer_all-in-Err.new.seat; keeper = c.commit.new.self; policy = s.policy } in
     let broken : s.keeper.writer.is_broken ≡ true = ap (λ (v : ClerkState g.row.D.Denot g.row.P.Denot). v.keeper.writer.is_broken) c.self.view_is ∙ was in
     subst (λ (v : ClerkState g.row.D.Denot g.row.P.Denot). IsBrokenTurn v new) c.self.view_is
-    (broken_turn s.desk.now (g.P.Policy.chooses s.policy) old new c.scan.new.seat answers between c.self.invariant.seated scans (c.answer_all-in-Err.ensures.stored s.seat scans.visits scans.scanned)
+    (broken_turn s.desk.now (g.P.Policy.chooses s.policy) old new c.scan.new.seat answers between c.self.invariant.seated scans (c.answer_all-in-Err.ensures.stored s.seat scans.visits scans.scanned) c.answer_all-in-Err.ensures.in_range
     broken writer (c.in-Err.ensures.rests (ap (λ (w : WriterView g.row.D.Denot). w.is_broken) writer ∙ broken)))

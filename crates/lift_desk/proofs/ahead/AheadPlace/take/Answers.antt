@@ -1,6 +1,6 @@
 use Rattle.std.proofs.Common.{◌≡◌, ℕ, ◌≤◌, [], ◌∷◌, ◌++◌, length, true, refl, sym, ap, ◌∙◌, arith}
 use Rattle.lift_desk.specs.declared.view.View.{View}
-use Rattle.lift_desk.specs.Words.{turn_of, last_of}
+use Rattle.lift_desk.specs.Words.{turn_of, last_of, ask_word}
 use Rattle.lift_desk.specs.Steps.{at_clerk, with_taking, is_new}
 use Rattle.lift_desk.specs.Seats.{ClerkPlace, is_seated, view_in}
 use Rattle.lift_desk.proofs.Keeps.{looks_ahead_keep, lt_true, taken_more}
@@ -79,3 +79,34 @@ returns-clause-finds c ask h =
       refl,
       λ same. c.in_ok-ask.ensures.known (length c.args.self.now.view.told) ask (omega arith) h.0 (load.3 (sym last_is ∙ same ∙ many) ∙ ap last_of (sym told) ∙ h.2),
     )
+
+pub returns-clause-turn : goal.returns-clause-turn
+returns-clause-turn c some =
+    let i = c.self.invariant in
+    let m : View = c.into_seat-seat.result.me.0 in
+    let word : ℕ = c.load-word.result in
+    let old : view_in c.self.inside.badge.views ≡ m = ap (λ b. view_in b.views) (sym c.replace-badge.ensures.value) ∙ ap view_in c.into_seat-seat.ensures.2 in
+    let new : view_in c.into_badge.result.views ≡ at_clerk m (with_taking m.clerk word) = ap view_in c.into_badge.ensures.2 ∙ ap (λ me. me.0) c.load-word.ensures.2.0 in
+    let turn : c.turn_of-turn.result ≡ turn_of word = c.turn_of-turn.ensures.turn in
+    let limit = c.turn_of-turn.ensures.in_range in
+    let was_turn : c.self.inside.turn ≡ turn_of (last_of m.clerk.taken) = i.turn ∙ ap (λ (v : View). turn_of (last_of v.clerk.taken)) old in
+    let later = c.if-turn-self.false in
+    let fresh : is_new m.clerk word ≡ true = lt_true _ _ (omega arith) in
+    let taken : (view_in c.into_badge.result.views).clerk.taken ≡ m.clerk.taken ++ word ∷ [] = ap (λ (v : View). v.clerk.taken) new ∙ taken_more m.clerk word fresh in
+    let last_is : turn_of (last_of (view_in c.into_badge.result.views).clerk.taken) ≡ turn_of word = ap (λ l. turn_of (last_of l)) taken ∙ ap turn_of (last_of-push m.clerk.taken word) in
+    omega arith
+
+pub returns-clause-last : goal.returns-clause-last
+returns-clause-last c =
+    let i = c.self.invariant in
+    let m : View = c.into_seat-seat.result.me.0 in
+    let word : ℕ = c.load-word.result in
+    let old : view_in c.self.inside.badge.views ≡ m = ap (λ b. view_in b.views) (sym c.replace-badge.ensures.value) ∙ ap view_in c.into_seat-seat.ensures.2 in
+    let new : view_in c.into_badge.result.views ≡ at_clerk m (with_taking m.clerk word) = ap view_in c.into_badge.ensures.2 ∙ ap (λ me. me.0) c.load-word.ensures.2.0 in
+    let turn : c.turn_of-turn.result ≡ turn_of word = c.turn_of-turn.ensures.turn in
+    let was_turn : c.self.inside.turn ≡ turn_of (last_of m.clerk.taken) = i.turn ∙ ap (λ (v : View). turn_of (last_of v.clerk.taken)) old in
+    let later = c.if-turn-self.false in
+    let fresh : is_new m.clerk word ≡ true = lt_true _ _ (omega arith) in
+    let taken : (view_in c.into_badge.result.views).clerk.taken ≡ m.clerk.taken ++ word ∷ [] = ap (λ (v : View). v.clerk.taken) new ∙ taken_more m.clerk word fresh in
+    let last_is : last_of (view_in c.into_badge.result.views).clerk.taken ≡ word = ap last_of taken ∙ last_of-push m.clerk.taken word in
+    last_is ∙ c.in_ok-ask.ensures.value ∙ ap (λ w. ask_word (turn_of w) c.in_ok-ask.ask.number c.in_ok-ask.ask.body) (sym last_is)

@@ -2,6 +2,7 @@ use Rattle.std.proofs.Common.{◌≡◌, ℕ, ◌+◌, [], ◌∷◌, ◌++◌, 
 use Rattle.std.proofs.lemmas.List.{length_push}
 use Rattle.lift_desk.specs.declared.view.View.{View}
 use Rattle.lift_desk.specs.Words.{turn_of, number_of, last_of}
+use Rattle.lift_desk.specs.Rule.{with_note}
 use Rattle.lift_desk.specs.Steps.{at_clerk, with_taking, is_new}
 use Rattle.lift_desk.specs.Seats.{is_seated, view_in}
 use Rattle.lift_desk.proofs.Keeps.{looks_keep, lt_true, taken_more}
@@ -14,8 +15,11 @@ load-word-requires c =
     let s = c.into_seat-seat.ensures in
     let is = c.self.view_is in
     let seated : is_seated c.self.inside.badge.views ≡ true = ap (λ p. p.seated) is ∙ c.requires.seated in
-    let old : view_in c.self.inside.badge.views ≡ c.into_seat-seat.result.me.0 = ap (λ b. view_in b.views) (sym c.replace-badge.ensures.value) ∙ ap view_in s.2 in (
-      s.0 ∙ ap (λ b. b.table_id) c.replace-badge.ensures.value ∙ ap (λ p. p.table) is ∙ c.requires.table.0,
+    let m : View = c.read_note.new.seat.me.0 in
+    let read = c.read_note.ensures.noted in
+    let note : ℕ = read.0 in
+    let old : with_note (view_in c.self.inside.badge.views) note ≡ m = ap (λ b. with_note (view_in b.views) note) (sym c.replace-badge.ensures.value) ∙ ap (λ vs. with_note (view_in vs) note) s.2 ∙ ap (λ me. me.0) (sym read.1) in (
+      c.read_note.ensures.same.0 ∙ s.0 ∙ ap (λ b. b.table_id) c.replace-badge.ensures.value ∙ ap (λ p. p.table) is ∙ c.requires.table.0,
       omega arith,
       looks_keep _ _ _ (ap (λ (v : View). v.answers) (sym old) ∙ i.answers seated) (ap (λ (v : View). v.looks_ahead) (sym old) ∙ i.in_order),
     )
@@ -25,9 +29,11 @@ invariant_of-self-2 c =
     let i = c.self.invariant in
     let s = c.into_seat-seat.ensures in
     let seated : is_seated c.self.inside.badge.views ≡ true = ap (λ p. p.seated) c.self.view_is ∙ c.requires.seated in
-    let m : View = c.into_seat-seat.result.me.0 in
+    let m : View = c.read_note.new.seat.me.0 in
+    let read = c.read_note.ensures.noted in
+    let note : ℕ = read.0 in
     let word : ℕ = c.load-word.result in
-    let old : view_in c.self.inside.badge.views ≡ m = ap (λ b. view_in b.views) (sym c.replace-badge.ensures.value) ∙ ap view_in s.2 in
+    let old : with_note (view_in c.self.inside.badge.views) note ≡ m = ap (λ b. with_note (view_in b.views) note) (sym c.replace-badge.ensures.value) ∙ ap (λ vs. with_note (view_in vs) note) s.2 ∙ ap (λ me. me.0) (sym read.1) in
     let load = c.load-word.ensures.2 in
     let b = c.into_badge.ensures in
     let new : view_in c.into_badge.result.views ≡ at_clerk m (with_taking m.clerk word) = ap view_in b.2 ∙ ap (λ me. me.0) load.1 in
@@ -59,9 +65,11 @@ invariant_of-self-2 c =
 pub returns-clause-owes : goal.returns-clause-owes
 returns-clause-owes c =
     let i = c.self.invariant in
-    let m : View = c.into_seat-seat.result.me.0 in
+    let m : View = c.read_note.new.seat.me.0 in
+    let read = c.read_note.ensures.noted in
+    let note : ℕ = read.0 in
     let word : ℕ = c.load-word.result in
-    let old : view_in c.self.inside.badge.views ≡ m = ap (λ b. view_in b.views) (sym c.replace-badge.ensures.value) ∙ ap view_in c.into_seat-seat.ensures.2 in
+    let old : with_note (view_in c.self.inside.badge.views) note ≡ m = ap (λ b. with_note (view_in b.views) note) (sym c.replace-badge.ensures.value) ∙ ap (λ vs. with_note (view_in vs) note) c.into_seat-seat.ensures.2 ∙ ap (λ me. me.0) (sym read.1) in
     let load = c.load-word.ensures.2 in
     let new : view_in c.into_badge.result.views ≡ at_clerk m (with_taking m.clerk word) = ap view_in c.into_badge.ensures.2 ∙ ap (λ me. me.0) load.1 in
     let turn : c.turn_of-turn.result ≡ turn_of word = c.turn_of-turn.ensures.turn in

@@ -1,4 +1,4 @@
-use Rattle.std.proofs.Common.{rules, [], sym}
+use Rattle.std.proofs.Common.{rules, [], sym, ◌∙◌}
 use Rattle.std.proofs.lemmas.Bool.{false≢true}
 use Rattle.std.proofs.lemmas.List.{append-nil}
 use Rattle.lift_replay.proofs.Hearing.{rests_at, hears_none}
@@ -17,6 +17,7 @@ returns-in_default-hear-clause-hears c =
     let looked = c.in_default-hear.ensures.looked in (
       [],
       hears_none c.args.self.now.seats.items c.args.index c.from.result c.index_mut-seat.result.now c.hear.new.seat looked.0 (search rules) c.requires
-          c.index_mut-seat.ensures.value (search rules) looked.1 looked.2,
+          c.index_mut-seat.ensures.value (search rules) looked.1 looked.2
+          (λ answer told. sym c.in_default-hear.is ∙ c.hear.ensures.finds answer told),
       sym (append-nil _),
     )

@@ -1,0 +1,128 @@
+//! What the machine of events is while a clerk and its terminals run.
+
+ghost use Rattle.std.specs.Prelude.{ℕ, ◌≡◌, ◌⊎◌, true, Err, IfOk, IfErr, OnOk, OnErr};
+ghost use mathlib.Core.List.{IsPrefix};
+ghost use Rattle.lift_desk.specs.Seats.{IsSeatOf, IsToldAnswer};
+ghost use Rattle.lift_clerk.specs.Group.{AtSeat, Asks, Hears};
+ghost use Rattle.lift_clerk.specs.Group.{GroupLaws, AsksAreAsks, HearsAreHears};
+ghost use Rattle.lift_clerk.specs.Group.{ToldAnswersAreHeard, ReadsAreNoEvents};
+ghost use Rattle.lift_clerk.specs.Group.{PastsBegin, PastsGoOnOverAsks, PastsGoOnOverHears};
+ghost use Rattle.lift_clerk.specs.Group.{PastsStayOverReads, PastsStayOverTells};
+ghost use Rattle.lift_clerk.specs.Group.{PastsGoOnOverTurns, PastsGoOnOverFailures};
+ghost use Rattle.lift_clerk.specs.Group.{PastsGoOnOverBrokenTurns, PastsGoOnOverReopenings};
+ghost use Rattle.lift_clerk.specs.Group.{PastsGoOnOverRefusals, PastsGoOnOverCuts};
+ghost use Rattle.lift_clerk.specs.Group.{PastsGoOnOverCutTurns, PastsGoOnOverCutFailures};
+ghost use Rattle.lift_clerk.specs.Past.{PastsAreRuns, TurnGoesOn};
+ghost use Rattle.lift_clerk.specs.Turn.{IsBrokenTurn};
+ghost use Rattle.lift_clerk.specs.Machine.{Turns, Fails};
+
+use crate::clerk::Clerk;
+use crate::counts::Counts;
+use crate::history::call_laws;
+use crate::machine::{turn_once, turns_are_the_machines};
+use lift_base::{Body, Number, Reply};
+use lift_desk::{AskRefusal, Desk, Seat};
+use lift_disk::Disk;
+use lift_journal::JournalFault;
+use lift_keeper::KeeperFault;
+use lift_policy::Policy;
+use lift_world::every_run;
+
+// What is proved of a group's calls, and of the machine's terminals.
+fn group_laws<D: Disk, P: Policy>()
+    ensures { GroupLaws D P P.chooses }
+{
+    call_laws::<D, P>();
+    turns_are_the_machines::<D, P>();
+    every_run();
+}
+
+/// What each terminal asked and heard is what the machine's terminal asked and heard. An ask that is
+/// stored is an ask of the machine, and an answer that is heard, of those that the clerk stored, is
+/// the one that its terminal hears next. A `hear` that gives nothing, a `meet` and a `tell` are no
+/// events.
+pub fn terminals_are_the_machines<D: Disk, P: Policy>()
+    ensures asks { AsksAreAsks D P }
+    ensures hears { HearsAreHears D P }
+    ensures told { ToldAnswersAreHeard D P }
+    ensures reads { ReadsAreNoEvents D P }
+{
+    group_laws::<D, P>();
+}
+
+/// A clerk's past goes on over all that can happen to its group, in one world of the machine that
+/// has just what terminals asked and heard: between any two of its calls they ask and hear, on
+/// whatever thread, and the clerk is told of it. Its turns, failed turns and reopenings are possible
+/// events from there to the next such world, of the clerk alone; a power cut and what follows too.
+pub fn pasts_go_on<D: Disk, P: Policy>()
+    ensures begins { PastsBegin D P P.chooses }
+    ensures asks { PastsGoOnOverAsks D P P.chooses }
+    ensures hears { PastsGoOnOverHears D P P.chooses }
+    ensures reads { PastsStayOverReads D P P.chooses }
+    ensures tells { PastsStayOverTells D P P.chooses }
+    ensures turns { PastsGoOnOverTurns D P P.chooses }
+    ensures failures { PastsGoOnOverFailures D P P.chooses }
+    ensures broken { PastsGoOnOverBrokenTurns D P P.chooses }
+    ensures reopenings { PastsGoOnOverReopenings D P P.chooses }
+    ensures refusals { PastsGoOnOverRefusals D P P.chooses }
+    ensures cuts { PastsGoOnOverCuts D P P.chooses }
+    ensures cut_turns { PastsGoOnOverCutTurns D P P.chooses }
+    ensures cut_failures { PastsGoOnOverCutFailures D P P.chooses }
+{
+    group_laws::<D, P>();
+}
+
+/// Whatever has happened to a group and its terminals, in any order, some run of the machine leads to
+/// a world that is just theirs, with what each terminal asked and heard; and the clerk has a history
+/// there, with the letters of its whole past.
+pub fn pasts_are_runs<D: Disk, P: Policy>()
+    ensures { PastsAreRuns D P P.chooses }
+{
+    group_laws::<D, P>();
+}
+
+/// One turn, in the machine's world and the clerk's past at once. Where each ask that it took was
+/// asked, as the desk's rule has it, possible events of the clerk alone lead there from each world
+/// that has its past, with terminals as they are.
+pub fn turn_goes_on<D: Disk, P: Policy + Drop>(
+    clerk: &mut Clerk<'_, '_, D, P>,
+) -> Result<Counts, KeeperFault>
+    ensures turns { IfOk result (λ counts.
+        Turns (P.chooses clerk.old.policy) clerk.old clerk.new counts) }
+    ensures fails { result ≡ Err (KeeperFault.Journal JournalFault.Disk)
+        → Fails (P.chooses clerk.old.policy) clerk.old clerk.new }
+    ensures rests { result ≡ Err (KeeperFault.Journal JournalFault.Broken)
+        → IsBrokenTurn clerk.old clerk.new }
+    ensures causes { IfErr result (λ fault. (fault ≡ KeeperFault.Journal JournalFault.Disk)
+        ⊎ (fault ≡ KeeperFault.Journal JournalFault.Broken)) }
+    ensures kept { (clerk.new.desk ≡ clerk.old.desk) × (clerk.new.policy ≡ clerk.old.policy) }
+    ensures goes_on { TurnGoesOn P.chooses clerk.old clerk.new }
+{
+    pasts_go_on::<D, P>();
+    turn_once(clerk)
+}
+
+/// One ask, as the machine's asks want it: it is stored where the terminal has heard the answers to
+/// all earlier ones.
+pub fn ask_once(desk: &Desk, seat: &mut Seat, number: Number, body: Body) -> Result<(), AskRefusal>
+    requires { IsSeatOf desk.now seat.old }
+    ensures asks { OnOk result (AtSeat seat.old seat.new (λ before after terminal.
+        Asks before after terminal (record { number = number; body = body }))) }
+    ensures refused { OnErr result (seat.new ≡ seat.old) }
+    ensures stays { IsSeatOf desk.now seat.new }
+{
+    desk.ask(seat, number, body)
+}
+
+/// One look for an answer, as the machine's hears want it. What the terminal was told of is heard
+/// then.
+pub fn hear_once(desk: &Desk, seat: &mut Seat) -> Option<Reply>
+    requires { IsSeatOf desk.now seat.old }
+    ensures hears { (word : ℕ) × AtSeat seat.old seat.new (λ before after terminal.
+        Hears before after terminal word result) }
+    ensures known { IsPrefix seat.old.view.told seat.new.view.heard }
+    ensures finds { (reply : _) → IsToldAnswer seat.old.view reply → result ≡ Some reply }
+    ensures stays { IsSeatOf desk.now seat.new }
+{
+    desk.hear(seat)
+}

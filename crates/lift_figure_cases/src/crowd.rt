@@ -1,0 +1,236 @@
+//! Many calls and many commands, and whether each car's schedule is then as it is made from nothing.
+ghost use Rattle.std.specs.Prelude.{◌<◌};
+ghost use Rattle.lift_policy.specs.View.{IsViewIn};
+
+use crate::group::ask;
+use crate::trip::schedule_with;
+use lift_base::{Body, Dir, Floor, Letter, Number, Party, Position, Reply, Row, Stop, Terminal};
+use lift_building::Building;
+use lift_cost::{NewCall, total_cost};
+use lift_keeper::Decider;
+use lift_policy::{Etd, FewestOpen, View};
+use lift_stops::{Schedule, next_stop, stop_list};
+
+fn floor(number: u32) -> Floor {
+    Floor::new((number % 64) as u8).unwrap_or_default()
+}
+
+fn letter(index: u32) -> Letter {
+    Letter::new((index % 16) as u8).unwrap_or_default()
+}
+
+fn kiosk(index: u32) -> Terminal {
+    Terminal::of_kiosk((index % 47) as u8).unwrap_or_default()
+}
+
+fn number(value: u32) -> Number {
+    Number::new(value).unwrap_or_default()
+}
+
+/// The call of this place: of kiosks 0, at floor 0, and 1, at floor 5, in turn, to each of the other nine floors in turn.
+fn call_at(place: u32) -> (Terminal, Number, Body) {
+    let to = if place % 2 == 0 {
+        1 + place / 2 % 9
+    } else {
+        (6 + place / 2 % 9) % 10
+    };
+    let body = Body::Call(floor(to), Party::default());
+    (kiosk(place % 2), number(place / 2 + 1), body)
+}
+
+/// The calls of these places, to the cars with the fewest open calls; how many found a car.
+pub(crate) fn call(decider: &mut Decider, from: u32, to: u32) -> u32 {
+    let mut taken = 0u32;
+    for place in from..to {
+        let (terminal, told, body) = call_at(place);
+        let reply = ask(decider, terminal, told, &body, &FewestOpen);
+        if matches!(reply, Reply::Car(_)) {
+            taken = taken.saturating_add(1);
+        }
+    }
+    taken
+}
+
+/// What a call would cost a car, its stop lists made from nothing.
+fn plain_cost(building: &Building, view: &View, call: &NewCall, car: Letter) -> Option<u64>
+    requires possible { IsViewIn building.now view.now }
+    requires from { call.now.from < building.now.floors }
+    requires to { call.now.to < building.now.floors }
+{
+    let _lawful = building.floors();
+    match view.position(car) {
+        Some(position) => Some(total_cost(building, position, view.open_rows(car), *call)),
+        None => None,
+    }
+}
+
+/// Whether a schedule is that of these calls, and its halts are those that are made from nothing and call by call.
+fn is_as_from_nothing(schedule: &Schedule, rows: &[Row]) -> bool {
+    if rows.len() > 32 {
+        return false;
+    }
+    let position = &schedule.position();
+    let halts = stop_list(rows, *position);
+    let Some(anew) = schedule_with(*position, rows) else {
+        return false;
+    };
+    schedule.rows() == rows
+        && schedule.halts() == halts.as_slice()
+        && anew.halts() == halts.as_slice()
+        && schedule.next_stop() == next_stop(rows, *position)
+}
+
+/// Whether a car with so many calls has the halts and the cost of a new call that are made from nothing.
+fn is_car_as_from_nothing(
+    building: &Building,
+    view: &View,
+    call: &NewCall,
+    car: Letter,
+    count: usize,
+) -> bool
+    requires possible { IsViewIn building.now view.now }
+    requires from { call.now.from < building.now.floors }
+    requires to { call.now.to < building.now.floors }
+{
+    let rows = view.open_rows(car);
+    let Some(schedule) = view.schedule(car) else {
+        return false;
+    };
+    let plain = plain_cost(building, view, call, car);
+    rows.len() == count
+        && is_as_from_nothing(schedule, rows)
+        && plain.is_some()
+        && Etd::cost(building, view, call, car) == plain
+}
+
+/// The same of 16 cars, for calls to and from the ends and the middle of ten floors.
+pub(crate) fn are_as_from_nothing(building: &Building, view: &View, count: usize) -> bool
+    requires possible { IsViewIn building.now view.now }
+{
+    let floors = building.floors();
+    for (from, to) in [(0, 9), (9, 0), (5, 4), (4, 5)] {
+        let call = NewCall {
+            from: floor(from),
+            to: floor(to),
+            party: Party::default(),
+        };
+        if call.from.get() >= floors || call.to.get() >= floors {
+            return false;
+        }
+        for index in 0..16 {
+            if !is_car_as_from_nothing(building, view, &call, letter(index), count) {
+                return false;
+            }
+        }
+    }
+    true
+}
+
+/// A fixed list of numbers below 65,536.
+#[derive(Drop)]
+struct Numbers {
+    seed: u32,
+}
+
+impl Numbers {
+    fn next(&mut self) -> u32 {
+        self.seed = self
+            .seed
+            .wrapping_mul(1_664_525)
+            .wrapping_add(1_013_904_223);
+        self.seed >> 16
+    }
+
+    fn dir(&mut self) -> Dir {
+        if self.next() % 2 == 0 {
+            Dir::Up
+        } else {
+            Dir::Down
+        }
+    }
+
+    /// Half are calls of the two kiosks; the others tell of the first three cars: of two each a stop where the car goes
+    /// next, and one of a stop and a place anywhere.
+    fn command(&mut self, decider: &Decider) -> (Terminal, Body) {
+        let kind = self.next() % 8;
+        let car = letter(self.next() % 3);
+        let (at, dir) = (floor(self.next() % 10), self.dir());
+        let told = match kind {
+            0..=3 => {
+                let party = Party::new((self.next() % 3 + 1) as u8).unwrap_or_default();
+                return (kiosk(kind % 2), Body::Call(at, party));
+            }
+            4 | 5 => match next_of(decider, car) {
+                Some(stop) => Body::Stop(stop.floor, stop.dir),
+                None => Body::Stop(at, dir),
+            },
+            6 => Body::Stop(at, dir),
+            _ => Body::Place(at, dir),
+        };
+        (Terminal::of_car(car), told)
+    }
+}
+
+/// Where a car goes next, by the rules, from nothing.
+fn next_of(decider: &Decider, car: Letter) -> Option<Stop> {
+    let position = decider.view().position(car)?;
+    next_stop(decider.register().open_rows(car), position)
+}
+
+/// The command with its terminal's next number, and a place with 0.
+fn ask_next(decider: &mut Decider, terminal: Terminal, body: &Body) -> Reply {
+    let told = match body {
+        Body::Place(_, _) => 0,
+        _ => decider.register().last_number(terminal) + 1,
+    };
+    ask(decider, terminal, number(told), body, &Etd)
+}
+
+/// Where a car is after what it told, if anything.
+fn told(reply: &Reply, body: &Body) -> Option<Position> {
+    match reply {
+        Reply::Stopped(_) | Reply::Placed(_) => match *body {
+            Body::Stop(floor, dir) | Body::Place(floor, dir) => Some(Position { floor, dir }),
+            Body::Call(_, _) => None,
+        },
+        _ => None,
+    }
+}
+
+/// Whether a car that told its position has the schedule of its open calls there; another has none, and no calls.
+fn is_car_right(decider: &Decider, car: Letter, position: &Option<Position>) -> bool {
+    let rows = decider.register().open_rows(car);
+    let view = decider.view();
+    match (view.schedule(car), position) {
+        (Some(schedule), Some(position)) => {
+            schedule.position() == *position && is_as_from_nothing(schedule, rows)
+        }
+        (None, None) => rows.is_empty(),
+        _ => false,
+    }
+}
+
+/// Whether each of the three cars' schedules is as from nothing after each of so many commands of a fixed list, and
+/// calls were served and many were open at once.
+pub(crate) fn are_commands_as_from_nothing(decider: &mut Decider, count: u32, seed: u32) -> bool {
+    let mut numbers = Numbers { seed };
+    let mut positions = [None; 3];
+    let mut most = 0;
+    for _ in 0..count {
+        let (terminal, body) = numbers.command(decider);
+        let reply = ask_next(decider, terminal, &body);
+        if let Some(position) = told(&reply, &body) {
+            match positions.get_mut(usize::from(terminal.get())) {
+                Some(place) => *place = Some(position),
+                None => return false,
+            }
+        }
+        for (index, position) in positions.iter().enumerate() {
+            if !is_car_right(decider, letter(index as u32), position) {
+                return false;
+            }
+        }
+        most = decider.register().open_count().max(most);
+    }
+    decider.register().done() > 20 && most > 8
+}

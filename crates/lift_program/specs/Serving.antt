@@ -1,0 +1,35 @@
+-- The serving of a group.
+use Rattle.std.specs.Prelude.{ℕ, ◌≡◌, ◌⊎◌, false, List, Option, Some}
+use Rattle.lift_building.specs.Describes.{IsTextOf}
+use Rattle.lift_building.specs.Plan.{Plan}
+use Rattle.lift_disk.specs.Files.{file_state_of}
+use Rattle.lift_disk.specs.declared.file.FileDisk.{FileDisk}
+use Rattle.lift_keeper.specs.Keeper.{KeeperView}
+use Rattle.lift_keeper.specs.Reopening.{Reopens}
+use Rattle.lift_policy.specs.Choices.{IsShipped}
+use Rattle.lift_policy.specs.declared.shipped.Shipped.{Shipped}
+use Rattle.lift_serve.specs.Turning.{IsTurnedKeeper}
+use Rattle.lift_serve.specs.declared.serving.ServeFault.{ServeFault}
+use Rattle.lift_program.specs.Faults.{served_fault}
+use Rattle.lift_program.specs.declared.fault.Fault.{Fault}
+
+-- The recovery opened a journal on a file, of a building that a text describes, and a clerk with this policy turned over it.
+-- What is told is that the device failed, exactly where it did, and else the first fault of the rest.
+pub record TurnedOver (policy : Shipped) (fault : Option Fault) : Type 0 where
+  pub text : List ℕ
+  pub plan : Plan
+  pub described : IsTextOf text plan
+  pub opened : FileDisk
+  pub uncalled : (file_state_of opened).calls ≡ 0
+  pub unhurt : (file_state_of opened).failures ≡ 0
+  pub keeper : KeeperView FileDisk
+  pub recovers : Reopens plan (file_state_of opened) (file_state_of keeper.writer.device) keeper.writer.register keeper.writer.half keeper.writer.is_second keeper.writer.used
+  pub whole : keeper.writer.is_broken ≡ false
+  pub last : KeeperView FileDisk
+  pub turned : IsTurnedKeeper (IsShipped policy) policy keeper last
+  pub other : Option ServeFault
+  pub told : fault ≡ served_fault last.writer.is_broken other
+
+-- what a serving with this policy came to; where it could not begin, its fault alone
+abbrev pub IsServing : Shipped → Option Fault → Type 0
+IsServing policy fault = TurnedOver policy fault ⊎ ((other : ServeFault) × (fault ≡ served_fault false (Some other)))

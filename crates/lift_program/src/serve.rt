@@ -1,0 +1,100 @@
+//! The serving of a building on a port.
+
+ghost use Rattle.std.specs.Prelude.{◌≡◌, ◌≤◌, OnOk, IfOk, IfErr, IfSome};
+ghost use Rattle.std.specs.Io.KnownBytes.{Appends};
+ghost use Rattle.lift_program.specs.Ends.{IsFileFault, IsReportOfFault, IsServeFault, IsServingFault, serving_text};
+ghost use Rattle.lift_program.specs.Faults.{served_fault};
+ghost use Rattle.lift_program.specs.Serving.{IsServing};
+
+use crate::fault::Fault;
+use crate::files::{image_in, text_in};
+use arrayvec::ArrayString;
+use itoa::Buffer;
+use lift_base::text::put_all;
+use lift_building::Building;
+use lift_journal::JournalFault;
+use lift_keeper::{Keeper, KeeperFault};
+use lift_policy::Shipped;
+use lift_serve::ServeFault;
+use std::alloc::Global;
+use std::fs::{File, Files};
+use std::io::Write;
+use std::net::{Ipv4Addr, Net, SocketAddr, SocketAddrV4, TcpListener, TcpStream};
+use std::sync::Wait;
+use std::thread::Threads;
+use std::time::Clock;
+
+/// What the serving was undone for: a device that failed, and else the fault of the rest.
+fn fault_of(is_broken: bool, fault: Option<ServeFault>) -> Option<Fault>
+    ensures { result ≡ served_fault is_broken fault }
+{
+    if is_broken {
+        return Some(Fault::Journal(KeeperFault::Journal(JournalFault::Disk)));
+    }
+    match fault {
+        Some(ServeFault::Network) => Some(Fault::Network),
+        Some(ServeFault::Thread) => Some(Fault::Thread),
+        Some(ServeFault::Memory) => Some(Fault::Memory),
+        None => None,
+    }
+}
+
+/// Says which port is served.
+fn say<W: Write>(port: u16, writer: &mut W) -> Result<(), Fault>
+    ensures said { OnOk result (Appends (W.contents writer.old) (W.contents writer.new) (serving_text port)) }
+    ensures fault { IfErr result IsFileFault }
+{
+    let mut digits = Buffer::new();
+    let mut line: ArrayString<64> = ArrayString::new();
+    line.push_str("serving ");
+    line.push_str(digits.format(port));
+    line.push_str("\n");
+    if put_all(writer, line.as_str().as_bytes()).is_err() {
+        return Err(Fault::File);
+    }
+    writer.flush().map_err(Fault::of_file)
+}
+
+/// Serves the building in the file `building` on a port of this machine, with the journal in the file `image`, until so many
+/// connections have ended. The answer is the fault that did not end it, if there was one.
+pub fn serve<
+    R: Files<File = File>
+        + Threads
+        + Wait
+        + Clock
+        + Net<Listener = TcpListener, Stream = TcpStream>
+        + Sync,
+    W: Write,
+>(
+    rt: &R,
+    alloc: Global,
+    image: &str,
+    building: &str,
+    port: u16,
+    sessions: u32,
+    policy: Shipped,
+    writer: &mut W,
+) -> Result<Option<Fault>, Fault>
+    ensures said { OnOk result (Appends (W.contents writer.old) (W.contents writer.new) (serving_text port)) }
+    ensures served { IfOk result (IsServing policy) }
+    ensures serving { IfOk result (λ fault. IfSome fault IsServingFault) }
+    ensures fault { IfErr result IsServeFault }
+    ensures report { IfErr result (λ fault. IsReportOfFault fault (W.contents writer.old) (W.contents writer.new)) }
+{
+    let text = text_in(rt, alloc, building)?;
+    let building = Building::read(alloc, text.as_str())?;
+    let disk = image_in(rt, image)?;
+    let keeper = match Keeper::open(disk, &building) {
+        Ok(keeper) => keeper,
+        Err((_, fault)) => return Err(Fault::Journal(fault)),
+    };
+    let address = SocketAddr::V4(SocketAddrV4::new(Ipv4Addr::new(127, 0, 0, 1), port));
+    let Ok(listener) = rt.bind(address) else {
+        return Err(Fault::Network);
+    };
+    say(port, writer)?;
+    match lift_serve::serve(rt, alloc, &listener, sessions, &building, keeper, policy) {
+        Ok(served) => Ok(fault_of(served.keeper.is_broken(), served.fault)),
+        Err(fault) => Ok(fault_of(false, Some(fault))),
+    }
+}

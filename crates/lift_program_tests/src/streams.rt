@@ -1,0 +1,135 @@
+//! Streams that fail under a command.
+
+use lift_base::text::Watched;
+use lift_program::start;
+use std::alloc::Global;
+use std::fs::{File, Files};
+use std::io::{Read, Write};
+use std::net::{Net, TcpListener, TcpStream};
+use std::sync::Wait;
+use std::test::Fail;
+use std::thread::Threads;
+use std::time::Clock;
+use std::{fs, io};
+
+/// A stream whose calls all fail.
+#[derive(Drop)]
+pub(crate) struct Failing;
+
+impl Read for Failing {
+    fn read(&mut self, _buf: &mut [u8]) -> io::Result<usize> {
+        Err(io::Error::from(io::ErrorKind::TimedOut))
+    }
+}
+
+impl Write for Failing {
+    fn write(&mut self, _buf: &[u8]) -> io::Result<usize> {
+        Err(io::Error::from(io::ErrorKind::TimedOut))
+    }
+
+    fn flush(&mut self) -> io::Result<()> {
+        Err(io::Error::from(io::ErrorKind::TimedOut))
+    }
+}
+
+/// What a run came to.
+#[derive(Drop)]
+pub(crate) struct Run {
+    status: u8,
+    report: Vec<u8>,
+    errors: Vec<u8>,
+}
+
+impl Run {
+    pub(crate) fn of<F, R: Read + Drop>(rt: &F, words: &[&str], reader: R) -> Run
+    where
+        F: Files<File = File>
+            + Alloc<A = Global>
+            + Threads
+            + Wait
+            + Clock
+            + Net<Listener = TcpListener, Stream = TcpStream>
+            + Sync,
+    {
+        let mut report = Vec::new(rt.alloc());
+        let mut errors = Vec::new(rt.alloc());
+        let status = start(
+            rt,
+            rt.alloc(),
+            words,
+            reader,
+            &mut report,
+            &mut Watched::new(&mut errors),
+        );
+        Run {
+            status,
+            report,
+            errors,
+        }
+    }
+
+    pub(crate) fn is(&self, status: u8, report: &str, errors: &str) -> bool {
+        self.status == status
+            && self.report.as_slice() == report.as_bytes()
+            && self.errors.as_slice() == errors.as_bytes()
+    }
+}
+
+/// The standard output is a file too.
+#[test]
+fn outputs_that_fail(rt: HostRuntime) -> Result<(), Fail> {
+    let building = "liftd_unheard.toml";
+    let image = "liftd_unheard.image";
+    let text =
+        "floors = 2\ndoor_ms = 0\nkiosks = [0]\nflight = [[0, 1], [1, 0]]\ncars = [{ places = 1 }]";
+    fs::write(&rt, building, text)?;
+    let format = ["format", image, building];
+    assert!(rt; Run::of(&rt, format.as_slice(), Failing).is(0, "", ""));
+    let show = ["show", image, building];
+    let replay = ["replay"];
+    for words in [show.as_slice(), replay.as_slice()] {
+        let mut errors = Vec::new(rt.alloc());
+        let status = start(
+            &rt,
+            rt.alloc(),
+            words,
+            b"".as_slice(),
+            &mut Failing,
+            &mut Watched::new(&mut errors),
+        );
+        assert!(rt; status == 1 && errors.as_slice() == b"liftd: file\n".as_slice());
+    }
+    fs::remove_file(&rt, image)?;
+    fs::remove_file(&rt, building)?;
+    Ok(())
+}
+
+/// An input that fails: the script's is told, and other words don't read it. A line that can't be
+/// told leaves the status as it is.
+#[test]
+fn inputs_that_fail(rt: HostRuntime) {
+    for (word, wanted, told) in [
+        ("other", 2, "liftd: usage\n"),
+        ("replay", 1, "liftd: file\n"),
+    ] {
+        let words = [word];
+        assert!(rt;
+            Run::of(&rt, words.as_slice(), Failing).is(wanted, "", told),
+            "{word}"
+        );
+        let mut report = Vec::new(rt.alloc());
+        let mut errors = Watched::new(Failing);
+        let status = start(
+            &rt,
+            rt.alloc(),
+            words.as_slice(),
+            Failing,
+            &mut report,
+            &mut errors,
+        );
+        let is_silent = report.is_empty() && errors.failed();
+        assert!(rt; status == wanted && is_silent, "{word}");
+    }
+    let nothing: [&str; 0] = [];
+    assert!(rt; Run::of(&rt, nothing.as_slice(), Failing).is(1, "", "liftd: file\n"));
+}

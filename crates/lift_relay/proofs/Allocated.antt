@@ -1,0 +1,162 @@
+-- What a turn of the allocator leaves.
+use Rattle.std.proofs.Common.{◌≡◌, ◌≢◌, ℕ, ◌<◌, ◌≤◌, ◌+◌, List, [], ◌∷◌, ◌++◌, length, refl, sym, ap, ◌∙◌, subst, append-nil, append_assoc, length-append, arith, inl, inr, ⊎_elim, ◌⊎◌}
+use Rattle.atomic_table.specs.Seated.{TableId}
+use Rattle.lift_base.specs.declared.history.Entry.{Entry}
+use Rattle.lift_building.specs.Plan.{Plan}
+use Rattle.lift_register.specs.Register.{RegisterState, register_of}
+use Rattle.lift_desk.specs.Seats.{ClerkPlace, IsClerkOf}
+use Rattle.lift_policy.specs.Eligible.{Choice}
+use Rattle.lift_policy.specs.Step.{State}
+use Rattle.lift_policy.specs.Run.{Run}
+use Rattle.lift_clerk.specs.declared.counts.Counts.{Counts}
+use Rattle.lift_clerk.specs.Turn.{settled}
+use Rattle.lift_policy.specs.declared.command.Command.{Command}
+use Rattle.lift_clerk.specs.Visits.{Visit, commands_of, served}
+use Rattle.std.proofs.lemmas.List.{length-map}
+use Rattle.lift_relay.specs.declared.batch.Taken.{Taken}
+use Rattle.lift_relay.specs.Batch.{BatchState, after, turns_behind, turns_of, turns_after, commands_in, replies_in}
+use Rattle.lift_relay.specs.Line.{SendState, IsNext, SendsOne, WasFull}
+use Rattle.lift_relay.specs.Scan.{ScansAhead, TakesEach, turns_in}
+use Rattle.lift_relay.specs.Allocator.{AllocatorState, DecidesAlong, GoesOnBehind, IsAllocator, IsScanTurn, IsAllocation}
+
+-- one batch more
+pub along_more : (plan : Plan) (choice : Choice) (start mid decided : State) (batches : List BatchState) (batch : BatchState) → DecidesAlong plan choice start batches mid
+    → Run plan choice mid (commands_in batch.commands) (replies_in batch.commands) decided → batch.entries ≡ decided.batch
+    → DecidesAlong plan choice start (batches ++ batch ∷ []) (settled decided)
+along_more plan choice start mid decided [] batch along run entries =
+    (decided, subst (λ (s : State). Run plan choice s (commands_in batch.commands) (replies_in batch.commands) decided) along run, entries, refl)
+along_more plan choice start mid decided (b ∷ batches) batch along run entries = (along.0, along.1, along.2, along_more plan choice (settled along.0) mid decided batches batch along.3 run entries)
+
+-- the batch that a scan makes
+pub record Makes {P : Type 0} (choice : Choice) (a : AllocatorState P) (seat : List ClerkPlace) (decided : State) (batch : BatchState) : Type 0 where
+  pub seated : IsClerkOf a.desk seat
+  pub run : Run a.plan choice a.state (commands_in batch.commands) (replies_in batch.commands) decided
+  pub entries : batch.entries ≡ decided.batch
+  pub next : IsNext a.plan a.desk a.state.register (turns_of a.seat) batch
+  pub turns : turns_of seat ≡ turns_behind batch
+  pub shows : decided.register ≡ register_of a.state.register decided.batch
+  pub uses : turns_in a.seat + 1 ≤ turns_in seat
+
+pub makes : {P : Type 0} (choice : Choice) (a : AllocatorState P) (seat : List ClerkPlace) (decided : State) (taken : List Taken) (entries : List Entry) (plan : Plan) (before : RegisterState) (seats : List ClerkPlace) (batch : BatchState)
+    → batch ≡ record { commands = taken; entries = entries; building = plan; before = before; desk = a.desk; turns = turns_of seats } → IsClerkOf a.desk seat
+    → Run a.plan choice a.state (commands_in taken) (replies_in taken) decided → entries ≡ decided.batch → plan ≡ a.plan → before ≡ a.state.register
+    → decided.register ≡ register_of a.state.register decided.batch → turns_in a.seat + 1 ≤ turns_in seat
+    → seats ≡ a.seat → turns_after (turns_of a.seat) taken ≡ turns_of seat → Makes choice a seat decided batch
+makes choice a seat decided taken entries plan before seats batch is seated run same building on shows uses of_seat turns = record {
+  uses = uses;
+  seated = seated;
+  run = subst (λ (l : List Taken). Run a.plan choice a.state (commands_in l) (replies_in l) decided) (sym (ap (λ (b : BatchState). b.commands) is)) run;
+  entries = ap (λ (b : BatchState). b.entries) is ∙ same;
+  next = record { of_building = ap (λ (b : BatchState). b.building) is ∙ building; at_desk = ap (λ (b : BatchState). b.desk) is; on_register = ap (λ (b : BatchState). b.before) is ∙ on; on_turns = ap (λ (b : BatchState). b.turns) is ∙ ap turns_of of_seat };
+  turns = sym turns ∙ ap (λ l. turns_after (turns_of l) taken) (sym of_seat) ∙ ap turns_behind (sym is);
+  shows = shows;
+}
+
+leads : {P : Type 0} (choice : Choice) (a : AllocatorState P) (seat : List ClerkPlace) (decided : State) (batch : BatchState) → Makes choice a seat decided batch → decided.register ≡ after batch
+leads choice a seat decided batch m = m.shows ∙ ap (λ (p : RegisterState × List Entry). register_of p.0 p.1) (λ i. (sym m.next.on_register i, sym m.entries i))
+
+-- with no batch in hand the register shown and the turns are those behind all that was sent
+level : (plan : Plan) (desk : List TableId) (sent : RegisterState) (turns : List ℕ) (hand : List BatchState) (shown : RegisterState) (used : List ℕ) → hand ≡ [] → GoesOnBehind plan desk sent turns hand shown used
+    → (shown ≡ sent) × (used ≡ turns)
+level plan desk sent turns [] shown used none goes = goes
+level plan desk sent turns (b ∷ []) shown used none goes = absurd (cc)
+level plan desk sent turns (b ∷ c ∷ bs) shown used none goes = absurd (cc)
+
+pub behind_none : (plan : Plan) (desk : List TableId) (sent : RegisterState) (turns : List ℕ) (hand : List BatchState) (shown : RegisterState) (used : List ℕ) → hand ≡ [] → shown ≡ sent → used ≡ turns
+    → GoesOnBehind plan desk sent turns hand shown used
+behind_none plan desk sent turns hand shown used none same still = subst (λ (l : List BatchState). GoesOnBehind plan desk sent turns l shown used) (sym none) (same, still)
+
+-- the new batch is sent
+pub sent_one : {P : Type 0} (choice : Choice) (a : AllocatorState P) (seat : List ClerkPlace) (decided state : State) (plan : Plan) (batch : BatchState) (end : SendState)
+    → IsAllocator choice a → a.hand ≡ [] → Makes choice a seat decided batch → plan ≡ a.plan → state ≡ settled decided → SendsOne a.end batch end
+    → IsAllocator choice (record { desk = a.desk; seat = seat; plan = plan; state = state; start = a.start; policy = a.policy; end = end; hand = a.hand })
+sent_one choice a seat decided state plan batch end is none made of_plan settles sent =
+    let along = along_more a.plan choice a.start a.state decided (a.end.sent ++ a.hand) batch is.decides made.run made.entries in
+    let same : (a.end.sent ++ a.hand) ++ batch ∷ [] ≡ end.sent ++ a.hand = ap (λ l. (a.end.sent ++ l) ++ batch ∷ []) none ∙ ap (λ l. l ++ batch ∷ []) (append-nil a.end.sent) ∙ sym sent.sends
+    ∙ sym (append-nil end.sent) ∙ ap (λ l. end.sent ++ l) (sym none) in
+    record {
+      seated = made.seated;
+      of_building = sent.same.1 ∙ is.of_building ∙ sym of_plan;
+      at_desk = sent.same.2 ∙ is.at_desk;
+      all_sealed = ap (λ (s : State). s.batch) settles;
+      decides = subst (λ (p : Plan × List BatchState × State). DecidesAlong p.0 choice a.start p.1 p.2) (λ i. (sym of_plan i, same i, sym settles i)) along;
+      few = let used = made.uses in let was = is.few in omega (arith, ap length sent.sends, length-append a.end.sent (batch ∷ []));
+      goes_on = behind_none plan a.desk end.register end.turns a.hand state.register (turns_of seat) none (ap (λ (s : State). s.register) settles ∙ leads choice a seat decided batch made ∙ sym sent.register) (made.turns ∙ sym sent.turns);
+    }
+
+-- the line has no room for it
+pub held_one : {P : Type 0} (choice : Choice) (a : AllocatorState P) (seat : List ClerkPlace) (decided state : State) (plan : Plan) (batch back : BatchState) (end : SendState)
+    → IsAllocator choice a → a.hand ≡ [] → Makes choice a seat decided batch → plan ≡ a.plan → state ≡ settled decided → end ≡ a.end → back ≡ batch
+    → IsAllocator choice (record { desk = a.desk; seat = seat; plan = plan; state = state; start = a.start; policy = a.policy; end = end; hand = back ∷ [] })
+held_one choice a seat decided state plan batch back end is none made of_plan settles same_end is_back =
+    let along = along_more a.plan choice a.start a.state decided (a.end.sent ++ a.hand) batch is.decides made.run made.entries in
+    let same : (a.end.sent ++ a.hand) ++ batch ∷ [] ≡ end.sent ++ back ∷ [] = ap (λ l. (a.end.sent ++ l) ++ batch ∷ []) none ∙ ap (λ l. l ++ batch ∷ []) (append-nil a.end.sent)
+    ∙ ap (λ (p : SendState × BatchState). p.0.sent ++ p.1 ∷ []) (λ i. (sym same_end i, sym is_back i)) in
+    let even = level a.plan a.desk a.end.register a.end.turns a.hand a.state.register (turns_of a.seat) none is.goes_on in
+    let shown : a.state.register ≡ end.register = even.0 ∙ ap (λ (e : SendState). e.register) (sym same_end) in
+    let used : turns_of a.seat ≡ end.turns = even.1 ∙ ap (λ (e : SendState). e.turns) (sym same_end) in
+    record {
+      seated = made.seated;
+      of_building = ap (λ (e : SendState). e.building) same_end ∙ is.of_building ∙ sym of_plan;
+      at_desk = ap (λ (e : SendState). e.desk) same_end ∙ is.at_desk;
+      all_sealed = ap (λ (s : State). s.batch) settles;
+      decides = subst (λ (p : Plan × List BatchState × State). DecidesAlong p.0 choice a.start p.1 p.2) (λ i. (sym of_plan i, same i, sym settles i)) along;
+      few = let used = made.uses in let was = is.few in omega (arith, ap (λ (e : SendState). length e.sent) same_end, ap length none);
+      goes_on = (
+        subst (λ (p : Plan × RegisterState × List ℕ × BatchState). IsNext p.0 a.desk p.1 p.2 p.3) (λ i. (sym of_plan i, shown i, used i, sym is_back i)) made.next,
+        ap (λ (s : State). s.register) settles ∙ leads choice a seat decided batch made ∙ ap after (sym is_back),
+        made.turns ∙ ap turns_behind (sym is_back),
+      );
+    }
+
+-- The turn: the state before it, the one after its batch in hand was sent, and the one behind its scan.
+pub record Between {P : Type 0} (old a : AllocatorState P) : Type 0 where
+  pub none : a.hand ≡ []
+  pub sent : a.end.sent ≡ old.end.sent ++ old.hand
+  pub line : a.end.line ≡ old.end.line
+  pub same : a ≡ record old { end = a.end; hand = [] }
+
+no_command : (taken : List Taken) (commands : List Command) → commands_in taken ≡ commands → commands ≡ [] → length taken ≡ 0
+no_command taken commands is none = sym (length-map taken (λ (t : Taken). t.command)) ∙ ap length is ∙ ap length none
+
+some_command : (taken : List Taken) (commands : List Command) → commands_in taken ≡ commands → commands ≢ [] → 0 < length taken
+some_command [] commands is some = absurd (some (sym is))
+some_command (t ∷ taken) commands is some = omega arith
+
+pub scan_turn : {P : Type 0} (choice : Choice) (old a new : AllocatorState P) (counts : Counts) (taken : List Taken) (decided : State) (batch : BatchState) → Between old a
+    → (scans : ScansAhead choice a.plan a.seat new.seat a.state decided taken (length a.desk))
+    → batch.commands ≡ taken → batch.entries ≡ decided.batch
+    → new.state ≡ settled decided
+    → (new.desk ≡ a.desk) × (new.plan ≡ a.plan) × (new.policy ≡ a.policy) × (new.start ≡ a.start) × (new.end.line ≡ a.end.line)
+    → counts.taken ≡ length taken → counts.accepted ≡ length decided.batch
+    → (length taken ≡ 0 → (new.end.sent ++ new.hand ≡ a.end.sent) × (new.hand ≡ []))
+    → (0 < length taken → new.end.sent ++ new.hand ≡ a.end.sent ++ batch ∷ [])
+    → (new.hand ≢ [] → WasFull new.end)
+    → IsScanTurn choice old new counts
+scan_turn {P} choice old a new counts taken decided batch between scans commands entries settles place many accepted nothing some full =
+    let same = between.same in
+    let visits = scans.visits in
+    record {
+      visits = visits;
+      batch = batch;
+      decided = decided;
+      each_once = scans.count ∙ ap (λ (s : AllocatorState P). length s.desk) same;
+      takes = subst (λ (s : AllocatorState P). TakesEach s.seat visits) same scans.takes;
+      looked = scans.looked ∙ ap (λ (s : AllocatorState P). served s.seat visits []) same;
+      commands = ap commands_in commands ∙ scans.commands;
+      run = subst (λ (p : AllocatorState P × List Command × List Taken). Run p.0.plan choice p.0.state p.1 (replies_in p.2) decided) (λ i. (same i, scans.commands i, sym commands i)) scans.run;
+      entries = entries;
+      after = settles;
+      nothing = λ none. let n = nothing (no_command taken (commands_of 0 visits) scans.commands none) in (n.0 ∙ between.sent, n.1);
+      some = λ any. some (some_command taken (commands_of 0 visits) scans.commands any) ∙ ap (λ l. l ++ batch ∷ []) between.sent;
+      full = full;
+      same_place = (
+        place.0 ∙ ap (λ (s : AllocatorState P). s.desk) same,
+        place.1 ∙ ap (λ (s : AllocatorState P). s.plan) same,
+        place.2 ∙ ap (λ (s : AllocatorState P). s.policy) same,
+        place.3 ∙ ap (λ (s : AllocatorState P). s.start) same,
+        place.4 ∙ between.line,
+      );
+      taken = many ∙ sym (length-map taken (λ (t : Taken). t.command)) ∙ ap length scans.commands;
+      accepted = accepted;
+    }

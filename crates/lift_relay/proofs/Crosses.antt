@@ -1,0 +1,103 @@
+-- An allocator may go to another thread, where its policy may.
+use denote.Builtin.{unit}
+use denote.RattleType.{RattleType}
+use denote.Ref.{NamedLft}
+use denote.Struct.Field.{row_field, shr_ref_field, u64-field}
+use denote.Param.{number}
+use denote.Param.Send.{IsSend, IsSync, sendable, view_send, shr_send}
+use denote.Param.SendFields.{declared_send, variants_send, as_row_send}
+use Rattle.std.proofs.Crossing.{crosses, Arc-send}
+use Rattle.core.proofs.snapshot.Sent.{snapshot_send}
+use Rattle.core.specs.contracts.option.Option as Option
+use Rattle.core.specs.contracts.snapshot.Snapshot as Snapshot
+use Rattle.std.specs.contracts.alloc.Global as Global
+use Rattle.std.specs.contracts.impls.GlobalAllocator.TheImpl as heap
+use Rattle.std.specs.contracts.sync.Arc as Arc
+use Rattle.arrayvec.specs.contracts.array_vec.ArrayVec as ArrayVec
+use Rattle.arrayvec.proofs.array_vec.ArrayVec.TheSendSync as arrays
+use Rattle.atomic_table.specs.contracts.shared.Seat as Seat
+use Rattle.atomic_table.proofs.shared.Seat.TheSendSync as passes
+use Rattle.crossbeam_queue.specs.contracts.array_queue.Doing as Doing
+use Rattle.crossbeam_queue.specs.contracts.array_queue.Slotted as Slotted
+use Rattle.crossbeam_queue.specs.contracts.array_queue.Turns as Turns
+use Rattle.crossbeam_queue.specs.contracts.array_queue.TurnsTableRuleOptionDoingUnit.TheImpl as turns
+use Rattle.crossbeam_queue.proofs.array_queue.Slotted.TheSendSync as queues
+use Rattle.lift_base.specs.contracts.history.Entry as Entry
+use Rattle.lift_building.specs.contracts.building.Building as Building
+use Rattle.lift_register.specs.contracts.registers.Register as Register
+use Rattle.lift_desk.specs.contracts.desk.Desk as Desk
+use Rattle.lift_desk.specs.contracts.desk.TakeSeat as TakeSeat
+use Rattle.lift_desk.proofs.desk.Desk.TheSendSync as desk_is
+use Rattle.lift_desk.proofs.desk.TakeSeat.TheSendSync as seat_is
+use Rattle.lift_keeper.specs.contracts.decider.Decider as Decider
+use Rattle.lift_keeper.proofs.decider.Decider.TheSendSync as decider_is
+use Rattle.lift_policy.specs.declared.policy.Policy.{Ghosts}
+use Rattle.lift_relay.proofs.batch.Taken.TheSendSync as taken_is
+use Rattle.lift_relay.specs.contracts.batch.Taken as Taken
+use Rattle.lift_relay.specs.contracts.batch.Batch as Batch
+use Rattle.lift_relay.specs.contracts.batch.Batch.TheInside as batch_inside
+use Rattle.lift_relay.specs.contracts.line.EndView as EndView
+use Rattle.lift_relay.specs.contracts.line.InOrder as InOrder
+use Rattle.lift_relay.specs.contracts.line.InOrderProtocolBatchEndView.TheImpl as order
+use Rattle.lift_relay.specs.contracts.line.SendEnd as SendEnd
+use Rattle.lift_relay.specs.contracts.line.SendEnd.TheInside as end_inside
+use Rattle.lift_relay.specs.contracts.allocator.Allocator as Allocator
+use Rattle.lift_relay.specs.contracts.allocator.Allocator.TheInside as allocator_inside
+use Rattle.lift_relay.specs.contracts.pair.Allocating as Allocating
+
+unit_send : IsSend unit
+unit_send = search sendable depth 6
+
+entry_send : IsSend Entry.the_row
+entry_send = search (sendable, crosses) depth 20
+
+pub batch_send : IsSend Batch.the_row
+batch_send = view_send _ _ _ _ _ (declared_send batch_inside.the_type (
+  as_row_send (ArrayVec.the_field Taken.the_row (number 63) unit) (arrays.the_send Taken.the_row (number 63) unit taken_is.the_send unit_send),
+  (
+    as_row_send (ArrayVec.the_field Entry.the_row (number 63) unit) (arrays.the_send Entry.the_row (number 63) unit entry_send unit_send),
+    (snapshot_send Building.the_row, (snapshot_send Register.the_row, (snapshot_send Desk.the_row, (snapshot_send TakeSeat.the_row, tt)))),
+  ),
+))
+
+option_send : (R : RattleType) → IsSend R → IsSend (Option.the_row R)
+option_send R s = search (sendable, crosses) depth 12
+
+abbrev doing : RattleType
+doing = Doing.the_row Batch.the_row EndView.the_row
+
+abbrev queue : RattleType
+queue = Slotted.the_row (Option.the_row Batch.the_row) doing (Turns.the_row InOrder.the_row) Global.the_row
+    (turns.ghosts Batch.the_row EndView.the_row InOrder.the_row order.ghosts turns.no_dict) heap.ghosts
+
+queue_send : IsSend queue
+queue_send = search (sendable, crosses, queues.the_send, option_send, batch_send) depth 12
+
+queue_sync : IsSync queue
+queue_sync = search (sendable, crosses, queues.the_sync, option_send, batch_send) depth 12
+
+line_send : IsSend (Arc.the_row queue Global.the_row heap.ghosts)
+line_send = Arc-send queue queue_send queue_sync
+
+pass_send : IsSend (Seat.the_row (Option.the_row Batch.the_row) doing)
+pass_send = passes.the_send (Option.the_row Batch.the_row) doing (option_send Batch.the_row batch_send)
+
+pub end_send : IsSend SendEnd.the_row
+end_send = view_send _ _ _ _ _ (declared_send end_inside.the_type (line_send, (pass_send, (as_row_send u64-field (search sendable depth 6), tt))))
+
+pub allocator_send : (d b : NamedLft) (P : RattleType) (h : Ghosts P.Denot) → IsSend P → IsSend (Allocator.the_row d b P h)
+allocator_send d b P h s = view_send _ _ _ _ _ (declared_send (allocator_inside.the_type d b P h) (
+  as_row_send (shr_ref_field d Desk.the_row tt) (shr_send d.mir d.lft Desk.the_row desk_is.the_sync),
+  (
+    as_row_send TakeSeat.the_field seat_is.the_send,
+    (
+      as_row_send (Decider.the_field b) (decider_is.the_send b),
+      (as_row_send (row_field P) s, (as_row_send SendEnd.the_field end_send, (option_send Batch.the_row batch_send, (snapshot_send (Decider.the_row b), tt)))),
+    ),
+  ),
+))
+
+pub allocating_send : (d b : NamedLft) (P : RattleType) (h : Ghosts P.Denot) → IsSend P → IsSend (Allocating.the_row d b P h)
+allocating_send d b P h s =
+    let a = as_row_send (Allocator.the_field d b P h) (allocator_send d b P h s) in
+    variants_send (Allocating.enum d b P h) ((a, tt), ((a, tt), tt))

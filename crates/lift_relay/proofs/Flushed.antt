@@ -1,0 +1,143 @@
+-- What a turn of the flusher answers.
+use Rattle.std.proofs.Common.{◌≡◌, ◌≢◌, ℕ, zero, suc, ◌+◌, ◌<◌, ◌≤◌, Bool, true, false, List, [], ◌∷◌, ◌++◌, take, length, get_or, Option, Some, None, refl, sym, ap, ◌∙◌, subst, arith}
+use Rattle.std.specs.Prelude.{IfSome, nat_eq}
+use Rattle.std.proofs.Math.Seq.{take-suc}
+use Rattle.std.proofs.lemmas.Bool.Decides.{nat_tests}
+use Rattle.std.proofs.lemmas.List.{take_all, length-set, get_or-set_same, get_or-set_other}
+use Rattle.atomic_table.specs.Seated.{TableId}
+use Rattle.lift_base.specs.declared.command.Reply.{Reply}
+use Rattle.lift_desk.specs.declared.view.ClerkView.{ClerkView}
+use Rattle.lift_desk.specs.declared.words.Ask.{Ask}
+use Rattle.lift_desk.specs.Words.{turn_of, last_of, number_of, reply_word}
+use Rattle.lift_desk.specs.Steps.{with_taking, with_answer}
+use Rattle.lift_desk.specs.Seats.{ClerkPlace, no_place, placed_at, view_at, clerk_with, ahead_from, Owes, OwesNothing, Says}
+use Rattle.lift_desk.proofs.Places.{view_at-here, view_at-else}
+use Rattle.lift_desk.proofs.WordLists.{last_of-push}
+use Rattle.lift_clerk.specs.Scanning.{told}
+use Rattle.lift_clerk.specs.Visits.{Visit, FindsAt}
+use Rattle.lift_clerk.proofs.Visiting.{finds-at}
+use Rattle.lift_clerk.proofs.Scanned.{Looked}
+use Rattle.lift_relay.specs.declared.batch.Taken.{Taken}
+use Rattle.lift_relay.specs.Batch.{AreBelow, commands_in, turns_of, turns_with, turns_after, IsNoted, AreNoted}
+use Rattle.lift_relay.specs.Flusher.{GivesIt, answered_at, AnswersOne, AnswersAll, Answered, IsSettled}
+use Rattle.lift_relay.proofs.Turns.{is_below}
+
+finds : (places next : List ClerkPlace) (n word : ℕ) (found : Option Ask) → Looked places next n word found → FindsAt (get_or places n no_place) (record { word = word; found = found })
+finds places next n word found look = finds-at (get_or places n no_place) word found look.takes look.even look.number look.in_range look.known look.told
+
+number_given : (taken : Taken) (found : Option Ask) (n : ℕ) → IfSome found (λ (ask : Ask). n ≡ ask.number) → GivesIt found taken → n ≡ taken.command.number
+number_given taken None n is gives = absurd gives
+number_given taken (Some ask) n is gives = is ∙ gives.0
+
+-- the look gave the command, and its answer is stored
+pub gives_one : (is_safe : Bool) (places mid next : List ClerkPlace) (taken : Taken) (word : ℕ) (found : Option Ask) (reply : Reply) → Looked places mid taken.command.terminal word found → GivesIt found taken
+    → view_at mid taken.command.terminal ≡ with_taking (view_at places taken.command.terminal) word
+    → next ≡ clerk_with mid taken.command.terminal (with_answer (view_at mid taken.command.terminal)
+    (reply_word (length (view_at mid taken.command.terminal).taken) (number_of (last_of (view_at mid taken.command.terminal).taken)) reply))
+    → reply ≡ told is_safe taken.reply → AnswersOne is_safe places taken (record { word = word; found = found }) next
+gives_one is_safe places mid next taken word found reply look gives here stored said =
+    let t = taken.command.terminal in
+    let number : number_of (last_of (view_at mid t).taken) ≡ taken.command.number = ap (λ (w : ClerkView). number_of (last_of w.taken)) here ∙ number_given taken found _ look.number gives in
+    record {
+      finds = finds places mid t word found look;
+      gives = gives;
+      answered = stored ∙ ap (λ (p : ℕ × Reply). clerk_with mid t (with_answer (view_at mid t) (reply_word (length (view_at mid t).taken) p.0 p.1))) (λ i. (number i, said i))
+          ∙ ap (λ (l : List ClerkPlace). answered_at l taken (told is_safe taken.reply)) look.seat_is;
+    }
+
+is_same : (m n : ℕ) → nat_eq m n ≡ true → m ≡ n
+is_same m n e = grind (arith, nat_tests)
+
+is_other : (m n : ℕ) → nat_eq m n ≡ false → m ≢ n
+is_other m n e = grind (arith, nat_tests)
+
+-- nothing is owed at the terminal, and its turn is the command's; the others are as they were
+pub settles_one : (places mid next : List ClerkPlace) (turns : List ℕ) (taken : Taken) (looked stored : ClerkView) → taken.command.terminal < length places → taken.command.terminal < length turns
+    → mid ≡ clerk_with places taken.command.terminal looked → looked.taken ≡ (view_at places taken.command.terminal).taken ++ taken.note.word ∷ []
+    → next ≡ clerk_with mid taken.command.terminal stored → stored.taken ≡ looked.taken → ¬ Owes (view_at next taken.command.terminal)
+    → IsSettled places turns → IsSettled next (turns_with turns taken)
+settles_one places mid next turns taken looked stored inside counted first takes second same rests settled j = at j (nat_eq j taken.command.terminal) refl
+  where
+    t : ℕ
+    t = taken.command.terminal
+
+    there : t < length mid
+    there = subst (λ (l : List ClerkPlace). t < length l) (sym first) (omega (arith, length-set places t (placed_at (get_or places t no_place).table looked)))
+
+    last_is : turn_of (last_of (view_at next t).taken) ≡ turn_of taken.note.word
+    last_is = ap (λ (l : List ClerkPlace). turn_of (last_of (view_at l t).taken)) second ∙ ap (λ (v : ClerkView). turn_of (last_of v.taken)) (view_at-here mid t stored there)
+        ∙ ap (λ l. turn_of (last_of l)) (same ∙ takes) ∙ ap turn_of (last_of-push (view_at places t).taken taken.note.word)
+
+    at : (j : ℕ) (b : Bool) → nat_eq j t ≡ b → (¬ Owes (view_at next j)) × (turn_of (last_of (view_at next j).taken) ≤ get_or (turns_with turns taken) j 0)
+    at j true e =
+        let is = is_same j t e in
+        let now = get_or-set_same turns t (turn_of taken.note.word) 0 counted in
+        let last = last_is in
+        subst (λ k. (¬ Owes (view_at next k)) × (turn_of (last_of (view_at next k).taken) ≤ get_or (turns_with turns taken) k 0)) (sym is)
+        (rests, omega arith)
+    at j false e =
+        let apart = is_other j t e in
+        let still : view_at next j ≡ view_at places j = ap (λ (l : List ClerkPlace). view_at l j) second ∙ view_at-else mid t j stored apart ∙ ap (λ (l : List ClerkPlace). view_at l j) first ∙ view_at-else places t j looked apart in
+        let turn = get_or-set_other turns t j (turn_of taken.note.word) 0 apart in
+        let was = settled j in
+        (subst (λ (v : ClerkView). ¬ Owes v) (sym still) was.0, subst (λ (v : ClerkView). turn_of (last_of v.taken) ≤ get_or (turns_with turns taken) j 0) (sym still) (omega arith))
+
+more : (is_safe : Bool) (places mid next : List ClerkPlace) (batch : List Taken) (visits : List Visit) (taken : Taken) (visit : Visit) → AnswersAll is_safe places batch visits mid
+    → AnswersOne is_safe mid taken visit next → AnswersAll is_safe places (batch ++ taken ∷ []) (visits ++ visit ∷ []) next
+more is_safe places mid next [] [] taken visit all last = (next, subst (λ (l : List ClerkPlace). AnswersOne is_safe l taken visit next) all last, refl)
+more is_safe places mid next [] (v ∷ visits) taken visit all last = absurd all
+more is_safe places mid next (t ∷ batch) [] taken visit all last = absurd all
+more is_safe places mid next (t ∷ batch) (v ∷ visits) taken visit all last = (all.0, all.1, more is_safe all.0 mid next batch visits taken visit all.2 last)
+
+pub answered_none : (is_safe : Bool) (places : List ClerkPlace) → Answered is_safe places [] places
+answered_none is_safe places = record { visits = []; all = refl }
+
+-- the commands up to one, with it
+take_one : (commands : List Taken) (n : ℕ) (taken : Taken) → n < length commands → taken ≡ get_or commands n taken → take (n + 1) commands ≡ take n commands ++ taken ∷ []
+take_one commands n taken inside is =
+    let suc_n : suc n ≡ n + 1 = omega arith in
+    sym (ap (λ m. take m commands) suc_n) ∙ take-suc commands n taken inside ∙ ap (λ (t : Taken). take n commands ++ t ∷ []) (sym is)
+
+-- one command more
+pub answered_more : (is_safe : Bool) (places mid next : List ClerkPlace) (commands : List Taken) (n : ℕ) (taken : Taken) (visit : Visit) → n < length commands → taken ≡ get_or commands n taken
+    → Answered is_safe places (take n commands) mid → AnswersOne is_safe mid taken visit next → Answered is_safe places (take (n + 1) commands) next
+answered_more is_safe places mid next commands n taken visit inside is before last = record {
+  visits = before.visits ++ visit ∷ [];
+  all = subst (λ (l : List Taken). AnswersAll is_safe places l (before.visits ++ visit ∷ []) next) (sym (take_one commands n taken inside is)) (more is_safe places mid next (take n commands) before.visits taken visit before.all last);
+}
+
+pub answered_all : (is_safe : Bool) (places next : List ClerkPlace) (commands : List Taken) (n : ℕ) → length commands ≤ n → Answered is_safe places (take n commands) next → Answered is_safe places commands next
+answered_all is_safe places next commands n all is = subst (λ (l : List Taken). Answered is_safe places l next) (take_all n commands all) is
+
+-- the command behind these, with its note
+pub noted_at : (desk : List TableId) (turns : List ℕ) (commands : List Taken) (n : ℕ) (d : Taken) → n < length commands → AreNoted desk turns commands → IsNoted desk (turns_after turns (take n commands)) (get_or commands n d)
+noted_at desk turns [] n d inside all = absurd (omega arith)
+noted_at desk turns (t ∷ commands) zero d inside all = all.0
+noted_at desk turns (t ∷ commands) (suc n) d inside all = noted_at desk (turns_with turns t) commands n d (omega arith) all.1
+
+after_last : (turns : List ℕ) (xs : List Taken) (x : Taken) → turns_after turns (xs ++ x ∷ []) ≡ turns_with (turns_after turns xs) x
+after_last turns [] x = refl
+after_last turns (y ∷ xs) x = after_last (turns_with turns y) xs x
+
+pub after_more : (turns : List ℕ) (commands : List Taken) (n : ℕ) (taken : Taken) → n < length commands → taken ≡ get_or commands n taken → turns_with (turns_after turns (take n commands)) taken ≡ turns_after turns (take (n + 1) commands)
+after_more turns commands n taken inside is = sym (after_last turns (take n commands) taken) ∙ ap (turns_after turns) (sym (take_one commands n taken inside is))
+
+pub after_all : (turns : List ℕ) (commands : List Taken) (n : ℕ) → length commands ≤ n → turns_after turns (take n commands) ≡ turns_after turns commands
+after_all turns commands n all = ap (turns_after turns) (take_all n commands all)
+
+-- what is not later than these turns isn't as late as the command
+pub says_it : (desk : List TableId) (places : List ClerkPlace) (turns : List ℕ) (taken : Taken) → IsNoted desk turns taken → IsSettled places turns
+    → Says (view_at places taken.command.terminal) taken.note.word (record { number = taken.command.number; body = taken.command.body })
+says_it desk places turns taken noted settled = let before = (settled taken.command.terminal).1 in let later = noted.later in (noted.in_range, (is_below _ _ (omega arith), noted.says))
+
+-- each command's terminal is one of the desk's
+pub below_one : (count : ℕ) (commands : List Taken) (n : ℕ) (d : Taken) → n < length commands → AreBelow count (commands_in commands) → (get_or commands n d).command.terminal < count
+below_one count [] n d inside below = absurd (omega arith)
+below_one count (t ∷ commands) zero d inside below = below.0
+below_one count (t ∷ commands) (suc n) d inside below = below_one count commands n d (omega arith) below.1
+
+-- as the clerk's seats are where it is split
+pub settled_first : (clerk : List ClerkPlace) → OwesNothing clerk → IsSettled clerk (turns_of (ahead_from clerk))
+settled_first [] owes t = (λ h. omega arith, omega arith)
+settled_first (p ∷ clerk) owes zero = (owes 0 p (omega arith), omega arith)
+settled_first (p ∷ clerk) owes (suc t) = settled_first clerk (λ k d below. owes (suc k) d (omega arith)) t

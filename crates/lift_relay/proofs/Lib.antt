@@ -1,0 +1,9 @@
+pub mod Moves
+pub mod Noted
+pub mod Turns
+pub mod Scanned
+pub mod Allocated
+pub mod Flushed
+pub mod Paired
+pub mod Ran
+pub mod Crosses

@@ -1,0 +1,256 @@
+-- Each move keeps the order of the line.
+use Rattle.std.proofs.Common.{◌≡◌, ◌≢◌, ℕ, zero, suc, true, false, true≢false, List, [], ◌∷◌, ◌++◌, length, set, sym, refl, ap, ◌∙◌, subst, ⊎_elim, inl, inr, append_assoc, append-nil, ◌<◌, arith, length-append}
+use mathlib.Core.Option.{some, some-ne-none, some-injective}
+use lib.ListN.{get_elem?}
+use Rattle.crossbeam_queue.specs.Fifo.{Pushes, Pops, Forks, Learns}
+use Rattle.crossbeam_queue.proofs.Lists.{at_set, at_snoc}
+use Rattle.atomic_table.specs.Seated.{TableId}
+use Rattle.lift_building.specs.Plan.{Plan}
+use Rattle.lift_register.specs.Register.{RegisterState}
+use Rattle.lift_relay.specs.Batch.{BatchState, after, turns_behind}
+use Rattle.lift_relay.specs.declared.line.EndView.{EndView}
+use Rattle.lift_relay.specs.Line.{Begins, IsNext}
+use Rattle.lift_relay.specs.Rule.{opening, opening_view, begun_with, sending, receiving, most_batches, GoesOn, Lists, Fits, IsInOrder, IsKept, Named, Begun, Sent, Received, SentAllBut, ReceivedBefore}
+
+off : {A : Type 0} → false ≡ true → A
+off e = absurd (true≢false (sym e))
+
+goes_on_more : (building : Plan) (desk : List TableId) (first mid : RegisterState) (turns used : List ℕ) (batches : List BatchState) (batch : BatchState) → GoesOn building desk first turns batches mid used
+    → IsNext building desk mid used batch → GoesOn building desk first turns (batches ++ batch ∷ []) (after batch) (turns_behind batch)
+goes_on_more building desk first mid turns used [] batch so next = (subst (λ (p : RegisterState × List ℕ). IsNext building desk p.0 p.1 batch) (λ i. (sym so.0 i, sym so.1 i)) next, (refl, refl))
+goes_on_more building desk first mid turns used (b ∷ batches) batch so next = (so.0, goes_on_more building desk (after b) mid (turns_behind b) used batches batch so.1 next)
+
+fit_set : (l : Lists) (views : List EndView) (id : ℕ) (w : EndView) → Fits l id w
+    → ((j : ℕ) (u : EndView) → j ≢ id → get_elem? views j ≡ some u → Fits l j u) → (j : ℕ) (u : EndView) → get_elem? (set views id w) j ≡ some u → Fits l j u
+fit_set l views id w mine others j u e =
+    ⊎_elim
+    (λ (x : (j ≡ id) × (w ≡ u)). subst (λ (y : ℕ × EndView). Fits l y.0 y.1) (λ i. (sym x.0 i, x.1 i)) mine)
+    (λ (x : (j ≢ id) × (get_elem? views j ≡ some u)). others j u x.0 x.1)
+    (at_set views id j w u e)
+
+at_end : (l : List EndView) (a b : EndView) (j : ℕ) → get_elem? l j ≢ some b → get_elem? (l ++ a ∷ []) j ≡ some b → j ≡ length l
+at_end [] a b zero n e = refl
+at_end [] a b (suc j) n e = absurd (some-ne-none b (sym e))
+at_end (x ∷ xs) a b zero n e = absurd (n e)
+at_end (x ∷ xs) a b (suc j) n e = ap suc (at_end xs a b j n e)
+
+-- the line hasn't begun
+pub begins : IsKept [] (opening_view ∷ [])
+begins = inl refl
+
+-- it is the pass of the line, which has pushed what is there
+alone_at : (items : List BatchState) (views : List EndView) (id : ℕ) (v : EndView) → views ≡ opening items ∷ [] → get_elem? views id ≡ some v → (id ≡ 0) × (v ≡ opening items)
+alone_at items views id v is at = here id (subst (λ l. get_elem? l id ≡ some v) is at)
+  where
+    here : (n : ℕ) → get_elem? (opening items ∷ []) n ≡ some v → (n ≡ 0) × (v ≡ opening items)
+    here zero e = (refl, sym (some-injective (opening items) v e))
+    here (suc n) e = absurd (some-ne-none v (sym e))
+
+not_begun : {A : Type 0} (items : List BatchState) (views : List EndView) (id : ℕ) (v : EndView) → v.begun ≡ true → views ≡ opening items ∷ [] → get_elem? views id ≡ some v → A
+not_begun items views id v begun is at = off (sym (ap (λ (u : EndView). u.begun) (alone_at items views id v is at).1) ∙ begun)
+
+set_only : (views : List EndView) (u w : EndView) (id : ℕ) → id ≡ 0 → views ≡ u ∷ [] → set views id w ≡ w ∷ []
+set_only views u w id first is = ap (λ (p : ℕ × List EndView). set p.1 p.0 w) (λ i. (first i, is i))
+
+pub names : (n id : ℕ) (v : EndView) (batch : BatchState) → v ≡ opening_view → Pushes IsKept n id v batch (Named v batch)
+names n id v batch first items views few h at =
+    ⊎_elim
+    (λ is.
+    let a = alone_at items views id v is at in
+    let none : items ≡ [] = sym (ap (λ (u : EndView). u.sent) a.1) ∙ ap (λ (u : EndView). u.sent) first in (
+      opening (batch ∷ []),
+      inl (set_only views (opening items) (opening (batch ∷ [])) id a.0 is ∙ ap (λ l. opening (l ++ batch ∷ []) ∷ []) (sym none)),
+      refl,
+    ))
+    (λ (o : IsInOrder items views). off (sym (ap (λ (u : EndView). u.begun) first) ∙ (o.fits id v at).begun))
+    h
+
+head_is : (x y : BatchState) (xs : List BatchState) → x ∷ xs ≡ y ∷ [] → xs ≡ []
+head_is x y xs e = ap (λ (l : List BatchState). tail l) e
+  where
+    tail : List BatchState → List BatchState
+    tail [] = []
+    tail (z ∷ zs) = zs
+
+one : (batch : BatchState) (lists : Lists) → Fits lists 0 (begun_with batch) → (pass : ℕ) (u : EndView) → get_elem? (begun_with batch ∷ []) pass ≡ some u → Fits lists pass u
+one batch lists mine zero u e = subst (Fits lists 0) (some-injective (begun_with batch) u e) mine
+one batch lists mine (suc pass) u e = absurd (some-ne-none u (sym e))
+
+pub starts : (id : ℕ) (v : EndView) (first : BatchState) → v ≡ opening (first ∷ []) → Pops IsKept id v (Begun v)
+starts id v first is batch items views h at =
+    ⊎_elim
+    (λ only.
+    let a = alone_at (batch ∷ items) views id v only at in
+    let pushed : batch ∷ items ≡ first ∷ [] = sym (ap (λ (u : EndView). u.sent) a.1) ∙ ap (λ (u : EndView). u.sent) is in
+    let none : items ≡ [] = head_is batch first items pushed in
+    let lists : Lists = record {
+      sender = 0;
+      receiver = 0;
+      sent = [];
+      received = [];
+      building = batch.building;
+      desk = batch.desk;
+      ahead = batch.before;
+      behind = batch.before;
+      turns_ahead = batch.turns;
+      turns_behind = batch.turns;
+    } in
+    let mine : Fits lists 0 (begun_with batch) = record { begun = refl; sends = λ _. (refl, refl, ([], refl), refl, refl, refl, refl); receives = λ _. (refl, refl, ([], refl), refl, refl, refl, refl) } in (
+      begun_with batch,
+      inr (subst (λ (p : List BatchState × List EndView). IsInOrder p.0 p.1) (λ i. (sym none i, sym (set_only views (opening (batch ∷ items)) (begun_with batch) id a.0 only) i))
+          (record { lists = lists; in_order = refl; few = omega arith; goes_on = (refl, refl); fits = one batch lists mine })),
+      record { only = ap (λ (u : EndView). u.sent) a.1 ∙ ap (λ l. batch ∷ l) none; begins = refl },
+    ))
+    (λ (o : IsInOrder (batch ∷ items) views). off (sym (ap (λ (u : EndView). u.begun) is) ∙ (o.fits id v at).begun))
+    h
+
+longer : (first whole : List BatchState) (batch : BatchState) → Begins first whole → Begins first (whole ++ batch ∷ [])
+longer first whole batch b = (b.0 ++ batch ∷ [], ap (λ l. l ++ batch ∷ []) b.1 ∙ append_assoc first b.0 (batch ∷ []))
+
+sends_on : (n id : ℕ) (v : EndView) (batch : BatchState) → n ≡ 4 → v.sends ≡ true → length v.sent < most_batches → IsNext v.building v.desk v.ahead v.turns_ahead batch → (items : List BatchState) (views : List EndView) → length items < n
+    → IsInOrder items views → get_elem? views id ≡ some v → (w : EndView) × IsInOrder (items ++ batch ∷ []) (set views id w) × Sent v batch w
+sends_on n id v batch four may room next items views few h at =
+    let l = h.lists in
+    let w : EndView = record v { sent = v.sent ++ batch ∷ []; gone = l.received; ahead = after batch; turns_ahead = turns_behind batch } in
+    let mine = h.fits id v at in
+    let a = mine.sends may in
+    let sent = l.sent ++ batch ∷ [] in
+    let more : Lists = record l { sent = sent; ahead = after batch; turns_ahead = turns_behind batch } in
+    let order = ap (λ x. x ++ batch ∷ []) h.in_order ∙ append_assoc l.received items (batch ∷ []) in
+    let here : IsNext l.building l.desk l.ahead l.turns_ahead batch = record { of_building = next.of_building ∙ a.3; at_desk = next.at_desk ∙ a.4; on_register = next.on_register ∙ a.5; on_turns = next.on_turns ∙ a.6 } in
+    let kept : Fits more id w = record {
+      begun = mine.begun;
+      sends = λ _. (a.0, ap (λ x. x ++ batch ∷ []) a.1, ([], sym (append-nil l.received)), a.3, a.4, refl, refl);
+      receives = λ p. let r = mine.receives p in (r.0, r.1, longer v.known l.sent batch r.2, r.3, r.4, r.5, r.6);
+    } in (
+      w,
+      record {
+        lists = more;
+        in_order = order;
+        few = omega (arith, length-append l.sent (batch ∷ []), ap length a.1);
+        goes_on = goes_on_more l.building l.desk l.behind l.ahead l.turns_behind l.turns_ahead items batch h.goes_on here;
+        fits = fit_set more views id w kept
+            (λ j u apart e. let g = h.fits j u e in record {
+              begun = g.begun;
+              sends = λ p. absurd (apart ((g.sends p).0 ∙ sym a.0));
+              receives = λ p. let r = g.receives p in (r.0, r.1, longer u.known l.sent batch r.2, r.3, r.4, r.5, r.6);
+            });
+      },
+      record {
+        begun = refl;
+        sends = refl;
+        receives = refl;
+        sent = refl;
+        building = refl;
+        desk = refl;
+        ahead = refl;
+        turns = refl;
+        items = items;
+        few = subst (λ m. length items < m) four few;
+        before = ap (λ x. x ++ batch ∷ []) a.1 ∙ order;
+      },
+    )
+
+pub sends : (n id : ℕ) (v : EndView) (batch : BatchState) → n ≡ 4 → v.begun ≡ true → v.sends ≡ true → length v.sent < most_batches → IsNext v.building v.desk v.ahead v.turns_ahead batch → Pushes IsKept n id v batch (Sent v batch)
+sends n id v batch four begun may room next items views few h at =
+    ⊎_elim (λ is. not_begun items views id v begun is at) (λ o. let s = sends_on n id v batch four may room next items views few o at in (s.0, inr s.1, s.2)) h
+
+receives_on : (id : ℕ) (v : EndView) → v.receives ≡ true → (batch : BatchState) (items : List BatchState) (views : List EndView) → IsInOrder (batch ∷ items) views → get_elem? views id ≡ some v
+    → (w : EndView) × IsInOrder items (set views id w) × Received v batch w
+receives_on id v may batch items views h at =
+    let l = h.lists in
+    let w : EndView = record v { received = v.received ++ batch ∷ []; known = l.sent; behind = after batch; turns_behind = turns_behind batch } in
+    let mine = h.fits id v at in
+    let a = mine.receives may in
+    let received = l.received ++ batch ∷ [] in
+    let fewer : Lists = record l { received = received; behind = after batch; turns_behind = turns_behind batch } in
+    let order = h.in_order ∙ sym (append_assoc l.received (batch ∷ []) items) in
+    let first = h.goes_on.0 in
+    let kept : Fits fewer id w = record {
+      begun = mine.begun;
+      sends = λ p. let r = mine.sends p in (r.0, r.1, longer v.gone l.received batch r.2, r.3, r.4, r.5, r.6);
+      receives = λ _. (a.0, ap (λ x. x ++ batch ∷ []) a.1, ([], sym (append-nil l.sent)), a.3, a.4, refl, refl);
+    } in (
+      w,
+      record {
+        lists = fewer;
+        in_order = order;
+        few = h.few;
+        goes_on = h.goes_on.1;
+        fits = fit_set fewer views id w kept
+            (λ j u apart e. let g = h.fits j u e in record {
+              begun = g.begun;
+              sends = λ p. let r = g.sends p in (r.0, r.1, longer u.gone l.received batch r.2, r.3, r.4, r.5, r.6);
+              receives = λ p. absurd (apart ((g.receives p).0 ∙ sym a.0));
+            });
+      },
+      record {
+        begun = refl;
+        sends = refl;
+        receives = refl;
+        received = refl;
+        building = refl;
+        desk = refl;
+        next = record { of_building = first.of_building ∙ sym a.3; at_desk = first.at_desk ∙ sym a.4; on_register = first.on_register ∙ sym a.5; on_turns = first.on_turns ∙ sym a.6 };
+        behind = refl;
+        turns = refl;
+        known = (items, order ∙ ap (λ x. (x ++ batch ∷ []) ++ items) (sym a.1));
+        few = let most = h.few in omega (arith, ap length order, length-append received items, length-append l.received (batch ∷ []), length-append v.received (batch ∷ []), ap length a.1);
+      },
+    )
+
+pub receives : (id : ℕ) (v : EndView) → v.begun ≡ true → v.receives ≡ true → Pops IsKept id v (Received v)
+receives id v begun may batch items views h at =
+    ⊎_elim (λ is. not_begun (batch ∷ items) views id v begun is at) (λ o. let s = receives_on id v may batch items views o at in (s.0, inr s.1, s.2)) h
+
+pub sender_learns : (id : ℕ) (v : EndView) → v.begun ≡ true → v.sends ≡ true → Learns IsKept id v (SentAllBut v)
+sender_learns id v begun may items views h at =
+    ⊎_elim
+    (λ is. not_begun items views id v begun is at)
+    (λ (o : IsInOrder items views). let a = (o.fits id v at).sends may in record { received = o.lists.received; all = a.1 ∙ o.in_order; later = a.2 })
+    h
+
+pub receiver_learns : (id : ℕ) (v : EndView) → v.begun ≡ true → v.receives ≡ true → Learns IsKept id v (ReceivedBefore v)
+receiver_learns id v begun may items views h at =
+    ⊎_elim
+    (λ is. not_begun items views id v begun is at)
+    (λ (o : IsInOrder items views). let a = (o.fits id v at).receives may in record { sent = o.lists.sent; all = o.in_order ∙ ap (λ x. x ++ items) (sym a.1); later = a.2 })
+    h
+
+-- the pass with both rights leaves one to a new pass
+ends_on : (id : ℕ) (v : EndView) → v.sends ≡ true → v.receives ≡ true → (items : List BatchState) (views : List EndView) → IsInOrder items views → get_elem? views id ≡ some v
+    → IsInOrder items (set views id (sending v) ++ receiving v ∷ [])
+ends_on id v may takes items views h at =
+    let l = h.lists in
+    let mine = h.fits id v at in
+    let a = mine.sends may in
+    let b = mine.receives takes in
+    let vs = set views id (sending v) in
+    let next : Lists = record l { receiver = length vs } in
+    let Old : ℕ → EndView → Type 0 = λ j u. Fits next j u × (u.receives ≢ true) in
+    let old : (j : ℕ) (u : EndView) → get_elem? vs j ≡ some u → Old j u = λ j u e.
+    ⊎_elim
+    (λ (x : (j ≡ id) × (sending v ≡ u)). subst (λ (y : ℕ × EndView). Old y.0 y.1) (λ i. (sym x.0 i, x.1 i)) (record { begun = mine.begun; sends = λ _. a; receives = λ p. off p }, λ p. off p))
+    (λ (x : (j ≢ id) × (get_elem? views j ≡ some u)).
+    let g = h.fits j u x.1 in
+    let no : u.receives ≢ true = λ p. x.0 ((g.receives p).0 ∙ sym b.0) in
+    (record { begun = g.begun; sends = g.sends; receives = λ p. absurd (no p) }, no))
+    (at_set views id j (sending v) u e) in
+    record {
+      lists = next;
+      in_order = h.in_order;
+      few = h.few;
+      goes_on = h.goes_on;
+      fits = λ j u e. ⊎_elim
+          (λ (x : get_elem? vs j ≡ some u). (old j u x).0)
+          (λ (is : receiving v ≡ u). subst (Fits next j) is (record {
+            begun = mine.begun;
+            sends = λ p. off p;
+            receives = λ p. (at_end vs (receiving v) (receiving v) j (λ x. (old j (receiving v) x).1 takes) (e ∙ ap (λ (y : EndView). some y) (sym is)), b.1, b.2, b.3, b.4, b.5, b.6);
+          }))
+          (at_snoc vs (receiving v) u j e);
+    }
+
+pub ends : (id : ℕ) (v : EndView) → v.begun ≡ true → v.sends ≡ true → v.receives ≡ true → Forks IsKept id v (sending v) (receiving v)
+ends id v begun may takes items views h at =
+    ⊎_elim (λ is. not_begun items views id v begun is at) (λ o. inr (ends_on id v may takes items views o at)) h

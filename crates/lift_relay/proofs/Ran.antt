@@ -1,0 +1,76 @@
+-- What a run leaves, of both parts.
+use Rattle.std.proofs.Common.{◌≡◌, true, [], length, Option, Some, None, refl, ap, subst, inl, inr, ◌⊎◌, sym, ◌∙◌}
+use Rattle.lift_disk.specs.Disk.{DiskState}
+use Rattle.lift_policy.specs.Eligible.{Choice}
+use Rattle.lift_keeper.specs.declared.fault.KeeperFault.{KeeperFault}
+use Rattle.lift_relay.specs.declared.pair.RunFault.{RunFault}
+use Rattle.lift_relay.specs.declared.pair.RunFault.TheVariants.{Keeper, Spawn}
+use Rattle.lift_relay.specs.Allocator.{AllocatorState}
+use Rattle.lift_relay.specs.Flusher.{FlusherState}
+use Rattle.lift_relay.specs.Pair.{AllocatorTurns, FlusherTurns, fault_of, HaveRun, IsRun, IsSameAllocator, IsSameFlusher}
+use Rattle.lift_relay.proofs.Paired.{turns_joined, flushes_joined, same_allocator, same_flusher, faults_broken}
+
+abbrev fault_in : Option RunFault → Option KeeperFault
+fault_in None = None
+fault_in (Some (Keeper fault)) = Some fault
+fault_in (Some Spawn) = None
+
+keeper_of : (first : Option KeeperFault) (fault : KeeperFault) → fault_of first ≡ Some (Keeper fault) → first ≡ Some fault
+keeper_of None fault is = ap fault_in is
+keeper_of (Some e) fault is = ap fault_in is
+
+abbrev is_spawn : Option RunFault → Type 0
+is_spawn None = ⊥
+is_spawn (Some (Keeper fault)) = ⊥
+is_spawn (Some Spawn) = Unit {0}
+
+not_spawn : (first : Option KeeperFault) → is_spawn (fault_of first) → ⊥
+not_spawn None is = is
+not_spawn (Some e) is = is
+
+module _ {D P : Type 0} (choice : Choice) (state : D → DiskState) (a b : AllocatorState P) (f g : FlusherState D) (fault : Option RunFault) where
+  pub refused_of : IsRun choice state a b f g fault → fault ≡ Some Spawn → (b ≡ a) × (g ≡ f)
+  refused_of (inl refused) is = refused.1
+  refused_of (inr run) is = absurd (not_spawn run.first (subst is_spawn (sym is ∙ run.is_first) tt))
+
+  pub ran_of : IsRun choice state a b f g fault → (fault ≡ Some Spawn → ⊥) → HaveRun choice state a b f g fault
+  ran_of (inl refused) goes = absurd (goes refused.0)
+  ran_of (inr run) goes = run
+
+  pub broken_of : IsRun choice state a b f g fault → (of : KeeperFault) → fault ≡ Some (Keeper of) → g.writer.is_broken ≡ true
+  broken_of (inl refused) of is = absurd (subst is_spawn (sym refused.0 ∙ is) tt)
+  broken_of (inr run) of is = faults_broken state f g None run.first run.flusher (λ e none. absurd (cc)) of (keeper_of run.first of (sym run.is_first ∙ is))
+
+  pub allocator_of : IsRun choice state a b f g fault → IsSameAllocator a b
+  allocator_of (inl refused) = let same = refused.1.0 in record {
+    line = ap (λ (s : AllocatorState P). s.end.line) same;
+    desk = ap (λ (s : AllocatorState P). s.desk) same;
+    plan = ap (λ (s : AllocatorState P). s.plan) same;
+    policy = ap (λ (s : AllocatorState P). s.policy) same;
+    start = ap (λ (s : AllocatorState P). s.start) same;
+  }
+  allocator_of (inr run) = same_allocator choice a b run.allocator
+
+  pub flusher_of : IsRun choice state a b f g fault → IsSameFlusher f g
+  flusher_of (inl refused) = let same = refused.1.1 in record {
+    line = ap (λ (s : FlusherState D). s.end.line) same;
+    desk = ap (λ (s : FlusherState D). s.desk) same;
+    plan = ap (λ (s : FlusherState D). s.writer.plan) same;
+    half = ap (λ (s : FlusherState D). s.writer.half) same;
+    opened = ap (λ (s : FlusherState D). s.writer.opened) same;
+  }
+  flusher_of (inr run) = same_flusher state f g None run.first run.flusher
+
+-- a drain behind the turns of both parts
+pub have_run : {D P : Type 0} (chooses : P → Choice) (state : D → DiskState) (a b c : AllocatorState P) (f g h : FlusherState D) (first last : Option KeeperFault) (fault : Option RunFault)
+    → AllocatorTurns (chooses a.policy) a b → FlusherTurns state f None g first → AllocatorTurns (chooses b.policy) b c → FlusherTurns state g first h last
+    → c.hand ≡ [] → length c.end.sent ≡ length h.end.received → fault ≡ fault_of last → HaveRun (chooses a.policy) state a c f h fault
+have_run {D} {P} chooses state a b c f g h first last fault turns flushes rest drain none all is = record {
+  first = last;
+  is_first = is;
+  allocator = turns_joined (chooses a.policy) a b c turns
+      (subst (λ (p : P). AllocatorTurns (chooses p) b c) (same_allocator (chooses a.policy) a b turns).policy rest);
+  flusher = flushes_joined state f g h None first last flushes drain;
+  nothing_in_hand = none;
+  all_received = all;
+}

@@ -1,0 +1,115 @@
+-- A scan ahead of the answers that has come one terminal further, and what a whole one leaves.
+use Rattle.std.proofs.Common.{◌≡◌, ℕ, zero, suc, ◌+◌, ◌<◌, ◌≤◌, ◌^◌, true, false, List, [], ◌∷◌, ◌++◌, length, get_or, Option, Some, None, refl, sym, ap, ◌∙◌, subst, arith, length-append}
+use Rattle.std.specs.Prelude.{IfSome, IsSome}
+use Rattle.std.specs.List.{AllByRecursion}
+use Rattle.std.proofs.lemmas.List.{map-append}
+use Rattle.lift_base.specs.declared.command.Reply.{Reply}
+use Rattle.lift_building.specs.Plan.{Plan}
+use Rattle.lift_register.specs.Register.{RegisterState, register_of}
+use Rattle.lift_register.specs.Fits.{FitFrom}
+use Rattle.lift_desk.specs.declared.view.ClerkView.{ClerkView}
+use Rattle.lift_desk.specs.declared.words.Ask.{Ask}
+use Rattle.lift_desk.specs.Words.{last_of, turn_of}
+use Rattle.lift_desk.specs.Spelled.{IsAsk}
+use Rattle.lift_desk.specs.Steps.{with_taking}
+use Rattle.lift_desk.specs.Seats.{ClerkPlace, no_place, view_at, clerk_with, TakesAheadOf, IsToldAhead}
+use Rattle.lift_desk.proofs.Places.{view_at-here}
+use Rattle.lift_policy.specs.declared.command.Command.{Command}
+use Rattle.lift_policy.specs.Eligible.{Choice}
+use Rattle.lift_policy.specs.Laws.{RunsJoin, StepsJoinAtMostOne}
+use Rattle.lift_policy.specs.Run.{Run}
+use Rattle.lift_policy.specs.Step.{State}
+use Rattle.lift_keeper.specs.Keeper.{IsKeeper}
+use Rattle.lift_keeper.proofs.Keepers.{decided_keeper, settled_keeper}
+use Rattle.lift_clerk.specs.Visits.{Visit, command_at, commands_of, served}
+use Rattle.lift_clerk.proofs.Visiting.{commands-more, looked-more, untouched}
+use Rattle.lift_relay.specs.declared.batch.Taken.{Taken}
+use Rattle.lift_relay.specs.Batch.{commands_in, replies_in, AreBelow}
+use Rattle.lift_relay.specs.Scan.{TakesAt, TakesEach, ScansAhead}
+
+takes-more : (places : List ClerkPlace) (visits : List Visit) (n : ℕ) (v : Visit) → n ≡ length visits → n < length places → TakesEach places visits → TakesAt (get_or places n no_place) v
+    → TakesEach places (visits ++ v ∷ [])
+takes-more [] visits n v e h takes here = absurd (omega arith)
+takes-more (p ∷ places) [] zero v e h takes here = (here, tt)
+takes-more (p ∷ places) [] (suc n) v e h takes here = absurd (omega arith)
+takes-more (p ∷ places) (u ∷ visits) zero v e h takes here = absurd (omega arith)
+takes-more (p ∷ places) (u ∷ visits) (suc n) v e h takes here = (takes.0, takes-more places visits n v (omega arith) (omega arith) takes.1 here)
+
+-- nothing was looked at
+pub scans-none : (choice : Choice) (plan : Plan) (places : List ClerkPlace) (state : State) → ScansAhead choice plan places places state state [] 0
+scans-none choice plan places state = record { visits = []; count = refl; takes = tt; looked = refl; commands = refl; run = refl }
+
+-- what the call says of one look
+pub record Looked (seat next : List ClerkPlace) (n word : ℕ) (found : Option Ask) : Type 0 where
+  pub seat_is : next ≡ clerk_with seat n (with_taking (view_at seat n) word)
+  pub takes : TakesAheadOf (view_at seat n) word found
+  pub in_range : IfSome found IsAsk
+  pub turn : IsSome found → turn_of (last_of (with_taking (view_at seat n) word).taken) < 2 ^ 20
+  pub known : length (view_at seat n).told ≤ turn_of (last_of (with_taking (view_at seat n) word).taken)
+  pub told : (ask : Ask) → IsToldAhead (view_at seat n) ask → IsSome found × (turn_of (last_of (with_taking (view_at seat n) word).taken) ≡ length (view_at seat n).told → found ≡ Some ask)
+
+pub looked-at : (seat next : List ClerkPlace) (n word : ℕ) (found : Option Ask) → n < length seat → next ≡ clerk_with seat n (with_taking (view_at seat n) word) → TakesAheadOf (view_at seat n) word found
+    → IfSome found IsAsk → (IsSome found → turn_of (last_of (view_at next n).taken) < 2 ^ 20) → length (view_at seat n).told ≤ turn_of (last_of (view_at next n).taken)
+    → ((ask : Ask) → IsToldAhead (view_at seat n) ask → IsSome found × (turn_of (last_of (view_at next n).taken) ≡ length (view_at seat n).told → found ≡ Some ask)) → Looked seat next n word found
+looked-at seat next n word found inside is takes in_range turn known told =
+    let here : view_at next n ≡ with_taking (view_at seat n) word = ap (λ l. view_at l n) is ∙ view_at-here seat n (with_taking (view_at seat n) word) inside in
+    record {
+      seat_is = is;
+      takes = takes;
+      in_range = in_range;
+      turn = subst (λ (w : ClerkView). IsSome found → turn_of (last_of w.taken) < 2 ^ 20) here turn;
+      known = subst (λ (w : ClerkView). length (view_at seat n).told ≤ turn_of (last_of w.taken)) here known;
+      told = subst (λ (w : ClerkView). (ask : Ask) → IsToldAhead (view_at seat n) ask → IsSome found × (turn_of (last_of w.taken) ≡ length (view_at seat n).told → found ≡ Some ask)) here told;
+    }
+
+pub scans-more : (choice : Choice) (plan : Plan) (places seat next : List ClerkPlace) (before mid after : State) (taken others : List Taken) (n word : ℕ) (found : Option Ask)
+    → RunsJoin choice → n < length places → ScansAhead choice plan places seat before mid taken n → Looked seat next n word found
+    → commands_in others ≡ command_at n found
+    → Run plan choice mid (commands_in others) (replies_in others) after
+    → ScansAhead choice plan places next before after (taken ++ others) (suc n)
+scans-more choice plan places seat next before mid after taken others n word found join inside old look same decides =
+    let visits = old.visits in
+    let v : Visit = record { word = word; found = found } in
+    let count : n ≡ length visits = sym old.count in
+    let here : view_at seat n ≡ view_at places n = ap (λ l. view_at l n) old.looked ∙ ap (λ (p : ClerkPlace). p.view) (untouched places visits [] n no_place (omega arith)) in
+    let takes : TakesAt (get_or places n no_place) v = record {
+      reads = subst (λ (w : ClerkView). TakesAheadOf w word found) here look.takes;
+      in_range = look.in_range;
+      turn = subst (λ (w : ClerkView). IsSome found → turn_of (last_of (with_taking w word).taken) < 2 ^ 20) here look.turn;
+      known = subst (λ (w : ClerkView). length w.told ≤ turn_of (last_of (with_taking w word).taken)) here look.known;
+      told = subst (λ (w : ClerkView). (ask : Ask) → IsToldAhead w ask → IsSome found × (turn_of (last_of (with_taking w word).taken) ≡ length w.told → found ≡ Some ask)) here look.told;
+    } in
+    record {
+      visits = visits ++ v ∷ [];
+      count = omega (arith, length-append visits (v ∷ []));
+      takes = takes-more places visits n v count inside old.takes takes;
+      looked = look.seat_is ∙ ap (λ l. clerk_with l n (with_taking (view_at l n) word)) old.looked ∙ looked-more places visits [] n v refl count inside;
+      commands = map-append (λ (t : Taken). t.command) taken others ∙ ap (λ l. l ++ commands_in others) old.commands ∙ ap (λ l. commands_of 0 visits ++ l) same ∙ sym (commands-more 0 n visits v (omega arith));
+      run = subst (λ (p : List Command × List Reply). Run plan choice before p.0 p.1 after) (λ i. (sym (map-append (λ (t : Taken). t.command) taken others) i, sym (map-append (λ (t : Taken). t.reply) taken others) i))
+          (join plan before mid after (commands_in taken) (commands_in others) (replies_in taken) (replies_in others) old.run decides);
+    }
+
+-- what looks from a terminal on took is of the terminals up to the last look
+below_at : (first n : ℕ) (found : Option Ask) (rest : List Command) → first < n → AreBelow n rest → AreBelow n (command_at first found ++ rest)
+below_at first n None rest lt below = below
+below_at first n (Some ask) rest lt below = (lt, below)
+
+pub below : (first n : ℕ) (visits : List Visit) → first + length visits ≤ n → AreBelow n (commands_of first visits)
+below first n [] h = tt
+below first n (v ∷ visits) h = below_at first n v.found (commands_of (suc first) visits) (omega arith) (below (suc first) n visits (omega arith))
+
+-- along a run all that is accepted fits behind what was shown before
+pub keeps-run : (choice : Choice) → StepsJoinAtMostOne choice → (plan : Plan) (safe : RegisterState) → register_of safe [] ≡ safe → (state next : State) (commands : List Command) (replies : List Reply)
+    → IsKeeper plan state plan safe false → Run plan choice state commands replies next → IsKeeper plan next plan safe false
+keeps-run choice joins plan safe same state next [] [] keeper run = subst (λ (s : State). IsKeeper plan s plan safe false) (sym run) keeper
+keeps-run choice joins plan safe same state next [] (r ∷ replies) keeper run = absurd run
+keeps-run choice joins plan safe same state next (c ∷ commands) [] keeper run = absurd run
+keeps-run choice joins plan safe same state next (c ∷ commands) (r ∷ replies) keeper run =
+    let mid = run.0 in
+    let one = decided_keeper plan state mid plan plan safe false c.terminal c.number c.body keeper same refl (joins plan state c.terminal c.number c.body r mid run.1) in
+    keeps-run choice joins plan safe same mid next commands replies one run.2
+
+pub run-keeps : (choice : Choice) → StepsJoinAtMostOne choice → (plan : Plan) (state next : State) (commands : List Command) (replies : List Reply) → register_of state.register [] ≡ state.register → state.batch ≡ []
+    → Run plan choice state commands replies next → IsKeeper plan next plan state.register false
+run-keeps choice joins plan state next commands replies same none run =
+    keeps-run choice joins plan state.register same state next commands replies (settled_keeper plan state plan state.register false refl none same (λ _. refl)) run

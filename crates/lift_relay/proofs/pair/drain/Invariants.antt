@@ -1,0 +1,9 @@
+use Rattle.std.proofs.Common.{◌≡◌}
+use Rattle.lift_relay.specs.Pair.{AllocatorTurns, FlusherTurns}
+use Rattle.lift_relay.proofs.pair.drain.Given as goal
+
+abbrev pub invariant-loop : goal.invariant-loop
+invariant-loop g l = record {
+  allocator : AllocatorTurns (g.P.Policy.chooses l.fn.allocator.policy) l.fn.allocator l.allocator;
+  flusher : FlusherTurns g.D.Disk.state l.fn.flusher l.fn.first l.flusher l.first;
+}

@@ -1,0 +1,6 @@
+use Rattle.std.proofs.Common.{None}
+use Rattle.lift_relay.specs.Pair.{FlusherTurns}
+use Rattle.lift_relay.proofs.pair.flush.Given as goal
+
+abbrev pub invariant-loop : goal.invariant-loop
+invariant-loop g l = FlusherTurns g.D.Disk.state l.fn.flusher None l.flusher l.first

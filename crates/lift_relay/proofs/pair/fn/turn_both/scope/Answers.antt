@@ -1,0 +1,49 @@
+use Rattle.std.proofs.Common.{rules, ◌≡◌, [], ◌∷◌, refl, sym, ◌∙◌, subst}
+use mir.Syntax.{Sym}
+use denote.RattleType.{RattleType}
+use denote.Exit.{no}
+use denote.Param.{param}
+use denote.Struct.Tuple.{TupleAt}
+use denote.Param.Send.{IsSend, IsSync, sendable, param_send, arg_send, shr_send}
+use Rattle.core.specs.contracts.atomic.AtomicBool as AtomicBool
+use Rattle.core.proofs.atomic.AtomicBool.TheSendSync as flag_is
+use Rattle.lift_policy.specs.Eligible.{Choice}
+use Rattle.lift_relay.specs.Allocator.{AllocatorState}
+use Rattle.lift_relay.specs.Pair.{AllocatorTurns, NoMore, NoFlush}
+use Rattle.lift_relay.proofs.Crosses.{allocator_send, allocating_send}
+use Rattle.lift_relay.proofs.pair.fn.turn_both.scope.Goals as goal
+
+none_made : {P : Type 0} (choice : Choice) (a b : AllocatorState P) → b ≡ a → AllocatorTurns choice a b
+none_made {P} choice a b is = subst (λ (x : AllocatorState P). AllocatorTurns choice a x) (sym is) NoMore
+
+pub returns-in-Idle : goal.returns-in-Idle
+returns-in-Idle g c =
+    let kept : c.in-Ok.child.promise.0.value ≡ c.captures.allocator = search rules in
+    (none_made (g.P.Policy.chooses c.captures.allocator.policy) c.captures.allocator c.in-Idle.allocator (c.in-Idle.ensures ∙ kept), c.flush-first.ensures)
+
+pub returns-in-Idle-2 : goal.returns-in-Idle-2
+returns-in-Idle-2 g c =
+    let back : c.in-Err.refused.value.2 ≡ c.captures.allocator = search rules in
+    (c.in-Idle-2.ensures ∙ back, refl)
+
+pub returns-in-Ran-2 : goal.returns-in-Ran-2
+returns-in-Ran-2 g c =
+    let back : c.in-Err.refused.value.2 ≡ c.captures.allocator = search rules in
+    (subst (λ (a : AllocatorState g.row.P.Denot). AllocatorTurns (g.P.Policy.chooses a.policy) a c.in-Ran-2.allocator) back c.in-Ran-2.ensures, NoFlush)
+
+-- what the thread's closure captures
+captures_send : (ν : Sym) (A B C D : RattleType) → IsSend A → IsSend B → IsSend C → IsSend D → IsSend (TupleAt ν (A ∷ B ∷ C ∷ D ∷ []))
+captures_send ν A B C D a b c d = search sendable depth 20
+
+pub spawn_with-requires-send-T : goal.spawn_with-requires-send-T
+spawn_with-requires-send-T g c = λ κs h.
+    let p : IsSend (param 3 g.row.P) = c.requires-raw.1.1.1.1.0 in
+    param_send 3 _ (arg_send _ no _ (allocating_send _ _ (param 3 g.row.P) _ p))
+
+pub spawn_with-requires-send-F : goal.spawn_with-requires-send-F
+spawn_with-requires-send-F g c = λ κs h.
+    let p : IsSend (param 3 g.row.P) = c.requires-raw.1.1.1.1.0 in
+    let rt : IsSync (param 0 g.row.R) = c.requires-raw.1.1.1.1.1.0 in
+    let gate : IsSync (param 1 g.row.G) = c.requires-raw.1.1.1.1.1.1 in
+    let flag : IsSync AtomicBool.the_row = flag_is.the_sync in
+    param_send 2 _ (arg_send _ no _ (captures_send _ _ _ _ _ (shr_send _ _ _ rt) (shr_send _ _ _ flag) (allocator_send _ _ (param 3 g.row.P) _ p) (shr_send _ _ _ gate)))

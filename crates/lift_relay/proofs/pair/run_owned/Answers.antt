@@ -1,0 +1,23 @@
+use Rattle.std.proofs.Common.{◌≡◌, inr, sym, ap, ◌∙◌, subst}
+use Rattle.lift_relay.specs.declared.pair.Turned.{Turned}
+use Rattle.lift_relay.specs.Pair.{HaveTurned, fault_of}
+use Rattle.lift_relay.proofs.Ran.{have_run}
+use Rattle.lift_relay.proofs.pair.run_owned.Goals.{in-Some, in-None}
+use Rattle.lift_relay.proofs.pair.run_owned.Goals as goal
+
+pub returns-after-drain : goal.returns-after-drain
+returns-after-drain g c =
+    let chooses = g.P.Policy.chooses in
+    let state = g.D.Disk.state in
+    let both = c.turn_both-allocator in
+    let drained = c.drain in
+    let a = c.args.allocator in
+    let f = c.args.flusher in
+    let turned = subst (λ (t : Turned). HaveTurned (chooses a.policy) state a both.result.0 f both.result.1 t) c.in-Done.is both.ensures in
+    let is : c.match-drain.fault ≡ fault_of drained.result =
+    elim c.match-drain.branch [
+      | in-Some w ↦ w.fault-is ∙ ap fault_of (sym w.in-Some.is)
+      | in-None w ↦ w.fault-is ∙ ap fault_of (sym w.in-None.is)
+    ] in
+    inr (have_run chooses state a both.result.0 drained.new.allocator f both.result.1 drained.new.flusher c.in-Done.first drained.result c.match-drain.fault
+    turned.0 turned.1 drained.ensures.allocator drained.ensures.flusher drained.ensures.nothing_in_hand drained.ensures.all_received is)

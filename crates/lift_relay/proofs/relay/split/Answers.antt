@@ -1,0 +1,15 @@
+use Rattle.std.proofs.Common.{◌≡◌, ℕ, List, sym, ap, ◌∙◌, subst}
+use Rattle.lift_desk.specs.Seats.{ClerkPlace, ahead_from}
+use Rattle.lift_relay.specs.Batch.{BatchState, turns_of}
+use Rattle.lift_relay.specs.Line.{ReceiveState}
+use Rattle.lift_relay.specs.Flusher.{IsSettled}
+use Rattle.lift_relay.proofs.Flushed.{settled_first}
+use Rattle.lift_relay.proofs.relay.split.Goals as goal
+
+pub new-requires-4-clause-settled : goal.new-requires-4-clause-settled
+new-requires-4-clause-settled g c =
+    let seat = c.into_parts-seat.result.0 in
+    let split = c.split-ahead.ensures in
+    let turns : turns_of (ahead_from seat) ≡ c.in-Ok.ends.1.turns =
+    sym (ap turns_of (c.of-2.ensures ∙ split.ahead)) ∙ sym (ap (λ (b : BatchState). b.turns) c.new-first.ensures) ∙ sym (ap (λ (r : ReceiveState). r.turns) c.in-Ok.ensures.receiver_is) in
+    subst (λ (p : List ClerkPlace × List ℕ). IsSettled p.0 p.1) (λ k. (sym split.clerk k, turns k)) (settled_first seat c.into_parts-seat.ensures.answered)

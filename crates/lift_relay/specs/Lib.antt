@@ -1,0 +1,10 @@
+pub mod Batch
+pub mod Line
+pub mod Rule
+pub mod SendInside
+pub mod ReceiveInside
+pub mod Scan
+pub mod Allocator
+pub mod Flusher
+pub mod Relay
+pub mod Pair

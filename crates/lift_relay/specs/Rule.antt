@@ -1,0 +1,142 @@
+-- What was received, and then what the line holds, is what was sent. One pass at most sends, and one receives. Each batch goes
+-- on from the one before it.
+use Rattle.std.specs.Prelude.{◌≡◌, ◌⊎◌, ℕ, true, false, List, [], ◌∷◌, ◌++◌, ◌<◌, ◌≤◌, length}
+use mathlib.Core.Option.{some}
+use lib.ListN.{get_elem?}
+use Rattle.atomic_table.specs.Seated.{TableId}
+use Rattle.lift_building.specs.Plan.{Plan}
+use Rattle.lift_register.specs.Register.{RegisterState, empty}
+use Rattle.lift_relay.specs.Batch.{BatchState, after, turns_behind}
+use Rattle.lift_relay.specs.declared.line.EndView.{EndView}
+use Rattle.lift_relay.specs.Line.{Begins, IsNext}
+
+abbrev pub no_building : Plan
+no_building = record { floors = 0; door_ms = 0; kiosks = []; flights = []; cars = [] }
+
+-- a pass of a line that hasn't begun, which has pushed these
+abbrev pub opening : List BatchState → EndView
+opening pushed = record {
+  begun = false;
+  sends = false;
+  receives = false;
+  sent = pushed;
+  received = [];
+  gone = [];
+  known = [];
+  building = no_building;
+  desk = [];
+  ahead = empty;
+  behind = empty;
+  turns_ahead = [];
+  turns_behind = [];
+}
+
+abbrev pub opening_view : EndView
+opening_view = opening []
+
+-- the pass once the line has begun with this batch
+abbrev pub begun_with : BatchState → EndView
+begun_with first = record {
+  begun = true;
+  sends = true;
+  receives = true;
+  sent = [];
+  received = [];
+  gone = [];
+  known = [];
+  building = first.building;
+  desk = first.desk;
+  ahead = first.before;
+  behind = first.before;
+  turns_ahead = first.turns;
+  turns_behind = first.turns;
+}
+
+abbrev pub sending : EndView → EndView
+sending v = record v { receives = false }
+
+abbrev pub receiving : EndView → EndView
+receiving v = record v { sends = false }
+
+-- each of these batches goes on from the register and the turns that those before it leave, from these to those
+abbrev pub GoesOn : Plan → List TableId → RegisterState → List ℕ → List BatchState → RegisterState → List ℕ → Type 0
+GoesOn building desk first turns [] last ended = (first ≡ last) × (turns ≡ ended)
+GoesOn building desk first turns (batch ∷ batches) last ended = IsNext building desk first turns batch × GoesOn building desk (after batch) (turns_behind batch) batches last ended
+
+-- each batch takes a turn of some terminal: 63 terminals of 1,048,575 turns
+abbrev pub most_batches : ℕ
+most_batches = 66060225
+
+-- what the line has seen so far
+pub record Lists : Type 0 where
+  pub sender : ℕ
+  pub receiver : ℕ
+  pub sent : List BatchState
+  pub received : List BatchState
+  pub building : Plan
+  pub desk : List TableId
+  pub ahead : RegisterState
+  pub behind : RegisterState
+  pub turns_ahead : List ℕ
+  pub turns_behind : List ℕ
+
+pub record Fits (l : Lists) (pass : ℕ) (v : EndView) : Type 0 where
+  pub begun : v.begun ≡ true
+  pub sends : v.sends ≡ true → (pass ≡ l.sender) × (v.sent ≡ l.sent) × Begins v.gone l.received × (v.building ≡ l.building) × (v.desk ≡ l.desk) × (v.ahead ≡ l.ahead) × (v.turns_ahead ≡ l.turns_ahead)
+  pub receives : v.receives ≡ true → (pass ≡ l.receiver) × (v.received ≡ l.received) × Begins v.known l.sent × (v.building ≡ l.building) × (v.desk ≡ l.desk) × (v.behind ≡ l.behind) × (v.turns_behind ≡ l.turns_behind)
+
+pub record IsInOrder (items : List BatchState) (views : List EndView) : Type 0 where
+  pub lists : Lists
+  pub in_order : lists.sent ≡ lists.received ++ items
+  pub few : length lists.sent ≤ most_batches
+  pub goes_on : GoesOn lists.building lists.desk lists.behind lists.turns_behind items lists.ahead lists.turns_ahead
+  pub fits : (pass : ℕ) (v : EndView) → get_elem? views pass ≡ some v → Fits lists pass v
+
+-- the line is in order, or hasn't begun, and then one pass has pushed all that is there
+abbrev pub IsKept : List BatchState → List EndView → Type 0
+IsKept items views = (views ≡ opening items ∷ []) ⊎ IsInOrder items views
+
+abbrev pub Named : EndView → BatchState → EndView → Type 0
+Named v batch w = w ≡ opening (batch ∷ [])
+
+pub record Begun (v : EndView) (batch : BatchState) (w : EndView) : Type 0 where
+  pub only : v.sent ≡ batch ∷ []
+  pub begins : w ≡ begun_with batch
+
+pub record Sent (v : EndView) (batch : BatchState) (w : EndView) : Type 0 where
+  pub begun : w.begun ≡ v.begun
+  pub sends : w.sends ≡ v.sends
+  pub receives : w.receives ≡ v.receives
+  pub sent : w.sent ≡ v.sent ++ batch ∷ []
+  pub building : w.building ≡ v.building
+  pub desk : w.desk ≡ v.desk
+  pub ahead : w.ahead ≡ after batch
+  pub turns : w.turns_ahead ≡ turns_behind batch
+  pub items : List BatchState
+  pub few : length items < 4
+  pub before : w.sent ≡ w.gone ++ (items ++ batch ∷ [])
+
+pub record Received (v : EndView) (batch : BatchState) (w : EndView) : Type 0 where
+  pub begun : w.begun ≡ v.begun
+  pub sends : w.sends ≡ v.sends
+  pub receives : w.receives ≡ v.receives
+  pub received : w.received ≡ v.received ++ batch ∷ []
+  pub building : w.building ≡ v.building
+  pub desk : w.desk ≡ v.desk
+  pub next : IsNext v.building v.desk v.behind v.turns_behind batch
+  pub behind : w.behind ≡ after batch
+  pub turns : w.turns_behind ≡ turns_behind batch
+  pub known : Begins w.received w.known
+  pub few : length w.received ≤ most_batches
+
+-- what was sent ends with what the line holds, and what was received by the last push is not among it
+pub record SentAllBut (v : EndView) (items : List BatchState) : Type 0 where
+  pub received : List BatchState
+  pub all : v.sent ≡ received ++ items
+  pub later : Begins v.gone received
+
+-- what was received begins what was sent, what the line holds goes on with it, and all that was known to be sent is there
+pub record ReceivedBefore (v : EndView) (items : List BatchState) : Type 0 where
+  pub sent : List BatchState
+  pub all : sent ≡ v.received ++ items
+  pub later : Begins v.known sent

@@ -1,0 +1,193 @@
+//! The part that takes asks and decides them.
+
+ghost use Rattle.std.specs.Prelude.{◌≡◌, ◌≢◌, ◌↔◌, ◌<◌, ◌≤◌, ◌+◌, [], ◌∷◌, ◌++◌, length, true, false};
+ghost use Rattle.lift_relay.specs.Line.{WasFull};
+ghost use Rattle.lift_desk.specs.Seats.{IsClerkOf};
+ghost use Rattle.lift_relay.specs.Batch.{turns_of};
+ghost use Rattle.lift_relay.specs.Allocator.{IsAllocation};
+
+use crate::batch::Batch;
+use crate::line::SendEnd;
+use crate::scan::scan;
+use lift_clerk::Counts;
+use lift_desk::{Desk, TakeSeat};
+use lift_keeper::Decider;
+use lift_policy::Policy;
+use lift_register::Register;
+use std::marker::Model;
+use std::snapshot::Snapshot;
+use std::sync::Wait;
+
+/// Takes what terminals ask, decides it, and sends it on in batches, ahead of the answers. Contracts see its desk's tables, its
+/// seats there, what it decides on, its end of the line, and a batch that the line had no room for.
+#[derive(Drop)]
+pub struct Allocator<'d, 'b, P: Policy + Drop> {
+    desk: &'d Desk,
+    seat: TakeSeat,
+    decider: Decider<'b>,
+    policy: P,
+    end: SendEnd,
+    hand: Option<Batch>,
+    /// The decider when the clerk was split.
+    start: Snapshot<Decider<'b>>,
+}
+
+impl<'d, 'b, P: Policy + Drop> Model for Allocator<'d, 'b, P> {
+    ghost use Rattle.lift_relay.specs.Allocator.{AllocatorState, IsAllocator};
+    ghost use Rattle.std.specs.Option.{option_to_list};
+
+    ghost Value = { AllocatorState P };
+
+    ghost view = { λ a. record {
+      desk = a.desk.now;
+      seat = a.seat;
+      plan = a.decider.plan;
+      state = a.decider.state;
+      start = a.start.value.state;
+      policy = a.policy;
+      end = a.end;
+      hand = option_to_list a.hand;
+    } };
+
+    ghost invariant = { λ a. IsAllocator (P.chooses a.policy) (record {
+      desk = a.desk.now;
+      seat = a.seat;
+      plan = a.decider.plan;
+      state = a.decider.state;
+      start = a.start.value.state;
+      policy = a.policy;
+      end = a.end;
+      hand = option_to_list a.hand;
+    }) };
+}
+
+impl<'d, 'b, P: Policy + Drop> Allocator<'d, 'b, P> {
+    /// The part that decides of a clerk that was just split, at the beginning of a line.
+    pub(crate) fn new(
+        desk: &'d Desk,
+        seat: TakeSeat,
+        decider: Decider<'b>,
+        policy: P,
+        end: SendEnd,
+    ) -> Self
+        requires seated { IsClerkOf desk.now seat }
+        requires of_building { end.building ≡ decider.plan }
+        requires at_desk { end.desk ≡ desk.now }
+        requires all_sealed { decider.state.batch ≡ [] }
+        requires first { end.sent ≡ [] }
+        requires on { decider.state.register ≡ end.register }
+        requires turns { turns_of seat ≡ end.turns }
+        ensures { result ≡ record {
+          desk = desk.now;
+          seat = seat;
+          plan = decider.entry.plan;
+          state = decider.entry.state;
+          start = decider.entry.state;
+          policy = policy;
+          end = end;
+          hand = [];
+        } }
+    {
+        let start = Snapshot::of(&decider);
+        Allocator {
+            desk,
+            seat,
+            decider,
+            policy,
+            end,
+            hand: None,
+            start,
+        }
+    }
+
+    /// How many batches were sent.
+    pub fn sent(&self) -> u64
+        ensures { result ≡ length self.now.end.sent }
+    {
+        self.end.count()
+    }
+
+    /// Whether the line had no room for its last batch, which waits to be sent.
+    pub fn has_batch_in_hand(&self) -> bool
+        ensures { (result ≡ false) ↔ (self.now.hand ≡ []) }
+    {
+        self.hand.is_some()
+    }
+
+    /// What it shows of the calls: those of all entries that it accepted.
+    pub fn register(&self) -> &Register
+        ensures { result.now ≡ self.now.state.register }
+    {
+        self.decider.register()
+    }
+
+    /// What it is made of, without its end of the line.
+    pub(crate) fn into_parts(self) -> (&'d Desk, TakeSeat, Decider<'b>, P)
+        ensures desk { result.0.now ≡ self.entry.desk }
+        ensures seat { result.1 ≡ self.entry.seat }
+        ensures decider { result.2 ≡ record { plan = self.entry.plan; state = self.entry.state } }
+        ensures policy { result.3 ≡ self.entry.policy }
+        ensures seated { IsClerkOf self.entry.desk result.1 }
+        ensures all_sealed { result.2.state.batch ≡ [] }
+    {
+        (self.desk, self.seat, self.decider, self.policy)
+    }
+
+    /// Sends the batch that is in hand, if there is one. Whether none is left.
+    pub(crate) fn send_hand<R: Wait>(&mut self, rt: &R) -> bool
+        ensures sent { result ≡ true → (self.new.hand ≡ []) × (self.new.end.sent ≡ self.old.end.sent ++ self.old.hand) }
+        ensures same { result ≡ true → self.new ≡ record self.old { end = self.new.end; hand = [] } }
+        ensures line { self.new.end.line ≡ self.old.end.line }
+        ensures full { result ≡ false → (self.new ≡ self.old) × (self.old.hand ≢ []) × WasFull self.old.end }
+    {
+        let _terminals = self.desk.len();
+        match self.hand.take() {
+            Some(batch) => match self.end.send(rt, batch) {
+                Ok(()) => true,
+                Err(batch) => {
+                    self.hand = Some(batch);
+                    false
+                }
+            },
+            None => true,
+        }
+    }
+
+    /// One turn: sends the batch that is in hand, and takes nothing where the line has no room for it. Else it looks once at
+    /// each terminal, in rising order, decides what was asked, and sends it as one batch, refusals and repeats too, if anything
+    /// was taken; a batch that the line has no room for stays in hand.
+    pub fn turn<R: Wait>(&mut self, rt: &R) -> Counts
+        ensures { IsAllocation (P.chooses self.old.policy) self.old self.new result }
+    {
+        if !self.send_hand(rt) {
+            return Counts {
+                taken: 0,
+                accepted: 0,
+            };
+        }
+        let before = Snapshot::of(self.decider.register());
+        let seats = Snapshot::of(&self.seat);
+        let commands = scan(self.desk, &mut self.seat, &mut self.decider, &self.policy);
+        let entries = self.decider.seal();
+        let counts = Counts {
+            taken: commands.len(),
+            accepted: entries.len(),
+        };
+        let batch = Batch::new(
+            commands,
+            entries,
+            self.decider.building(),
+            before,
+            self.desk,
+            seats,
+        );
+        let _terminals = self.desk.len();
+        if counts.taken > 0 {
+            match self.end.send(rt, batch) {
+                Ok(()) => {}
+                Err(batch) => self.hand = Some(batch),
+            }
+        }
+        counts
+    }
+}

@@ -1,0 +1,101 @@
+//! A sealed batch: the commands of one scan with their replies, and the entries that they add.
+ghost use Rattle.std.specs.Prelude.{◌≡◌, length};
+ghost use Rattle.lift_register.specs.Fits.{FitFrom};
+ghost use Rattle.lift_relay.specs.Batch.{AreBelow, AreNoted, commands_in, turns_of};
+
+use arrayvec::ArrayVec;
+use lift_base::{Body, Entry, Number, Reply, Terminal};
+use lift_building::Building;
+use lift_desk::{Desk, Note, TakeSeat};
+use lift_policy::Command;
+use lift_register::Register;
+use std::marker::Model;
+use std::snapshot::Snapshot;
+
+/// A command that was taken, a note of its ask, and the reply that it gets once its batch is safe.
+#[derive(Drop)]
+pub struct Taken {
+    pub command: Command,
+    pub reply: Reply,
+    pub note: Note,
+}
+
+impl Default for Taken {
+    fn default() -> Self {
+        Taken {
+            command: Command {
+                terminal: Terminal::default(),
+                number: Number::default(),
+                body: Body::default(),
+            },
+            reply: Reply::Unknown,
+            note: Note::default(),
+        }
+    }
+}
+
+/// What one scan took and decided. Contracts also see in which building and on which register it was decided, at which desk
+/// it was taken, and the turn of the last ask that was taken before, of each terminal.
+#[derive(Drop)]
+pub struct Batch {
+    commands: ArrayVec<Taken, 63>,
+    entries: ArrayVec<Entry, 63>,
+    building: Snapshot<Building>,
+    before: Snapshot<Register>,
+    desk: Snapshot<Desk>,
+    seats: Snapshot<TakeSeat>,
+}
+
+impl Model for Batch {
+    ghost use Rattle.lift_relay.specs.Batch.{BatchState, IsBatch, turns_of};
+
+    ghost Value = { BatchState };
+
+    ghost view = { λ b. record { commands = b.commands.items; entries = b.entries.items; building = b.building.value; before = b.before.value; desk = b.desk.value; turns = turns_of b.seats.value } };
+
+    ghost invariant = { λ b. IsBatch (record { commands = b.commands.items; entries = b.entries.items; building = b.building.value; before = b.before.value; desk = b.desk.value; turns = turns_of b.seats.value }) };
+}
+
+impl Batch {
+    ghost use Rattle.lift_register.specs.Register.{RegisterState};
+
+    /// A batch that was decided in this building and on this register, of commands that these seats of this desk took next.
+    pub fn new(
+        commands: ArrayVec<Taken, 63>,
+        entries: ArrayVec<Entry, 63>,
+        building: &Building,
+        before: Snapshot<Register>,
+        desk: &Desk,
+        seats: Snapshot<TakeSeat>,
+    ) -> Self
+        requires fits { FitFrom building.now before.value entries.items }
+        requires at_desk { AreBelow (length desk.now) (commands_in commands.items) }
+        requires noted { AreNoted desk.now (turns_of seats.value) commands.items }
+        ensures { result ≡ record { commands = commands.items; entries = entries.items; building = building.now; before = before.value; desk = desk.now; turns = turns_of seats.value } }
+    {
+        Batch {
+            commands,
+            entries,
+            building: Snapshot::of(building),
+            before,
+            desk: Snapshot::of(desk),
+            seats,
+        }
+    }
+
+    /// What was accepted of it, in its order. It fits where it was decided.
+    pub fn entries(&self) -> &ArrayVec<Entry, 63>
+        ensures value { result.now.items ≡ self.now.entries }
+        ensures fits { FitFrom self.now.building self.now.before self.now.entries }
+    {
+        &self.entries
+    }
+    /// What was taken, by rising terminal, at most one command of each.
+    pub fn into_commands(self) -> ArrayVec<Taken, 63>
+        ensures value { result.items ≡ self.commands }
+        ensures at_desk { AreBelow (length self.desk) (commands_in self.commands) }
+        ensures noted { AreNoted self.desk self.turns self.commands }
+    {
+        self.commands
+    }
+}

@@ -1,0 +1,222 @@
+//! The part that makes batches safe and answers.
+
+ghost use Rattle.std.specs.Prelude.{◌≡◌, ℕ, List, ◌<◌, ◌⊎◌, ◌↔◌, [], length, true, false, Ok, Err, IfOk, IfErr, OnOk, OnErr};
+ghost use Rattle.lift_disk.specs.Disk.{LeavesNow, LeavesOnly};
+ghost use Rattle.lift_desk.specs.Seats.{IsClerkOf, IsNoteOf, OwesNothing, Says, view_at};
+ghost use Rattle.lift_keeper.specs.Images.{IsImageOf, IsInDoubt};
+ghost use Rattle.lift_clerk.specs.Turn.{IsEither};
+ghost use Rattle.lift_clerk.specs.Visits.{Visit};
+ghost use Rattle.lift_relay.specs.Batch.{BatchState, turns_behind, turns_with};
+ghost use Rattle.lift_relay.specs.Flusher.{AnswersOne, Answered, IsSettled, IsEmptyTurn, IsBatchTurn};
+
+use crate::batch::{Batch, Taken};
+use crate::line::ReceiveEnd;
+use arrayvec::ArrayVec;
+use lift_base::{Reply, Terminal};
+use lift_desk::{ClerkSeat, Desk};
+use lift_disk::Disk;
+use lift_journal::JournalFault;
+use lift_keeper::{KeeperFault, Writer};
+use lift_register::Register;
+use std::marker::Model;
+use std::mem;
+use std::sync::Wait;
+
+/// What one turn of a flusher did.
+#[derive(Clone, Copy, PartialEq, Eq)]
+pub struct FlushCounts {
+    /// How many batches it made safe, at most one.
+    pub batches: usize,
+    /// How many answers it stored: one for each command of the batch, at most 63.
+    pub answers: usize,
+}
+
+/// Makes batches safe in the order in which they were sent, and answers them. Contracts see its desk's tables, its seats there,
+/// its writer and its end of the line.
+#[derive(Drop)]
+pub struct Flusher<'d, 'b, D: Disk> {
+    desk: &'d Desk,
+    seat: ClerkSeat,
+    writer: Writer<'b, D>,
+    end: ReceiveEnd,
+}
+
+impl<'d, 'b, D: Disk> Model for Flusher<'d, 'b, D> {
+    ghost use Rattle.lift_relay.specs.Flusher.{FlusherState, IsFlusher};
+
+    ghost Value = { FlusherState D };
+
+    ghost view = { λ f. record { desk = f.desk.now; seat = f.seat; writer = f.writer; end = f.end } };
+
+    ghost invariant = { λ f. IsFlusher (record { desk = f.desk.now; seat = f.seat; writer = f.writer; end = f.end }) };
+}
+
+/// Looks once at the terminal of a command, which the look gives, as its note says; and answers it: with its reply where it is safe,
+/// else Unknown.
+fn answer(desk: &Desk, seat: &mut ClerkSeat, taken: Taken, is_safe: bool)
+    requires seated { IsClerkOf desk.now seat.old }
+    requires terminal { taken.command.terminal < length desk.now }
+    requires noted { IsNoteOf desk.now taken.command.terminal taken.note }
+    requires says { Says (view_at seat.old taken.command.terminal) taken.note.word (record { number = taken.command.number; body = taken.command.body }) }
+    ensures answers { (visit : Visit) × AnswersOne is_safe seat.old taken visit seat.new }
+    ensures settled { (turns : List ℕ) → IsSettled seat.old turns → taken.command.terminal < length turns → IsSettled seat.new (turns_with turns taken) }
+    ensures seated { IsClerkOf desk.now seat.new }
+{
+    let Taken {
+        command,
+        reply,
+        note,
+    } = taken;
+    let _found = desk.look_for(seat, command.terminal, note);
+    let reply = if is_safe { reply } else { Reply::Unknown };
+    desk.answer(seat, command.terminal, reply);
+}
+
+/// Looks once at the terminal of each command of a batch, and answers it: with its reply where the batch is safe, else Unknown.
+/// How many commands there were.
+fn answer_all(desk: &Desk, seat: &mut ClerkSeat, batch: Batch, is_safe: bool) -> usize
+    requires seated { IsClerkOf desk.now seat.old }
+    requires at_desk { batch.desk ≡ desk.now }
+    requires settled { IsSettled seat.old batch.turns }
+    ensures answered { Answered is_safe seat.old batch.commands seat.new }
+    ensures settled { IsSettled seat.new (turns_behind batch) }
+    ensures count { result ≡ length batch.commands }
+    ensures seated { IsClerkOf desk.now seat.new }
+{
+    let mut commands = batch.into_commands();
+    let count = commands.len();
+    for place in 0..count {
+        let taken = mem::take(&mut commands[place]);
+        answer(desk, seat, taken, is_safe);
+    }
+    count
+}
+
+/// Whether an ask that these seats took is unanswered, at some terminal.
+fn owes(desk: &Desk, seat: &ClerkSeat) -> bool
+    requires { IsClerkOf desk.now seat.now }
+    ensures { (result ≡ false) ↔ OwesNothing seat.now }
+{
+    for t in 0..desk.len() {
+        let terminal = Terminal::new(t as u8).unwrap();
+        if seat.owes(terminal) {
+            return true;
+        }
+    }
+    false
+}
+
+impl<'d, 'b, D: Disk> Flusher<'d, 'b, D> {
+    /// The part that makes safe of a clerk that was just split, at the end of a line.
+    pub(crate) fn new(
+        desk: &'d Desk,
+        seat: ClerkSeat,
+        writer: Writer<'b, D>,
+        end: ReceiveEnd,
+    ) -> Self
+        requires seated { IsClerkOf desk.now seat }
+        requires of_building { end.building ≡ writer.plan }
+        requires at_desk { end.desk ≡ desk.now }
+        requires safe { writer.is_broken ≡ false → writer.register ≡ end.register }
+        requires settled { IsSettled seat end.turns }
+        ensures { result ≡ record { desk = desk.now; seat = seat; writer = writer.entry; end = end } }
+    {
+        Flusher {
+            desk,
+            seat,
+            writer,
+            end,
+        }
+    }
+
+    /// How many batches were received.
+    pub fn received(&self) -> u64
+        ensures { result ≡ length self.now.end.received }
+    {
+        self.end.count()
+    }
+
+    /// Whether it took an ask that it has not answered, of any terminal.
+    pub fn owes(&self) -> bool
+        ensures { (result ≡ false) ↔ OwesNothing self.now.seat }
+    {
+        owes(self.desk, &self.seat)
+    }
+
+    /// Whether what is safe is this register, or a call of the device has failed since it was last opened.
+    pub fn may_join(&self, register: &Register) -> bool
+        ensures { (result ≡ true) ↔ ((self.now.writer.is_broken ≡ true) ⊎ (register.now ≡ self.now.writer.register)) }
+    {
+        self.writer.is_broken() || register.is_same(self.writer.register())
+    }
+
+    /// What it is made of, without its end of the line.
+    pub(crate) fn into_parts(self) -> (ClerkSeat, Writer<'b, D>)
+        ensures seat { result.0 ≡ self.entry.seat }
+        ensures writer { result.1 ≡ self.entry.writer }
+        ensures seated { IsClerkOf self.entry.desk result.0 }
+    {
+        (self.seat, self.writer)
+    }
+
+    /// One turn: receives one batch, makes it safe, then looks once more at each of its commands' terminals, and answers each
+    /// command, which its look gives, with the batch's reply. After a device fault it answers Unknown to that batch and all
+    /// later ones.
+    ///
+    /// `Journal(Disk)` where a call of the device failed, `Journal(Broken)` while it is broken, also where the line was empty.
+    pub fn turn<R: Wait>(&mut self, rt: &R) -> Result<FlushCounts, KeeperFault>
+        ensures turns { IsEmptyTurn self.old self.new result ⊎ ((batch : BatchState) × IsBatchTurn self.old self.new batch result) }
+
+        // A crash at any moment of the call leaves the register that was safe before it, or that with the batch received.
+        ensures any_moment { self.old.writer.is_broken ≡ false → LeavesOnly (D.state self.old.writer.device) (D.state self.new.writer.device)
+            (IsEither self.old.writer.plan self.old.writer.register self.new.end.register) }
+        // What was answered is safe: every crash from now on leaves it.
+        ensures acknowledged { OnOk result (LeavesNow (D.state self.new.writer.device) (IsImageOf self.old.writer.plan self.new.end.register)) }
+        ensures register { OnOk result (self.new.writer.register ≡ self.new.end.register) }
+        ensures in_doubt { result ≡ Err (KeeperFault.Journal JournalFault.Disk)
+            → LeavesNow (D.state self.new.writer.device) (IsInDoubt self.old.writer.plan self.old.writer.register self.new.writer.doubt) }
+
+        ensures broken { (result ≡ Err (KeeperFault.Journal JournalFault.Broken)) ↔ (self.old.writer.is_broken ≡ true) }
+        ensures causes { IfErr result (λ fault. (fault ≡ KeeperFault.Journal JournalFault.Disk) ⊎ (fault ≡ KeeperFault.Journal JournalFault.Broken)) }
+        ensures failed { result ≡ Err (KeeperFault.Journal JournalFault.Disk) → (D.state self.old.writer.device).failures < (D.state self.new.writer.device).failures }
+        ensures rests { self.old.writer.is_broken ≡ true → self.new.writer ≡ self.old.writer }
+        ensures breaks { OnErr result (self.new.writer.is_broken ≡ true) }
+        // Unknown is answered only where a call has failed since the last opening that succeeded.
+        ensures since { OnErr result (self.new.writer.opened < (D.state self.new.writer.device).failures) }
+        ensures unmoved { OnErr result (self.new.writer.register ≡ self.old.writer.register) }
+        ensures whole { OnOk result (((D.state self.new.writer.device).failures ≡ (D.state self.old.writer.device).failures)
+            × (self.new.writer.is_broken ≡ false) × (self.new.writer.doubt ≡ [])) }
+        ensures kept { (self.new.writer.plan ≡ self.old.writer.plan) × (self.new.writer.half ≡ self.old.writer.half) × (self.new.writer.opened ≡ self.old.writer.opened) }
+        ensures same { (self.new.desk ≡ self.old.desk) × (self.new.end.line ≡ self.old.end.line) }
+    {
+        let batch = match self.end.receive(rt) {
+            Some(batch) => batch,
+            None => {
+                let _register = self.writer.register();
+                if self.writer.is_broken() {
+                    return Err(KeeperFault::Journal(JournalFault::Broken));
+                }
+                return Ok(FlushCounts {
+                    batches: 0,
+                    answers: 0,
+                });
+            }
+        };
+        let committed = self.writer.commit(batch.entries());
+        let _register = self.writer.register();
+        let _broken = self.writer.is_broken();
+        match committed {
+            Ok(()) => {
+                let answers = answer_all(self.desk, &mut self.seat, batch, true);
+                Ok(FlushCounts {
+                    batches: 1,
+                    answers,
+                })
+            }
+            Err(fault) => {
+                answer_all(self.desk, &mut self.seat, batch, false);
+                Err(fault)
+            }
+        }
+    }
+}

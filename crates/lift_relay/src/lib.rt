@@ -1,0 +1,18 @@
+//! The clerk's work in two parts, which may run on two threads: one takes asks and decides them, up to four batches ahead;
+//! the other makes the batches safe and answers.
+#![tactic(auto)]
+
+mod allocator;
+mod batch;
+mod flusher;
+mod line;
+mod pair;
+mod places;
+mod relay;
+mod scan;
+
+pub use allocator::Allocator;
+pub use batch::{Batch, Taken};
+pub use flusher::{FlushCounts, Flusher};
+pub use pair::{Gate, RunFault, run};
+pub use relay::{rejoin, split};

@@ -1,0 +1,222 @@
+//! A queue of four batches with one end that sends and one that receives.
+ghost use Rattle.std.specs.Prelude.{◌≡◌, ◌<◌, ◌^◌, [], length, MatchResult, MatchOption, IfOk};
+ghost use Rattle.lift_relay.specs.Line.{SendsOne, ReceivesOne, IsNext, IsLine, WasFull, WasEmpty};
+
+use crate::batch::Batch;
+use crossbeam_queue::protocol::{Lesson, Outcome, Protocol, Split};
+use crossbeam_queue::{Pass, RuledArrayQueue};
+use lift_base::Memory;
+use lift_building::Building;
+use lift_desk::Desk;
+use lift_register::Register;
+use std::alloc::{AllocError, Global};
+use std::collections::LinkedList;
+use std::marker::Model;
+use std::sync::{Arc, Wait};
+
+/// What an end knows: whether it sends or receives, what went through it, and from where the batches go on. No value of it
+/// is made.
+pub struct EndView {
+    /// The line has begun: it was told its building, its desk and its first register.
+    pub begun: bool,
+    pub sends: bool,
+    pub receives: bool,
+    pub sent: LinkedList<Batch>,
+    pub received: LinkedList<Batch>,
+    /// What was received by the last push.
+    pub gone: LinkedList<Batch>,
+    /// What was sent by the last pop.
+    pub known: LinkedList<Batch>,
+    pub building: Building,
+    pub desk: Desk,
+    /// The register behind all that was sent, and behind all that was received.
+    pub ahead: Register,
+    pub behind: Register,
+    /// The turns of the terminals behind all that was sent, and behind all that was received.
+    pub turns_ahead: LinkedList<u64>,
+    pub turns_behind: LinkedList<u64>,
+}
+
+pub struct InOrder;
+
+impl Protocol<Batch, EndView> for InOrder {
+    ghost use Rattle.lift_relay.specs.Rule.{IsKept, opening_view};
+
+    ghost holds = { IsKept };
+
+    ghost first = { opening_view };
+}
+
+// The first pass sends, and the new one receives.
+struct Ends;
+
+impl Split<EndView> for Ends {
+    ghost use Rattle.lift_relay.specs.Rule.{sending, receiving};
+
+    ghost left = { sending };
+
+    ghost right = { receiving };
+}
+
+// A batch without commands names the building, the desk and the first register.
+struct Names;
+
+impl Outcome<Batch, EndView> for Names {
+    ghost use Rattle.lift_relay.specs.Rule.{Named};
+
+    ghost then = { Named };
+}
+
+// The line has begun there.
+struct Begins;
+
+impl Outcome<Batch, EndView> for Begins {
+    ghost use Rattle.lift_relay.specs.Rule.{Begun};
+
+    ghost then = { Begun };
+}
+
+// A batch joins at the back; where it does not, the sender learns what the queue holds.
+struct Sends;
+
+impl Outcome<Batch, EndView> for Sends {
+    ghost use Rattle.lift_relay.specs.Rule.{Sent};
+
+    ghost then = { Sent };
+}
+
+impl Lesson<Batch, EndView> for Sends {
+    ghost use Rattle.lift_relay.specs.Rule.{SentAllBut};
+
+    ghost fact = { SentAllBut };
+}
+
+// A batch leaves at the front; where none does, the receiver learns what the queue holds.
+struct Receives;
+
+impl Outcome<Batch, EndView> for Receives {
+    ghost use Rattle.lift_relay.specs.Rule.{Received};
+
+    ghost then = { Received };
+}
+
+impl Lesson<Batch, EndView> for Receives {
+    ghost use Rattle.lift_relay.specs.Rule.{ReceivedBefore};
+
+    ghost fact = { ReceivedBefore };
+}
+
+type Line = RuledArrayQueue<Batch, EndView, InOrder>;
+
+/// The allocator's end. Contracts see which line it is of, what was sent, and where that leads.
+#[derive(Drop)]
+pub struct SendEnd {
+    line: Arc<Line>,
+    pass: Pass<Batch, EndView>,
+    count: u64,
+}
+
+impl Model for SendEnd {
+    ghost use Rattle.lift_relay.specs.Line.{SendState};
+
+    ghost Value = { SendState };
+
+    ghost use Rattle.lift_relay.specs.SendInside.{seen, IsSendEnd};
+
+    ghost view = { seen };
+
+    ghost invariant = { IsSendEnd };
+}
+
+/// The flusher's end. Contracts see which line it is of, what was received, and where that leads.
+#[derive(Drop)]
+pub struct ReceiveEnd {
+    line: Arc<Line>,
+    pass: Pass<Batch, EndView>,
+    count: u64,
+}
+
+impl Model for ReceiveEnd {
+    ghost use Rattle.lift_relay.specs.Line.{ReceiveState};
+
+    ghost Value = { ReceiveState };
+
+    ghost use Rattle.lift_relay.specs.ReceiveInside.{seen, IsReceiveEnd};
+
+    ghost view = { seen };
+
+    ghost invariant = { IsReceiveEnd };
+}
+
+/// A line of four batches, which goes on from the register and the turns, for the building and the desk, that this batch names.
+/// The batch itself isn't sent. An error comes only where a growth was refused.
+pub fn new_line(alloc: Global, first: Batch) -> Result<(SendEnd, ReceiveEnd), Memory>
+    ensures { IfOk result (λ ends. IsLine first ends.0 ends.1) }
+{
+    let (queue, mut pass) = Line::ruled(alloc, 4)?;
+    match queue.try_push_as::<Names>(&mut pass, first) {
+        Ok(()) => {}
+        Err(_) => return Err(Memory),
+    }
+    match queue.try_pop_as::<Begins>(&mut pass) {
+        Some(_) => {}
+        None => return Err(Memory),
+    }
+    let other = queue.another::<Ends>(&mut pass);
+    let line = match Arc::new(alloc, queue) {
+        Ok(line) => line,
+        Err(refused) => return Err(AllocError::from(refused).into()),
+    };
+    let theirs = Arc::try_clone(&line)?;
+    Ok((
+        SendEnd {
+            line,
+            pass,
+            count: 0,
+        },
+        ReceiveEnd {
+            line: theirs,
+            pass: other,
+            count: 0,
+        },
+    ))
+}
+
+impl SendEnd {
+    /// Sends a batch that goes on from what was sent. It comes back only if the line was full at one moment of the call.
+    pub fn send<R: Wait>(&mut self, rt: &R, batch: Batch) -> Result<(), Batch>
+        requires few { length self.old.sent < 66060225 }
+        requires next { IsNext self.old.building self.old.desk self.old.register self.old.turns batch }
+        ensures { MatchResult result (λ _. SendsOne self.old batch self.new) (λ back. (back ≡ batch) × (self.new ≡ self.old) × WasFull self.old) }
+    {
+        self.line.push_as::<Sends, R>(rt, &mut self.pass, batch)?;
+        self.count += 1;
+        Ok(())
+    }
+
+    /// How many batches were sent.
+    pub fn count(&self) -> u64
+        ensures { result ≡ length self.now.sent }
+    {
+        self.count
+    }
+}
+
+impl ReceiveEnd {
+    /// Receives a batch, which goes on from what was received. There is none only if the line was empty at one moment of
+    /// the call.
+    pub fn receive<R: Wait>(&mut self, rt: &R) -> Option<Batch>
+        ensures { MatchOption result ((self.new ≡ self.old) × WasEmpty self.old) (λ batch. ReceivesOne self.old batch self.new) }
+    {
+        let batch = self.line.pop_as::<Receives, R>(rt, &mut self.pass)?;
+        self.count += 1;
+        Some(batch)
+    }
+
+    /// How many batches were received.
+    pub fn count(&self) -> u64
+        ensures { result ≡ length self.now.received }
+    {
+        self.count
+    }
+}

@@ -1,0 +1,265 @@
+//! Both parts on two threads.
+
+ghost use Rattle.std.specs.Prelude.{◌≡◌, ◌≢◌, [], length, true, Some, None, Result};
+ghost use Rattle.lift_keeper.specs.declared.fault.KeeperFault.{KeeperFault};
+ghost use Rattle.lift_relay.specs.declared.flusher.FlushCounts.{FlushCounts};
+ghost use Rattle.lift_relay.specs.Relay.{AreOfOne};
+ghost use Rattle.lift_relay.specs.Pair.{AllocatorTurns, FlusherTurns, IsFlush, first_of, ComesFrom, HaveTurned, IsRun, HaveRun, IsSameAllocator, IsSameFlusher};
+
+use crate::allocator::Allocator;
+use crate::flusher::Flusher;
+use crate::places::with_both;
+use lift_disk::Disk;
+use lift_keeper::KeeperFault;
+use lift_policy::Policy;
+use std::snapshot::Snapshot;
+use std::sync::Wait;
+use std::sync::atomic::{AtomicBool, Ordering};
+use std::thread;
+use std::thread::{Promise, SpawnError, Threads};
+
+/// Says whether both parts go on. It is asked between turns, by both threads.
+pub trait Gate {
+    fn go_on(&self) -> bool;
+}
+
+/// Why a run of both parts was not all it should be.
+#[derive(Clone, Copy, PartialEq, Eq)]
+pub enum RunFault {
+    /// The flusher's first fault in the call.
+    Keeper(KeeperFault),
+    /// The thread couldn't be started.
+    Spawn,
+}
+
+/// Turns while the gate goes on.
+fn allocate<R: Wait, G: Gate, P: Policy + Drop>(
+    rt: &R,
+    allocator: &mut Allocator<'_, '_, P>,
+    gate: &G,
+)
+    ensures { AllocatorTurns (P.chooses allocator.old.policy) allocator.old allocator.new }
+{
+    for _ in rt.forever() {
+        if !gate.go_on() {
+            break;
+        }
+        let counts = allocator.turn(rt);
+        if counts.taken == 0 {
+            thread::yield_now();
+        }
+    }
+}
+
+/// One turn. Keeps the first fault of all, and says whether a batch was received.
+fn flush_once<R: Wait, D: Disk>(
+    rt: &R,
+    flusher: &mut Flusher<'_, '_, D>,
+    first: &mut Option<KeeperFault>,
+) -> bool
+    ensures { (answer : Result FlushCounts KeeperFault) × IsFlush D.state flusher.old flusher.new answer × (first.new ≡ first_of first.old answer) }
+{
+    let received = flusher.received();
+    if let Err(fault) = flusher.turn(rt) {
+        if first.is_none() {
+            *first = Some(fault);
+        }
+    }
+    received < flusher.received()
+}
+
+/// Turns while the gate goes on. The first fault, if there was one.
+fn flush<R: Wait, G: Gate, D: Disk>(
+    rt: &R,
+    flusher: &mut Flusher<'_, '_, D>,
+    gate: &G,
+) -> Option<KeeperFault>
+    ensures { FlusherTurns D.state flusher.old None flusher.new result }
+{
+    let mut first = None;
+    for _ in rt.forever() {
+        if !gate.go_on() {
+            break;
+        }
+        if !flush_once(rt, flusher, &mut first) {
+            thread::yield_now();
+        }
+    }
+    first
+}
+
+/// Sends the batch in hand and receives all that was sent, by turns of the flusher. The first fault of all turns, of which one
+/// may be there already.
+fn drain<R: Wait, D: Disk, P: Policy + Drop>(
+    rt: &R,
+    allocator: &mut Allocator<'_, '_, P>,
+    flusher: &mut Flusher<'_, '_, D>,
+    mut first: Option<KeeperFault>,
+) -> Option<KeeperFault>
+    ensures allocator { AllocatorTurns (P.chooses allocator.old.policy) allocator.old allocator.new }
+    ensures flusher { FlusherTurns D.state flusher.old first flusher.new result }
+    ensures nothing_in_hand { allocator.new.hand ≡ [] }
+    ensures all_received { length allocator.new.end.sent ≡ length flusher.new.end.received }
+{
+    for _ in rt.forever() {
+        let is_sent = allocator.send_hand(rt);
+        if is_sent && allocator.sent() == flusher.received() {
+            break;
+        }
+        flush_once(rt, flusher, &mut first);
+    }
+    first
+}
+
+/// What the allocating thread gives back: the part as it was, or after its turns.
+#[derive(Drop)]
+enum Allocating<'d, 'b, P: Policy + Drop> {
+    Idle(Allocator<'d, 'b, P>),
+    Ran(Allocator<'d, 'b, P>),
+}
+
+#[derive(Drop)]
+struct OfPart<'d, 'b, P: Policy + Drop>(Snapshot<Allocator<'d, 'b, P>>);
+
+impl<'d, 'b, P: Policy + Drop> Promise<Allocating<'d, 'b, P>> for OfPart<'d, 'b, P> {
+    ghost use Rattle.lift_relay.specs.Pair.{ComesFrom};
+
+    ghost kept_by = { λ p r. ComesFrom (P.chooses p.0.value.policy) p.0.value r };
+}
+
+/// Turns while the gate goes on, if it may run at all.
+fn allocate_if<'d, 'b, R: Wait, G: Gate, P: Policy + Drop>(
+    rt: &R,
+    may_run: &AtomicBool,
+    mut allocator: Allocator<'d, 'b, P>,
+    gate: &G,
+) -> Allocating<'d, 'b, P>
+    ensures { ComesFrom (P.chooses allocator.entry.policy) allocator.entry result }
+{
+    if !may_run.load(Ordering::SeqCst) {
+        return Allocating::Idle(allocator);
+    }
+    allocate(rt, &mut allocator, gate);
+    Allocating::Ran(allocator)
+}
+
+/// Whether both parts had their turns.
+#[derive(Clone, Copy)]
+enum Turned {
+    /// No thread could be made.
+    Refused,
+    /// They had, and this is the flusher's first fault.
+    Done(Option<KeeperFault>),
+}
+
+/// Both parts after their turns on two threads. Where no thread could be made, they are as they were.
+fn turn_both<'d, 'b, R, G, D, P>(
+    rt: &R,
+    allocator: Allocator<'d, 'b, P>,
+    mut flusher: Flusher<'d, 'b, D>,
+    gate: &G,
+) -> (Allocator<'d, 'b, P>, Flusher<'d, 'b, D>, Turned)
+where
+    R: Threads + Wait + Sync,
+    G: Gate + Sync,
+    D: Disk + Drop,
+    P: Policy + Drop + Send,
+    ensures { HaveTurned (P.chooses allocator.entry.policy) D.state allocator.entry result.0 flusher.entry result.1 result.2 }
+{
+    let may_run = AtomicBool::new(true);
+    let flag = &may_run;
+    thread::scope(
+        thread::scope_env(),
+        rt,
+        move |scope| -> (Allocator<P>, Flusher<D>, Turned)
+            ensures { HaveTurned (P.chooses allocator.entry.policy) D.state allocator.entry result.0 flusher.entry result.1 result.2 }
+        {
+            let promise = OfPart(Snapshot::of(&allocator));
+            let work = move || -> Allocating<P>
+                ensures { ComesFrom (P.chooses allocator.entry.policy) allocator.entry result }
+            { allocate_if(rt, flag, allocator, gate) };
+            match scope.spawn_with(promise, work) {
+                Ok(child) => {
+                    let first = flush(rt, &mut flusher, gate);
+                    match child.join(rt) {
+                        Allocating::Idle(allocator) => (allocator, flusher, Turned::Done(first)),
+                        Allocating::Ran(allocator) => (allocator, flusher, Turned::Done(first)),
+                    }
+                }
+                Err(refused) => {
+                    // The closure alone has the allocator, and hands it back unturned.
+                    flag.store(false, Ordering::SeqCst);
+                    let SpawnError { value } = refused;
+                    match value() {
+                        Allocating::Idle(allocator) => (allocator, flusher, Turned::Refused),
+                        Allocating::Ran(allocator) => (allocator, flusher, Turned::Done(None)),
+                    }
+                }
+            }
+        },
+    )
+}
+
+/// As `run`, on parts by value.
+fn run_owned<'d, 'b, R, G, D, P>(
+    rt: &R,
+    allocator: Allocator<'d, 'b, P>,
+    flusher: Flusher<'d, 'b, D>,
+    gate: &G,
+) -> (Allocator<'d, 'b, P>, Flusher<'d, 'b, D>, Option<RunFault>)
+where
+    R: Threads + Wait + Sync,
+    G: Gate + Sync,
+    D: Disk + Drop,
+    P: Policy + Drop + Send,
+    ensures { IsRun (P.chooses allocator.entry.policy) D.state allocator.entry result.0 flusher.entry result.1 result.2 }
+{
+    let (mut allocator, mut flusher, turned) = turn_both(rt, allocator, flusher, gate);
+    match turned {
+        Turned::Refused => (allocator, flusher, Some(RunFault::Spawn)),
+        Turned::Done(first) => {
+            let fault = match drain(rt, &mut allocator, &mut flusher, first) {
+                Some(fault) => Some(RunFault::Keeper(fault)),
+                None => None,
+            };
+            (allocator, flusher, fault)
+        }
+    }
+}
+
+/// Runs both parts of one `split` while the gate goes on: the allocator's turns on a thread of its own, the flusher's on this
+/// one. Once both have stopped, what is in hand is sent, and all that was sent is received and made safe.
+///
+/// A device fault doesn't end it: the flusher's first is the answer, and what it received from then on was answered Unknown.
+/// `Spawn` where the thread couldn't be started; then it returns at once.
+pub fn run<'d, 'b, R, G, D, P>(
+    rt: &R,
+    allocator: &mut Allocator<'d, 'b, P>,
+    flusher: &mut Flusher<'d, 'b, D>,
+    gate: &G,
+) -> Option<RunFault>
+where
+    R: Threads + Wait + Sync,
+    G: Gate + Sync,
+    D: Disk + Drop,
+    P: Policy + Drop + Send,
+    requires of_one { AreOfOne allocator.old flusher.old }
+    ensures refused { result ≡ Some RunFault.Spawn → (allocator.new ≡ allocator.old) × (flusher.new ≡ flusher.old) }
+    ensures ran { result ≢ Some RunFault.Spawn → HaveRun (P.chooses allocator.old.policy) D.state allocator.old allocator.new flusher.old flusher.new result }
+    ensures broken { (fault : KeeperFault) → result ≡ Some (RunFault.Keeper fault) → flusher.new.writer.is_broken ≡ true }
+    ensures same_allocator { IsSameAllocator allocator.old allocator.new }
+    ensures same_flusher { IsSameFlusher flusher.old flusher.new }
+    ensures of_one { AreOfOne allocator.new flusher.new }
+{
+    with_both(
+        allocator,
+        flusher,
+        |allocator: Allocator<P>, flusher: Flusher<D>| -> (
+            Allocator<P>,
+            Flusher<D>,
+            Option<RunFault>,
+        )
+            ensures { IsRun (P.chooses allocator.entry.policy) D.state allocator.entry result.0 flusher.entry result.1 result.2 }
+        { run_owned(rt, allocator, flusher, gate) },
+    )
+}

@@ -1,0 +1,76 @@
+//! A clerk in two parts, and the parts together again.
+
+ghost use Rattle.std.specs.Prelude.{◌≡◌, IfOk, IfErr};
+ghost use Rattle.lift_relay.specs.Relay.{AreParts, AreOfOne, IsRejoined, CannotJoin};
+
+use crate::allocator::Allocator;
+use crate::batch::Batch;
+use crate::flusher::Flusher;
+use crate::line::new_line;
+use arrayvec::ArrayVec;
+use lift_base::Memory;
+use lift_clerk::Clerk;
+use lift_disk::Disk;
+use lift_keeper::Keeper;
+use lift_policy::Policy;
+use std::alloc::Global;
+use std::snapshot::Snapshot;
+
+/// A clerk's work in two parts, with a line of four batches between them. A broken clerk may be split; its batch in doubt stays
+/// so. Where memory was wanting the clerk comes back as it was.
+pub fn split<'d, 'b, D: Disk, P: Policy + Drop>(
+    alloc: Global,
+    clerk: Clerk<'d, 'b, D, P>,
+) -> Result<(Allocator<'d, 'b, P>, Flusher<'d, 'b, D>), (Clerk<'d, 'b, D, P>, Memory)>
+    ensures parts { IfOk result (λ parts. AreParts clerk.entry parts.0 parts.1) }
+    ensures refused { IfErr result (λ back. back.0 ≡ clerk.entry) }
+{
+    let desk = clerk.desk();
+    let (seat, keeper, policy) = clerk.into_parts();
+    let (ahead, seat) = desk.split(seat);
+    let first = Batch::new(
+        ArrayVec::new(),
+        ArrayVec::new(),
+        keeper.building(),
+        Snapshot::of(keeper.register()),
+        desk,
+        Snapshot::of(&ahead),
+    );
+    let (send, receive) = match new_line(alloc, first) {
+        Ok(ends) => ends,
+        Err(memory) => {
+            let seat = desk.join(ahead, seat);
+            return Err((Clerk::new(desk, seat, keeper, policy), memory));
+        }
+    };
+    let (decider, writer) = keeper.part();
+    Ok((
+        Allocator::new(desk, ahead, decider, policy, send),
+        Flusher::new(desk, seat, writer, receive),
+    ))
+}
+
+/// The clerk of two parts that come of one `split`. They come back as they were where as many batches weren't received as were
+/// sent, where one is in hand, where an ask that the flusher's look gave is unanswered, and where their registers differ though
+/// nothing has failed. Over a writer that a fault has broken the clerk is broken.
+pub fn rejoin<'d, 'b, D: Disk, P: Policy + Drop>(
+    allocator: Allocator<'d, 'b, P>,
+    flusher: Flusher<'d, 'b, D>,
+) -> Result<Clerk<'d, 'b, D, P>, (Allocator<'d, 'b, P>, Flusher<'d, 'b, D>)>
+    requires of_one { AreOfOne allocator flusher }
+    ensures joined { IfOk result (λ clerk. IsRejoined allocator.entry flusher.entry clerk) }
+    ensures refused { IfErr result (λ parts. (parts.0 ≡ allocator.entry) × (parts.1 ≡ flusher.entry) × CannotJoin allocator.entry flusher.entry) }
+{
+    if allocator.sent() != flusher.received()
+        || allocator.has_batch_in_hand()
+        || flusher.owes()
+        || !flusher.may_join(allocator.register())
+    {
+        return Err((allocator, flusher));
+    }
+    let (desk, ahead, decider, policy) = allocator.into_parts();
+    let (seat, writer) = flusher.into_parts();
+    let seat = desk.join(ahead, seat);
+    let keeper = Keeper::whole(decider, writer);
+    Ok(Clerk::new(desk, seat, keeper, policy))
+}

@@ -1,0 +1,113 @@
+//! One scan of the desk's terminals, ahead of the answers.
+
+ghost use Rattle.std.specs.Prelude.{◌≡◌, ◌<◌, ◌≤◌, ◌+◌, [], ◌∷◌, ◌++◌, length, IsSome, IfSome};
+ghost use Rattle.std.specs.Option.{option_to_list};
+ghost use Rattle.lift_desk.specs.Seats.{IsClerkOf, IsNoteOf, view_at};
+ghost use Rattle.lift_desk.specs.Words.{last_of};
+ghost use Rattle.lift_policy.specs.Run.{Run};
+ghost use Rattle.lift_clerk.specs.Visits.{command_at};
+ghost use Rattle.lift_register.specs.Register.{register_of};
+ghost use Rattle.lift_register.specs.Fits.{FitFrom};
+ghost use Rattle.lift_relay.specs.Batch.{AreBelow, AreNoted, commands_in, replies_in, turns_of, turns_after};
+ghost use Rattle.lift_relay.specs.Scan.{ScansAhead, turns_in};
+
+use crate::batch::Taken;
+use arrayvec::ArrayVec;
+use lift_base::Terminal;
+use lift_desk::{Ask, Desk, Note, TakeSeat};
+use lift_keeper::Decider;
+use lift_policy::{Command, Policy, decisions_keep};
+
+/// A note of what a terminal was just found to ask, if it asked.
+fn note_of(desk: &Desk, seat: &mut TakeSeat, terminal: Terminal, ask: &Option<Ask>) -> Note
+    requires seated { IsClerkOf desk.now seat.old }
+    requires terminal { terminal < length desk.now }
+    ensures noted { IsSome ask.now → IsNoteOf desk.now terminal result × (result.word ≡ last_of (view_at seat.old terminal).taken) }
+    ensures same { seat.new ≡ seat.old }
+{
+    match ask {
+        Some(_) => desk.note(seat, terminal),
+        None => Note::default(),
+    }
+}
+
+/// What a terminal asked, decided, if it asked.
+fn decide<P: Policy>(
+    decider: &mut Decider<'_>,
+    policy: &P,
+    terminal: Terminal,
+    ask: &Option<Ask>,
+    note: Note,
+) -> Option<Taken>
+    requires room { length decider.old.state.batch < 63 }
+    ensures command { commands_in (option_to_list result) ≡ command_at terminal ask.now }
+    ensures note { IfSome result (λ taken. taken.note ≡ note) }
+    ensures decides { Run decider.old.plan (P.chooses policy.now) decider.old.state
+        (commands_in (option_to_list result)) (replies_in (option_to_list result)) decider.new.state }
+    ensures grows { length decider.new.state.batch ≤ length decider.old.state.batch + 1 }
+    ensures plan { decider.new.plan ≡ decider.old.plan }
+{
+    match ask {
+        Some(ask) => {
+            let reply = decider.decide(terminal, ask.number, &ask.body, policy);
+            let command = Command {
+                terminal,
+                number: ask.number,
+                body: ask.body,
+            };
+            Some(Taken {
+                command,
+                reply,
+                note,
+            })
+        }
+        None => None,
+    }
+}
+
+/// Adds a command to a list of 63 at most, if there is one.
+fn keep(list: &mut ArrayVec<Taken, 63>, item: Option<Taken>)
+    requires { length list.old.items < 63 }
+    ensures { list.new.items ≡ list.old.items ++ option_to_list item }
+{
+    match item {
+        Some(item) => list.push(item),
+        None => {}
+    }
+}
+
+/// Looks once at each terminal, in rising order, and decides what is asked there, each on the state that the earlier ones left.
+pub fn scan<P: Policy>(
+    desk: &Desk,
+    seat: &mut TakeSeat,
+    decider: &mut Decider<'_>,
+    policy: &P,
+) -> ArrayVec<Taken, 63>
+    requires seated { IsClerkOf desk.now seat.old }
+    requires settled { decider.old.state.batch ≡ [] }
+    ensures scans { ScansAhead (P.chooses policy.now) decider.old.plan seat.old seat.new
+        decider.old.state decider.new.state result.items (length desk.now) }
+    // What was accepted fits what was shown before, and its commands are of the desk's terminals.
+    ensures fits { FitFrom decider.old.plan decider.old.state.register decider.new.state.batch }
+    ensures shows { decider.new.state.register ≡ register_of decider.old.state.register decider.new.state.batch }
+    // Each command takes a turn of its terminal.
+    ensures uses { turns_in seat.old + length result.items ≤ turns_in seat.new }
+    ensures below { AreBelow (length desk.now) (commands_in result.items) }
+    // Each has a note of its ask, which is later than all that was taken there before.
+    ensures noted { AreNoted desk.now (turns_of seat.old) result.items }
+    ensures turns { turns_after (turns_of seat.old) result.items ≡ turns_of seat.new }
+    ensures seated { IsClerkOf desk.now seat.new }
+    ensures plan { decider.new.plan ≡ decider.old.plan }
+{
+    decisions_keep(policy);
+    let _shown = decider.register();
+    let mut taken: ArrayVec<Taken, 63> = ArrayVec::new();
+    for t in 0..desk.len() {
+        let terminal = Terminal::new(t as u8).unwrap();
+        let ask = desk.take(seat, terminal);
+        let note = note_of(desk, seat, terminal, &ask);
+        let decided = decide(decider, policy, terminal, &ask, note);
+        keep(&mut taken, decided);
+    }
+    taken
+}

@@ -1,0 +1,358 @@
+-- What a turn makes of a script's group.
+use Rattle.std.proofs.Common.{◌≡◌, ◌⊎◌, ◌↔◌, ℕ, suc, ◌+◌, ◌-◌, ◌<◌, ◌≤◌, ◌==◌, Bool, true, false, cond, List, [], ◌∷◌, ◌++◌, length, Option, Some, None, refl, sym, ap, ◌∙◌, subst, inl, inr, arith}
+use Rattle.std.specs.Prelude.{nat_le, codes, if◌then◌else◌}
+use Rattle.std.proofs.lemmas.Bool.{false≢true, true≢false, eqb-true, eqb-false, ne_eqb, leb-true, le-leb}
+use Rattle.std.proofs.lemmas.Bool.Decides.{leb_tells}
+use Rattle.lift_base.specs.declared.command.Reply.{Reply}
+use Rattle.lift_building.specs.Plan.{Plan}
+use Rattle.lift_disk.specs.Disk.{DiskState, Image, MayLeave, LeavesNow, IsFilled}
+use Rattle.lift_disk.specs.Outcomes.{IsLeftBy}
+use Rattle.lift_disk.specs.declared.outcome.Outcome.{Outcome}
+use Rattle.lift_disk.specs.declared.outcome.Outcome.TheVariants.{Keep, Lose, Fill}
+use Rattle.lift_journal.specs.Checkpoint.{sectors_for}
+use Rattle.lift_journal.specs.Layout.{bodies}
+use Rattle.lift_journal.specs.Told.{NoneFails, LastFails}
+use Rattle.lift_register.specs.Base.{base_records}
+use Rattle.lift_desk.specs.Steps.{with_told_answers, with_told_asks}
+use mathlib.Core.List.{IsPrefix}
+use Rattle.lift_desk.specs.Seats.{TerminalSeat, ClerkPlace, view_at}
+use Rattle.lift_policy.specs.declared.command.Command.{Command}
+use Rattle.lift_policy.specs.Choices.{IsEtdChoice}
+use Rattle.lift_policy.specs.Decision.{decision_by, etd_pick}
+use Rattle.lift_policy.specs.Laws.{StepsAreDecisions}
+use Rattle.lift_policy.specs.Run.{Run, unknowns}
+use Rattle.lift_policy.specs.Step.{State}
+use Rattle.lift_keeper.specs.Cuts.{StopsAtMark, FirstIf}
+use Rattle.lift_keeper.specs.Writer.{StopsCommit, commit_calls, commit_used, commit_second, has_room}
+use Rattle.lift_disk.specs.Faults.{fuse_state_of}
+use Rattle.lift_disk.specs.declared.fuse.FuseDisk.{FuseDisk}
+use Rattle.lift_keeper.specs.Keeper.{KeeperView}
+use Rattle.lift_clerk.specs.declared.counts.Counts.{Counts}
+use Rattle.lift_clerk.specs.Turn.{IsTurn, IsFailedTurn, IsBrokenTurn, settled}
+use Rattle.lift_clerk.proofs.Visiting.{length-served}
+use Rattle.lift_clerk.specs.Visits.{Visit, Serves, commands_of as commands_at}
+use Rattle.lift_replay.specs.Group.{Asking, GroupState, Stopped, Found, half, commands_in, commands_of, having_heard, answers_text, state_by, replies_by, beginning, decided, calls_for, passes, passing_after, calls_to_stop, after_turn, after_stop, after_commit, commit_text, turned, turn_told, by_mark, at_mark, standing, folded, with_room, with_batch, in_folding, in_append, room_for, left_of}
+use Rattle.lift_replay.specs.Report.{turn_text, fault_text}
+use Rattle.lift_replay.specs.Terminals.{AllHear, AreTold, seat_at}
+use Rattle.lift_replay.specs.Told.{ScriptClerk, OutcomeTells, TurnTells, HasCommitted, WasStopped, device_of}
+use Rattle.lift_replay.specs.Shows.{AreInStep, IsFound, IsFused, Stands, IsKept, Shows}
+use Rattle.lift_replay.proofs.InStep.{all_found, commands_found, hear_all}
+
+le_of : (a b : ℕ) → nat_le a b ≡ true → a ≤ b
+le_of a b e = leb-true a b e
+
+past_of : (a b : ℕ) → nat_le a b ≡ false → b < a
+past_of a b e = elim (leb_tells a b) [ inl below ↦ absurd (false≢true (sym e ∙ below.0)) | inr above ↦ above.1 ]
+
+within : (a b : ℕ) → a ≤ b → nat_le a b ≡ true
+within a b h = le-leb a b h
+
+beyond : (a b : ℕ) → b < a → nat_le a b ≡ false
+beyond a b h = elim (leb_tells a b) [ inl below ↦ absurd (let le = below.1 in omega (arith, le, h)) | inr above ↦ above.0 ]
+
+-- a run under Etd is what is computed
+pub run_is : StepsAreDecisions IsEtdChoice etd_pick → (plan : Plan) (state : State) (commands : List Command) (replies : List Reply) (next : State) → Run plan IsEtdChoice state commands replies next
+    → (replies ≡ replies_by plan state commands) × (next ≡ state_by plan state commands)
+run_is computed plan state [] [] next run = (refl, run)
+run_is computed plan state [] (r ∷ replies) next run = absurd run
+run_is computed plan state (c ∷ commands) [] next run = absurd run
+run_is computed plan state (c ∷ commands) (r ∷ replies) next (mid, step, run) =
+    let one = (computed plan state c.terminal c.number c.body r mid).0 step in
+    let rest = run_is computed plan mid commands replies next run in (
+      ap (λ x. x ∷ replies) one.0 ∙ ap (λ l. (decision_by etd_pick plan state c.terminal c.number c.body).reply ∷ l) (rest.0 ∙ ap (λ s. replies_by plan s commands) one.1),
+      rest.1 ∙ ap (λ s. state_by plan s commands) one.1,
+    )
+
+same_length : (olds news : List TerminalSeat) (heard : List ℕ) → AllHear olds news heard → length news ≡ length olds
+same_length [] [] heard hear = refl
+same_length [] (new ∷ news) heard hear = absurd hear
+same_length (old ∷ olds) [] heard hear = absurd hear
+same_length (old ∷ olds) (new ∷ news) heard hear = ap suc (same_length olds news hear.1 hear.3)
+
+heard_length : (terminals : List Asking) → length (having_heard terminals) ≡ length terminals
+heard_length [] = refl
+heard_length (a ∷ terminals) = ap suc (heard_length terminals)
+
+-- what a turn takes and what is heard behind it
+pub record TakesAll (terminals : List Asking) (visits : List Visit) (replies : List Reply) (after : List TerminalSeat) (known : List ClerkPlace) (heard : List ℕ) : Type 0 where
+  pub commands : commands_at 0 visits ≡ commands_in 0 terminals
+  pub text : heard ≡ answers_text (commands_in 0 terminals) replies
+  pub in_step : AreInStep (having_heard terminals) after known
+
+pub takes_all : (terminals : List Asking) (seats told after : List TerminalSeat) (places turned known : List ClerkPlace) (visits : List Visit) (replies : List Reply) (heard : List ℕ)
+    → AreInStep terminals seats places → Serves places turned visits replies → AreTold seats told turned known → AllHear told after heard → TakesAll terminals visits replies after known heard
+takes_all terminals seats told after places turned known visits replies heard step serves knows hear =
+    let seat : ℕ → _ = λ (i : ℕ). (seat_at seats i).view in
+    let many : length visits ≡ length terminals = serves.each_once ∙ step.place_count in
+    let found = all_found terminals places visits replies seat many step.place_count serves.finds step.each
+    (λ i below. subst (λ l. IsPrefix (view_at l i).taken (seat_at seats i).view.asked) serves.stored (knows.in_order i (omega (arith, below, step.seat_count))).taken) in
+    let commands = commands_found 0 visits terminals found in
+    let all = hear_all 0 terminals places visits replies seat told after heard (λ i. view_at known i) found step.place_count (knows.count ∙ step.seat_count) serves.finds serves.in_range (serves.one_reply_each ∙ ap length commands) step.each
+    (λ i below. ap (λ (s : TerminalSeat). s.view) (knows.seat i (omega (arith, below, step.seat_count))) ∙ ap (λ l. with_told_answers (seat_at seats i).view (view_at l i).answered) serves.stored)
+    (λ i below. knows.place i (omega (arith, below, step.seat_count)) ∙ ap (λ l. with_told_asks (view_at l i) (seat_at seats i).view.asked) serves.stored)
+    (λ i below. ap (λ (s : TerminalSeat). s.terminal) (knows.seat i (omega (arith, below, step.seat_count))) ∙ step.own i below ∙ omega arith)
+    hear in
+    let count = heard_length terminals in
+    record {
+      commands = commands;
+      text = all.text;
+      in_step = record {
+        seat_count = same_length told after heard hear ∙ knows.count ∙ step.seat_count ∙ sym count;
+        place_count = knows.place_count ∙ ap length serves.stored ∙ length-served places visits replies ∙ step.place_count ∙ sym count;
+        own = λ i below. all.own i (omega (arith, below, count)) ∙ omega arith;
+        each = λ i below. all.each i (omega (arith, below, count));
+      };
+    }
+
+cut_whole : (disk : DiskState) (P : Image → Type 0) (image : Image) → disk.is_honest → LeavesNow disk P → MayLeave disk image → P image
+cut_whole disk P image honest leaves may = leaves honest image may
+
+-- a run that a mark divides was stopped: what each cut leaves
+module _ (plan : Plan) (old new : DiskState) (P Q M O : Found) (offset mark made whole : ℕ) (honest : new.is_honest) (is : whole ≡ offset + mark)
+    (stops : StopsAtMark (IsFound plan P) (IsFound plan Q) (IsFound plan M) (IsFound plan O) whole old new) (calls : new.calls ≡ old.calls + offset + made) (most : made ≤ mark + 2) where
+  behind_mark : (outcome : Outcome) (image : Image) (b : Bool) → nat_le (mark + 2) made ≡ b → mark < made → IsLeftBy outcome new image → IsFound plan (by_mark outcome b P Q M O) image
+  behind_mark Keep image true written past left = subst (IsFound plan Q) (sym left) (stops.keeps_new (let w = le_of (mark + 2) made written in omega (arith, calls, is, most, w)))
+  behind_mark Keep image false written past left = subst (IsFound plan P) (sym left) (stops.keeps_old (let w = past_of (mark + 2) made written in omega (arith, calls, is, past, w)))
+  behind_mark Lose image b written past left = subst (IsFound plan P) (sym left) (stops.loses (omega (arith, calls, is, past)))
+  behind_mark (Fill byte) image b written past left = filled (byte == 165) refl
+    where
+      filled : (c : Bool) → (byte == 165) ≡ c → IsFound plan (if c then M else O) image
+      filled true e = subst (λ n. IsFilled n new image → IsFound plan M image) (sym (eqb-true byte 165 e)) (stops.fills_mark (omega (arith, calls, is, past)) image) left
+      filled false e = stops.fills_other (omega (arith, calls, is, past)) byte image (eqb-false byte 165 e) left
+
+  pub left_at_mark : (outcome : Outcome) (image : Image) → IsLeftBy outcome new image → MayLeave new image → IsFound plan (at_mark outcome mark made P Q M O) image
+  left_at_mark outcome image left may = cases (nat_le made mark) refl
+    where
+      cases : (b : Bool) → nat_le made mark ≡ b → IsFound plan (if b then P else by_mark outcome (nat_le (mark + 2) made) P Q M O) image
+      cases true e = stops.early (let w = le_of made mark e in omega (arith, calls, is, w)) honest image may
+      cases false e = behind_mark outcome image (nat_le (mark + 2) made) refl (let w = past_of made mark e in omega (arith, w)) left
+
+-- what each cut leaves of a commit that was stopped
+module _ (plan : Plan) (g : GroupState) (s : Stopped) (old new : DiskState) (honest : new.is_honest)
+    (stops : StopsCommit plan half g.is_second g.used g.register s.batch old new) (calls : new.calls ≡ old.calls + s.made) (some : 0 < length s.batch)
+    (most : s.made ≤ commit_calls g.register g.used half (length s.batch)) where
+  room_is : (b : Bool) → has_room g.used half (length s.batch) ≡ b → (room_for g s.batch ≡ 0) ⊎ (room_for g s.batch ≡ sectors_for (length (base_records g.register)) + 4)
+  room_is true e = inl (ap (λ c. cond c 0 (sectors_for (length (base_records g.register)) + 4)) e)
+  room_is false e = inr (ap (λ c. cond c 0 (sectors_for (length (base_records g.register)) + 4)) e)
+
+  all_calls : s.made ≤ room_for g s.batch + (bodies (length s.batch) + 4)
+  all_calls = subst (λ c. s.made ≤ cond c 0 (room_for g s.batch + (bodies (length s.batch) + 4))) (ne_eqb (length s.batch) 0 (λ z. omega (arith, z, some))) most
+
+  fold_left : (outcome : Outcome) (image : Image) → s.made ≤ room_for g s.batch → IsLeftBy outcome new image → MayLeave new image → IsFound plan (in_folding outcome g s.made) image
+  fold_left outcome image early left may =
+      let stop = stops.folding (omega (arith, calls, early)) in
+      by_half g.is_second stop
+    where
+      few : s.made ≤ sectors_for (length (base_records g.register)) + 4
+      few = elim (room_is (has_room g.used half (length s.batch)) refl) [ inl none ↦ omega (arith, none, early) | inr some_room ↦ omega (arith, some_room, early) ]
+
+      by_half : (second : Bool)
+          → StopsAtMark (IsFound plan (standing g)) (IsFound plan (folded g)) (FirstIf second (IsFound plan (standing g)) (IsFound plan (folded g)))
+          (FirstIf second (IsFound plan (folded g)) (IsFound plan (standing g))) (sectors_for (length (base_records g.register)) + 2) old new
+          → IsFound plan (at_mark outcome (sectors_for (length (base_records g.register)) + 2) s.made (standing g) (folded g) (if second then standing g else folded g) (if second then folded g else standing g)) image
+      by_half true stop =
+          left_at_mark plan old new (standing g) (folded g) (standing g) (folded g) 0 (sectors_for (length (base_records g.register)) + 2) s.made (sectors_for (length (base_records g.register)) + 2) honest (omega arith) stop
+          (omega (arith, calls)) (omega (arith, few)) outcome image left may
+      by_half false stop =
+          left_at_mark plan old new (standing g) (folded g) (folded g) (standing g) 0 (sectors_for (length (base_records g.register)) + 2) s.made (sectors_for (length (base_records g.register)) + 2) honest (omega arith) stop
+          (omega (arith, calls)) (omega (arith, few)) outcome image left may
+
+  append_left : (outcome : Outcome) (image : Image) → room_for g s.batch < s.made → IsLeftBy outcome new image → MayLeave new image
+      → IsFound plan (in_append outcome g s.batch (s.made - room_for g s.batch)) image
+  append_left outcome image late left may =
+      left_at_mark plan old new (with_room g (length s.batch)) (with_batch g s.batch) (with_batch g s.batch) (with_room g (length s.batch))
+      (room_for g s.batch) (bodies (length s.batch) + 2) (s.made - room_for g s.batch) (room_for g s.batch + (bodies (length s.batch) + 2)) honest refl
+      (stops.adding (omega (arith, calls, late))) (omega (arith, calls, late)) (omega (arith, all_calls, late)) outcome image left may
+
+  pub cut_as : (outcome : Outcome) (image : Image) → IsLeftBy outcome new image → MayLeave new image → IsFound plan (left_of (Some s) outcome g) image
+  cut_as outcome image left may = cases (nat_le s.made (room_for g s.batch)) refl
+    where
+      cases : (b : Bool) → nat_le s.made (room_for g s.batch) ≡ b
+          → IsFound plan (if b then in_folding outcome g s.made else in_append outcome g s.batch (s.made - room_for g s.batch)) image
+      cases true e = fold_left outcome image (le_of s.made (room_for g s.batch) e) left may
+      cases false e = append_left outcome image (past_of s.made (room_for g s.batch) e) left may
+
+-- whether a turn's commit passes the fuse
+pub passes_all : (passing : Option ℕ) (need : ℕ) (old new : DiskState) → old.is_inert → IsFused passing old → new.calls ≡ old.calls + need → NoneFails old new → passes passing need ≡ true
+passes_all None need old new inert fused calls none = refl
+passes_all (Some left) need old new inert fused calls none = elim (leb_tells need left) [
+  | inl below ↦ below.0
+  | inr above ↦ absurd (
+      let past = above.1 in
+      let call : old.calls < old.calls + left + 1 = omega arith in
+      none.told inert (old.calls + left + 1) call (omega (arith, calls, past)) ((fused.told (old.calls + left + 1) call).1 (omega arith)))
+]
+
+-- the fuse behind it
+pub fused_on : (passing : Option ℕ) (need : ℕ) (old new : DiskState) → passes passing need ≡ true → IsFused passing old → new.calls ≡ old.calls + need → NoneFails old new
+    → ((call : ℕ) → new.calls < call → new.fails_at call ↔ old.fails_at call) → IsFused (passing_after passing need) new
+fused_on None need old new ok fused calls none keeps = record {
+  told = λ call past. ((λ f. (fused.told call (omega (arith, past, calls))).0 ((keeps call past).0 f)), (λ f. absurd f));
+  short = none.short ∙ fused.short;
+}
+fused_on (Some left) need old new ok fused calls none keeps =
+    let fits = le_of need left ok in
+    record {
+      told = λ call past. (
+        (λ f. let at : old.calls + left < call = (fused.told call (omega (arith, past, calls))).0 ((keeps call past).0 f) in omega (arith, at, calls, fits)),
+        (λ at. (keeps call past).1 ((fused.told call (omega (arith, past, calls))).1 (omega (arith, at, calls, fits)))),
+      );
+      short = none.short ∙ fused.short;
+    }
+
+-- or the fuse has stopped it
+pub record StopsAtFuse (passing : Option ℕ) (need : ℕ) (old new : DiskState) : Type 0 where
+  pub stopped : passes passing need ≡ false
+  pub calls : new.calls ≡ old.calls + calls_to_stop passing
+  pub most : calls_to_stop passing ≤ need
+
+pub stops_at : (passing : Option ℕ) (need : ℕ) (old new : DiskState) → old.is_inert → IsFused passing old → new.is_short ≡ false → new.calls ≤ old.calls + need → LastFails old new
+    → StopsAtFuse passing need old new
+stops_at passing need old new inert fused long most last = last_call passing fused (last.last inert)
+  where
+    last_call : (p : Option ℕ) → IsFused p old → old.fails_at new.calls × (new.is_short ≡ old.is_short) ⊎ ¬ old.fails_at new.calls × (new.is_short ≡ true) → StopsAtFuse p need old new
+    last_call p f (inr short) = absurd (false≢true (sym long ∙ short.1))
+    last_call None f (inl fails) = absurd ((f.told new.calls last.some).0 fails.0)
+    last_call (Some left) f (inl fails) =
+        let past : old.calls + left < new.calls = (f.told new.calls last.some).0 fails.0 in
+        let call : old.calls < old.calls + left + 1 = omega arith in
+        let here : new.calls ≡ old.calls + suc left = elim (leb_tells new.calls (old.calls + left + 1)) [
+          | inl below ↦ (let le = below.1 in omega (arith, le, past))
+          | inr above ↦ absurd (last.before inert (old.calls + left + 1) call (let lt = above.1 in omega (arith, lt)) ((f.told (old.calls + left + 1) call).1 (omega arith)))
+        ] in
+        record { stopped = beyond need left (omega (arith, past, most)); calls = here; most = omega (arith, here, most) }
+
+-- the terminals and the fuse are nothing to what a cut leaves
+pub left_as : (x : Option Stopped) (g : GroupState) (passing : Option ℕ) (terminals : List Asking) (outcome : Outcome) → left_of x outcome (record g { passing = passing; terminals = terminals }) ≡ left_of x outcome g
+left_as None g passing terminals outcome = refl
+left_as (Some s) g passing terminals outcome = refl
+
+pub with_terminals : (plan : Plan) (g : GroupState) (keeper : KeeperView FuseDisk) (terminals : List Asking) (s : Option Stopped) → Stands s plan g keeper → Stands s plan (record g { terminals = terminals }) keeper
+with_terminals plan g keeper terminals None stands = stands
+with_terminals plan g keeper terminals (Some s) stands =
+    (stands.0, λ outcome image left may. subst (λ f. IsFound plan f image) (sym (left_as g.stopped g g.passing terminals outcome)) (stands.1 outcome image left may))
+
+is_broken_not : (b : Bool) → b ≡ true → b ≡ false → ⊥
+is_broken_not b yes_it no_it = true≢false (sym yes_it ∙ no_it)
+
+-- A turn tells what is computed, and makes the group that is computed.
+module _ (computed : StepsAreDecisions IsEtdChoice etd_pick) (plan : Plan) (g : GroupState) (old new : ScriptClerk) (seats after : List TerminalSeat) (text : List ℕ)
+    (shows : Shows plan g old seats) (outcome : OutcomeTells old new seats after text) (long : (device_of new).is_short ≡ false) where
+  abbrev now : ScriptClerk
+  now = outcome.turned
+
+  same_keeper : new.keeper ≡ now.keeper
+  same_keeper = ap (λ (c : ScriptClerk). c.keeper) outcome.rest
+
+  abbrev Result : Option Stopped → Type 0
+  Result s = (text ≡ turn_told s plan g) × IsKept plan (turned s plan g) now.keeper × AreInStep (turned s plan g).terminals after new.seat
+
+  long_now : (device_of now).is_short ≡ false
+  long_now = subst (λ (k : KeeperView FuseDisk). (fuse_state_of k.writer.device).is_short ≡ false) same_keeper long
+
+  went_well : (s : Option Stopped) → Stands s plan g old.keeper → (counts : Counts) → IsTurn IsEtdChoice old now counts → HasCommitted old now counts.accepted → outcome.head ≡ turn_text counts.taken counts.accepted → Result s
+  went_well (Some s) stands counts turn made head = absurd (is_broken_not old.keeper.writer.is_broken stands.0 made.was_whole)
+  went_well None stands counts turn made head =
+      let takes = takes_all g.terminals seats outcome.told after old.seat now.seat new.seat turn.visits turn.replies outcome.heard shows.terminals turn.serves outcome.knows outcome.hear in
+      let run = subst (λ cs. Run old.keeper.writer.plan IsEtdChoice old.keeper.state cs turn.replies turn.decided) takes.commands turn.run in
+      let run_here = subst (λ (p : Plan). Run p IsEtdChoice old.keeper.state (commands_of g) turn.replies turn.decided) shows.keeper.same_plan run in
+      let is = run_is computed plan (beginning g) (commands_of g) turn.replies turn.decided (subst (λ s. Run plan IsEtdChoice s (commands_of g) turn.replies turn.decided) stands.1 run_here) in
+      let accepted : counts.accepted ≡ length (decided plan g).batch = turn.accepted ∙ ap (λ (s : State). length s.batch) is.1 in
+      let need : (device_of now).calls ≡ (device_of old).calls + calls_for g (decided plan g) =
+      made.calls ∙ ap (λ r. (device_of old).calls + commit_calls r old.keeper.writer.used old.keeper.writer.half counts.accepted) shows.keeper.register
+      ∙ ap (λ u. (device_of old).calls + commit_calls g.register u old.keeper.writer.half counts.accepted) stands.2
+      ∙ ap (λ h. (device_of old).calls + commit_calls g.register g.used h counts.accepted) shows.keeper.half_is
+      ∙ ap (λ n. (device_of old).calls + commit_calls g.register g.used half n) accepted in
+      let ok = passes_all g.passing (calls_for g (decided plan g)) (device_of old) (device_of now) tt stands.4 need made.none_fails in
+      let kept : IsKept plan (after_turn g (decided plan g)) now.keeper = record {
+        same_plan = outcome.place.plan ∙ shows.keeper.same_plan;
+        half_is = outcome.place.half ∙ shows.keeper.half_is;
+        register = made.register ∙ ap (λ (s : State). s.register) (turn.after ∙ ap settled is.1);
+        stands = (
+          made.whole,
+          turn.after ∙ ap settled is.1,
+          made.used ∙ ap (λ r. commit_used r old.keeper.writer.used old.keeper.writer.half counts.accepted) shows.keeper.register
+              ∙ ap (λ u. commit_used g.register u old.keeper.writer.half counts.accepted) stands.2
+              ∙ ap (λ h. commit_used g.register g.used h counts.accepted) shows.keeper.half_is
+              ∙ ap (λ n. commit_used g.register g.used half n) accepted,
+          made.second ∙ ap (λ b. commit_second b old.keeper.writer.used old.keeper.writer.half counts.accepted) stands.3
+              ∙ ap (λ u. commit_second g.is_second u old.keeper.writer.half counts.accepted) stands.2
+              ∙ ap (λ h. commit_second g.is_second g.used h counts.accepted) shows.keeper.half_is
+              ∙ ap (λ n. commit_second g.is_second g.used half n) accepted,
+          fused_on g.passing (calls_for g (decided plan g)) (device_of old) (device_of now) ok stands.4 need made.none_fails outcome.place.fuse,
+        );
+      } in
+      let told : text ≡ commit_text true plan g (decided plan g) =
+      outcome.shown ∙ ap (λ l. l ++ outcome.heard) (head ∙ ap (λ n. turn_text n counts.accepted) (turn.taken ∙ ap length takes.commands) ∙ ap (turn_text (length (commands_of g))) accepted)
+      ∙ ap (λ l. turn_text (length (commands_of g)) (length (decided plan g).batch) ++ l) (takes.text ∙ ap (answers_text (commands_of g)) is.0) in (
+        told ∙ ap (λ b. commit_text b plan g (decided plan g)) (sym ok),
+        subst (λ b. IsKept plan (after_commit b g (decided plan g)) now.keeper) (sym ok) kept,
+        subst (λ b. AreInStep (after_commit b g (decided plan g)).terminals after new.seat) (sym ok) takes.in_step,
+      )
+
+  was_stopped : (s : Option Stopped) → Stands s plan g old.keeper → IsFailedTurn IsEtdChoice old now → WasStopped old now → outcome.head ≡ fault_text (codes "turn") 1 → Result s
+  was_stopped (Some s) stands turn stop head = absurd (is_broken_not old.keeper.writer.is_broken stands.0 stop.was_whole)
+  was_stopped None stands turn stop head =
+      let takes = takes_all g.terminals seats outcome.told after old.seat now.seat new.seat turn.visits turn.replies outcome.heard shows.terminals turn.serves outcome.knows outcome.hear in
+      let run = subst (λ cs. Run old.keeper.writer.plan IsEtdChoice old.keeper.state cs turn.run.0.0 now.keeper.state) takes.commands turn.run.0.1 in
+      let run_here = subst (λ (p : Plan). Run p IsEtdChoice old.keeper.state (commands_of g) turn.run.0.0 now.keeper.state) shows.keeper.same_plan run in
+      let is = run_is computed plan (beginning g) (commands_of g) turn.run.0.0 now.keeper.state (subst (λ s. Run plan IsEtdChoice s (commands_of g) turn.run.0.0 now.keeper.state) stands.1 run_here) in
+      let batch : now.keeper.state.batch ≡ (decided plan g).batch = ap (λ (s : State). s.batch) is.1 in
+      let doubt : now.keeper.writer.doubt ≡ (decided plan g).batch = turn.doubt ∙ batch in
+      let need : (device_of now).calls ≤ (device_of old).calls + calls_for g (decided plan g) =
+      subst (λ n. (device_of now).calls ≤ (device_of old).calls + commit_calls g.register g.used half n) (ap length batch)
+      (subst (λ h. (device_of now).calls ≤ (device_of old).calls + commit_calls g.register g.used h (length now.keeper.state.batch)) shows.keeper.half_is
+      (subst (λ u. (device_of now).calls ≤ (device_of old).calls + commit_calls g.register u old.keeper.writer.half (length now.keeper.state.batch)) stands.2
+      (subst (λ r. (device_of now).calls ≤ (device_of old).calls + commit_calls r old.keeper.writer.used old.keeper.writer.half (length now.keeper.state.batch)) shows.keeper.register stop.calls))) in
+      let fuse = stops_at g.passing (calls_for g (decided plan g)) (device_of old) (device_of now) tt stands.4 long_now need stop.last_fails in
+      let stops : StopsCommit plan half g.is_second g.used g.register (decided plan g).batch (device_of old) (device_of now) =
+      subst (λ (p : Plan). StopsCommit p half g.is_second g.used g.register (decided plan g).batch (device_of old) (device_of now)) shows.keeper.same_plan
+      (subst (λ h. StopsCommit old.keeper.writer.plan h g.is_second g.used g.register (decided plan g).batch (device_of old) (device_of now)) shows.keeper.half_is
+      (subst (λ b. StopsCommit old.keeper.writer.plan old.keeper.writer.half b g.used g.register (decided plan g).batch (device_of old) (device_of now)) stands.3
+      (subst (λ u. StopsCommit old.keeper.writer.plan old.keeper.writer.half old.keeper.writer.is_second u g.register (decided plan g).batch (device_of old) (device_of now)) stands.2
+      (subst (λ r. StopsCommit old.keeper.writer.plan old.keeper.writer.half old.keeper.writer.is_second old.keeper.writer.used r (decided plan g).batch (device_of old) (device_of now)) shows.keeper.register
+      (subst (λ d. StopsCommit old.keeper.writer.plan old.keeper.writer.half old.keeper.writer.is_second old.keeper.writer.used old.keeper.writer.register d (device_of old) (device_of now)) doubt stop.stops))))) in
+      let stopped : Stopped = record { made = calls_to_stop g.passing; batch = (decided plan g).batch } in
+      let kept : IsKept plan (after_stop g (decided plan g)) now.keeper = record {
+        same_plan = outcome.place.plan ∙ shows.keeper.same_plan;
+        half_is = outcome.place.half ∙ shows.keeper.half_is;
+        register = stop.register ∙ shows.keeper.register;
+        stands = (
+          stop.broken,
+          cut_as plan g stopped (device_of old) (device_of now) tt stops fuse.calls (subst (λ b. 0 < length b) batch turn.some) fuse.most,
+        );
+      } in
+      let told : text ≡ commit_text false plan g (decided plan g) =
+      outcome.shown ∙ ap (λ l. l ++ outcome.heard) head
+      ∙ ap (λ l. fault_text (codes "turn") 1 ++ l) (takes.text ∙ ap (answers_text (commands_of g)) (turn.run.1 ∙ ap unknowns takes.commands)) in (
+        told ∙ ap (λ b. commit_text b plan g (decided plan g)) (sym fuse.stopped),
+        subst (λ b. IsKept plan (after_commit b g (decided plan g)) now.keeper) (sym fuse.stopped) kept,
+        subst (λ b. AreInStep (after_commit b g (decided plan g)).terminals after new.seat) (sym fuse.stopped) takes.in_step,
+      )
+
+  was_broken : (s : Option Stopped) → Stands s plan g old.keeper → old.keeper.writer.is_broken ≡ true → IsBrokenTurn old now → outcome.head ≡ fault_text (codes "turn") 5 → g.stopped ≡ s → Result s
+  was_broken None stands broken turn head is = absurd (is_broken_not old.keeper.writer.is_broken broken stands.0)
+  was_broken (Some s) stands broken turn head is =
+      let takes = takes_all g.terminals seats outcome.told after old.seat now.seat new.seat turn.visits turn.replies outcome.heard shows.terminals turn.serves outcome.knows outcome.hear in
+      let kept : IsKept plan (record g { terminals = having_heard g.terminals }) old.keeper = record {
+        same_plan = shows.keeper.same_plan;
+        half_is = shows.keeper.half_is;
+        register = shows.keeper.register;
+        stands = with_terminals plan g old.keeper (having_heard g.terminals) g.stopped shows.keeper.stands;
+      } in (
+        outcome.shown ∙ ap (λ l. l ++ outcome.heard) head ∙ ap (λ l. fault_text (codes "turn") 5 ++ l) (takes.text ∙ ap (answers_text (commands_of g)) (turn.run.0 ∙ ap unknowns takes.commands)),
+        subst (IsKept plan (record g { terminals = having_heard g.terminals })) (sym turn.rests) kept,
+        takes.in_step,
+      )
+
+  by_turn : TurnTells old now outcome.head → Result g.stopped
+  by_turn (inl (counts, turn, made, head)) = went_well g.stopped shows.keeper.stands counts turn made head
+  by_turn (inr (inl (turn, stop, head))) = was_stopped g.stopped shows.keeper.stands turn stop head
+  by_turn (inr (inr (broken, turn, head))) = was_broken g.stopped shows.keeper.stands broken turn head refl
+
+  pub turn_shows : (text ≡ turn_told g.stopped plan g) × Shows plan (turned g.stopped plan g) new after
+  turn_shows =
+      let result = by_turn outcome.tells in (
+        result.0,
+        record { keeper = subst (IsKept plan (turned g.stopped plan g)) (sym same_keeper) result.1; terminals = result.2 },
+      )

@@ -1,0 +1,296 @@
+-- What a line makes of a script's group.
+use Rattle.std.proofs.Common.{◌≡◌, ◌≢◌, ◌↔◌, ℕ, suc, ◌+◌, ◌<◌, ◌==◌, true, false, cond, List, [], ◌∷◌, ◌++◌, length, Option, Some, None, refl, sym, ap, ◌∙◌, subst, inl, inr, arith, get_or-set_other, slice_set, length-append}
+use Rattle.std.specs.Prelude.{codes}
+use Rattle.std.proofs.lemmas.List.{length-set, append_assoc, append-nil}
+use Rattle.std.proofs.lemmas.Grind.{get_or-set_at}
+use Rattle.std.proofs.lemmas.Bool.{cases_eq, eq-eqb, ne_eqb}
+use Rattle.lift_base.specs.declared.command.Body.{Body}
+use Rattle.lift_base.specs.declared.command.Body.TheVariants.{Call as Calls, Stop as Stopping, Place as Placing}
+use Rattle.lift_building.specs.Plan.{Plan, kiosk_floor_of}
+use Rattle.lift_desk.specs.declared.words.Ask.{Ask}
+use Rattle.lift_desk.specs.declared.view.TerminalView.{TerminalView}
+use Rattle.lift_desk.specs.declared.view.ClerkView.{ClerkView}
+use Rattle.lift_desk.specs.Words.{ask_word}
+use Rattle.lift_desk.specs.Steps.{with_told_asks}
+use Rattle.lift_desk.specs.Seats.{TerminalSeat, ClerkPlace, Waits, view_at, no_place}
+use Rattle.lift_disk.specs.declared.fuse.FuseDisk.{FuseDisk}
+use Rattle.lift_policy.specs.Choices.{IsEtdChoice}
+use Rattle.lift_policy.specs.Decision.{etd_pick}
+use Rattle.lift_policy.specs.Laws.{StepsAreDecisions}
+use Rattle.lift_policy.specs.Step.{State, view_of}
+use Rattle.lift_keeper.specs.Keeper.{KeeperView}
+use Rattle.lift_replay.specs.declared.line.ScriptLine.{ScriptLine}
+use Rattle.lift_replay.specs.declared.line.ScriptLine.TheVariants.{Place, Call, Stop, Turn, Stops, Cost, Rows, Fuse, Cut}
+use Rattle.lift_register.specs.Balanced.{open_count}
+use Rattle.lift_replay.specs.declared.lines.End.{End}
+use Rattle.lift_replay.specs.declared.lines.End.TheVariants.{Run as Over, Cut as Power}
+use Rattle.lift_replay.specs.declared.lines.Verdict.{Verdict}
+use Rattle.lift_replay.specs.declared.lines.Verdict.TheVariants.{Bad}
+use Rattle.lift_replay.specs.Running.{TellsLines, Continues, LinesEnd}
+use Rattle.lift_replay.specs.Grammar.{IsInRange, IsSkipped, Spells}
+use Rattle.lift_replay.specs.Known.{IsKnown}
+use Rattle.lift_replay.specs.Group.{Asking, GroupState, Stopped, asking_at, asking_more, after_ask, asked, asked_text, ask_text, unasked, unless_stopped, line_text, left_by, beginning}
+use Rattle.lift_replay.specs.Group.{after as after_line}
+use Rattle.lift_replay.specs.Report.{spent_text, register_text, bad_text, cut_text}
+use Rattle.lift_replay.specs.Shown.{stops_text, costs_text, unless_broken}
+use Rattle.lift_replay.specs.Terminals.{no_seat, seat_at, told_seat, having_asked}
+use Rattle.lift_replay.specs.Told.{ScriptClerk, Asks, HasAsked, IsArmed, KeepsKeeper, Rests, Tells, LineTells, device_of, end_of}
+use Rattle.lift_replay.specs.Shows.{WaitsFor, IsInStep, AreInStep, IsFound, Stands, IsKept, Shows}
+use Rattle.lift_replay.proofs.Groups.{turn_shows, with_terminals, left_as}
+use Rattle.lift_replay.proofs.Recovered.{left_unchanged, may_unchanged}
+
+-- a terminal waits just where an ask of it does
+waits_not : (a : Asking) (seat : TerminalView) (place : ClerkView) → IsInStep a seat place → a.waiting ≡ None → ¬ Waits seat
+waits_not a seat place step none = λ waits.
+    let same = subst (λ w. WaitsFor w seat place) none step.waits in
+    omega (arith, waits, ap length step.heard, step.even, ap length same)
+
+waits_so : (a : Asking) (seat : TerminalView) (place : ClerkView) (ask : Ask) → IsInStep a seat place → a.waiting ≡ Some ask → Waits seat
+waits_so a seat place ask step some =
+    let more = subst (λ w. WaitsFor w seat place) some step.waits in
+    omega (arith, ap length step.heard, step.even, ap length more.1, length-append place.taken (ask_word (suc (length place.taken)) ask.number ask.body ∷ []))
+
+-- one terminal has changed
+step_at : (terminals : List Asking) (seats after : List TerminalSeat) (places known : List ClerkPlace) (t : ℕ) (a : Asking) → AreInStep terminals seats places → t < length terminals
+    → length after ≡ length seats → length known ≡ length places → (seat_at after t).terminal ≡ t → IsInStep a (seat_at after t).view (view_at known t)
+    → ((i : ℕ) → i ≢ t → seat_at after i ≡ seat_at seats i) → ((i : ℕ) → i ≢ t → view_at known i ≡ view_at places i) → AreInStep (slice_set terminals t a) after known
+step_at terminals seats after places known t a step inside seat_count place_count own here seat_else place_else =
+    let count : length (slice_set terminals t a) ≡ length terminals = length-set terminals t a in
+    record {
+      seat_count = seat_count ∙ step.seat_count ∙ sym count;
+      place_count = place_count ∙ step.place_count ∙ sym count;
+      own = λ i below. elim (cases_eq i t) [
+        | inl at ↦ ap (λ j. (seat_at after j).terminal) at ∙ own ∙ sym at
+        | inr other ↦ ap (λ (s : TerminalSeat). s.terminal) (seat_else i other) ∙ step.own i (omega (arith, below, count))
+      ];
+      each = λ i below. elim (cases_eq i t) [
+        | inl at ↦ subst (λ x. IsInStep x (seat_at after i).view (view_at known i)) (sym (get_or-set_at terminals t i a unasked at inside))
+            (subst (λ j. IsInStep a (seat_at after j).view (view_at known j)) (sym at) here)
+        | inr other ↦ subst (λ x. IsInStep x (seat_at after i).view (view_at known i)) (sym (get_or-set_other terminals t i a unasked other))
+            (subst (λ (s : TerminalSeat). IsInStep (asking_at terminals i) s.view (view_at known i)) (sym (seat_else i other))
+            (subst (λ v. IsInStep (asking_at terminals i) (seat_at seats i).view v) (sym (place_else i other)) (step.each i (omega (arith, below, count)))))
+      ];
+    }
+
+-- an ask
+module _ (terminals : List Asking) (seats after : List TerminalSeat) (places known : List ClerkPlace) (t number : ℕ) (body : Body) (step : AreInStep terminals seats places) (inside : t < length terminals) where
+  abbrev a : Asking
+  a = asking_at terminals t
+
+  abbrev asking : Ask
+  asking = record { number = number; body = body }
+
+  abbrev Asked : List ℕ → Option Ask → Type 0
+  Asked text w = (text ≡ ask_text w a.turns t number) × AreInStep (slice_set terminals t (asking_more w a.turns asking)) after known
+
+  here : IsInStep a (seat_at seats t).view (view_at places t)
+  here = step.each t inside
+
+  -- nothing has changed
+  stays : (w : Option Ask) → a.waiting ≡ w → after ≡ seats → known ≡ places → AreInStep (slice_set terminals t (record { turns = a.turns; waiting = w })) after known
+  stays w is same known_is =
+      step_at terminals seats after places known t (record { turns = a.turns; waiting = w }) step inside (ap length same) (ap length known_is)
+      (ap (λ l. (seat_at l t).terminal) same ∙ step.own t inside)
+      (subst (λ l. IsInStep (record { turns = a.turns; waiting = w }) (seat_at after t).view (view_at l t)) (sym known_is)
+      (subst (λ l. IsInStep (record { turns = a.turns; waiting = w }) (seat_at l t).view (view_at places t)) (sym same)
+      (record { turns = here.turns; told = here.told; heard = here.heard; even = here.even; waits = subst (λ x. WaitsFor x (seat_at seats t).view (view_at places t)) is here.waits })))
+      (λ i other. ap (λ l. seat_at l i) same) (λ i other. ap (λ l. view_at l i) known_is)
+
+  asks : (text : List ℕ) (w : Option Ask) → a.waiting ≡ w → Asks seats after places known t number body text → Asked text w
+  asks text (Some ask) is (inl waits) = (waits.3, stays (Some ask) is waits.1 waits.2)
+  asks text (Some ask) is (inr (inl spent)) = absurd (spent.0 (waits_so a (seat_at seats t).view (view_at places t) ask here is))
+  asks text (Some ask) is (inr (inr asked)) = absurd (asked.0 (waits_so a (seat_at seats t).view (view_at places t) ask here is))
+  asks text None is (inl waits) = absurd (waits_not a (seat_at seats t).view (view_at places t) here is waits.0)
+  asks text None is (inr (inl spent)) =
+      let all : (a.turns == 1048575) ≡ true = eq-eqb a.turns 1048575 (sym here.turns ∙ spent.1) in (
+        spent.4 ∙ ap (λ b. cond b (spent_text t number) []) (sym all),
+        subst (λ b. AreInStep (slice_set terminals t (cond b (record { turns = a.turns; waiting = None }) (record { turns = suc a.turns; waiting = Some asking }))) after known) (sym all)
+            (stays None is spent.2 spent.3),
+      )
+  asks text None is (inr (inr asked)) =
+      let left : (a.turns == 1048575) ≡ false = ne_eqb a.turns 1048575 (λ e. asked.1 (here.turns ∙ e)) in
+      let h : HasAsked seats after places known t number body = asked.2 in
+      let word : ℕ = ask_word (suc (length (seat_at seats t).view.asked)) number body in
+      let wide : t < length seats = omega (arith, inside, step.seat_count) in
+      let deep : t < length places = omega (arith, inside, step.place_count) in
+      let asked_seat : seat_at h.asked t ≡ having_asked (seat_at seats t) number body = ap (λ l. seat_at l t) h.asks ∙ get_or-set_at seats t t _ no_seat refl wide in
+      let seat_is : seat_at after t ≡ told_seat (having_asked (seat_at seats t) number body) (view_at places t) =
+      ap (λ l. seat_at l t) h.seat ∙ get_or-set_at h.asked t t _ no_seat refl (omega (arith, wide, ap length h.asks, length-set seats t (having_asked (seat_at seats t) number body)))
+      ∙ ap (λ (s : TerminalSeat). told_seat s (view_at places t)) asked_seat in
+      let view_is : view_at known t ≡ with_told_asks (view_at places t) ((seat_at seats t).view.asked ++ word ∷ []) =
+      ap (λ l. view_at l t) h.knows ∙ ap (λ (p : ClerkPlace). p.view) (get_or-set_at places t t _ no_place refl deep)
+      ∙ ap (λ (s : TerminalSeat). with_told_asks (view_at places t) s.view.asked) asked_seat in
+      let same : (seat_at seats t).view.asked ≡ (view_at places t).taken = subst (λ x. WaitsFor x (seat_at seats t).view (view_at places t)) is here.waits in
+      let in_step : IsInStep (record { turns = suc a.turns; waiting = Some asking }) (told_seat (having_asked (seat_at seats t) number body) (view_at places t)).view (with_told_asks (view_at places t) ((seat_at seats t).view.asked ++ word ∷ [])) = record {
+        turns = omega (arith, length-append (seat_at seats t).view.asked (word ∷ []), here.turns);
+        told = refl;
+        heard = here.heard;
+        even = here.even;
+        waits = (h.in_range, ap (λ l. l ++ word ∷ []) same ∙ ap (λ n. (view_at places t).taken ++ ask_word (suc n) number body ∷ []) (ap length same));
+      } in (
+        asked.3 ∙ ap (λ b. cond b (spent_text t number) []) (sym left),
+        subst (λ b. AreInStep (slice_set terminals t (cond b (record { turns = a.turns; waiting = None }) (record { turns = suc a.turns; waiting = Some asking }))) after known) (sym left)
+            (step_at terminals seats after places known t (record { turns = suc a.turns; waiting = Some asking }) step inside
+            (ap length h.seat ∙ length-set h.asked t _ ∙ ap length h.asks ∙ length-set seats t _)
+            (ap length h.knows ∙ length-set places t _)
+            (ap (λ (s : TerminalSeat). s.terminal) seat_is ∙ step.own t inside)
+            (subst (λ v. IsInStep (record { turns = suc a.turns; waiting = Some asking }) (seat_at after t).view v) (sym view_is)
+            (subst (λ (s : TerminalSeat). IsInStep (record { turns = suc a.turns; waiting = Some asking }) s.view (with_told_asks (view_at places t) ((seat_at seats t).view.asked ++ word ∷ []))) (sym seat_is) in_step))
+            (λ i other. ap (λ l. seat_at l i) h.seat ∙ get_or-set_other h.asked t i _ no_seat other ∙ ap (λ l. seat_at l i) h.asks ∙ get_or-set_other seats t i _ no_seat other)
+            (λ i other. ap (λ l. view_at l i) h.knows ∙ ap (λ (p : ClerkPlace). p.view) (get_or-set_other places t i _ no_place other))),
+      )
+
+  pub asks_shows : (text : List ℕ) → Asks seats after places known t number body text
+      → (text ≡ ask_text a.waiting a.turns t number) × AreInStep (after_ask terminals t asking) after known
+  asks_shows text told = asks text a.waiting refl told
+
+-- what is shown while nothing is stopped
+shown_is : (plan : Plan) (g : GroupState) (keeper : KeeperView FuseDisk) (line : List ℕ) (f : State → List ℕ) (s : Option Stopped) → Stands s plan g keeper
+    → unless_broken keeper.writer.is_broken line (f keeper.state) ≡ unless_stopped s line (f (beginning g))
+shown_is plan g keeper line f None stands = ap (λ b. unless_broken b line (f keeper.state)) stands.0 ∙ ap f stands.1
+shown_is plan g keeper line f (Some s) stands = ap (λ b. unless_broken b line (f keeper.state)) stands.0
+
+-- a fuse
+arms : (plan : Plan) (g : GroupState) (calls : ℕ) (old new : ScriptClerk) (s : Option Stopped) → IsArmed calls old new → Stands s plan g old.keeper → g.stopped ≡ s → Stands s plan (record g { passing = Some calls }) new.keeper
+arms plan g calls old new None armed stands is = (
+  ap (λ (c : ScriptClerk). c.keeper.writer.is_broken) armed.rest ∙ stands.0,
+  ap (λ (c : ScriptClerk). c.keeper.state) armed.rest ∙ stands.1,
+  ap (λ (c : ScriptClerk). c.keeper.writer.used) armed.rest ∙ stands.2,
+  ap (λ (c : ScriptClerk). c.keeper.writer.is_second) armed.rest ∙ stands.3,
+  record {
+    told = λ call past. subst (λ n. (device_of new).fails_at call ↔ n + calls < call) (sym armed.unchanged.calls) (armed.told call past);
+    short = armed.unchanged.short ∙ stands.4.short;
+  },
+)
+arms plan g calls old new (Some s) armed stands is = (
+  ap (λ (c : ScriptClerk). c.keeper.writer.is_broken) armed.rest ∙ stands.0,
+  λ outcome image left may. subst (λ f. IsFound plan f image) (sym (left_as g.stopped g (Some calls) g.terminals outcome))
+      (stands.1 outcome image (left_unchanged outcome (device_of old) (device_of new) image armed.unchanged left) (may_unchanged (device_of old) (device_of new) image armed.unchanged may)),
+)
+
+-- a line that is carried out tells what is computed, and makes the group that is computed
+module _ (computed : StepsAreDecisions IsEtdChoice etd_pick) (plan : Plan) (g : GroupState) (old new : ScriptClerk) (seats after : List TerminalSeat)
+    (shows : Shows plan g old seats) (count : length seats ≡ 16 + length plan.kiosks) (long : (device_of new).is_short ≡ false) where
+  abbrev pub Carried : ScriptLine → List ℕ → Type 0
+  Carried (Place car floor dir) told = (told ≡ line_text plan g (Place car floor dir)) × Shows plan (after_line plan g (Place car floor dir)) new after
+  Carried (Call kiosk number floor party) told = (told ≡ line_text plan g (Call kiosk number floor party)) × Shows plan (after_line plan g (Call kiosk number floor party)) new after
+  Carried (Stop car number floor dir) told = (told ≡ line_text plan g (Stop car number floor dir)) × Shows plan (after_line plan g (Stop car number floor dir)) new after
+  Carried Turn told = (told ≡ line_text plan g Turn) × Shows plan (after_line plan g Turn) new after
+  Carried (Stops car) told = (told ≡ line_text plan g (Stops car)) × Shows plan g new after
+  Carried (Cost kiosk floor party) told = (told ≡ line_text plan g (Cost kiosk floor party)) × Shows plan g new after
+  Carried Rows told = (told ≡ line_text plan g Rows) × Shows plan g new after
+  Carried (Fuse calls) told = (told ≡ []) × Shows plan (after_line plan g (Fuse calls)) new after
+  Carried (Cut outcome) told = (told ≡ []) × Shows plan g new after
+
+  rests : Rests old new seats after → Shows plan g new after
+  rests is = subst (λ c. Shows plan g c after) (sym is.clerk) (subst (Shows plan g old) (sym is.terminals) shows)
+
+  asks_so : (t number : ℕ) (body : Body) (told : List ℕ) → t < 16 + length plan.kiosks → Asks seats after old.seat new.seat t number body told → KeepsKeeper old new
+      → (told ≡ asked_text g t number) × Shows plan (asked g t number body) new after
+  asks_so t number body told below asks keeps =
+      let result = asks_shows g.terminals seats after old.seat new.seat t number body shows.terminals (omega (arith, below, count, shows.terminals.seat_count)) told asks in
+      let same : new.keeper ≡ old.keeper = ap (λ (c : ScriptClerk). c.keeper) keeps in
+      let kept : IsKept plan (asked g t number body) old.keeper = record {
+        same_plan = shows.keeper.same_plan;
+        half_is = shows.keeper.half_is;
+        register = shows.keeper.register;
+        stands = with_terminals plan g old.keeper (asked g t number body).terminals g.stopped shows.keeper.stands;
+      } in (
+        result.0,
+        record { keeper = subst (IsKept plan (asked g t number body)) (sym same) kept; terminals = result.1 },
+      )
+
+  pub tells_shows : (wanted : ScriptLine) (told : List ℕ) → IsInRange wanted → IsKnown plan wanted → Tells plan old new seats after wanted told → Carried wanted told
+  tells_shows (Place car floor dir) told range known tells = asks_so car 0 (Placing floor dir) told (let below = range.0 in omega (arith, below)) tells.0 tells.1
+  tells_shows (Call kiosk number floor party) told range known tells = asks_so (16 + kiosk) number (Calls floor party) told (omega (arith, known)) tells.0 tells.1
+  tells_shows (Stop car number floor dir) told range known tells = asks_so car number (Stopping floor dir) told (let below = range.0 in omega (arith, below)) tells.0 tells.1
+  tells_shows Turn told range known tells = turn_shows computed plan g old new seats after told shows tells long
+  tells_shows (Stops car) told range known tells =
+      (tells.0 ∙ shown_is plan g old.keeper (codes "stops") (λ s. stops_text (view_of s) car) g.stopped shows.keeper.stands, rests tells.1)
+  tells_shows (Cost kiosk floor party) told range known tells =
+      (tells.0 ∙ shown_is plan g old.keeper (codes "cost") (λ s. costs_text plan (view_of s) (record { from = kiosk_floor_of plan kiosk; to = floor; party = party })) g.stopped shows.keeper.stands, rests tells.1)
+  tells_shows Rows told range known tells = (tells.0 ∙ shown_is plan g old.keeper (codes "rows") (λ s. register_text s.register) g.stopped shows.keeper.stands, rests tells.1)
+  tells_shows (Fuse calls) told range known tells =
+      let armed = tells.1 in
+      let kept : IsKept plan (record g { passing = Some calls }) new.keeper = record {
+        same_plan = ap (λ (c : ScriptClerk). c.keeper.writer.plan) armed.rest ∙ shows.keeper.same_plan;
+        half_is = ap (λ (c : ScriptClerk). c.keeper.writer.half) armed.rest ∙ shows.keeper.half_is;
+        register = ap (λ (c : ScriptClerk). c.keeper.writer.register) armed.rest ∙ shows.keeper.register;
+        stands = arms plan g calls old new g.stopped armed shows.keeper.stands refl;
+      } in (
+        tells.0,
+        record {
+          keeper = kept;
+          terminals = subst (λ l. AreInStep g.terminals after l) (sym (ap (λ (c : ScriptClerk). c.seat) armed.rest)) (subst (λ l. AreInStep g.terminals l old.seat) (sym tells.2) shows.terminals);
+        },
+      )
+  tells_shows (Cut outcome) told range known tells = (tells.0, rests tells.1)
+
+-- what a line tells, where another follows, and where it is the last
+module _ (computed : StepsAreDecisions IsEtdChoice etd_pick) (plan : Plan) (g : GroupState) (old new : ScriptClerk) (seats after : List TerminalSeat)
+    (shows : Shows plan g old seats) (count : length seats ≡ 16 + length plan.kiosks) (long : (device_of new).is_short ≡ false)
+    (so_far later : ℕ) (first : GroupState) (script rest behind : List (List ℕ)) (line before told : List ℕ) (number : ℕ)
+    (at : rest ≡ line ∷ behind) (next_number : number ≡ later + 1) (leads : Continues plan so_far first script before later g rest) where
+  -- what the rest tells, as the line and what is behind it
+  onward : (next : GroupState) (text : List ℕ) → ((more : List ℕ) (verdict : Verdict) → TellsLines plan (suc later) next behind more verdict → TellsLines plan later g (line ∷ behind) (text ++ more) verdict)
+      → Continues plan so_far first script (before ++ text) number next behind
+  onward next text step more verdict tells =
+      let here : number ≡ suc later = next_number ∙ omega arith in
+      subst (λ l. TellsLines plan so_far first script l verdict) (sym (append_assoc before text more))
+      (leads (text ++ more) verdict (subst (λ l. TellsLines plan later g l (text ++ more) verdict) (sym at)
+      (step more verdict (subst (λ n. TellsLines plan n next behind more verdict) here tells))))
+
+  skips : IsSkipped line → told ≡ [] → Continues plan so_far first script (before ++ told) number g behind
+  skips skipped none = onward g told (λ more verdict tells. subst (λ t. TellsLines plan later g (line ∷ behind) (t ++ more) verdict) (sym none) (inl (skipped, tells)))
+
+  carries : (wanted : ScriptLine) (text : List ℕ) → Spells line wanted → IsKnown plan wanted → (¬ IsSkipped line) → text ≡ line_text plan g wanted
+      → Continues plan so_far first script (before ++ text) number (after_line plan g wanted) behind
+  carries wanted text spells known other is = onward (after_line plan g wanted) text (λ more verdict tells. inr (inl (wanted, more, other, spells, known, tells, ap (λ t. t ++ more) is)))
+
+  -- a line behind which the next is carried out
+  abbrev pub GoesOn : Type 0
+  GoesOn = (next : GroupState) × Shows plan next new after × Continues plan so_far first script (before ++ told) number next behind
+
+  pub line_goes_on : LineTells plan old new seats after line number None told → GoesOn
+  line_goes_on (inl skipped) = (g, rests computed plan g old new seats after shows count long skipped.3, skips skipped.0 skipped.2)
+  line_goes_on (inr (inr bad)) = absurd (let e = bad.1 in cc)
+  line_goes_on (inr (inl (wanted, spells, known, tells, end, other))) = by_line wanted spells known tells end
+    where
+      by_line : (w : ScriptLine) → Spells line w → IsKnown plan w → Tells plan old new seats after w told → None ≡ end_of w → GoesOn
+      by_line (Cut outcome) sp kn te en = absurd (cc)
+      by_line (Place car floor dir) sp kn te en = let c = tells_shows computed plan g old new seats after shows count long (Place car floor dir) told sp.3 kn te in (after_line plan g (Place car floor dir), c.1, carries (Place car floor dir) told sp kn other c.0)
+      by_line (Call kiosk n floor party) sp kn te en = let c = tells_shows computed plan g old new seats after shows count long (Call kiosk n floor party) told sp.3 kn te in (after_line plan g (Call kiosk n floor party), c.1, carries (Call kiosk n floor party) told sp kn other c.0)
+      by_line (Stop car n floor dir) sp kn te en = let c = tells_shows computed plan g old new seats after shows count long (Stop car n floor dir) told sp.3 kn te in (after_line plan g (Stop car n floor dir), c.1, carries (Stop car n floor dir) told sp kn other c.0)
+      by_line Turn sp kn te en = let c = tells_shows computed plan g old new seats after shows count long Turn told sp.3 kn te in (after_line plan g Turn, c.1, carries Turn told sp kn other c.0)
+      by_line (Stops car) sp kn te en = let c = tells_shows computed plan g old new seats after shows count long (Stops car) told sp.3 kn te in (g, c.1, carries (Stops car) told sp kn other c.0)
+      by_line (Cost kiosk floor party) sp kn te en = let c = tells_shows computed plan g old new seats after shows count long (Cost kiosk floor party) told sp.3 kn te in (g, c.1, carries (Cost kiosk floor party) told sp kn other c.0)
+      by_line Rows sp kn te en = let c = tells_shows computed plan g old new seats after shows count long Rows told sp.3 kn te in (g, c.1, carries Rows told sp kn other c.0)
+      by_line (Fuse calls) sp kn te en = let c = tells_shows computed plan g old new seats after shows count long (Fuse calls) told sp.3 kn te in (after_line plan g (Fuse calls), c.1, carries (Fuse calls) told sp kn other c.0)
+
+  -- a line that ends the lines at this desk
+  pub line_ends : (end : End) → LineTells plan old new seats after line number (Some end) told → LinesEnd plan so_far first script (before ++ told) number behind new after end
+  line_ends end (inl skipped) = absurd (let e = skipped.1 in cc)
+  line_ends end (inr (inr bad)) =
+      let over : end ≡ Over Bad = (let e = bad.1 in cc) in
+      let here : number ≡ suc later = next_number ∙ omega arith in
+      let text : told ≡ bad_text (suc later) = bad.2 ∙ ap bad_text here in
+      subst (LinesEnd plan so_far first script (before ++ told) number behind new after) (sym over)
+      (leads told Bad (subst (λ l. TellsLines plan later g l told Bad) (sym at) (inr (inr (bad.0, text, refl)))))
+  line_ends end (inr (inl (wanted, spells, known, tells, is, other))) = by_line wanted spells known tells is
+    where
+      by_line : (w : ScriptLine) → Spells line w → IsKnown plan w → Tells plan old new seats after w told → Some end ≡ end_of w → LinesEnd plan so_far first script (before ++ told) number behind new after end
+      by_line (Cut outcome) sp kn te en =
+          let c = tells_shows computed plan g old new seats after shows count long (Cut outcome) told sp.3 kn te in
+          let power : end ≡ Power outcome = cc in
+          let cut : List ℕ = cut_text (open_count (left_by outcome g).register) in
+          let all : before ++ cut ≡ (before ++ told) ++ cut = ap (λ t. t ++ cut) (sym (append-nil before) ∙ ap (λ t. before ++ t) (sym c.0)) in
+          subst (LinesEnd plan so_far first script (before ++ told) number behind new after) (sym power)
+          (g, c.1, long, subst (λ t. Continues plan so_far first script t number (after_line plan g (Cut outcome)) behind) all (carries (Cut outcome) cut sp kn other refl))
+      by_line (Place car floor dir) sp kn te en = absurd (cc)
+      by_line (Call kiosk n floor party) sp kn te en = absurd (cc)
+      by_line (Stop car n floor dir) sp kn te en = absurd (cc)
+      by_line Turn sp kn te en = absurd (cc)
+      by_line (Stops car) sp kn te en = absurd (cc)
+      by_line (Cost kiosk floor party) sp kn te en = absurd (cc)
+      by_line Rows sp kn te en = absurd (cc)
+      by_line (Fuse calls) sp kn te en = absurd (cc)

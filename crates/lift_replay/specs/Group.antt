@@ -1,0 +1,285 @@
+-- What a script's group is between two of its lines, what a line tells of it, and what it makes of it: functions of the script.
+use Rattle.std.specs.Prelude.{ℕ, suc, ◌+◌, ◌-◌, ◌==◌, Bool, true, false, not, if◌then◌else◌, nat_le, List, [], ◌∷◌, ◌++◌, length, replicate, slice_index_or, slice_set, codes, Option, Some, None}
+use Rattle.lift_base.specs.declared.command.Body.{Body}
+use Rattle.lift_base.specs.declared.command.Body.TheVariants.{Call as Calls, Stop as Stopping, Place as Placing}
+use Rattle.lift_base.specs.declared.command.Reply.{Reply}
+use Rattle.lift_base.specs.declared.history.Entry.{Entry}
+use Rattle.lift_base.specs.declared.travel.Position.{Position}
+use Rattle.lift_building.specs.Plan.{Plan, kiosk_floor_of}
+use Rattle.lift_disk.specs.declared.outcome.Outcome.{Outcome}
+use Rattle.lift_disk.specs.declared.outcome.Outcome.TheVariants.{Keep, Lose, Fill}
+use Rattle.lift_journal.specs.Checkpoint.{sectors_for}
+use Rattle.lift_journal.specs.Layout.{bodies}
+use Rattle.lift_register.specs.Register.{RegisterState, register_of, empty}
+use Rattle.lift_register.specs.Base.{base_records}
+use Rattle.lift_register.specs.Balanced.{open_count}
+use Rattle.lift_policy.specs.declared.command.Command.{Command}
+use Rattle.lift_policy.specs.Decision.{decision_by, etd_pick}
+use Rattle.lift_policy.specs.Run.{unknowns}
+use Rattle.lift_policy.specs.Step.{State}
+use Rattle.lift_policy.specs.View.{ViewState}
+use Rattle.lift_desk.specs.declared.words.Ask.{Ask}
+use Rattle.lift_keeper.specs.Writer.{room_calls, room_used, room_second, commit_calls, commit_used, commit_second}
+use Rattle.lift_clerk.specs.Visits.{command_at}
+use Rattle.lift_replay.specs.declared.line.ScriptLine.{ScriptLine}
+use Rattle.lift_replay.specs.declared.line.ScriptLine.TheVariants.{Place, Call, Stop, Turn, Stops, Cost, Rows, Fuse, Cut}
+use Rattle.lift_replay.specs.Report.{waiting_text, spent_text, turn_text, fault_text, heard_text, cut_text, register_text}
+use Rattle.lift_replay.specs.Shown.{stops_text, costs_text}
+
+-- how often a terminal has asked, and its ask that waits for the answer
+pub record Asking : Type 0 where
+  pub turns : ℕ
+  pub waiting : Option Ask
+
+-- a batch that the device stopped, once its commit had made so many calls
+pub record Stopped : Type 0 where
+  pub made : ℕ
+  pub batch : List Entry
+
+pub record GroupState : Type 0 where
+  -- the calls that are safe; while nothing is stopped they are those that are shown
+  pub register : RegisterState
+  pub positions : List (Option Position)
+  -- the half that is picked, and how many of its sectors are used
+  pub is_second : Bool
+  pub used : ℕ
+  -- how many device calls still pass, where a fuse is set
+  pub passing : Option ℕ
+  pub stopped : Option Stopped
+  pub terminals : List Asking
+
+-- the sectors of a half
+abbrev pub half : ℕ
+half = 64
+
+abbrev pub unasked : Asking
+unasked = record { turns = 0; waiting = None }
+
+abbrev pub asking_at : List Asking → ℕ → Asking
+asking_at terminals terminal = slice_index_or terminals terminal unasked
+
+-- nobody has asked
+abbrev pub new_terminals : Plan → List Asking
+new_terminals plan = replicate (16 + length plan.kiosks) unasked
+
+-- no car has told where it is
+abbrev pub no_positions : List (Option Position)
+no_positions = replicate 16 None
+
+-- over a formatted device
+abbrev pub first_group : Plan → GroupState
+first_group plan = record { register = empty; positions = no_positions; is_second = false; used = 0; passing = None; stopped = None; terminals = new_terminals plan }
+
+abbrev pub view_in : GroupState → ViewState
+view_in g = record { register = g.register; positions = g.positions }
+
+-- What a terminal tells that asks: nothing, or that it waits still, or that it has no turn left.
+abbrev pub ask_text : Option Ask → (turns terminal number : ℕ) → List ℕ
+ask_text (Some ask) turns terminal number = waiting_text terminal number
+ask_text None turns terminal number = if turns == 1048575 then spent_text terminal number else []
+
+-- how far it is then
+abbrev pub asking_more : Option Ask → ℕ → Ask → Asking
+asking_more (Some ask) turns more = record { turns = turns; waiting = Some ask }
+asking_more None turns more = if turns == 1048575 then record { turns = turns; waiting = None } else record { turns = suc turns; waiting = Some more }
+
+abbrev pub after_ask : List Asking → ℕ → Ask → List Asking
+after_ask terminals terminal ask =
+    slice_set terminals terminal (asking_more (asking_at terminals terminal).waiting (asking_at terminals terminal).turns ask)
+
+-- the commands that wait, from this terminal on, by rising terminal
+abbrev pub commands_in : ℕ → List Asking → List Command
+commands_in terminal [] = []
+commands_in terminal (asking ∷ terminals) = command_at terminal asking.waiting ++ commands_in (suc terminal) terminals
+
+-- once each of them has heard its answer
+abbrev pub having_heard : List Asking → List Asking
+having_heard [] = []
+having_heard (asking ∷ terminals) = record { turns = asking.turns; waiting = None } ∷ having_heard terminals
+
+-- the state behind these commands, each decided on what the earlier ones left, and the replies to them
+abbrev pub state_by : Plan → State → List Command → State
+state_by plan state [] = state
+state_by plan state (c ∷ commands) = state_by plan (decision_by etd_pick plan state c.terminal c.number c.body).next commands
+
+abbrev pub replies_by : Plan → State → List Command → List Reply
+replies_by plan state [] = []
+replies_by plan state (c ∷ commands) =
+    (decision_by etd_pick plan state c.terminal c.number c.body).reply ∷ replies_by plan (decision_by etd_pick plan state c.terminal c.number c.body).next commands
+
+-- what the terminals of these commands hear
+abbrev pub answers_text : List Command → List Reply → List ℕ
+answers_text [] replies = []
+answers_text (c ∷ commands) [] = []
+answers_text (c ∷ commands) (reply ∷ replies) = heard_text c.terminal c.number reply ++ answers_text commands replies
+
+-- what decisions begin from
+abbrev pub beginning : GroupState → State
+beginning g = record { register = g.register; positions = g.positions; batch = [] }
+
+abbrev pub commands_of : GroupState → List Command
+commands_of g = commands_in 0 g.terminals
+
+abbrev pub decided : Plan → GroupState → State
+decided plan g = state_by plan (beginning g) (commands_of g)
+
+-- how many device calls the turn's commit makes where none fails
+abbrev pub calls_for : GroupState → State → ℕ
+calls_for g state = commit_calls g.register g.used half (length state.batch)
+
+-- whether so many calls pass
+abbrev pub passes : Option ℕ → ℕ → Bool
+passes None calls = true
+passes (Some left) calls = nat_le calls left
+
+abbrev pub passing_after : Option ℕ → ℕ → Option ℕ
+passing_after None calls = None
+passing_after (Some left) calls = Some (left - calls)
+
+-- how many calls a commit has made that the device stops: those that passed, and the one that failed
+abbrev pub calls_to_stop : Option ℕ → ℕ
+calls_to_stop None = 0
+calls_to_stop (Some left) = suc left
+
+-- the turn's batch is safe
+abbrev pub after_turn : GroupState → State → GroupState
+after_turn g state = record {
+  register = state.register;
+  positions = state.positions;
+  is_second = commit_second g.is_second g.used half (length state.batch);
+  used = commit_used g.register g.used half (length state.batch);
+  passing = passing_after g.passing (calls_for g state);
+  stopped = None;
+  terminals = having_heard g.terminals;
+}
+
+-- or the device has stopped it
+abbrev pub after_stop : GroupState → State → GroupState
+after_stop g state = record g { stopped = Some (record { made = calls_to_stop g.passing; batch = state.batch }); terminals = having_heard g.terminals }
+
+abbrev pub after_commit : Bool → GroupState → State → GroupState
+after_commit true g state = after_turn g state
+after_commit false g state = after_stop g state
+
+abbrev pub commit_text : Bool → Plan → GroupState → State → List ℕ
+commit_text true plan g state =
+    turn_text (length (commands_of g)) (length state.batch) ++ answers_text (commands_of g) (replies_by plan (beginning g) (commands_of g))
+commit_text false plan g state = fault_text (codes "turn") 1 ++ answers_text (commands_of g) (unknowns (commands_of g))
+
+-- whether the turn's commit is not stopped
+abbrev pub is_made : Plan → GroupState → Bool
+is_made plan g = passes g.passing (calls_for g (decided plan g))
+
+-- a turn; while something is stopped each command is answered Unknown
+abbrev pub turn_told : Option Stopped → Plan → GroupState → List ℕ
+turn_told None plan g = commit_text (is_made plan g) plan g (decided plan g)
+turn_told (Some stopped) plan g = fault_text (codes "turn") 5 ++ answers_text (commands_of g) (unknowns (commands_of g))
+
+abbrev pub turned : Option Stopped → Plan → GroupState → GroupState
+turned None plan g = after_commit (is_made plan g) g (decided plan g)
+turned (Some stopped) plan g = record g { terminals = having_heard g.terminals }
+
+-- what a recovery finds: a register, in this half, of which so many sectors are used
+pub record Found : Type 0 where
+  pub register : RegisterState
+  pub is_second : Bool
+  pub used : ℕ
+
+-- A mark is written after so many calls, and then made safe. Of a run that is stopped a cut leaves what was there before,
+-- or what the mark makes of it; where it fills the mark's sector, that goes by its byte.
+abbrev pub by_mark : Outcome → Bool → (before behind marked others : Found) → Found
+by_mark Keep is_written before behind marked others = if is_written then behind else before
+by_mark Lose is_written before behind marked others = before
+by_mark (Fill byte) is_written before behind marked others = if byte == 165 then marked else others
+
+abbrev pub at_mark : Outcome → (mark made : ℕ) → (before behind marked others : Found) → Found
+at_mark outcome mark made before behind marked others =
+    if nat_le made mark then before else by_mark outcome (nat_le (mark + 2) made) before behind marked others
+
+-- the safe register where it stands, and once it is a checkpoint in the other half
+abbrev pub standing : GroupState → Found
+standing g = record { register = g.register; is_second = g.is_second; used = g.used }
+
+abbrev pub folded : GroupState → Found
+folded g = record { register = g.register; is_second = not g.is_second; used = sectors_for (length (base_records g.register)) }
+
+-- once there is room for so many entries, and with these
+abbrev pub with_room : GroupState → ℕ → Found
+with_room g count = record { register = g.register; is_second = room_second g.is_second g.used half count; used = room_used g.register g.used half count }
+
+abbrev pub with_batch : GroupState → List Entry → Found
+with_batch g batch = record {
+  register = register_of g.register batch;
+  is_second = room_second g.is_second g.used half (length batch);
+  used = room_used g.register g.used half (length batch) + (bodies (length batch) + 1);
+}
+
+-- within the checkpoint that the batch needs: the mark is the pick
+abbrev pub in_folding : Outcome → GroupState → ℕ → Found
+in_folding outcome g made =
+    at_mark outcome (sectors_for (length (base_records g.register)) + 2) made (standing g) (folded g)
+    (if g.is_second then standing g else folded g) (if g.is_second then folded g else standing g)
+
+-- behind it, so many calls within the append: the mark is the batch's gate
+abbrev pub in_append : Outcome → GroupState → List Entry → ℕ → Found
+in_append outcome g batch made =
+    at_mark outcome (bodies (length batch) + 2) made (with_room g (length batch)) (with_batch g batch) (with_batch g batch) (with_room g (length batch))
+
+abbrev pub room_for : GroupState → List Entry → ℕ
+room_for g batch = room_calls g.register g.used half (length batch)
+
+-- what a cut leaves
+abbrev pub left_of : Option Stopped → Outcome → GroupState → Found
+left_of None outcome g = standing g
+left_of (Some s) outcome g = if nat_le s.made (room_for g s.batch) then in_folding outcome g s.made else in_append outcome g s.batch (s.made - room_for g s.batch)
+
+abbrev pub left_by : Outcome → GroupState → Found
+left_by outcome g = left_of g.stopped outcome g
+
+-- the group that recovers it, at a new desk
+abbrev pub recovered : Plan → Found → GroupState
+recovered plan found = record {
+  register = found.register;
+  positions = no_positions;
+  is_second = found.is_second;
+  used = found.used;
+  passing = None;
+  stopped = None;
+  terminals = new_terminals plan;
+}
+
+-- what a line shows while nothing is stopped
+abbrev pub unless_stopped : Option Stopped → (line text : List ℕ) → List ℕ
+unless_stopped None line text = text
+unless_stopped (Some stopped) line text = fault_text line 5
+
+abbrev pub asked_text : GroupState → (terminal number : ℕ) → List ℕ
+asked_text g terminal number = ask_text (asking_at g.terminals terminal).waiting (asking_at g.terminals terminal).turns terminal number
+
+abbrev pub asked : GroupState → (terminal number : ℕ) → Body → GroupState
+asked g terminal number body = record g { terminals = after_ask g.terminals terminal (record { number = number; body = body }) }
+
+-- what each line tells
+abbrev pub line_text : Plan → GroupState → ScriptLine → List ℕ
+line_text plan g (Place car floor dir) = asked_text g car 0
+line_text plan g (Call kiosk number floor party) = asked_text g (16 + kiosk) number
+line_text plan g (Stop car number floor dir) = asked_text g car number
+line_text plan g Turn = turn_told g.stopped plan g
+line_text plan g (Stops car) = unless_stopped g.stopped (codes "stops") (stops_text (view_in g) car)
+line_text plan g (Cost kiosk floor party) =
+    unless_stopped g.stopped (codes "cost") (costs_text plan (view_in g) (record { from = kiosk_floor_of plan kiosk; to = floor; party = party }))
+line_text plan g Rows = unless_stopped g.stopped (codes "rows") (register_text g.register)
+line_text plan g (Fuse calls) = []
+line_text plan g (Cut outcome) = cut_text (open_count (left_by outcome g).register)
+
+-- what each makes of the group
+abbrev pub after : Plan → GroupState → ScriptLine → GroupState
+after plan g (Place car floor dir) = asked g car 0 (Placing floor dir)
+after plan g (Call kiosk number floor party) = asked g (16 + kiosk) number (Calls floor party)
+after plan g (Stop car number floor dir) = asked g car number (Stopping floor dir)
+after plan g Turn = turned g.stopped plan g
+after plan g (Stops car) = g
+after plan g (Cost kiosk floor party) = g
+after plan g Rows = g
+after plan g (Fuse calls) = record g { passing = Some calls }
+after plan g (Cut outcome) = recovered plan (left_by outcome g)

@@ -1,0 +1,21 @@
+//! Buildings' texts. Run with each allocation refused in turn, the answer is Memory or the right
+//! one.
+use lift_building::{Building, BuildingFault};
+
+/// Whether the text comes to this fault, or to none, or to want of memory.
+#[test]
+fn memory_or_the_right_answer(rt: HostRuntime) {
+    for (flight, wanted) in [
+        ("[0, 1], [1, 0]", None),
+        ("[0, 1]", Some(BuildingFault::TableShape)),
+    ] {
+        let text = match format!(in rt.alloc();
+            "floors = 2\ndoor_ms = 1\nkiosks = [0]\nflight = [{flight}]\ncars = [{{ places = 1 }}]"
+        ) {
+            Ok(text) => text,
+            Err(_) => return,
+        };
+        let fault = Building::read(rt.alloc(), &text).err();
+        assert!(rt; fault == wanted || fault == Some(BuildingFault::Memory));
+    }
+}

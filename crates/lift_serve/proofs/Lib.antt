@@ -1,0 +1,5 @@
+pub mod FirstLines
+pub mod Numbers
+pub mod Places
+pub mod Sessions
+pub mod Turnings

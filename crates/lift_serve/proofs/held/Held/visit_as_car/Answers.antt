@@ -1,0 +1,39 @@
+use Rattle.std.proofs.Common.{ap, subst, ◌∙◌, arith}
+use Rattle.lift_base.specs.Output.{sink_of}
+use Rattle.lift_kiosk.specs.Desk.{DeskPortState}
+use Rattle.lift_kiosk.specs.Lines.{source_of}
+use Rattle.lift_serve.specs.Visits.{HeldState, Visits}
+use Rattle.lift_serve.proofs.Sessions.{served_on, made_visit, still_seated, car_visit}
+use Rattle.lift_serve.proofs.held.Held.visit_as_car.Goals as goal
+
+pub invariant_of-result : goal.invariant_of-result
+invariant_of-result g c =
+    let held : HeldState = record { desk = c.self.inside.desk.now; seat = c.self.inside.seat; last = c.self.inside.last; found = c.self.inside.found } in
+    let held' : HeldState = record { desk = c.self.inside.desk.now; seat = c.into_seat-seat.result; last = c.converse-last.result.last; found = c.self.inside.found } in
+    let first : DeskPortState = c.new-port.result.port in
+    let mid : DeskPortState = c.converse-last.new.port.port in
+    let new = c.new-port.ensures.port ∙ c.new.ensures in
+    let is = c.into_seat-seat.ensures.seat ∙ ap (λ (p : DeskPortState). p.seat) c.into_port.ensures in
+    let visit = car_visit c.self.inside.seat.terminal c.converse-last.result.end _ _ (omega (arith, ap (λ (h : HeldState). h.seat.terminal) c.self.view_is, c.requires)) c.converse-last.ensures.session in
+    let made = made_visit held c.converse-last.result.last c.into_seat-seat.result c.converse-last.result.end
+    (source_of g.I.Read.remaining c.args.reader.now) (source_of g.I.Read.remaining c.converse-last.new.reader)
+    (sink_of g.O.Write.contents c.args.writer.now) (sink_of g.O.Write.contents c.converse-last.new.writer) first mid
+    c.new-port.result.rests.count c.converse-last.new.port.rests.count new c.new-port.ensures.rests c.converse-last.ensures.stays is visit in
+    served_on held held' c.converse-last.result.end _ _ _ _ c.self.invariant made
+    (still_seated held c.into_seat-seat.result first mid c.into_port.result new c.converse-last.ensures.stays c.into_port.ensures c.into_seat-seat.ensures.stays)
+
+pub returns : goal.returns
+returns g c =
+    let held : HeldState = record { desk = c.self.inside.desk.now; seat = c.self.inside.seat; last = c.self.inside.last; found = c.self.inside.found } in
+    let held' : HeldState = record { desk = c.self.inside.desk.now; seat = c.into_seat-seat.result; last = c.converse-last.result.last; found = c.self.inside.found } in
+    let first : DeskPortState = c.new-port.result.port in
+    let mid : DeskPortState = c.converse-last.new.port.port in
+    let new = c.new-port.ensures.port ∙ c.new.ensures in
+    let is = c.into_seat-seat.ensures.seat ∙ ap (λ (p : DeskPortState). p.seat) c.into_port.ensures in
+    let visit = car_visit c.self.inside.seat.terminal c.converse-last.result.end _ _ (omega (arith, ap (λ (h : HeldState). h.seat.terminal) c.self.view_is, c.requires)) c.converse-last.ensures.session in
+    let made = made_visit held c.converse-last.result.last c.into_seat-seat.result c.converse-last.result.end
+    (source_of g.I.Read.remaining c.args.reader.now) (source_of g.I.Read.remaining c.converse-last.new.reader)
+    (sink_of g.O.Write.contents c.args.writer.now) (sink_of g.O.Write.contents c.converse-last.new.writer) first mid
+    c.new-port.result.rests.count c.converse-last.new.port.rests.count new c.new-port.ensures.rests c.converse-last.ensures.stays is visit in
+    subst (λ (h : HeldState). Visits h c.converse-last.result.end held' (source_of g.I.Read.remaining c.args.reader.now) (source_of g.I.Read.remaining c.converse-last.new.reader)
+    (sink_of g.O.Write.contents c.args.writer.now) (sink_of g.O.Write.contents c.converse-last.new.writer)) c.self.view_is made

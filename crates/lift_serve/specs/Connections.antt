@@ -1,0 +1,33 @@
+-- What comes of a connection.
+use Rattle.std.specs.Prelude.{ℕ, ◌≡◌, ◌⊎◌, List, [], ◌∷◌, ◌++◌, codes}
+use Rattle.std.specs.Str.Lines.{strip_carriage_return}
+use Rattle.lift_base.specs.Output.{Sink, Takes, TakesFront}
+use Rattle.lift_kiosk.specs.Lines.{GivesLine, Source}
+use Rattle.lift_serve.specs.FirstLine.{SpeaksFor}
+use Rattle.lift_serve.specs.Visits.{HeldState, IsServed, Visits}
+use Rattle.lift_serve.specs.declared.attending.Outcome.{Outcome}
+use Rattle.lift_serve.specs.declared.attending.Outcome.TheVariants.{NoLine, Bad, Busy, Visited}
+
+-- all of these bytes were written, or a front of them, before which the writer failed
+abbrev pub IsSaid : List ℕ → (before after : Sink) → Type 0
+IsSaid bytes before after = Takes bytes before after ⊎ ((count : ℕ) × TakesFront count bytes before after)
+
+-- the first line was read, and it names this terminal of the building
+pub record Names (cars kiosks : ℕ) (terminal : ℕ) (before after : Source) : Type 0 where
+  pub line : List ℕ
+  pub read : GivesLine line before after
+  pub speaks : SpeaksFor cars kiosks (strip_carriage_return line) terminal
+
+-- the first line was read, and it names no terminal of the building
+pub record NamesNone (cars kiosks : ℕ) (before after : Source) : Type 0 where
+  pub line : List ℕ
+  pub read : GivesLine line before after
+  pub none : (terminal : ℕ) → SpeaksFor cars kiosks (strip_carriage_return line) terminal → ⊥
+
+-- Nothing is written where no line came; BAD where it names no terminal, BUSY where the lobby did not have its seat; else a session of it.
+abbrev pub Attends : (cars kiosks : ℕ) → Outcome → (source source' : Source) → (sink sink' : Sink) → Type 0
+Attends cars kiosks (NoLine reason) source source' sink sink' = sink' ≡ sink
+Attends cars kiosks Bad source source' sink sink' = NamesNone cars kiosks source source' × IsSaid (codes "BAD" ++ 10 ∷ []) sink sink'
+Attends cars kiosks (Busy absent) source source' sink sink' = Names cars kiosks absent source source' × IsSaid (codes "BUSY" ++ 10 ∷ []) sink sink'
+Attends cars kiosks (Visited terminal end) source source' sink sink' = (mid : Source) × Names cars kiosks terminal source mid
+    × (held : HeldState) × (held' : HeldState) × IsServed held × (held.seat.terminal ≡ terminal) × Visits held end held' mid source' sink sink'

@@ -1,0 +1,25 @@
+-- What a connection's first line says.
+use Rattle.std.specs.Prelude.{ℕ, ◌≡◌, ◌<◌, ◌≤◌, ◌+◌, ◌⊎◌, List, [], ◌∷◌, codes, length}
+use Rattle.std.specs.Fmt.{decimal}
+use Rattle.lift_base.specs.Text.{AreWords, letter_text}
+
+-- the terminal of a kiosk, 16 behind the kiosk's number
+abbrev pub IsKioskWord : (kiosks : ℕ) → List ℕ → (terminal : ℕ) → Type 0
+IsKioskWord kiosks word terminal = (kiosk : ℕ) × (word ≡ decimal kiosk) × (kiosk < kiosks) × (terminal ≡ 16 + kiosk)
+
+-- the terminal of a car, by its letter
+abbrev pub IsCarWord : (cars : ℕ) → List ℕ → (terminal : ℕ) → Type 0
+IsCarWord cars word terminal = (word ≡ letter_text terminal) × (terminal < cars)
+
+-- `KIOSK <k>` or `CAR <letter>`, of the building
+abbrev pub AreTerminalWords : (cars kiosks : ℕ) → List (List ℕ) → (terminal : ℕ) → Type 0
+AreTerminalWords cars kiosks words terminal =
+    ((word : List ℕ) × (words ≡ codes "KIOSK" ∷ word ∷ []) × IsKioskWord kiosks word terminal)
+    ⊎ ((word : List ℕ) × (words ≡ codes "CAR" ∷ word ∷ []) × IsCarWord cars word terminal)
+
+-- a line of at most 64 bytes that names a terminal of a building with so many cars and kiosks
+pub record SpeaksFor (cars kiosks : ℕ) (line : List ℕ) (terminal : ℕ) : Type 0 where
+  pub short : length line ≤ 64
+  pub words : List (List ℕ)
+  pub spaced : AreWords line words
+  pub names : AreTerminalWords cars kiosks words terminal

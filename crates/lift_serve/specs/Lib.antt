@@ -1,0 +1,5 @@
+pub mod Connections
+pub mod FirstLine
+pub mod Open
+pub mod Turning
+pub mod Visits

@@ -1,0 +1,96 @@
+//! One connection, from its first line to its end.
+
+ghost use Rattle.std.specs.Prelude.{◌≡◌, ◌≤◌, IfOk, IfErr};
+ghost use Rattle.lift_base.specs.Output.{sink_of};
+ghost use Rattle.lift_kiosk.specs.Lines.{source_of};
+ghost use Rattle.lift_serve.specs.Connections.{Attends, IsSaid};
+
+use crate::first_line::terminal_of;
+use crate::held::Held;
+use crate::lobby::{Absent, Lobby, Returned};
+use lift_base::Terminal;
+use lift_base::text::{Counted, Watched};
+use lift_kiosk::{End, NoLine, read_line};
+use std::io::{Read, Write};
+use std::sync::{Mutex, Wait};
+use std::thread::Parker;
+use std::time::Clock;
+
+/// The calls of the reader for a first line.
+const FIRST_READS: u32 = 100_000_000;
+
+/// What came of a connection.
+#[derive(Drop)]
+pub enum Outcome {
+    /// No first line came.
+    NoLine(NoLine),
+    /// Its first line names no terminal of the building.
+    Bad,
+    /// Another session has the seat of the terminal that it names: the lobby did not.
+    Busy(Absent),
+    /// There was a session of the terminal that it names, which ended so, and whose seat is back in the lobby.
+    Visited(Returned, End),
+}
+
+fn take<'d>(
+    rt: &impl Wait,
+    lobby: &Mutex<Lobby<'d>>,
+    terminal: Terminal,
+) -> Result<Held<'d>, Absent>
+    ensures own { IfOk result (λ held. held.seat.terminal ≡ terminal) }
+    ensures absent { IfErr result (λ absent. absent ≡ terminal) }
+{
+    lobby.lock(rt).take(terminal)
+}
+
+fn put_back<'d>(rt: &impl Wait, lobby: &Mutex<Lobby<'d>>, held: Held<'d>) -> Returned
+    ensures { result ≡ held.entry.seat.terminal }
+{
+    lobby.lock(rt).put_back(held)
+}
+
+/// Writes all of the bytes, or those before which the writer fails.
+fn say<O: Write + Drop>(writer: &mut Watched<O>, bytes: &[u8])
+    ensures { IsSaid bytes.now (sink_of O.contents writer.old) (sink_of O.contents writer.new) }
+{
+    match writer.put(bytes) {
+        Ok(()) => {}
+        Err(_) => {}
+    }
+}
+
+/// Reads the first line, and serves the terminal that it names. Where the line names none of the building `BAD` is
+/// answered, and where its seat is in use `BUSY`.
+pub fn attend<R: Wait + Clock, I: Read + Drop, O: Write + Drop>(
+    rt: &R,
+    lobby: &Mutex<Lobby<'_>>,
+    bell: &Parker,
+    cars: u8,
+    kiosks: u8,
+    reader: &mut Counted<I>,
+    writer: &mut Watched<O>,
+) -> Outcome
+    requires cars { cars ≤ 16 }
+    requires kiosks { kiosks ≤ 47 }
+    ensures { Attends cars kiosks result (source_of I.remaining reader.old) (source_of I.remaining reader.new)
+        (sink_of O.contents writer.old) (sink_of O.contents writer.new) }
+{
+    let mut left = FIRST_READS;
+    let line = match read_line(reader, &mut left) {
+        Ok(line) => line,
+        Err(no_line) => return Outcome::NoLine(no_line),
+    };
+    let Some(terminal) = terminal_of(&line, cars, kiosks) else {
+        say(writer, b"BAD\n");
+        return Outcome::Bad;
+    };
+    let held = match take(rt, lobby, terminal) {
+        Ok(held) => held,
+        Err(absent) => {
+            say(writer, b"BUSY\n");
+            return Outcome::Busy(absent);
+        }
+    };
+    let (held, end) = held.visit(rt, bell, reader, writer);
+    Outcome::Visited(put_back(rt, lobby, held), end)
+}

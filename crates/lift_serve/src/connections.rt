@@ -1,0 +1,114 @@
+//! The connections that are open, and how many have ended.
+
+ghost use Rattle.std.specs.Prelude.{◌≡◌, ℕ, ◌+◌, ◌%◌, ◌^◌, ◌∷◌, ◌++◌, [], pred, Ok, Some, None, IsTrue, ◌↔◌, not, ◌==◌, filter};
+
+use std::alloc::{AllocError, Global};
+use std::marker::Model;
+use std::net::{Shutdown, TcpStream};
+use std::sync::Arc;
+
+/// An open connection.
+#[derive(Drop)]
+struct Open {
+    number: u64,
+    stream: Arc<TcpStream>,
+}
+
+/// The connections that are open, and how many may still end before all of them are closed. Contracts see the numbers of
+/// those that are open, the next number, and how many are left.
+#[derive(Drop)]
+pub struct Connections {
+    open: Vec<Open>,
+    next: u64,
+    left: u32,
+    /// A view of the listening socket.
+    listening: TcpStream,
+}
+
+impl Model for Connections {
+    ghost use Rattle.std.specs.Prelude.{map};
+    ghost use Rattle.lift_serve.specs.Open.{OpenState};
+
+    ghost Value = { OpenState };
+
+    ghost view = { λ c. record { numbers = map (λ o. o.number) c.open.items; next = c.next; left = c.left } };
+}
+
+impl Connections {
+    /// So many connections are to end.
+    pub fn new(alloc: Global, listening: TcpStream, sessions: u32) -> Self
+        ensures { result ≡ record { numbers = []; next = 0; left = sessions } }
+    {
+        Connections {
+            open: Vec::new(alloc),
+            next: 0,
+            left: sessions,
+            listening,
+        }
+    }
+
+    /// Whether all have ended that were to end.
+    pub fn is_over(&self) -> bool
+        ensures { IsTrue result ↔ (self.now.left ≡ 0) }
+    {
+        self.left == 0
+    }
+
+    /// Whether none is open.
+    pub fn is_empty(&self) -> bool
+        ensures { IsTrue result ↔ (self.now.numbers ≡ []) }
+    {
+        self.open.is_empty()
+    }
+
+    /// A connection is open from now on, by the number in the answer. None where all have ended that were to end.
+    pub fn enter(&mut self, stream: Arc<TcpStream>) -> Result<Option<u64>, AllocError>
+        ensures over { self.old.left ≡ 0 → result ≡ Ok None }
+        ensures let_in { (number : ℕ) → result ≡ Ok (Some number) → (number ≡ self.old.next)
+            × (self.new ≡ record self.old { numbers = self.old.numbers ++ number ∷ []; next = (self.old.next + 1) % 2 ^ 64 }) }
+        ensures left_out { result ≡ Ok None → (self.old.left ≡ 0) × (self.new ≡ self.old) }
+    {
+        if self.left == 0 {
+            return Ok(None);
+        }
+        let number = self.next;
+        self.open.push(Open { number, stream })?;
+        self.next = number.wrapping_add(1);
+        Ok(Some(number))
+    }
+
+    /// The connection of this number has ended.
+    pub fn leave(&mut self, number: u64)
+        ensures { self.new ≡ record self.old { numbers = filter (λ n. not (n == number)) self.old.numbers; left = pred self.old.left } }
+    {
+        self.open.retain(|open| open.number != number);
+        self.ended();
+    }
+
+    /// One connection more has ended. Behind the last one that is to end no more are accepted, and nothing more is read from
+    /// the others.
+    pub fn ended(&mut self)
+        ensures { self.new ≡ record self.old { left = pred self.old.left } }
+    {
+        if self.left == 0 {
+            return;
+        }
+        self.left -= 1;
+        if self.left == 0 {
+            self.shut(Shutdown::Read);
+            let _closed = self.listening.shutdown(Shutdown::Both);
+        }
+    }
+
+    /// Shuts down all that are open, that way.
+    fn shut(&self, how: Shutdown) {
+        for open in self.open.iter() {
+            let _closed = open.stream.shutdown(how);
+        }
+    }
+
+    /// Closes all that are open, whatever they wait for.
+    pub fn close(&self) {
+        self.shut(Shutdown::Both);
+    }
+}

@@ -1,0 +1,84 @@
+//! A seat's port that wakes the clerk, and sleeps between two looks.
+
+ghost use Rattle.std.specs.Prelude.{◌≡◌};
+
+use crate::pager::Pager;
+use lift_base::{Body, Number, ProofCount, Reply};
+use lift_desk::AskRefusal;
+use lift_kiosk::{DeskPort, Port};
+use std::sync::Wait;
+use std::thread::Parker;
+use std::time::Clock;
+
+/// A terminal's port at the desk. Behind each ask it wakes the clerk, and it rests by sleeping for a millisecond, or until
+/// its answer is stored.
+#[derive(Drop)]
+pub struct RestingPort<'d, 'r, R: Wait + Clock> {
+    port: DeskPort<'d>,
+    rests: ProofCount,
+    rt: &'r R,
+    bell: &'r Parker,
+    pager: &'r Pager,
+}
+
+impl<'d, 'r, R: Wait + Clock> RestingPort<'d, 'r, R> {
+    /// The port, with the runtime that it sleeps by, the clerk's bell and its terminal's pager.
+    pub fn new(port: DeskPort<'d>, rt: &'r R, bell: &'r Parker, pager: &'r Pager) -> Self
+        ensures port { result.port ≡ port.entry }
+        ensures rests { result.rests.count ≡ 0 }
+    {
+        RestingPort {
+            port,
+            rests: ProofCount::new(),
+            rt,
+            bell,
+            pager,
+        }
+    }
+
+    /// The port by itself.
+    pub fn into_port(self) -> DeskPort<'d>
+        ensures { result ≡ self.entry.port }
+    {
+        let RestingPort {
+            port,
+            rests: _,
+            rt: _,
+            bell: _,
+            pager: _,
+        } = self;
+        port
+    }
+}
+
+impl<'d, 'r, R: Wait + Clock> Port for RestingPort<'d, 'r, R> {
+    ghost use Rattle.lift_kiosk.specs.Desk.{port_view, place_of};
+
+    ghost view = { λ p. port_view p.port.seat.view p.rests.count };
+
+    ghost place = { λ p. place_of p.port };
+
+    fn pending(&self) -> Option<Number> {
+        self.port.pending()
+    }
+
+    fn ask(&mut self, number: Number, body: Body) -> Result<(), AskRefusal> {
+        let outcome = self.port.ask(number, body);
+        if outcome.is_ok() {
+            self.pager.asked();
+            self.bell.unpark();
+        }
+        outcome
+    }
+
+    fn hear(&mut self) -> Option<Reply> {
+        let reply = self.port.hear()?;
+        self.pager.heard();
+        Some(reply)
+    }
+
+    fn rest(&mut self) {
+        self.rests = ProofCount::next(&self.rests);
+        self.pager.rest(self.rt);
+    }
+}

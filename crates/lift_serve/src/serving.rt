@@ -1,0 +1,394 @@
+//! The serving of a building on a socket.
+
+ghost use Rattle.std.specs.Prelude.{◌≡◌, ◌≤◌, [], All, IfOk, length, vec_len};
+ghost use Rattle.std.specs.Thread.{IsSync};
+ghost use Rattle.lift_desk.specs.Seats.{AreSeatsOf};
+ghost use Rattle.lift_serve.specs.Turning.{IsTurnedKeeper, Turned};
+ghost use Rattle.lift_serve.specs.Visits.{IsNewSeat};
+
+use crate::attending::attend;
+use crate::connections::Connections;
+use crate::held::Held;
+use crate::lobby::Lobby;
+use crate::pager::Pager;
+use crate::turning::turn_on;
+use lift_base::text::{Counted, Watched};
+use lift_base::{Content, Letter, Number, Terminal};
+use lift_building::Building;
+use lift_clerk::Clerk;
+use lift_desk::{Desk, DeskParts, Seat};
+use lift_disk::Disk;
+use lift_keeper::Keeper;
+use lift_kiosk::LastLetter;
+use lift_policy::Policy;
+use lift_register::Register;
+use std::alloc::{AllocError, Global};
+use std::io::BufReader;
+use std::net::{Shutdown, TcpListener, TcpStream};
+use std::os::fd::OwnedFd;
+use std::sync::atomic::{AtomicU64, Ordering};
+use std::sync::{Arc, Mutex, Wait};
+use std::thread;
+use std::thread::{Parker, Threads};
+use std::time::{Clock, Duration};
+
+/// Why a connection was not served, or none could be.
+#[derive(Clone, Copy, PartialEq, Eq)]
+pub enum ServeFault {
+    /// The listening socket failed.
+    Network,
+    /// A thread couldn't be started.
+    Thread,
+    /// A growth was refused.
+    Memory,
+}
+
+/// What came of the serving.
+#[derive(Drop)]
+pub struct Served<'b, D: Disk + Drop> {
+    /// The keeper behind the last turn. It is broken where a call of the device failed.
+    pub keeper: Keeper<'b, D>,
+    /// The first fault of the rest.
+    pub fault: Option<ServeFault>,
+}
+
+/// How much is read of a connection at once, in bytes.
+const AHEAD: usize = 512;
+
+/// How many terminals there are at most.
+const TERMINALS: usize = 63;
+
+/// How long the accepting of connections rests where it failed, ms.
+const REST_MS: u64 = 10;
+
+/// How long sessions that are on their way have for their last answers, once all have ended that were to end, ms.
+const FAREWELL_MS: u64 = 1_000;
+
+/// What the threads of a serving share.
+#[derive(Clone, Copy)]
+struct Shared<'a, 'd> {
+    cars: u8,
+    kiosks: u8,
+    lobby: &'a Mutex<Lobby<'d>>,
+    bell: &'a Parker,
+    closing: &'a AtomicU64,
+    connections: &'a Mutex<Connections>,
+    fault: &'a Mutex<Option<ServeFault>>,
+    ghost some_cars: { cars ≤ 16 },
+    ghost some_kiosks: { kiosks ≤ 47 },
+}
+
+/// The letter that a kiosk's last call got.
+fn letter_in(content: &Content) -> Option<Letter> {
+    match content {
+        Content::Letter { car, .. } => Some(*car),
+        Content::Stopped { .. } => None,
+    }
+}
+
+/// What a register knows of a terminal's last command.
+fn last_of(register: &Register, terminal: Terminal) -> LastLetter {
+    match register.last(terminal) {
+        Some(last) => LastLetter {
+            number: last.number,
+            letter: letter_in(&last.content),
+        },
+        None => LastLetter {
+            number: Number::default(),
+            letter: None,
+        },
+    }
+}
+
+/// A pager for each terminal that there can be.
+fn new_pagers(alloc: Global) -> Result<Vec<Pager>, AllocError>
+    ensures { IfOk result (λ pagers. vec_len pagers ≡ 63) }
+{
+    let mut pagers = Vec::with_capacity(alloc, TERMINALS)?;
+    for _ in 0..TERMINALS {
+        pagers.push(Pager::new())?;
+    }
+    Ok(pagers)
+}
+
+/// The lobby with all seats of a desk, and what a register knows of their terminals.
+fn lobby_of<'d>(
+    desk: &'d Desk,
+    pagers: &'d [Pager],
+    seats: Vec<Seat>,
+    register: &Register,
+) -> Lobby<'d>
+    requires pagers { 63 ≤ length pagers.now }
+    requires new { All IsNewSeat seats.items }
+    requires seats { AreSeatsOf desk.now seats.items }
+{
+    let mut lobby = Lobby::new();
+    for seat in seats {
+        let terminal = seat.terminal();
+        let pager = &pagers[usize::from(terminal.get())];
+        let found = last_of(register, terminal);
+        let _returned = lobby.put_back(Held::new(desk, pager, seat, found));
+    }
+    lobby
+}
+
+impl<'a, 'd> Shared<'a, 'd> {
+    /// Keeps the first fault in mind.
+    fn note<R: Wait>(self, rt: &R, fault: ServeFault) {
+        let mut first = self.fault.lock(rt);
+        if first.is_none() {
+            *first = Some(fault);
+        }
+    }
+
+    fn is_over<R: Wait>(self, rt: &R) -> bool {
+        self.connections.lock(rt).is_over()
+    }
+
+    /// None where all connections have ended that were to end.
+    fn enter<R: Wait>(self, rt: &R, stream: Arc<TcpStream>) -> Result<Option<u64>, ServeFault> {
+        match self.connections.lock(rt).enter(stream) {
+            Ok(number) => Ok(number),
+            Err(_) => Err(ServeFault::Memory),
+        }
+    }
+
+    /// A connection is not served.
+    fn refuse<R: Wait>(self, rt: &R, fault: ServeFault) {
+        self.note(rt, fault);
+        self.connections.lock(rt).ended();
+    }
+
+    fn leave<R: Wait>(self, rt: &R, number: u64) {
+        self.connections.lock(rt).leave(number);
+    }
+
+    fn is_empty<R: Wait>(self, rt: &R) -> bool {
+        self.connections.lock(rt).is_empty()
+    }
+
+    /// Sessions that wait for an answer have a while to write it. What is still open then is closed.
+    fn see_off<R: Wait + Clock>(self, rt: &R) {
+        for _ in 0..FAREWELL_MS {
+            if self.is_empty(rt) {
+                return;
+            }
+            thread::sleep(rt, Duration::from_millis(1));
+        }
+        self.connections.lock(rt).close();
+    }
+}
+
+/// Speaks with a connection.
+fn speak<R: Wait + Clock>(
+    rt: &R,
+    alloc: Global,
+    shared: Shared<'_, '_>,
+    stream: &TcpStream,
+) -> Result<(), ServeFault> {
+    let Ok(ahead) = BufReader::with_capacity(alloc, AHEAD, stream) else {
+        return Err(ServeFault::Memory);
+    };
+    let mut reader = Counted::new(ahead);
+    let mut writer = Watched::new(stream);
+    let _outcome = attend(
+        rt,
+        shared.lobby,
+        shared.bell,
+        shared.cars,
+        shared.kiosks,
+        &mut reader,
+        &mut writer,
+    );
+    Ok(())
+}
+
+/// A connection's thread.
+fn attend_stream<R: Wait + Clock>(
+    rt: &R,
+    alloc: Global,
+    shared: Shared<'_, '_>,
+    number: u64,
+    stream: Arc<TcpStream>,
+) {
+    let _quick = stream.set_nodelay(true);
+    if let Err(fault) = speak(rt, alloc, shared, &stream) {
+        shared.note(rt, fault);
+    }
+    let _closed = stream.shutdown(Shutdown::Both);
+    shared.leave(rt, number);
+}
+
+/// A connection is open from now on. None where all have ended that were to end.
+fn admit<R: Wait>(
+    rt: &R,
+    alloc: Global,
+    shared: Shared<'_, '_>,
+    stream: TcpStream,
+) -> Result<Option<(u64, Arc<TcpStream>)>, ServeFault> {
+    let Ok(stream) = Arc::new(alloc, stream) else {
+        return Err(ServeFault::Memory);
+    };
+    let Ok(theirs) = Arc::try_clone(&stream) else {
+        return Err(ServeFault::Memory);
+    };
+    match shared.enter(rt, theirs)? {
+        Some(number) => Ok(Some((number, stream))),
+        None => Ok(None),
+    }
+}
+
+/// Accepts connections until all have ended that were to end, and returns when each thread of one has.
+fn welcome<R: Threads + Wait + Clock + Sync>(
+    rt: &R,
+    alloc: Global,
+    listener: &TcpListener,
+    shared: Shared<'_, '_>,
+) {
+    thread::scope(
+        thread::scope_env(),
+        rt,
+        move |scope|
+            requires { IsSync R.row }
+        {
+            for stream in listener.incoming() {
+                if shared.is_over(rt) {
+                    break;
+                }
+                let Ok(stream) = stream else {
+                    thread::sleep(rt, Duration::from_millis(REST_MS));
+                    continue;
+                };
+                let (number, stream) = match admit(rt, alloc, shared, stream) {
+                    Ok(Some(admitted)) => admitted,
+                    Ok(None) => break,
+                    Err(fault) => {
+                        shared.refuse(rt, fault);
+                        continue;
+                    }
+                };
+                let speaking = scope.spawn(move || attend_stream(
+                    rt, alloc, shared, number, stream,
+                ));
+                if speaking.is_err() {
+                    shared.note(rt, ServeFault::Thread);
+                    shared.leave(rt, number);
+                }
+            }
+            shared.see_off(rt);
+        },
+    )
+}
+
+/// Accepts connections, and then has the clerk end.
+fn welcome_all<R: Threads + Wait + Clock + Sync>(
+    rt: &R,
+    alloc: Global,
+    listener: &TcpListener,
+    shared: Shared<'_, '_>,
+) {
+    welcome(rt, alloc, listener, shared);
+    shared.closing.store(1, Ordering::SeqCst);
+    shared.bell.unpark();
+}
+
+/// The clerk turns on this thread while connections are accepted on another.
+fn run<'d, 'b, R: Threads + Wait + Clock + Sync, D: Disk + Drop, P: Policy + Drop>(
+    rt: &R,
+    alloc: Global,
+    listener: &TcpListener,
+    shared: Shared<'_, '_>,
+    pagers: &[Pager],
+    clerk: Clerk<'d, 'b, D, P>,
+) -> Result<Clerk<'d, 'b, D, P>, ServeFault>
+    ensures { IfOk result (Turned (P.chooses clerk.entry.policy) clerk.entry) }
+{
+    thread::scope(
+        thread::scope_env(),
+        rt,
+        move |scope| -> Result<Clerk<D, P>, ServeFault>
+            requires { IsSync R.row }
+            ensures { IfOk result (Turned (P.chooses clerk.entry.policy) clerk.entry) }
+        {
+            if scope
+                .spawn(move || welcome_all(rt, alloc, listener, shared))
+                .is_err()
+            {
+                return Err(ServeFault::Thread);
+            }
+            Ok(turn_on(rt, clerk, pagers, shared.bell, shared.closing))
+        },
+    )
+}
+
+/// Serves at a desk of the building.
+fn serve_at<'b, R: Threads + Wait + Clock + Sync, D: Disk + Drop, P: Policy + Drop>(
+    rt: &R,
+    alloc: Global,
+    listener: &TcpListener,
+    sessions: u32,
+    building: &Building,
+    desk: &Desk,
+    pagers: &[Pager],
+    seats: Vec<Seat>,
+    clerk: Clerk<'_, 'b, D, P>,
+) -> Result<Served<'b, D>, ServeFault>
+    requires pagers { 63 ≤ length pagers.now }
+    requires new { All IsNewSeat seats.items }
+    requires seats { AreSeatsOf desk.now seats.items }
+    ensures { IfOk result (λ served. IsTurnedKeeper (P.chooses clerk.entry.policy) clerk.entry.policy clerk.entry.keeper served.keeper) }
+{
+    let lobby = Mutex::new(lobby_of(desk, pagers, seats, clerk.keeper().register()));
+    let Ok(again) = listener.try_clone() else {
+        return Err(ServeFault::Network);
+    };
+    let listening = TcpStream::from(OwnedFd::from(again));
+    let connections = Mutex::new(Connections::new(alloc, listening, sessions));
+    let fault = Mutex::new(None);
+    let bell = Parker::new();
+    let closing = AtomicU64::new(0);
+    let shared = Shared {
+        cars: building.cars(),
+        kiosks: building.kiosks(),
+        lobby: &lobby,
+        bell: &bell,
+        closing: &closing,
+        connections: &connections,
+        fault: &fault,
+    };
+    let clerk = run(rt, alloc, listener, shared, pagers, clerk)?;
+    let (_seat, keeper, _policy) = clerk.into_parts();
+    Ok(Served {
+        keeper,
+        fault: *fault.lock(rt),
+    })
+}
+
+/// Serves the building on a listening socket until so many connections have ended, those that were refused included: each
+/// has a thread of its own, beside the clerk's. A fault of the device ends nothing: what is asked from then on is answered
+/// Unknown.
+pub fn serve<'b, R: Threads + Wait + Clock + Sync, D: Disk + Drop, P: Policy + Drop>(
+    rt: &R,
+    alloc: Global,
+    listener: &TcpListener,
+    sessions: u32,
+    building: &Building,
+    keeper: Keeper<'b, D>,
+    policy: P,
+) -> Result<Served<'b, D>, ServeFault>
+    requires settled { keeper.state.batch ≡ [] }
+    // What the keeper has at the end came to it by turns of a clerk with this policy.
+    ensures { IfOk result (λ served. IsTurnedKeeper (P.chooses policy) policy keeper.entry served.keeper) }
+{
+    let terminals = 16 + usize::from(building.kiosks());
+    let Ok(DeskParts { desk, seats, clerk }) = Desk::open(alloc, terminals) else {
+        return Err(ServeFault::Memory);
+    };
+    let Ok(pagers) = new_pagers(alloc) else {
+        return Err(ServeFault::Memory);
+    };
+    let clerk = Clerk::new(&desk, clerk, keeper, policy);
+    serve_at(
+        rt, alloc, listener, sessions, building, &desk, &pagers, seats, clerk,
+    )
+}

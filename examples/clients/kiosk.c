@@ -1,0 +1,49 @@
+/* A kiosk: asks for floors, one after another, and prints each car's letter.
+ * Build: cc -o kiosk kiosk.c      Usage: kiosk PORT KIOSK FLOOR .. */
+#include <arpa/inet.h>
+#include <stdio.h>
+#include <stdlib.h>
+#include <sys/socket.h>
+#include <unistd.h>
+
+static FILE *lines;
+
+/* Sends a line and reads its answer; 0 where the connection is gone. */
+static int tell(const char *line, char *answer, int room) {
+    return fprintf(lines, "%s\n", line) > 0 && fflush(lines) == 0 && fgets(answer, room, lines) != NULL;
+}
+
+/* Connects until the greeting comes, and returns the last number that is in. */
+static long connect_to(int port, int kiosk) {
+    struct sockaddr_in address = {.sin_family = AF_INET, .sin_port = htons(port)};
+    char line[80], answer[80];
+    long last;
+    address.sin_addr.s_addr = htonl(INADDR_LOOPBACK);
+    snprintf(line, sizeof line, "KIOSK %d", kiosk);
+    for (;; usleep(200000)) { /* BUSY, LATE or no connection yet */
+        int stream = socket(AF_INET, SOCK_STREAM, 0);
+        if (lines) fclose(lines);
+        lines = NULL;
+        if (connect(stream, (struct sockaddr *)&address, sizeof address) != 0) {
+            close(stream);
+            continue;
+        }
+        lines = fdopen(stream, "r+");
+        if (lines && tell(line, answer, sizeof answer) && sscanf(answer, "READY %ld", &last) == 1) return last;
+    }
+}
+
+int main(int count, char **words) {
+    int port = count > 2 ? atoi(words[1]) : 0, kiosk = count > 2 ? atoi(words[2]) : 0, reason;
+    long last = connect_to(port, kiosk);
+    char line[80], answer[80], letter;
+    for (int at = 3; at < count; at++)
+        for (;;) { /* the number stays the same until the call is answered, so it is never asked twice over */
+            snprintf(line, sizeof line, "CALL %ld %d", last + 1, atoi(words[at]));
+            if (!tell(line, answer, sizeof answer)) { connect_to(port, kiosk); continue; }
+            if (sscanf(answer, "CAR %c", &letter) == 1) { printf("floor %s: car %c\n", words[at], letter); last++; break; }
+            if (sscanf(answer, "NO %d", &reason) == 1) { printf("floor %s: refused, reason %d\n", words[at], reason); break; }
+            connect_to(port, kiosk); /* UNKNOWN, LATE, SPENT: ask again with this number */
+        }
+    return 0;
+}
