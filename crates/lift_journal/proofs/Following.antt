@@ -55,6 +55,7 @@ pub length-writes : (first : ℕ) (sectors : Image) → length (writes_from firs
 length-writes first [] = refl
 length-writes first (s ∷ sectors) = ap suc (length-writes (first + 1) sectors)
 
-pub writes-append : (first : ℕ) (front back : Image) → writes_from first (front ++ back) ≡ writes_from first front ++ writes_from (first + length front) back
-writes-append first [] back = ap (λ n. writes_from n back) (omega arith)
-writes-append first (s ∷ front) back = ap (λ (l : List Access). Write first s ∷ l) (writes-append (first + 1) front back ∙ ap (λ n. writes_from (first + 1) front ++ writes_from n back) (omega arith))
+pub writes-take : (first count : ℕ) (sectors : Image) → take count (writes_from first sectors) ≡ writes_from first (take count sectors)
+writes-take first zero sectors = refl
+writes-take first (suc count) [] = refl
+writes-take first (suc count) (s ∷ sectors) = ap (λ (l : List Access). Write first s ∷ l) (writes-take (first + 1) count sectors)
