@@ -7,6 +7,7 @@ use Rattle.lift_disk.specs.Disk.{DiskState, Image, ChangesWithin, GoesOn}
 use Rattle.lift_disk.specs.Memory.{image_after, IsFlagged, IsFlaggedFrom, WasLeft, memory_state}
 use Rattle.lift_disk.specs.Outcomes.{SpoilsSector}
 use Rattle.lift_disk.proofs.Moments.{changes_more, changes_nothing}
+use Rattle.lift_disk.specs.Trace.{Access}
 use Rattle.lift_disk.specs.Calls.{Call}
 use Rattle.lift_disk.specs.Calls.Call.{Write, Sync}
 
@@ -112,13 +113,13 @@ kept_write now synced loose sector bytes there kept = record {
   others = λ i other. kept.others i (λ was. other ((flagged_set loose sector i there).1 (inl was))) ∙ sym ((write_within now loose sector bytes there).others i other);
 }
 
-module _ (first : Image) (calls : List Call) (now synced : Image) (loose : List Bool) (steady short : Bool) (failures made writes : ℕ) where
+module _ (first : Image) (calls : List Call) (now synced : Image) (loose : List Bool) (steady short : Bool) (failures made writes : ℕ) (trace : List Access) where
   abbrev old : DiskState
-  old = memory_state first calls now synced loose steady short failures made writes
+  old = memory_state first calls now synced loose steady short failures made writes trace
 
-  pub write_goes_on : (sector : ℕ) (bytes : List ℕ) (later : List Call) (made2 writes2 : ℕ) → sector < length loose → later ≡ calls ++ Write sector bytes ∷ [] → made2 ≡ made + 1
-      → GoesOn old (memory_state first later (slice_set now sector bytes) synced (slice_set loose sector true) steady short failures made2 writes2)
-  write_goes_on sector bytes later made2 writes2 there is one = subst (λ (l : List Call). GoesOn old (memory_state first l (slice_set now sector bytes) synced (slice_set loose sector true) steady short failures made2 writes2)) (sym is) (record {
+  pub write_goes_on : (sector : ℕ) (bytes : List ℕ) (later : List Call) (made2 writes2 : ℕ) (trace2 : List Access) → sector < length loose → later ≡ calls ++ Write sector bytes ∷ [] → made2 ≡ made + 1
+      → GoesOn old (memory_state first later (slice_set now sector bytes) synced (slice_set loose sector true) steady short failures made2 writes2 trace2)
+  write_goes_on sector bytes later made2 writes2 trace2 there is one = subst (λ (l : List Call). GoesOn old (memory_state first l (slice_set now sector bytes) synced (slice_set loose sector true) steady short failures made2 writes2 trace2)) (sym is) (record {
     size = length-set now sector bytes;
     calls = one;
     failures = omega arith;
@@ -136,7 +137,7 @@ module _ (first : Image) (calls : List Call) (now synced : Image) (loose : List 
 
   -- a failed call that makes a sector loose
   pub spoil_goes_on : (sector : ℕ) (calm : Bool) (failures2 made2 writes2 : ℕ) → sector < length loose → failures2 ≡ failures + 1 → made2 ≡ made + 1
-      → GoesOn old (memory_state first calls now synced (slice_set loose sector true) calm short failures2 made2 writes2)
+      → GoesOn old (memory_state first calls now synced (slice_set loose sector true) calm short failures2 made2 writes2 trace)
   spoil_goes_on sector calm failures2 made2 writes2 there more one = record {
     size = refl;
     calls = one;
@@ -154,8 +155,8 @@ module _ (first : Image) (calls : List Call) (now synced : Image) (loose : List 
   }
 
   pub spoil_touches : (named : Option ℕ) (sector : ℕ) (calm : Bool) (failures2 made2 writes2 : ℕ) → named ≡ Some sector → sector < length loose → writes2 ≡ writes + 1
-      → SpoilsSector named old (memory_state first calls now synced (slice_set loose sector true) calm short failures2 made2 writes2)
-  spoil_touches named sector calm failures2 made2 writes2 is there one = subst (λ (o : Option ℕ). SpoilsSector o old (memory_state first calls now synced (slice_set loose sector true) calm short failures2 made2 writes2)) (sym is) (
+      → SpoilsSector named old (memory_state first calls now synced (slice_set loose sector true) calm short failures2 made2 writes2 trace)
+  spoil_touches named sector calm failures2 made2 writes2 is there one = subst (λ (o : Option ℕ). SpoilsSector o old (memory_state first calls now synced (slice_set loose sector true) calm short failures2 made2 writes2 trace)) (sym is) (
     record {
       loose = λ i. flagged_set loose sector i there;
       within = changes_nothing (IsFlagged (slice_set loose sector true)) now;
@@ -164,9 +165,9 @@ module _ (first : Image) (calls : List Call) (now synced : Image) (loose : List 
   )
 
   -- a sync
-  pub sync_goes_on : (from : ℕ) (v : List Bool) (later : List Call) (saved : Image) (flags : List Bool) (calm : Bool) (made2 : ℕ) → ((i : ℕ) → IsFlaggedFrom from v i ↔ IsFlagged loose i) → image_after calls first ≡ now → later ≡ calls ++ Sync from v ∷ [] → made2 ≡ made + 1
-      → ((i : ℕ) → ¬ IsFlagged flags i) → GoesOn old (memory_state first later now saved flags calm short failures made2 writes)
-  sync_goes_on from v later saved flags calm made2 same recorded is one none = subst (λ (l : List Call). GoesOn old (memory_state first l now saved flags calm short failures made2 writes)) (sym is) (record {
+  pub sync_goes_on : (from : ℕ) (v : List Bool) (later : List Call) (saved : Image) (flags : List Bool) (calm : Bool) (made2 : ℕ) (trace2 : List Access) → ((i : ℕ) → IsFlaggedFrom from v i ↔ IsFlagged loose i) → image_after calls first ≡ now → later ≡ calls ++ Sync from v ∷ [] → made2 ≡ made + 1
+      → ((i : ℕ) → ¬ IsFlagged flags i) → GoesOn old (memory_state first later now saved flags calm short failures made2 writes trace2)
+  sync_goes_on from v later saved flags calm made2 trace2 same recorded is one none = subst (λ (l : List Call). GoesOn old (memory_state first l now saved flags calm short failures made2 writes trace2)) (sym is) (record {
     size = refl;
     calls = one;
     failures = omega arith;

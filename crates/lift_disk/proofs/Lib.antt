@@ -3,3 +3,5 @@ pub mod Calls
 pub mod History
 pub mod Fills
 pub mod Cuts
+mod Traces
+mod Walks

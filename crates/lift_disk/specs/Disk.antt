@@ -1,4 +1,5 @@
 -- What a device holds, what its calls do to it, and what a crash may leave of it.
+use Rattle.lift_disk.specs.Trace.{Access}
 use Rattle.std.specs.Prelude.{◌≡◌, ◌⊎◌, ◌↔◌, ◌<◌, ◌≤◌, ◌+◌, ℕ, Bool, true, List, length, replicate, slice_get, slice_set, Some, Result, OnOk, OnErr}
 
 -- the sectors, each the list of its bytes
@@ -15,6 +16,8 @@ pub record DiskState : Type 1 where
   pub calls : ℕ
   -- how many of these were writes
   pub writes : ℕ
+  -- those of its calls that have succeeded, in their order
+  pub trace : List Access
   -- it does what the definitions below say
   pub is_honest : Type 0
   -- It fails only where it was told to, or where it wants memory, and a failed call changes no byte of the image as read.
@@ -27,6 +30,8 @@ pub record DiskState : Type 1 where
   pub is_loose : ℕ → Type 0
   -- no call has failed since the last successful sync
   pub is_steady : Type 0
+  -- The sector was written with these bytes, and no call has failed since: they are read once a sync succeeds, if none fails before it.
+  pub settles : ℕ → List ℕ → Type 0
   -- a growth inside the device was refused, now or earlier
   pub is_short : Bool
   -- of the calls to come, counted as calls is, this one was told to fail
@@ -125,6 +130,19 @@ pub record TouchesNothing (old new : DiskState) : Type 0 where
 abbrev pub StaysLoose : DiskState → DiskState → Type 0
 StaysLoose old new = (i : ℕ) → old.is_loose i → new.is_loose i
 
+-- what was written and has stood since still does
+abbrev pub StaysWritten : DiskState → DiskState → Type 0
+StaysWritten old new = old.is_honest → (i : ℕ) (bytes : List ℕ) → old.settles i bytes → new.settles i bytes
+
+-- these bytes are written in the sector, and what was written in others still stands
+pub record Settles (sector : ℕ) (bytes : List ℕ) (old new : DiskState) : Type 0 where
+  pub here : new.settles sector bytes
+  pub others : (i : ℕ) (other : List ℕ) → ¬ (i ≡ sector) → old.settles i other → new.settles i other
+
+-- what was written is read
+abbrev pub ReadsAsWritten : DiskState → DiskState → Type 0
+ReadsAsWritten old new = (i : ℕ) (bytes : List ℕ) → old.settles i bytes → slice_get new.image i ≡ Some bytes
+
 -- the image of the last sync is the same
 abbrev pub KeepsSynced : DiskState → DiskState → Type 0
 KeepsSynced old new = old.is_honest → new.synced ≡ old.synced
@@ -153,6 +171,7 @@ pub record IsUnchanged (old new : DiskState) : Type 0 where
   pub failures : new.failures ≡ old.failures
   pub calls : new.calls ≡ old.calls
   pub writes : new.writes ≡ old.writes
+  pub trace : new.trace ≡ old.trace
   pub honest : new.is_honest ↔ old.is_honest
   pub inert : new.is_inert ↔ old.is_inert
   pub short : new.is_short ≡ old.is_short
@@ -160,6 +179,7 @@ pub record IsUnchanged (old new : DiskState) : Type 0 where
   pub synced : new.synced ≡ old.synced
   pub loose : (i : ℕ) → new.is_loose i ↔ old.is_loose i
   pub steady : new.is_steady ↔ old.is_steady
+  pub settles : (i : ℕ) (bytes : List ℕ) → new.settles i bytes ↔ old.settles i bytes
   pub moment : new.moment ≡ old.moment
   pub left_since : (t : ℕ) (left : Image) → new.left_since t left ↔ old.left_since t left
 

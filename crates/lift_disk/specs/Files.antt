@@ -1,23 +1,31 @@
 -- What is said of a device on a real file.
-use Rattle.std.specs.Prelude.{[], false}
+use Rattle.std.specs.Prelude.{ℕ, List, [], false}
+use Rattle.lift_disk.specs.Trace.{Access}
 use Rattle.lift_disk.specs.Disk.{DiskState}
+use Rattle.lift_disk.specs.declared.sectors.SectorFile.{SectorFile}
 use Rattle.lift_disk.specs.declared.file.FileDisk.{FileDisk}
 
--- Its sectors and its counts. Nothing shows that it is honest, so nothing is said of what it holds.
-abbrev pub file_state_of : FileDisk → DiskState
-file_state_of d = record {
+-- Its sectors, its counts and its calls. Nothing shows that it is honest, so nothing is said of what it holds.
+abbrev pub sector_file_state_of : {F : Type 0} → SectorFile F → DiskState
+sector_file_state_of d = record {
   size = d.sectors;
   failures = d.failures.count;
   calls = d.calls.count;
   writes = d.writes.count;
+  trace = d.trace.calls;
   is_honest = ⊥;
   is_inert = ⊥;
   image = [];
   synced = [];
   is_loose = λ _. ⊥;
   is_steady = ⊥;
+  settles = λ _ _. ⊥;
   is_short = false;
   fails_at = λ _. ⊥;
   moment = 0;
   left_since = λ _ _. ⊥;
 }
+
+-- the same of a file of the system
+abbrev pub file_state_of : FileDisk → DiskState
+file_state_of d = sector_file_state_of d.device

@@ -1,3 +1,5 @@
+pub mod Trace
+pub mod Noted
 pub mod Disk
 pub mod Calls
 pub mod Memory

@@ -5,6 +5,7 @@ use mathlib.Core.Logic.{inl, inr}
 use Rattle.lift_disk.specs.Disk.{DiskState, Image, ChangesWithin}
 use Rattle.lift_disk.specs.declared.outcome.Outcome.{Outcome}
 use Rattle.lift_disk.specs.declared.outcome.Outcome.TheVariants.{Keep, Lose, Fill}
+use Rattle.lift_disk.specs.Trace.{Access}
 use Rattle.lift_disk.specs.Calls.{Call}
 use Rattle.lift_disk.specs.Calls.Call.{Write, Sync}
 
@@ -35,18 +36,20 @@ pub record WasLeft (first : Image) (calls : List Call) (since : ℕ) (left : Ima
   pub within : ChangesWithin (IsFlaggedFrom from loose) (image_after (take at calls) first) left
 
 -- What is said of a device in memory that was told nothing. Its calls by now are counted, and those that change what a crash leaves are recorded.
-abbrev pub memory_state : Image → List Call → Image → Image → List Bool → Bool → Bool → ℕ → ℕ → ℕ → DiskState
-memory_state first history now synced loose steady short failures calls writes = record {
+abbrev pub memory_state : Image → List Call → Image → Image → List Bool → Bool → Bool → ℕ → ℕ → ℕ → List Access → DiskState
+memory_state first history now synced loose steady short failures calls writes trace = record {
   size = length now;
   failures = failures;
   calls = calls;
   writes = writes;
+  trace = trace;
   is_honest = Unit {0};
   is_inert = Unit {0};
   image = now;
   synced = synced;
   is_loose = IsFlagged loose;
   is_steady = steady ≡ true;
+  settles = λ i bytes. slice_get now i ≡ Some bytes;
   is_short = short;
   fails_at = λ _. ⊥;
   moment = length history;

@@ -7,7 +7,7 @@ use Rattle.lift_disk.specs.declared.outcome.Outcome.{Outcome}
 use Rattle.lift_disk.specs.declared.outcome.Outcome.TheVariants.{Keep, Lose, Fill}
 
 abbrev pub state_of : MemDisk → DiskState
-state_of m = memory_state m.first.items m.history m.image.items m.synced.items m.loose.items m.is_steady m.is_short m.failures.count m.calls.count m.writes.count
+state_of m = memory_state m.first.items m.history m.image.items m.synced.items m.loose.items m.is_steady m.is_short m.failures.count m.calls.count m.writes.count m.trace.calls
 
 -- which sector a failed call makes loose
 abbrev pub SpoilsSector : Option ℕ → DiskState → DiskState → Type 0
@@ -22,6 +22,7 @@ pub record SpoilsAt (sector : Option ℕ) (old new : DiskState) : Type 0 where
   pub touched : SpoilsSector sector old new
   pub image : new.image ≡ old.image
   pub synced : new.synced ≡ old.synced
+  pub trace : new.trace ≡ old.trace
   pub short : new.is_short ≡ old.is_short
 
 -- the same, and from now on the device is short
@@ -32,6 +33,7 @@ pub record RunsShortAt (sector : Option ℕ) (old new : DiskState) : Type 0 wher
   pub touched : SpoilsSector sector old new
   pub image : new.image ≡ old.image
   pub synced : new.synced ≡ old.synced
+  pub trace : new.trace ≡ old.trace
   pub short : new.is_short ≡ true
 
 -- what a cut leaves by its word: the loose sectors keep their bytes, lose them or are filled
@@ -47,6 +49,7 @@ pub record IsCut (old new : DiskState) : Type 0 where
   pub failures : new.failures ≡ old.failures
   pub calls : new.calls ≡ old.calls
   pub writes : new.writes ≡ old.writes
+  pub trace : new.trace ≡ old.trace
   pub honest : new.is_honest ↔ old.is_honest
   pub inert : new.is_inert ↔ old.is_inert
   pub synced : new.synced ≡ old.synced

@@ -1,6 +1,8 @@
 //! What a device promises. Its contract says what is read, and what a crash at any moment may leave.
 ghost use Rattle.std.specs.Prelude.{◌≡◌, ◌≤◌, ◌<◌, ◌+◌, ℕ, OnOk, OnErr, List, length, Bool, slice_get, slice_set, Some};
-ghost use Rattle.lift_disk.specs.Disk.{DiskState, GoesOn, HasCause, FailsAsTold, FailsAsToldOrShort, Touches, TouchesNothing, StaysLoose, KeepsSynced, KeepsImage, SetsSector, IsSteadyAt, IsSynced, IsUnchanged, IsTold, IsWhole, CountsNow, LeavesNoOther, MayLose};
+ghost use Rattle.lift_disk.specs.Trace.{Records};
+ghost use Rattle.lift_disk.specs.Trace.Access.{Read, Write, Sync};
+ghost use Rattle.lift_disk.specs.Disk.{DiskState, StaysWritten, Settles, ReadsAsWritten, GoesOn, HasCause, FailsAsTold, FailsAsToldOrShort, Touches, TouchesNothing, StaysLoose, KeepsSynced, KeepsImage, SetsSector, IsSteadyAt, IsSynced, IsUnchanged, IsTold, IsWhole, CountsNow, LeavesNoOther, MayLose};
 
 /// A call of the device has failed.
 #[derive(Clone, Copy, PartialEq, Eq)]
@@ -22,6 +24,8 @@ pub trait Disk {
         ensures cause { HasCause result (state self.old) (state self.new) }
         ensures told { FailsAsTold result (state self.old) (state self.new) }
         ensures writes { (state self.new).writes ≡ (state self.old).writes }
+        ensures recorded { Records result (Read sector) (state self.old).trace (state self.new).trace }
+        ensures written { OnOk result (StaysWritten (state self.old) (state self.new)) }
         ensures touched { (state self.old).is_honest → TouchesNothing (state self.old) (state self.new) }
         ensures loose { (state self.old).is_honest → StaysLoose (state self.old) (state self.new) }
         ensures gives { OnOk result ((state self.old).is_honest → slice_get (state self.new).image sector ≡ Some buffer.new) }
@@ -37,6 +41,8 @@ pub trait Disk {
         ensures cause { HasCause result (state self.old) (state self.new) }
         ensures told { FailsAsToldOrShort result (state self.old) (state self.new) }
         ensures writes { (state self.new).writes ≡ (state self.old).writes + 1 }
+        ensures recorded { Records result (Write sector bytes.now) (state self.old).trace (state self.new).trace }
+        ensures settles { OnOk result ((state self.old).is_honest → Settles sector bytes.now (state self.old) (state self.new)) }
         ensures touched { (state self.old).is_honest → Touches sector (state self.old) (state self.new) }
         ensures steady { OnOk result ((state self.old).is_honest → (state self.old).is_steady
             → IsSteadyAt (slice_set (state self.old).image sector bytes.now) (state self.new)) }
@@ -50,6 +56,8 @@ pub trait Disk {
         ensures cause { HasCause result (state self.old) (state self.new) }
         ensures told { FailsAsToldOrShort result (state self.old) (state self.new) }
         ensures writes { (state self.new).writes ≡ (state self.old).writes }
+        ensures recorded { Records result Sync (state self.old).trace (state self.new).trace }
+        ensures settled { OnOk result ((state self.old).is_honest → ReadsAsWritten (state self.old) (state self.new)) }
         ensures touched { (state self.old).is_honest → TouchesNothing (state self.old) (state self.new) }
         ensures synced { OnOk result ((state self.old).is_honest → IsSynced (state self.new)) }
         ensures steady { OnOk result ((state self.old).is_honest → (state self.old).is_steady

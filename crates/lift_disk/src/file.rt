@@ -1,13 +1,11 @@
 //! A device on a file of the operating system.
-ghost use Rattle.std.specs.Prelude.{◌≡◌, ◌*◌, IfOk};
+ghost use Rattle.std.specs.Prelude.{◌≡◌, [], IfOk};
 
+use crate::sectors::{SECTOR_BYTES, SectorFile, offset_of};
 use crate::{Disk, DiskFault};
-use lift_base::ProofCount;
 use std::fs::{File, Files, OpenFile, OpenOptions};
-use std::os::unix::fs::FileExt;
 use std::{fs, io};
 
-const SECTOR_BYTES: u64 = 512;
 
 /// Why a file can't be a device.
 #[derive(Drop)]
@@ -21,18 +19,7 @@ pub enum FileFault {
 /// A file of whole sectors. Nothing shows that it keeps what was synced.
 #[derive(Drop)]
 pub struct FileDisk {
-    file: File,
-    sectors: u32,
-    failures: ProofCount,
-    calls: ProofCount,
-    writes: ProofCount,
-}
-
-/// Where a sector begins, in bytes.
-fn offset_of(sector: u32) -> u64
-    ensures { result ≡ sector * 512 }
-{
-    u64::from(sector) * SECTOR_BYTES
+    device: SectorFile<File>,
 }
 
 impl FileDisk {
@@ -43,6 +30,7 @@ impl FileDisk {
         ensures failures { IfOk result (λ disk. (file_state_of disk).failures ≡ 0) }
         ensures calls { IfOk result (λ disk. (file_state_of disk).calls ≡ 0) }
         ensures writes { IfOk result (λ disk. (file_state_of disk).writes ≡ 0) }
+        ensures trace { IfOk result (λ disk. (file_state_of disk).trace ≡ []) }
     {
         if !fs::metadata(rt, path).map_err(FileFault::System)?.is_file() {
             return Err(FileFault::NotAFile);
@@ -67,6 +55,7 @@ impl FileDisk {
         ensures failures { IfOk result (λ disk. (file_state_of disk).failures ≡ 0) }
         ensures calls { IfOk result (λ disk. (file_state_of disk).calls ≡ 0) }
         ensures writes { IfOk result (λ disk. (file_state_of disk).writes ≡ 0) }
+        ensures trace { IfOk result (λ disk. (file_state_of disk).trace ≡ []) }
     {
         if let Ok(there) = fs::metadata(rt, path) {
             if !there.is_file() {
@@ -90,13 +79,10 @@ impl FileDisk {
         ensures failures { (file_state_of result).failures ≡ 0 }
         ensures calls { (file_state_of result).calls ≡ 0 }
         ensures writes { (file_state_of result).writes ≡ 0 }
+        ensures trace { (file_state_of result).trace ≡ [] }
     {
         FileDisk {
-            file,
-            sectors,
-            failures: ProofCount::new(),
-            calls: ProofCount::new(),
-            writes: ProofCount::new(),
+            device: SectorFile::over(file, sectors),
         }
     }
 }
@@ -115,35 +101,18 @@ impl Disk for FileDisk {
     ghost may_lose = { λ d no. absurd no };
 
     fn sectors(&self) -> u32 {
-        self.sectors
+        self.device.sectors()
     }
 
     fn read(&mut self, sector: u32, buffer: &mut [u8; 512]) -> Result<(), DiskFault> {
-        self.calls = ProofCount::next(&self.calls);
-        if self.file.read_exact_at(buffer, offset_of(sector)).is_err() {
-            self.failures = ProofCount::next(&self.failures);
-            return Err(DiskFault);
-        }
-        Ok(())
+        self.device.read(sector, buffer)
     }
 
     fn write(&mut self, sector: u32, bytes: &[u8; 512]) -> Result<(), DiskFault> {
-        self.calls = ProofCount::next(&self.calls);
-        self.writes = ProofCount::next(&self.writes);
-        if self.file.write_all_at(bytes, offset_of(sector)).is_err() {
-            self.failures = ProofCount::next(&self.failures);
-            return Err(DiskFault);
-        }
-        Ok(())
+        self.device.write(sector, bytes)
     }
 
-    /// By `fdatasync`: the bytes and what is needed to find them, without the file's times.
     fn sync(&mut self) -> Result<(), DiskFault> {
-        self.calls = ProofCount::next(&self.calls);
-        if self.file.sync_data().is_err() {
-            self.failures = ProofCount::next(&self.failures);
-            return Err(DiskFault);
-        }
-        Ok(())
+        self.device.sync()
     }
 }

@@ -10,7 +10,10 @@ mod fuse;
 mod memory;
 mod outcome;
 mod record;
+mod sectors;
 mod span;
+mod trace;
+mod traced;
 
 pub use disk::{Arm, Disk, DiskFault};
 pub use file::{FileDisk, FileFault};
@@ -18,3 +21,4 @@ pub use flaky::FlakyDisk;
 pub use fuse::FuseDisk;
 pub use memory::MemDisk;
 pub use outcome::Outcome;
+pub use sectors::SectorFile;

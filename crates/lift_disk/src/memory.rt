@@ -7,6 +7,7 @@ ghost use Rattle.lift_disk.specs.Memory.{IsFlagged, IsWithin, image_after, no_ot
 use crate::call::History;
 use crate::record::{clear, copy, copy_flagged, leave, no_flags, zeros};
 use crate::span::Span;
+use crate::trace::{Made, ProofTrace};
 use crate::{Disk, DiskFault, Outcome};
 use lift_base::{Memory, ProofCount};
 use std::alloc::Global;
@@ -26,6 +27,7 @@ pub struct MemDisk {
     failures: ProofCount,
     calls: ProofCount,
     writes: ProofCount,
+    trace: ProofTrace,
     ghost sized: { length loose.items ≡ length image.items },
     ghost fits: { length image.items < 2 ^ 32 },
     ghost spanned: { (i : ℕ) → IsFlagged loose.items i → IsWithin span.from span.end i },
@@ -50,6 +52,7 @@ impl MemDisk {
         ensures failures { IfOk result (λ disk. (state_of disk).failures ≡ 0) }
         ensures calls { IfOk result (λ disk. (state_of disk).calls ≡ 0) }
         ensures writes { IfOk result (λ disk. (state_of disk).writes ≡ 0) }
+        ensures trace { IfOk result (λ disk. (state_of disk).trace ≡ []) }
     {
         Ok(MemDisk {
             alloc,
@@ -64,6 +67,7 @@ impl MemDisk {
             failures: ProofCount::new(),
             calls: ProofCount::new(),
             writes: ProofCount::new(),
+            trace: ProofTrace::new(),
         })
     }
 
@@ -116,6 +120,7 @@ impl MemDisk {
             failures,
             calls,
             writes,
+            trace,
         } = self;
         leave(outcome, &mut image, &synced, &loose);
         copy(&image, &mut first);
@@ -133,6 +138,7 @@ impl MemDisk {
             failures,
             calls,
             writes,
+            trace,
         }
     }
 }
@@ -156,6 +162,7 @@ impl Disk for MemDisk {
 
     fn read(&mut self, sector: u32, buffer: &mut [u8; 512]) -> Result<(), DiskFault> {
         self.calls = ProofCount::next(&self.calls);
+        self.trace = self.trace.then(&Made::Read(u64::from(sector)));
         *buffer = self.image[sector as usize];
         Ok(())
     }
@@ -167,6 +174,7 @@ impl Disk for MemDisk {
         }
         self.calls = ProofCount::next(&self.calls);
         self.writes = ProofCount::next(&self.writes);
+        self.trace = self.trace.then(&Made::Write(u64::from(sector), bytes));
         self.image[sector as usize] = *bytes;
         self.loose[sector as usize] = true;
         self.span = self.span.with(sector);
@@ -183,6 +191,7 @@ impl Disk for MemDisk {
             return Err(DiskFault);
         }
         self.calls = ProofCount::next(&self.calls);
+        self.trace = self.trace.then(&Made::Sync);
         copy_flagged(&self.image, &self.loose, self.span, &mut self.synced);
         clear(&mut self.loose, self.span);
         self.span = Span::none();

@@ -1,4 +1,5 @@
 pub mod Telling
+pub mod Following
 pub mod Chains
 pub mod Writes
 pub mod Texts

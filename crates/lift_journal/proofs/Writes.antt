@@ -1,8 +1,12 @@
 -- A run of writes, sector by sector.
-use Rattle.std.proofs.Common.{◌≡◌, ◌≤◌, ◌<◌, ◌+◌, ℕ, [], length, take, drop, get_or, slice_set, ◌++◌, refl, ◌∙◌, ap, arith}
-use Rattle.std.proofs.lemmas.List.{take_all}
+use Rattle.std.proofs.Common.{◌≡◌, ◌≤◌, ◌<◌, ◌+◌, ℕ, suc, List, [], ◌∷◌, length, take, drop, get_or, slice_set, ◌++◌, refl, sym, ◌∙◌, ap, arith}
+use Rattle.std.proofs.lemmas.List.{take_all, append-nil, length-take-le}
 use Rattle.std.proofs.lemmas.List.Edits.{paste_none, paste_more}
-use Rattle.std.proofs.Math.Seq.{paste}
+use Rattle.std.proofs.Math.Seq.{paste, take-suc}
+use Rattle.lift_disk.specs.Trace.{Access}
+use Rattle.lift_disk.specs.Trace.Access.{Write}
+use Rattle.lift_journal.specs.Calls.{writes_from, IsFront}
+use Rattle.lift_journal.proofs.Following.{all_then, writes-push, writes-take, length-writes}
 use Rattle.lift_disk.specs.Disk.{DiskState, Image, GoesOn, RunsOn, Touches, LooseWithin, TouchesOnly, IsSteadyAt, LeavesNoOther, IsWhole}
 use Rattle.lift_disk.proofs.Moments.{runs_none, runs_call, runs_then, touches_write, touches_then, touches_none}
 use Rattle.lift_journal.specs.Steps.{overwritten, IsInRange}
@@ -16,8 +20,25 @@ pub record Written (old now : DiskState) (first : ℕ) (sectors : Image) (count 
   pub calls : now.calls ≡ old.calls + count
   pub writes : now.writes ≡ old.writes + count
   pub told : NoneFails old now
+  pub trace : now.trace ≡ old.trace ++ writes_from first (take count sectors)
   pub touched : (low high : ℕ) → low ≤ first → first + length sectors ≤ high → LooseWithin (IsInRange low high) old → TouchesOnly (IsInRange low high) old now
   pub steady : old.is_honest → old.is_steady → IsSteadyAt (paste old.image first sectors count) now
+
+writes-next : (first count : ℕ) (sectors : Image) → count < length sectors
+    → writes_from first (take (count + 1) sectors) ≡ writes_from first (take count sectors) ++ Write (first + count) (get_or sectors count []) ∷ []
+writes-next first count sectors within =
+    let more : count + 1 ≡ suc count = omega arith in
+    ap (λ n. writes_from first (take n sectors)) more ∙ ap (writes_from first) (take-suc sectors count [] within)
+    ∙ writes-push first count (take count sectors) (get_or sectors count []) (length-take-le count sectors (omega arith))
+
+-- a failed write: those before it were made
+pub written_front : (old now new : DiskState) (first : ℕ) (sectors : Image) (count : ℕ) → Written old now first sectors count → count < length sectors → new.trace ≡ now.trace
+    → IsFront (writes_from first sectors) old new
+written_front old now new first sectors count so_far within same = record {
+  count = count;
+  some_left = omega (arith, within, length-writes first sectors);
+  made = same ∙ so_far.trace ∙ ap (λ (l : List Access). old.trace ++ l) (sym (writes-take first count sectors));
+}
 
 pub written_none : (old : DiskState) (first : ℕ) (sectors : Image) → LeavesNoOther old → Written old old first sectors 0
 written_none old first sectors only_now = record {
@@ -26,6 +47,7 @@ written_none old first sectors only_now = record {
   calls = omega arith;
   writes = omega arith;
   told = none_made old;
+  trace = sym (append-nil old.trace);
   touched = λ low high le ge loose. touches_none (IsInRange low high) old loose only_now;
   steady = λ honest steady. record { steady = steady; same = paste_none old.image first sectors };
 }
@@ -40,16 +62,18 @@ touched_more old now new first sectors count so_far within only_now goes_on touc
     (touches_write (IsInRange low high) now new (first + count) goes_on touched (omega arith, omega arith) before.loose only_now)
 
 pub written_more : (old now new : DiskState) (first : ℕ) (sectors : Image) (count : ℕ) → Written old now first sectors count → count < length sectors → LeavesNoOther now
-    → GoesOn now new → (now.is_honest → Touches (first + count) now new) → new.failures ≡ now.failures → new.writes ≡ now.writes + 1 → NoneFails now new
+    → GoesOn now new → (now.is_honest → Touches (first + count) now new) → new.failures ≡ now.failures → new.writes ≡ now.writes + 1 → NoneFails now new → new.trace ≡ now.trace ++ Write (first + count) (get_or sectors count []) ∷ []
     → first + length sectors ≤ old.size → IsWhole old
     → (now.is_honest → now.is_steady → IsSteadyAt (slice_set now.image (first + count) (get_or sectors count [])) new)
     → Written old new first sectors (count + 1)
-written_more old now new first sectors count so_far within only_now goes_on touched cause wrote told room whole steady = record {
+written_more old now new first sectors count so_far within only_now goes_on touched cause wrote told traced room whole steady = record {
   runs = runs_then old now new so_far.runs (runs_call now new goes_on);
   failures = cause ∙ so_far.failures;
   calls = omega (arith, goes_on.calls, so_far.calls);
   writes = omega (arith, wrote, so_far.writes);
   told = passes_then old now new so_far.runs so_far.told told;
+  trace = all_then old now new (writes_from first (take count sectors)) (Write (first + count) (get_or sectors count []) ∷ []) so_far.trace traced
+      ∙ ap (λ (l : List Access). old.trace ++ l) (sym (writes-next first count sectors within));
   touched = touched_more old now new first sectors count so_far within only_now goes_on touched;
   steady = λ honest was_steady.
       let before = so_far.steady honest was_steady in

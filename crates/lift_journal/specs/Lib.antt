@@ -2,6 +2,7 @@ pub mod Order
 pub mod Layout
 pub mod Told
 pub mod Steps
+pub mod Calls
 pub mod Stops
 pub mod Journal
 pub mod Walk

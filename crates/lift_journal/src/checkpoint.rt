@@ -1,5 +1,5 @@
 //! The steps of a checkpoint: a register's records are written into the half that isn't picked, which is then picked.
-ghost use Rattle.std.specs.Prelude.{◌≡◌, ◌≤◌, ◌<◌, ◌+◌, ◌^◌, ◌⊎◌, ℕ, length, take, drop, slice_get, slice_set, OnOk, OnErr, IfOk};
+ghost use Rattle.std.specs.Prelude.{◌≡◌, ◌≤◌, ◌<◌, ◌+◌, ◌^◌, ◌⊎◌, ◌++◌, [], ◌∷◌, ℕ, length, take, drop, slice_get, slice_set, OnOk, OnErr, IfOk};
 ghost use Rattle.lift_disk.specs.Disk.{HasCause, LooseWithin, TouchesOnly, LeavesOnly, ChangesWithin, IsSteadyAt, IsSynced, RunsOn};
 ghost use Rattle.lift_register.specs.Base.{base_records};
 ghost use Rattle.lift_journal.specs.Layout.{sector_at};
@@ -9,6 +9,8 @@ ghost use Rattle.lift_journal.specs.Checkpoint.{batch_count, checkpoint_of, sect
 ghost use Rattle.lift_journal.specs.Switch.{IsOtherHalf, HasWritten, StopsSwitch, StopsWriting};
 ghost use Rattle.lift_journal.specs.Stops.{Misses};
 ghost use Rattle.lift_journal.specs.Told.{StopsAsTold};
+ghost use Rattle.lift_disk.specs.Trace.Access.{Write};
+ghost use Rattle.lift_journal.specs.Calls.{Follows, writes_from, puts};
 
 use crate::body::{body_count, put_body, sectors_of};
 use crate::device::{mark, write_sectors};
@@ -72,6 +74,7 @@ fn write_open_batch<D: Disk>(disk: &mut D, gate: u32, body: &[[u8; 512]]) -> Res
     ensures runs { RunsOn (D.state disk.old) (D.state disk.new) }
     ensures made { Makes result (1 + length body.now) (1 + length body.now) (D.state disk.old) (D.state disk.new) }
     ensures cause { HasCause result (D.state disk.old) (D.state disk.new) }
+    ensures follows { Follows result (writes_from (gate + 1) body.now ++ Write gate marked ∷ []) (D.state disk.old) (D.state disk.new) }
     ensures told { StopsAsTold result (D.state disk.old) (D.state disk.new) }
     ensures touched { (low high : ℕ) → low ≤ gate → gate + 1 + length body.now ≤ high
         → LooseWithin (IsInRange low high) (D.state disk.old)
@@ -118,6 +121,7 @@ fn put_sector<D: Disk>(disk: &mut D, sector: u32, bytes: &[u8; 512]) -> Result<(
     ensures runs { RunsOn (D.state disk.old) (D.state disk.new) }
     ensures made { Makes result 2 1 (D.state disk.old) (D.state disk.new) }
     ensures cause { HasCause result (D.state disk.old) (D.state disk.new) }
+    ensures follows { Follows result (puts sector bytes.now) (D.state disk.old) (D.state disk.new) }
     ensures told { StopsAsTold result (D.state disk.old) (D.state disk.new) }
     ensures touched { (low high : ℕ) → low ≤ sector → sector < high → LooseWithin (IsInRange low high) (D.state disk.old)
         → TouchesOnly (IsInRange low high) (D.state disk.old) (D.state disk.new) }
@@ -135,6 +139,7 @@ fn switch_half<D: Disk>(disk: &mut D, gate: u32, pick: &[u8; 512]) -> Result<(),
     ensures runs { RunsOn (D.state disk.old) (D.state disk.new) }
     ensures made { Makes result 4 2 (D.state disk.old) (D.state disk.new) }
     ensures cause { HasCause result (D.state disk.old) (D.state disk.new) }
+    ensures follows { Follows result (puts gate unmarked ++ puts 0 pick.now) (D.state disk.old) (D.state disk.new) }
     ensures told { StopsAsTold result (D.state disk.old) (D.state disk.new) }
     // Until the chain is closed and safe, a crash leaves the pick; after it, just the pick is in doubt.
     ensures any_moment { (low high : ℕ) → low ≤ gate → gate < high → LooseWithin (IsInRange low high) (D.state disk.old)

@@ -6,6 +6,8 @@ ghost use Rattle.lift_journal.specs.Layout.{Batch, Holds, start_of};
 ghost use Rattle.lift_journal.specs.Steps.{Makes, overwritten, IsInRange, marked, unmarked, IsReady, IsSettled, IsSyncedAt};
 ghost use Rattle.lift_journal.specs.Stops.{Misses, StopsShort};
 ghost use Rattle.lift_journal.specs.Told.{StopsAsTold};
+ghost use Rattle.lift_disk.specs.Trace.Access.{Write, Sync};
+ghost use Rattle.lift_journal.specs.Calls.{Follows, writes_from, puts, append_calls};
 ghost use Rattle.lift_base.specs.declared.history.Shape.{Shape};
 
 use lift_disk::{Disk, DiskFault};
@@ -21,6 +23,7 @@ pub fn write_sectors<D: Disk>(
     ensures runs { RunsOn (D.state disk.old) (D.state disk.new) }
     ensures made { Makes result (length sectors.now) (length sectors.now) (D.state disk.old) (D.state disk.new) }
     ensures cause { HasCause result (D.state disk.old) (D.state disk.new) }
+    ensures follows { Follows result (writes_from first sectors.now) (D.state disk.old) (D.state disk.new) }
     ensures told { StopsAsTold result (D.state disk.old) (D.state disk.new) }
     ensures touched { (low high : ℕ) → low ≤ first → first + length sectors.now ≤ high
         → LooseWithin (IsInRange low high) (D.state disk.old)
@@ -55,6 +58,7 @@ fn store_behind<D: Disk>(disk: &mut D, gate: u32, body: &[[u8; 512]]) -> Result<
     ensures runs { RunsOn (D.state disk.old) (D.state disk.new) }
     ensures made { Makes result (length body.now + 2) (length body.now + 1) (D.state disk.old) (D.state disk.new) }
     ensures cause { HasCause result (D.state disk.old) (D.state disk.new) }
+    ensures follows { Follows result (writes_from (gate + 1) body.now ++ Write (gate + 1 + length body.now) unmarked ∷ Sync ∷ []) (D.state disk.old) (D.state disk.new) }
     ensures told { StopsAsTold result (D.state disk.old) (D.state disk.new) }
     ensures touched { LooseWithin (IsInRange (gate + 1) (gate + length body.now + 2)) (D.state disk.old)
         → TouchesOnly (IsInRange (gate + 1) (gate + length body.now + 2)) (D.state disk.old) (D.state disk.new) }
@@ -72,6 +76,7 @@ fn open_gate<D: Disk>(disk: &mut D, gate: u32) -> Result<(), DiskFault>
     ensures runs { RunsOn (D.state disk.old) (D.state disk.new) }
     ensures made { Makes result 2 1 (D.state disk.old) (D.state disk.new) }
     ensures cause { HasCause result (D.state disk.old) (D.state disk.new) }
+    ensures follows { Follows result (puts gate marked) (D.state disk.old) (D.state disk.new) }
     ensures told { StopsAsTold result (D.state disk.old) (D.state disk.new) }
     ensures touched { LooseWithin (IsInRange gate (gate + 1)) (D.state disk.old)
         → TouchesOnly (IsInRange gate (gate + 1)) (D.state disk.old) (D.state disk.new) }
@@ -90,6 +95,7 @@ pub fn write_batch<D: Disk>(disk: &mut D, gate: u32, body: &[[u8; 512]]) -> Resu
     ensures runs { RunsOn (D.state disk.old) (D.state disk.new) }
     ensures made { Makes result (length body.now + 4) (length body.now + 2) (D.state disk.old) (D.state disk.new) }
     ensures cause { HasCause result (D.state disk.old) (D.state disk.new) }
+    ensures follows { Follows result (append_calls gate body.now) (D.state disk.old) (D.state disk.new) }
     ensures told { StopsAsTold result (D.state disk.old) (D.state disk.new) }
     ensures any_moment { (shape : Shape) (batches : List Batch) (batch : Batch)
         → ((D.state disk.old).is_honest → IsReady shape batches batch gate body.now (D.state disk.old))

@@ -1,9 +1,11 @@
 //! The making of an empty journal.
-ghost use Rattle.std.specs.Prelude.{◌≡◌, ◌⊎◌, ◌≤◌, ◌<◌, ◌+◌, ◌*◌, [], false, OnOk, slice_set};
+ghost use Rattle.std.specs.Prelude.{◌≡◌, ◌≤◌, ◌<◌, ◌+◌, ◌*◌, [], ◌∷◌, false, OnOk, Some, slice_get, slice_set};
 ghost use Rattle.lift_base.specs.History.{IsWithinLimits};
 ghost use Rattle.lift_disk.specs.Disk.{HasCause, RunsOn, IsSynced, TouchesOnly};
 ghost use Rattle.lift_journal.specs.Layout.{filled, stamp_bytes, Picks};
 ghost use Rattle.lift_journal.specs.Journal.{ReadsAs};
+ghost use Rattle.lift_disk.specs.Trace.Access.{Write, Sync};
+ghost use Rattle.lift_journal.specs.Calls.{Follows, puts, format_calls};
 ghost use Rattle.lift_journal.specs.Steps.{IsSyncedAt, Makes, IsFormatted, unmarked};
 ghost use Rattle.lift_journal.specs.Told.{StopsAsTold};
 
@@ -19,8 +21,11 @@ fn empty_half<D: Disk>(disk: &mut D) -> Result<(), DiskFault>
     ensures told { StopsAsTold result (D.state disk.old) (D.state disk.new) }
     ensures made { Makes result 3 2 (D.state disk.old) (D.state disk.new) }
     ensures touched { TouchesOnly (IsFormatted (D.state disk.old)) (D.state disk.old) (D.state disk.new) }
-    ensures stored { OnOk result ((D.state disk.old).is_honest → (D.state disk.old).is_steady ⊎ (D.state disk.old).is_inert
-        → IsSyncedAt (slice_set (slice_set (D.state disk.old).image 0 unmarked) 2 unmarked) (D.state disk.new)) }
+    ensures follows { Follows result (Write 0 unmarked ∷ Write 2 unmarked ∷ Sync ∷ []) (D.state disk.old) (D.state disk.new) }
+    // Whatever was in doubt before.
+    ensures picked { OnOk result ((D.state disk.old).is_honest → slice_get (D.state disk.new).image 0 ≡ Some unmarked) }
+    ensures closed { OnOk result ((D.state disk.old).is_honest → slice_get (D.state disk.new).image 2 ≡ Some unmarked) }
+    ensures synced { OnOk result ((D.state disk.old).is_honest → IsSynced (D.state disk.new)) }
 {
     disk.write(0, &[0; 512])?;
     disk.write(2, &[0; 512])?;
@@ -35,7 +40,8 @@ fn put_stamp<D: Disk>(disk: &mut D, shape: &Shape) -> Result<(), DiskFault>
     ensures told { StopsAsTold result (D.state disk.old) (D.state disk.new) }
     ensures made { Makes result 2 1 (D.state disk.old) (D.state disk.new) }
     ensures touched { TouchesOnly (IsFormatted (D.state disk.old)) (D.state disk.old) (D.state disk.new) }
-    ensures stored { OnOk result ((D.state disk.old).is_honest → (D.state disk.old).is_steady ⊎ (D.state disk.old).is_inert
+    ensures follows { Follows result (puts 1 (filled 1 (stamp_bytes shape.now))) (D.state disk.old) (D.state disk.new) }
+    ensures stored { OnOk result ((D.state disk.old).is_honest → (D.state disk.old).is_steady
         → IsSyncedAt (slice_set (D.state disk.old).image 1 (filled 1 (stamp_bytes shape.now))) (D.state disk.new)) }
     ensures synced { OnOk result ((D.state disk.old).is_honest → IsSynced (D.state disk.new)) }
 {
@@ -44,7 +50,7 @@ fn put_stamp<D: Disk>(disk: &mut D, shape: &Shape) -> Result<(), DiskFault>
 }
 
 /// Makes an empty journal of this shape, over whatever the device holds. The other sectors stay as they are.
-/// After a fault: sync the device, then format it again.
+/// After a fault it is begun again.
 pub fn format<D: Disk>(disk: &mut D, shape: Shape) -> Result<(), DiskFault>
     requires within { IsWithinLimits shape }
     requires room { 2 * shape.half + 2 ≤ (D.state disk.old).size }
@@ -55,10 +61,10 @@ pub fn format<D: Disk>(disk: &mut D, shape: Shape) -> Result<(), DiskFault>
     // Also where it fails, no other sector is touched.
     ensures touched { TouchesOnly (IsFormatted (D.state disk.old)) (D.state disk.old) (D.state disk.new) }
     ensures synced { OnOk result ((D.state disk.old).is_honest → IsSynced (D.state disk.new)) }
-    ensures empty { OnOk result ((D.state disk.old).is_honest → (D.state disk.old).is_steady ⊎ (D.state disk.old).is_inert
-        → ReadsAs shape [] [] (D.state disk.new).image) }
-    ensures half { OnOk result ((D.state disk.old).is_honest → (D.state disk.old).is_steady ⊎ (D.state disk.old).is_inert
-        → Picks false (D.state disk.new).image) }
+    ensures follows { Follows result (format_calls shape) (D.state disk.old) (D.state disk.new) }
+    // Whatever was in doubt before: its first sync settles that.
+    ensures empty { OnOk result ((D.state disk.old).is_honest → ReadsAs shape [] [] (D.state disk.new).image) }
+    ensures half { OnOk result ((D.state disk.old).is_honest → Picks false (D.state disk.new).image) }
 {
     empty_half(disk)?;
     put_stamp(disk, &shape)

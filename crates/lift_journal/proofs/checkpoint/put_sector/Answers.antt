@@ -1,9 +1,12 @@
-use Rattle.std.proofs.Common.{inl, inr, refl, ◌∙◌, arith}
+use Rattle.std.proofs.Common.{[], ◌∷◌, inl, inr, refl, ◌∙◌, arith}
 use Rattle.std.proofs.lemmas.Result.{on_ok_weaker}
 use Rattle.lift_disk.proofs.Moments.{runs_call, touches_write, touches_then_rest}
 use Rattle.lift_journal.specs.Steps.{IsInRange}
 use Rattle.lift_journal.proofs.Looking.{both_on_ok, both_on_err, err_any, err_weaker}
 use Rattle.lift_journal.proofs.Telling.{one_passes, one_fails, call_stops, stops_then, err_stops}
+use Rattle.lift_disk.specs.Trace.Access.{Write, Sync}
+use Rattle.lift_journal.specs.Calls.{puts}
+use Rattle.lift_journal.proofs.Following.{front_one, one_follows, front_more, follows_then, err_follows}
 use Rattle.lift_journal.proofs.checkpoint.put_sector.Goals as goal
 
 pub returns-in_err-write-clause-touched : goal.returns-in_err-write-clause-touched
@@ -59,3 +62,18 @@ returns-clause-misses g c =
       synced = sync.0 honest_then ∙ c.write.ensures.kept honest;
       loose = sync.1 honest_then c.args.sector (((c.write.ensures.touched honest).loose c.args.sector).1 (inr refl));
     }) (both_on_err c.sync.result _ _ c.sync.ensures.kept c.sync.ensures.loose)
+
+pub returns-in_err-write-clause-follows : goal.returns-in_err-write-clause-follows
+returns-in_err-write-clause-follows g c =
+    let old = g.D.Disk.state c.args.disk.now in
+    let new = g.D.Disk.state c.write.new.self in
+    let write = Write c.args.sector c.args.bytes.now in
+    err_follows _ c.from_residual.result old new (puts c.args.sector c.args.bytes.now) c.from_residual.ensures.1
+    (front_more old new (write ∷ []) (Sync ∷ []) (front_one write old new c.in_err-write.ensures.recorded.err))
+
+pub returns-clause-follows : goal.returns-clause-follows
+returns-clause-follows g c =
+    let mid = g.D.Disk.state c.write.new.self in
+    let new = g.D.Disk.state c.sync.new.self in
+    follows_then c.sync.result (g.D.Disk.state c.args.disk.now) mid new (Write c.args.sector c.args.bytes.now ∷ []) (Sync ∷ []) c.in_ok-write.ensures.recorded.ok
+    (one_follows c.sync.result Sync mid new c.sync.ensures.recorded)

@@ -1,4 +1,4 @@
-use Rattle.std.proofs.Common.{◌≡◌, ◌⊎◌, inl, inr, ⊎_elim, slice_set, ◌∙◌, ap, subst, arith}
+use Rattle.std.proofs.Common.{◌≡◌, ◌++◌, ◌⊎◌, inl, inr, ⊎_elim, slice_set, ◌∙◌, ap, subst, arith}
 use Rattle.std.proofs.lemmas.Result.{on_ok_weaker}
 use Rattle.lift_disk.specs.Disk.{Image, ChangesWithin}
 use Rattle.lift_disk.proofs.Moments.{leaves_weaker, leaves_then, leaves_if_honest, changes_more, changes_twice}
@@ -6,6 +6,8 @@ use Rattle.lift_journal.specs.Steps.{IsInRange, unmarked}
 use Rattle.lift_journal.proofs.Looking.{err_any, err_weaker}
 use Rattle.lift_journal.proofs.Stopping.{synced_image}
 use Rattle.lift_journal.proofs.Telling.{stops_then}
+use Rattle.lift_journal.specs.Calls.{puts}
+use Rattle.lift_journal.proofs.Following.{front_more, follows_then, err_follows}
 use Rattle.lift_journal.proofs.checkpoint.switch_half.Goals as goal
 
 pub returns-in_err-put_sector-clause-any_moment : goal.returns-in_err-put_sector-clause-any_moment
@@ -80,3 +82,15 @@ returns-clause-stops g c =
         others = λ i is. (let there = picked.loose honest_new i is in omega (arith, there.1));
       };
     }) c.put_sector-2.ensures.misses
+
+pub returns-in_err-put_sector-clause-follows : goal.returns-in_err-put_sector-clause-follows
+returns-in_err-put_sector-clause-follows g c =
+    let old = g.D.Disk.state c.args.disk.now in
+    let new = g.D.Disk.state c.put_sector.new.disk in
+    err_follows _ c.from_residual.result old new (puts c.args.gate unmarked ++ puts 0 c.args.pick.now) c.from_residual.ensures.1
+    (front_more old new (puts c.args.gate unmarked) (puts 0 c.args.pick.now) c.in_err-put_sector.ensures.follows.front)
+
+pub returns-clause-follows : goal.returns-clause-follows
+returns-clause-follows g c =
+    follows_then c.put_sector-2.result (g.D.Disk.state c.args.disk.now) (g.D.Disk.state c.put_sector.new.disk) (g.D.Disk.state c.put_sector-2.new.disk)
+    (puts c.args.gate unmarked) (puts 0 c.args.pick.now) c.in_ok-put_sector.ensures.follows.all c.put_sector-2.ensures.follows

@@ -1,9 +1,12 @@
-use Rattle.std.proofs.Common.{◌+◌, ap, ◌∙◌, arith, slice_set, ℕ, List}
+use Rattle.std.proofs.Common.{◌+◌, ◌++◌, [], ◌∷◌, subst, ap, ◌∙◌, arith, slice_set, ℕ, List}
 use Rattle.std.proofs.lemmas.Result.{on_ok_weaker}
 use Rattle.lift_disk.specs.Disk.{Image}
 use Rattle.lift_disk.proofs.Moments.{touches_then_write}
-use Rattle.lift_journal.specs.Steps.{overwritten, IsInRange}
+use Rattle.lift_journal.specs.Steps.{overwritten, marked, IsInRange}
 use Rattle.lift_journal.proofs.Telling.{call_stops, stops_then}
+use Rattle.lift_disk.specs.Trace.Access.{Write}
+use Rattle.lift_journal.specs.Calls.{Follows, writes_from}
+use Rattle.lift_journal.proofs.Following.{front_one, one_follows, front_more, follows_then, err_follows}
 use Rattle.lift_journal.proofs.checkpoint.write_open_batch.Goals as goal
 
 pub returns-in_err-write_sectors-clause-touched : goal.returns-in_err-write_sectors-clause-touched
@@ -34,3 +37,19 @@ returns-clause-told g c =
     let new = g.D.Disk.state c.write.new.self in
     stops_then (g.D.Disk.state c.args.disk.now) mid new c.write_sectors.ensures.runs c.in_ok-write_sectors.ensures.told.ok
     c.write.result (call_stops c.write.result mid new c.write.ensures.goes_on c.write.ensures.told)
+
+pub returns-in_err-write_sectors-clause-follows : goal.returns-in_err-write_sectors-clause-follows
+returns-in_err-write_sectors-clause-follows g c =
+    let old = g.D.Disk.state c.args.disk.now in
+    let new = g.D.Disk.state c.write_sectors.new.disk in
+    let body = writes_from (c.args.gate + 1) c.args.body.now in
+    err_follows _ c.from_residual.result old new (body ++ Write c.args.gate marked ∷ []) c.from_residual.ensures.1
+    (front_more old new body (Write c.args.gate marked ∷ []) c.in_err-write_sectors.ensures.follows.front)
+
+pub returns-clause-follows : goal.returns-clause-follows
+returns-clause-follows g c =
+    let old = g.D.Disk.state c.args.disk.now in
+    let mid = g.D.Disk.state c.write_sectors.new.disk in
+    let new = g.D.Disk.state c.write.new.self in
+    follows_then c.write.result old mid new (writes_from (c.args.gate + 1) c.args.body.now) (Write c.args.gate marked ∷ []) c.in_ok-write_sectors.ensures.follows.all
+    (subst (λ (s : List ℕ). Follows c.write.result (Write c.args.gate s ∷ []) mid new) c.mark.ensures (one_follows c.write.result (Write c.args.gate c.mark.result) mid new c.write.ensures.recorded))

@@ -1,9 +1,12 @@
-use Rattle.std.proofs.Common.{◌+◌, inl, inr, refl, ap, ◌∙◌, arith, slice_set, Result, OnOk, Ok, Err}
+use Rattle.std.proofs.Common.{ℕ, List, ◌+◌, ◌++◌, [], ◌∷◌, inl, inr, refl, ap, ◌∙◌, arith, slice_set, Result, OnOk, Ok, Err}
 use Rattle.std.proofs.lemmas.Result.{on_ok_weaker}
 use Rattle.lift_disk.proofs.Moments.{runs_call, touches_none, touches_then_write, touches_then_rest}
-use Rattle.lift_journal.specs.Steps.{IsInRange}
+use Rattle.lift_journal.specs.Steps.{IsInRange, marked}
 use Rattle.lift_journal.proofs.Looking.{err_any, err_weaker, both_on_err}
 use Rattle.lift_journal.proofs.Telling.{one_passes, one_fails, call_stops, stops_then, err_stops}
+use Rattle.lift_disk.specs.Trace.Access.{Write, Sync}
+use Rattle.lift_journal.specs.Calls.{puts}
+use Rattle.lift_journal.proofs.Following.{front_one, one_follows, front_more, follows_then, err_follows}
 use Rattle.lift_journal.proofs.device.open_gate.Goals as goal
 
 pub returns-clause-touched : goal.returns-clause-touched
@@ -63,3 +66,19 @@ returns-clause-told g c =
     let new = g.D.Disk.state c.sync.new.self in
     stops_then old mid new (runs_call old mid c.write.ensures.goes_on) (one_passes old mid c.write.ensures.goes_on c.in_ok-write.ensures.told.ok c.in_ok-write.ensures.told.same)
     c.sync.result (call_stops c.sync.result mid new c.sync.ensures.goes_on c.sync.ensures.told)
+
+pub returns-in_err-write-clause-follows : goal.returns-in_err-write-clause-follows
+returns-in_err-write-clause-follows g c =
+    let old = g.D.Disk.state c.args.disk.now in
+    let new = g.D.Disk.state c.write.new.self in
+    err_follows _ c.from_residual.result old new (puts c.args.gate marked) c.from_residual.ensures.1
+    (front_more old new (Write c.args.gate marked ∷ []) (Sync ∷ []) (front_one (Write c.args.gate marked) old new c.in_err-write.ensures.recorded.err))
+
+pub returns-clause-follows : goal.returns-clause-follows
+returns-clause-follows g c =
+    let old = g.D.Disk.state c.args.disk.now in
+    let mid = g.D.Disk.state c.write.new.self in
+    let new = g.D.Disk.state c.sync.new.self in
+    follows_then c.sync.result old mid new (Write c.args.gate marked ∷ []) (Sync ∷ [])
+    (c.in_ok-write.ensures.recorded.ok ∙ ap (λ (s : List ℕ). old.trace ++ Write c.args.gate s ∷ []) c.mark.ensures)
+    (one_follows c.sync.result Sync mid new c.sync.ensures.recorded)

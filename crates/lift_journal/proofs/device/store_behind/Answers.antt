@@ -1,8 +1,11 @@
-use Rattle.std.proofs.Common.{◌+◌, length, ap, ◌∙◌, arith, slice_set, Result, OnOk, Ok, Err}
+use Rattle.std.proofs.Common.{◌+◌, ◌++◌, [], ◌∷◌, length, ap, ◌∙◌, arith, slice_set, Result, OnOk, Ok, Err}
 use Rattle.std.proofs.lemmas.Result.{on_ok_weaker}
 use Rattle.lift_disk.proofs.Moments.{runs_call, runs_then, touches_then_write, touches_then_rest}
 use Rattle.lift_journal.specs.Steps.{IsInRange, unmarked}
 use Rattle.lift_journal.proofs.Telling.{one_passes, one_fails, call_stops, passes_then, fails_then, stops_then, err_stops}
+use Rattle.lift_disk.specs.Trace.Access.{Write, Sync}
+use Rattle.lift_journal.specs.Calls.{writes_from}
+use Rattle.lift_journal.proofs.Following.{front_one, one_follows, front_then, front_more, follows_then, err_follows}
 use Rattle.lift_journal.proofs.device.store_behind.Goals as goal
 
 pub returns-in_err-write_sectors-clause-touched : goal.returns-in_err-write_sectors-clause-touched
@@ -56,3 +59,33 @@ returns-clause-told g c =
     stops_then old mid new (runs_then old body mid c.write_sectors.ensures.runs (runs_call body mid c.write.ensures.goes_on))
     (passes_then old body mid c.write_sectors.ensures.runs c.in_ok-write_sectors.ensures.told.ok (one_passes body mid c.write.ensures.goes_on c.in_ok-write.ensures.told.ok c.in_ok-write.ensures.told.same))
     c.sync.result (call_stops c.sync.result mid new c.sync.ensures.goes_on c.sync.ensures.told)
+
+pub returns-in_err-write_sectors-clause-follows : goal.returns-in_err-write_sectors-clause-follows
+returns-in_err-write_sectors-clause-follows g c =
+    let old = g.D.Disk.state c.args.disk.now in
+    let new = g.D.Disk.state c.write_sectors.new.disk in
+    let body = writes_from (c.args.gate + 1) c.args.body.now in
+    let rest = Write (c.args.gate + 1 + length c.args.body.now) unmarked ∷ Sync ∷ [] in
+    err_follows _ c.from_residual.result old new (body ++ rest) c.from_residual.ensures.1 (front_more old new body rest c.in_err-write_sectors.ensures.follows.front)
+
+pub returns-in_err-write-clause-follows : goal.returns-in_err-write-clause-follows
+returns-in_err-write-clause-follows g c =
+    let old = g.D.Disk.state c.args.disk.now in
+    let mid = g.D.Disk.state c.write_sectors.new.disk in
+    let new = g.D.Disk.state c.write.new.self in
+    let body = writes_from (c.args.gate + 1) c.args.body.now in
+    let closed = Write (c.args.gate + 1 + length c.args.body.now) unmarked in
+    err_follows _ c.from_residual-in_err-write.result old new (body ++ closed ∷ Sync ∷ []) c.from_residual-in_err-write.ensures.1
+    (front_then old mid new body (closed ∷ Sync ∷ []) c.in_ok-write_sectors.ensures.follows.all
+    (front_more mid new (closed ∷ []) (Sync ∷ []) (front_one closed mid new c.in_err-write.ensures.recorded.err)))
+
+pub returns-clause-follows : goal.returns-clause-follows
+returns-clause-follows g c =
+    let old = g.D.Disk.state c.args.disk.now in
+    let body_done = g.D.Disk.state c.write_sectors.new.disk in
+    let mid = g.D.Disk.state c.write.new.self in
+    let new = g.D.Disk.state c.sync.new.self in
+    let body = writes_from (c.args.gate + 1) c.args.body.now in
+    let closed = Write (c.args.gate + 1 + length c.args.body.now) unmarked in
+    follows_then c.sync.result old body_done new body (closed ∷ Sync ∷ []) c.in_ok-write_sectors.ensures.follows.all
+    (follows_then c.sync.result body_done mid new (closed ∷ []) (Sync ∷ []) c.in_ok-write.ensures.recorded.ok (one_follows c.sync.result Sync mid new c.sync.ensures.recorded))

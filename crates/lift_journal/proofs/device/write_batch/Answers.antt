@@ -3,12 +3,15 @@ use Rattle.std.proofs.lemmas.Result.{on_ok_weaker}
 use Rattle.lift_disk.specs.Disk.{Image, ChangesWithin}
 use Rattle.lift_disk.proofs.Moments.{leaves_weaker, leaves_then, changes_more, changes_twice, touches_weaker, touches_then}
 use Rattle.lift_journal.specs.Layout.{Holds}
-use Rattle.lift_journal.specs.Steps.{IsInRange}
+use Rattle.lift_journal.specs.Steps.{IsInRange, marked, unmarked}
 use Rattle.lift_journal.proofs.Chains.{holds_either}
 use Rattle.lift_journal.proofs.Appends.{body_leaves, body_start, body_prepares, gate_opens, gate_start}
 use Rattle.lift_journal.proofs.Looking.{err_any, err_weaker}
 use Rattle.lift_journal.proofs.Stopping.{synced_image, stops_at_gate}
 use Rattle.lift_journal.proofs.Telling.{stops_then}
+use Rattle.lift_disk.specs.Trace.Access.{Write, Sync}
+use Rattle.lift_journal.specs.Calls.{writes_from, puts, append_calls}
+use Rattle.lift_journal.proofs.Following.{front_more, follows_then, err_follows}
 use Rattle.lift_journal.proofs.device.write_batch.Goals as goal
 
 -- the sectors of a gate alone
@@ -120,3 +123,17 @@ returns-clause-touched g c synced =
     (c.store_behind.ensures.touched (λ honest i is. absurd ((synced honest).none_loose i is))))
     (touches_weaker (IsInRange c.args.gate (c.args.gate + 1)) changed mid new (λ i is. (is.0, omega (arith, is.1)))
     (c.open_gate.ensures.touched (λ honest i is. absurd ((c.in_ok-store_behind.ensures.stored (was honest) (synced (was honest)).steady).synced.none_loose i is))))
+
+pub returns-in_err-store_behind-clause-follows : goal.returns-in_err-store_behind-clause-follows
+returns-in_err-store_behind-clause-follows g c =
+    let old = g.D.Disk.state c.args.disk.now in
+    let new = g.D.Disk.state c.store_behind.new.disk in
+    let stored = writes_from (c.args.gate + 1) c.args.body.now ++ Write (c.args.gate + 1 + length c.args.body.now) unmarked ∷ Sync ∷ [] in
+    err_follows _ c.from_residual.result old new (append_calls c.args.gate c.args.body.now) c.from_residual.ensures.1
+    (front_more old new stored (puts c.args.gate marked) c.in_err-store_behind.ensures.follows.front)
+
+pub returns-clause-follows : goal.returns-clause-follows
+returns-clause-follows g c =
+    let stored = writes_from (c.args.gate + 1) c.args.body.now ++ Write (c.args.gate + 1 + length c.args.body.now) unmarked ∷ Sync ∷ [] in
+    follows_then c.open_gate.result (g.D.Disk.state c.args.disk.now) (g.D.Disk.state c.store_behind.new.disk) (g.D.Disk.state c.open_gate.new.disk)
+    stored (puts c.args.gate marked) c.in_ok-store_behind.ensures.follows.all c.open_gate.ensures.follows

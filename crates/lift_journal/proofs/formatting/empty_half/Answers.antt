@@ -1,31 +1,54 @@
-use Rattle.std.proofs.Common.{inl, inr, arith, ⊎_elim, ◌∙◌, ap, slice_set}
+use Rattle.std.proofs.Common.{inl, inr, arith, [], ◌∷◌}
 use Rattle.std.proofs.lemmas.Result.{on_ok_weaker}
-use Rattle.lift_disk.specs.Disk.{Image}
+use Rattle.lift_disk.specs.Trace.Access.{Write, Sync}
 use Rattle.lift_journal.specs.Steps.{IsFormatted, unmarked}
-use Rattle.lift_journal.proofs.Looking.{both_on_ok}
+use Rattle.lift_journal.proofs.Following.{front_one, one_follows, all_then, front_then, front_more, follows_then, err_follows}
 use Rattle.lift_disk.proofs.Moments.{runs_call, runs_then, touches_write, touches_then_write, touches_then_rest}
 use Rattle.lift_journal.proofs.Telling.{one_passes, one_fails, call_stops, passes_then, fails_then, stops_then, err_stops}
 use Rattle.lift_journal.proofs.formatting.empty_half.Goals as goal
 
-pub returns-clause-stored : goal.returns-clause-stored
-returns-clause-stored g c =
-    on_ok_weaker c.sync.result (λ sync honest known.
+pub returns-clause-synced : goal.returns-clause-synced
+returns-clause-synced g c = on_ok_weaker c.sync.result (λ sync honest. sync (c.write-2.ensures.goes_on.honest.1 (c.write.ensures.goes_on.honest.1 honest))) c.sync.ensures.synced
+
+pub returns-clause-picked : goal.returns-clause-picked
+returns-clause-picked g c =
+    on_ok_weaker c.sync.result (λ settled honest.
     let honest_first = c.write.ensures.goes_on.honest.1 honest in
-    let honest_then = c.write-2.ensures.goes_on.honest.1 honest_first in
-    record {
-      synced = sync.1 honest_then;
-      same = ⊎_elim
-          (λ steady.
-          let first = c.in_ok-write.ensures.steady honest steady in
-          let second = c.in_ok-write-2.ensures.steady honest_first first.steady in
-          (sync.0 honest_then second.steady).same ∙ second.same ∙ ap (λ (l : Image). slice_set l 2 unmarked) first.same)
-          (λ inert.
-          let inert_first = c.write.ensures.goes_on.inert.1 inert in
-          let inert_then = c.write-2.ensures.goes_on.inert.1 inert_first in
-          c.sync.ensures.image honest_then inert_then ∙ c.in_ok-write-2.ensures.image honest_first inert_first
-          ∙ ap (λ (l : Image). slice_set l 2 unmarked) (c.in_ok-write.ensures.image honest inert))
-          known;
-    }) (both_on_ok c.sync.result _ _ c.sync.ensures.steady c.sync.ensures.synced)
+    let first = c.in_ok-write.ensures.settles honest in
+    let second = c.in_ok-write-2.ensures.settles honest_first in
+    settled (c.write-2.ensures.goes_on.honest.1 honest_first) 0 unmarked (second.others 0 unmarked (λ is. omega (arith, is)) first.here)) c.sync.ensures.settled
+
+pub returns-clause-closed : goal.returns-clause-closed
+returns-clause-closed g c =
+    on_ok_weaker c.sync.result (λ settled honest.
+    let honest_first = c.write.ensures.goes_on.honest.1 honest in
+    settled (c.write-2.ensures.goes_on.honest.1 honest_first) 2 unmarked (c.in_ok-write-2.ensures.settles honest_first).here) c.sync.ensures.settled
+
+pub returns-in_err-write-clause-follows : goal.returns-in_err-write-clause-follows
+returns-in_err-write-clause-follows g c =
+    let old = g.D.Disk.state c.args.disk.now in
+    let new = g.D.Disk.state c.write.new.self in
+    err_follows _ c.from_residual.result old new (Write 0 unmarked ∷ Write 2 unmarked ∷ Sync ∷ []) c.from_residual.ensures.1
+    (front_more old new (Write 0 unmarked ∷ []) (Write 2 unmarked ∷ Sync ∷ []) (front_one (Write 0 unmarked) old new c.in_err-write.ensures.recorded.err))
+
+pub returns-in_err-write-2-clause-follows : goal.returns-in_err-write-2-clause-follows
+returns-in_err-write-2-clause-follows g c =
+    let old = g.D.Disk.state c.args.disk.now in
+    let mid = g.D.Disk.state c.write.new.self in
+    let new = g.D.Disk.state c.write-2.new.self in
+    err_follows _ c.from_residual-in_err-write-2.result old new (Write 0 unmarked ∷ Write 2 unmarked ∷ Sync ∷ []) c.from_residual-in_err-write-2.ensures.1
+    (front_then old mid new (Write 0 unmarked ∷ []) (Write 2 unmarked ∷ Sync ∷ []) c.in_ok-write.ensures.recorded.ok
+    (front_more mid new (Write 2 unmarked ∷ []) (Sync ∷ []) (front_one (Write 2 unmarked) mid new c.in_err-write-2.ensures.recorded.err)))
+
+pub returns-clause-follows : goal.returns-clause-follows
+returns-clause-follows g c =
+    let old = g.D.Disk.state c.args.disk.now in
+    let first = g.D.Disk.state c.write.new.self in
+    let mid = g.D.Disk.state c.write-2.new.self in
+    let new = g.D.Disk.state c.sync.new.self in
+    follows_then c.sync.result old mid new (Write 0 unmarked ∷ Write 2 unmarked ∷ []) (Sync ∷ [])
+    (all_then old first mid (Write 0 unmarked ∷ []) (Write 2 unmarked ∷ []) c.in_ok-write.ensures.recorded.ok c.in_ok-write-2.ensures.recorded.ok)
+    (one_follows c.sync.result Sync mid new c.sync.ensures.recorded)
 
 pub returns-in_err-write-clause-told : goal.returns-in_err-write-clause-told
 returns-in_err-write-clause-told g c =

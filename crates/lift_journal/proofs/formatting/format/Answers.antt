@@ -1,11 +1,13 @@
-use Rattle.std.proofs.Common.{inl, ⊎_elim, false, ◌∙◌, [], sym, subst, ap, arith, slice_set}
+use Rattle.std.proofs.Common.{inl, ⊎_elim, false, [], ◌∷◌, sym, subst, arith}
 use Rattle.std.proofs.lemmas.Result.{on_ok_weaker}
-use Rattle.lift_disk.specs.Disk.{Image}
+use Rattle.lift_disk.specs.Trace.Access.{Write, Sync}
+use Rattle.lift_journal.specs.Calls.{puts, format_calls}
 use Rattle.lift_disk.proofs.Moments.{touches_then, touches_weaker_honest}
-use Rattle.lift_journal.specs.Steps.{IsFormatted}
+use Rattle.lift_journal.specs.Steps.{IsFormatted, unmarked}
 use Rattle.lift_journal.specs.Layout.{filled, stamp_bytes, Picks}
 use Rattle.lift_journal.specs.Journal.{ReadsAs}
 use Rattle.lift_journal.proofs.Formats.{formatted, formatted_half}
+use Rattle.lift_journal.proofs.Following.{front_more, follows_then, err_follows}
 use Rattle.lift_journal.proofs.Telling.{stops_then}
 use Rattle.lift_journal.proofs.formatting.format.Goals as goal
 
@@ -14,12 +16,13 @@ returns-clause-synced g c = on_ok_weaker c.put_stamp.result (λ synced honest. s
 
 pub returns-clause-empty : goal.returns-clause-empty
 returns-clause-empty g c =
-    let old = g.D.Disk.state c.args.disk.now in
-    on_ok_weaker c.put_stamp.result (λ stored honest known.
-    let half = c.in_ok-empty_half.ensures.stored honest known in
-    let stamp = stored (c.empty_half.ensures.runs.honest.1 honest) (inl half.synced.steady) in
-    subst (ReadsAs c.args.shape [] []) (sym (stamp.same ∙ ap (λ (l : Image). slice_set l 1 (filled 1 (stamp_bytes c.args.shape))) half.same))
-    (formatted c.args.shape old.image c.requires.within (omega (arith, c.requires.room, g.met.D.Disk.whole c.args.disk.now honest)))) c.put_stamp.ensures.stored
+    let mid = g.D.Disk.state c.empty_half.new.disk in
+    on_ok_weaker c.put_stamp.result (λ stored honest.
+    let honest_mid = c.empty_half.ensures.runs.honest.1 honest in
+    let stamp = stored honest_mid (c.in_ok-empty_half.ensures.synced honest).steady in
+    subst (ReadsAs c.args.shape [] []) (sym stamp.same)
+    (formatted c.args.shape mid.image c.requires.within (omega (arith, c.requires.room, c.empty_half.ensures.runs.size, g.met.D.Disk.whole c.empty_half.new.disk honest_mid))
+    (c.in_ok-empty_half.ensures.picked honest) (c.in_ok-empty_half.ensures.closed honest))) c.put_stamp.ensures.stored
 
 pub returns-clause-told : goal.returns-clause-told
 returns-clause-told g c =
@@ -28,12 +31,25 @@ returns-clause-told g c =
 
 pub returns-clause-half : goal.returns-clause-half
 returns-clause-half g c =
+    let mid = g.D.Disk.state c.empty_half.new.disk in
+    on_ok_weaker c.put_stamp.result (λ stored honest.
+    let honest_mid = c.empty_half.ensures.runs.honest.1 honest in
+    let stamp = stored honest_mid (c.in_ok-empty_half.ensures.synced honest).steady in
+    subst (Picks false) (sym stamp.same)
+    (formatted_half c.args.shape mid.image c.requires.within (omega (arith, c.requires.room, c.empty_half.ensures.runs.size, g.met.D.Disk.whole c.empty_half.new.disk honest_mid))
+    (c.in_ok-empty_half.ensures.picked honest) (c.in_ok-empty_half.ensures.closed honest))) c.put_stamp.ensures.stored
+
+pub returns-in_err-empty_half-clause-follows : goal.returns-in_err-empty_half-clause-follows
+returns-in_err-empty_half-clause-follows g c =
     let old = g.D.Disk.state c.args.disk.now in
-    on_ok_weaker c.put_stamp.result (λ stored honest known.
-    let half = c.in_ok-empty_half.ensures.stored honest known in
-    let stamp = stored (c.empty_half.ensures.runs.honest.1 honest) (inl half.synced.steady) in
-    subst (Picks false) (sym (stamp.same ∙ ap (λ (l : Image). slice_set l 1 (filled 1 (stamp_bytes c.args.shape))) half.same))
-    (formatted_half c.args.shape old.image c.requires.within (omega (arith, c.requires.room, g.met.D.Disk.whole c.args.disk.now honest)))) c.put_stamp.ensures.stored
+    let new = g.D.Disk.state c.empty_half.new.disk in
+    err_follows _ c.from_residual.result old new (format_calls c.args.shape) c.from_residual.ensures.1
+    (front_more old new (Write 0 unmarked ∷ Write 2 unmarked ∷ Sync ∷ []) (puts 1 (filled 1 (stamp_bytes c.args.shape))) c.in_err-empty_half.ensures.follows.front)
+
+pub returns-clause-follows : goal.returns-clause-follows
+returns-clause-follows g c =
+    follows_then c.put_stamp.result (g.D.Disk.state c.args.disk.now) (g.D.Disk.state c.empty_half.new.disk) (g.D.Disk.state c.put_stamp.new.disk)
+    (Write 0 unmarked ∷ Write 2 unmarked ∷ Sync ∷ []) (puts 1 (filled 1 (stamp_bytes c.args.shape))) c.in_ok-empty_half.ensures.follows.all c.put_stamp.ensures.follows
 
 pub returns-clause-touched : goal.returns-clause-touched
 returns-clause-touched g c =

@@ -1,6 +1,10 @@
-use Rattle.std.proofs.Common.{inl, inr, arith, ⊎_elim, ◌∙◌, ap, slice_set, List, ℕ}
+use Rattle.std.proofs.Common.{inl, inr, arith, ◌∙◌, ◌++◌, [], ◌∷◌, ap, slice_set, List, ℕ}
 use Rattle.std.proofs.lemmas.Result.{on_ok_weaker}
+use Rattle.lift_disk.specs.Trace.Access.{Write, Sync}
+use Rattle.lift_journal.specs.Layout.{filled, stamp_bytes}
+use Rattle.lift_journal.specs.Calls.{puts}
 use Rattle.lift_journal.specs.Steps.{IsFormatted}
+use Rattle.lift_journal.proofs.Following.{front_one, one_follows, front_more, follows_then, err_follows}
 use Rattle.lift_journal.proofs.Looking.{both_on_ok}
 use Rattle.lift_journal.proofs.Telling.{one_passes, one_fails, call_stops, stops_then, err_stops}
 use Rattle.lift_disk.proofs.Moments.{runs_call, touches_write, touches_then_rest}
@@ -9,17 +13,28 @@ use Rattle.lift_journal.proofs.formatting.put_stamp.Goals as goal
 pub returns-clause-stored : goal.returns-clause-stored
 returns-clause-stored g c =
     let old = g.D.Disk.state c.args.disk.now in
-    on_ok_weaker c.sync.result (λ sync honest known.
+    on_ok_weaker c.sync.result (λ sync honest steady.
     let honest_then = c.write.ensures.goes_on.honest.1 honest in
-    record {
-      synced = sync.1 honest_then;
-      same = ⊎_elim
-          (λ steady.
-          let first = c.in_ok-write.ensures.steady honest steady in
-          (sync.0 honest_then first.steady).same ∙ first.same)
-          (λ inert. c.sync.ensures.image honest_then (c.write.ensures.goes_on.inert.1 inert) ∙ c.in_ok-write.ensures.image honest inert)
-          known ∙ ap (λ (s : List ℕ). slice_set old.image 1 s) c.stamp_of.ensures;
-    }) (both_on_ok c.sync.result _ _ c.sync.ensures.steady c.sync.ensures.synced)
+    let first = c.in_ok-write.ensures.steady honest steady in
+    record { synced = sync.1 honest_then; same = (sync.0 honest_then first.steady).same ∙ first.same ∙ ap (λ (s : List ℕ). slice_set old.image 1 s) c.stamp_of.ensures })
+    (both_on_ok c.sync.result _ _ c.sync.ensures.steady c.sync.ensures.synced)
+
+pub returns-in_err-write-clause-follows : goal.returns-in_err-write-clause-follows
+returns-in_err-write-clause-follows g c =
+    let old = g.D.Disk.state c.args.disk.now in
+    let new = g.D.Disk.state c.write.new.self in
+    let stamp = filled 1 (stamp_bytes c.args.shape.now) in
+    err_follows _ c.from_residual.result old new (puts 1 stamp) c.from_residual.ensures.1
+    (front_more old new (Write 1 stamp ∷ []) (Sync ∷ []) (front_one (Write 1 stamp) old new c.in_err-write.ensures.recorded.err))
+
+pub returns-clause-follows : goal.returns-clause-follows
+returns-clause-follows g c =
+    let old = g.D.Disk.state c.args.disk.now in
+    let mid = g.D.Disk.state c.write.new.self in
+    let stamp = filled 1 (stamp_bytes c.args.shape.now) in
+    follows_then c.sync.result old mid (g.D.Disk.state c.sync.new.self) (Write 1 stamp ∷ []) (Sync ∷ [])
+    (c.in_ok-write.ensures.recorded.ok ∙ ap (λ (s : List ℕ). old.trace ++ Write 1 s ∷ []) c.stamp_of.ensures)
+    (one_follows c.sync.result Sync mid (g.D.Disk.state c.sync.new.self) c.sync.ensures.recorded)
 
 pub returns-clause-synced : goal.returns-clause-synced
 returns-clause-synced g c = on_ok_weaker c.sync.result (λ sync honest. sync (c.write.ensures.goes_on.honest.1 honest)) c.sync.ensures.synced

@@ -32,8 +32,8 @@ pub returns-clause-goes_on : goal.returns-clause-goes_on
 returns-clause-goes_on c =
     let m = c.args.self.now in
     let noted = ok_items c.note_sync.result c.is_err.ensures.value c.if-is_err.false c.note_sync.ensures.ok in
-    sync_goes_on m.first.items m.history m.image.items m.synced.items m.loose.items m.is_steady m.is_short m.failures.count m.calls.count m.writes.count
-    m.span.from noted.0 c.note_sync.new.self c.copy_flagged.new.to.items c.clear.new.flags.items _ _
+    sync_goes_on m.first.items m.history m.image.items m.synced.items m.loose.items m.is_steady m.is_short m.failures.count m.calls.count m.writes.count m.trace.calls
+    m.span.from noted.0 c.note_sync.new.self c.copy_flagged.new.to.items c.clear.new.flags.items _ _ _
     (λ i. subst (λ (l : List Bool). IsFlaggedFrom m.span.from noted.0 i ↔ IsFlagged l i) c.deref.ensures.value (noted.1 i)) m.recorded noted.2 c.next-self.ensures
     (λ i. subst (λ (l : List Bool). ¬ IsFlagged l i) (sym c.clear.ensures) (none_flagged (length m.loose.items) i))
 

@@ -35,8 +35,8 @@ pub returns-clause-goes_on : goal.returns-clause-goes_on
 returns-clause-goes_on c =
     let m = c.args.self.now in
     let noted = ok_items c.note_write.result c.is_err.ensures.value c.if-is_err.false c.note_write.ensures.ok in
-    write_goes_on m.first.items m.history m.image.items m.synced.items m.loose.items m.is_steady m.is_short m.failures.count m.calls.count m.writes.count
-    c.args.sector c.args.bytes.now c.note_write.new.self _ _
+    write_goes_on m.first.items m.history m.image.items m.synced.items m.loose.items m.is_steady m.is_short m.failures.count m.calls.count m.writes.count m.trace.calls
+    c.args.sector c.args.bytes.now c.note_write.new.self _ _ _
     (omega (arith, m.sized)) noted c.next-self.ensures
 
 pub returns-clause-touched : goal.returns-clause-touched

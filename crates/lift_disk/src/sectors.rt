@@ -1,0 +1,102 @@
+//! Sectors on a file, by its calls alone.
+ghost use Rattle.std.specs.Prelude.{◌≡◌, ◌*◌, [], OnOk};
+ghost use Rattle.lift_disk.specs.Trace.{in_bytes};
+
+use crate::trace::{Made, ProofTrace};
+use crate::traced::TracedFile;
+use crate::{Disk, DiskFault};
+use lift_base::ProofCount;
+use std::fs::OpenFile;
+use std::os::unix::fs::FileExt;
+
+pub(crate) const SECTOR_BYTES: u64 = 512;
+
+/// Where a sector begins, in bytes.
+pub(crate) fn offset_of(sector: u32) -> u64
+    ensures { result ≡ sector * 512 }
+{
+    u64::from(sector) * SECTOR_BYTES
+}
+
+/// A device on anything that takes the calls of a file: each of its calls is one of the file's, at the sector's offset.
+#[derive(Drop)]
+pub struct SectorFile<F: Drop> {
+    file: TracedFile<F>,
+    sectors: u32,
+    failures: ProofCount,
+    calls: ProofCount,
+    writes: ProofCount,
+    trace: ProofTrace,
+    ghost at_offsets: { file.trace.calls ≡ in_bytes trace.calls },
+}
+
+impl<F: FileExt + OpenFile + Drop> SectorFile<F> {
+    ghost use Rattle.lift_disk.specs.Files.{sector_file_state_of};
+
+    /// So many sectors of the file, which was opened to be read and written.
+    pub fn over(file: F, sectors: u32) -> SectorFile<F>
+        ensures size { (sector_file_state_of result).size ≡ sectors }
+        ensures failures { (sector_file_state_of result).failures ≡ 0 }
+        ensures calls { (sector_file_state_of result).calls ≡ 0 }
+        ensures writes { (sector_file_state_of result).writes ≡ 0 }
+        ensures trace { (sector_file_state_of result).trace ≡ [] }
+    {
+        SectorFile {
+            file: TracedFile::over(file),
+            sectors,
+            failures: ProofCount::new(),
+            calls: ProofCount::new(),
+            writes: ProofCount::new(),
+            trace: ProofTrace::new(),
+        }
+    }
+}
+
+impl<F: FileExt + OpenFile + Drop> Disk for SectorFile<F> {
+    ghost use Rattle.lift_disk.specs.Files.{sector_file_state_of};
+
+    ghost state = { λ d. sector_file_state_of d };
+
+    ghost whole = { λ d no. absurd no };
+
+    ghost counts_now = { λ d no. absurd no };
+
+    ghost only_now = { λ d no. absurd no };
+
+    ghost may_lose = { λ d no. absurd no };
+
+    fn sectors(&self) -> u32 {
+        self.sectors
+    }
+
+    fn read(&mut self, sector: u32, buffer: &mut [u8; 512]) -> Result<(), DiskFault> {
+        self.calls = ProofCount::next(&self.calls);
+        if self.file.read(buffer, offset_of(sector)).is_err() {
+            self.failures = ProofCount::next(&self.failures);
+            return Err(DiskFault);
+        }
+        self.trace = self.trace.then(&Made::Read(u64::from(sector)));
+        Ok(())
+    }
+
+    fn write(&mut self, sector: u32, bytes: &[u8; 512]) -> Result<(), DiskFault> {
+        self.calls = ProofCount::next(&self.calls);
+        self.writes = ProofCount::next(&self.writes);
+        if self.file.write(bytes, offset_of(sector)).is_err() {
+            self.failures = ProofCount::next(&self.failures);
+            return Err(DiskFault);
+        }
+        self.trace = self.trace.then(&Made::Write(u64::from(sector), bytes));
+        Ok(())
+    }
+
+    fn sync(&mut self) -> Result<(), DiskFault> {
+        self.calls = ProofCount::next(&self.calls);
+        if self.file.sync().is_err() {
+            self.failures = ProofCount::next(&self.failures);
+            return Err(DiskFault);
+        }
+        self.trace = self.trace.then(&Made::Sync);
+        Ok(())
+    }
+}

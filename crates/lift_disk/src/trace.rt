@@ -1,0 +1,42 @@
+//! The calls that have succeeded, as a list that only proofs read. It takes no memory, and its methods do nothing at run time.
+ghost use Rattle.std.specs.Prelude.{◌≡◌, ◌++◌, [], ◌∷◌, List};
+ghost use Rattle.std.specs.Borrow.{ftrue};
+ghost use Rattle.lift_disk.specs.Trace.{Access, trace_code};
+
+use std::marker::Model;
+
+/// A call that has succeeded: of a device by its sector, of a file by its offset in bytes.
+#[derive(Clone, Copy, Drop)]
+pub(crate) enum Made<'a> {
+    Read(u64),
+    Write(u64, &'a [u8; 512]),
+    Sync,
+}
+
+#[derive(Drop)]
+pub(crate) struct ProofTrace {
+    pub ghost calls: { List Access } by { trace_code },
+}
+
+impl Model for ProofTrace {
+    ghost also_owns = { λ _. ftrue };
+}
+
+impl ProofTrace {
+    ghost use Rattle.lift_disk.specs.Noted.{access_of};
+
+    /// None yet.
+    pub(crate) fn new() -> ProofTrace
+        ensures { result.calls ≡ [] }
+    {
+        ProofTrace {}
+    }
+
+    /// One more.
+    #[inline(always)]
+    pub(crate) fn then(&self, _made: &Made<'_>) -> ProofTrace
+        ensures { result.calls ≡ self.now.calls ++ access_of _made.now ∷ [] }
+    {
+        ProofTrace {}
+    }
+}
