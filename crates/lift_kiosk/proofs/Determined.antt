@@ -11,7 +11,7 @@ use Rattle.lift_kiosk.specs.declared.outcome.Outcome.TheVariants.{Malformed, Off
 use Rattle.lift_kiosk.specs.declared.terms.LastLetter.{LastLetter}
 use Rattle.lift_kiosk.specs.declared.terms.Limits.{Limits}
 use Rattle.std.proofs.lemmas.List.{append-nil}
-use Rattle.lift_kiosk.specs.Session.{Standing, Means, Run, last_after, answer_line}
+use Rattle.lift_kiosk.specs.Session.{Standing, Means, Run, answer_line}
 use Rattle.lift_kiosk.specs.Determined.{given, lines_of, all_given, answers_text, last_behind}
 
 module _ (wants : List ℕ → Wanted → Type 0) (unique : (line : List ℕ) (one other : Wanted) → wants line one → wants line other → one ≡ other) where
@@ -90,13 +90,13 @@ module _ (wants : List ℕ → Wanted → Type 0) (unique : (line : List ℕ) (o
         let same = same_exchanges ones others a after b behind first second lines gave in
         (same, last_is ones a after first ∙ ap (λ (l : LastLetter). last_behind keeps l ones) last ∙ ap (last_behind keeps b.last) same ∙ sym (last_is others b behind second))
 
-    appends_then : (first second third : Option (List ℕ)) (bytes more : List ℕ) → Appends first second bytes → Appends second third more → Appends first third (bytes ++ more)
+    pub appends_then : (first second third : Option (List ℕ)) (bytes more : List ℕ) → Appends first second bytes → Appends second third more → Appends first third (bytes ++ more)
     appends_then None second third bytes more a b = tt
     appends_then (Some xs) None third bytes more a b = absurd a
     appends_then (Some xs) (Some ys) None bytes more a b = absurd b
     appends_then (Some xs) (Some ys) (Some zs) bytes more a b = b ∙ ap (λ (l : List ℕ). l ++ more) a ∙ append_assoc xs bytes more
 
-    appends_none : (known : Option (List ℕ)) → Appends known known []
+    pub appends_none : (known : Option (List ℕ)) → Appends known known []
     appends_none None = tt
     appends_none (Some xs) = sym (append-nil xs)
 

@@ -9,3 +9,4 @@ pub mod Spelled
 pub mod Desk
 pub mod Single
 pub mod Determined
+pub mod Whole

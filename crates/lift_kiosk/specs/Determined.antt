@@ -34,6 +34,10 @@ abbrev pub last_behind : (keeps : LastLetter → ℕ → Reply → LastLetter) �
 last_behind keeps last [] = last
 last_behind keeps last (x ∷ xs) = last_behind keeps (last_after keeps last x.1) xs
 
+-- a line asks for one thing at most
+abbrev pub AsksForOneThing : (wants : List ℕ → Wanted → Type 0) → Type 0
+AsksForOneThing wants = (line : List ℕ) (one other : Wanted) → wants line one → wants line other → one ≡ other
+
 -- what comes of a line follows from it and from what the port gives for it
 abbrev pub LineDetermines : (wants : List ℕ → Wanted → Type 0) → Type 0
 LineDetermines wants = (line : List ℕ) (one other : Outcome) → Means wants line one → Means wants line other → given one ≡ given other → one ≡ other

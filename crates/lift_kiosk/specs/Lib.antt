@@ -5,3 +5,4 @@ pub mod Session
 pub mod Kiosk
 pub mod Desk
 pub mod Determined
+pub mod Whole

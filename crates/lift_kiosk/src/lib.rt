@@ -19,7 +19,7 @@ pub use conversation::converse;
 pub use desk_port::DeskPort;
 pub use dialect::{Dialect, Wanted};
 pub use kiosk::{Kiosk, lines_ask_for_one_thing, session};
-pub use laws::sessions_are_determined;
+pub use laws::{dialects_determine, sessions_are_determined};
 pub use line::{Line, NoLine, read_line};
 pub use listening::{bring_in, carry_out};
 pub use outcome::{Opening, Outcome};

@@ -2,8 +2,9 @@
 
 ghost use Rattle.std.specs.Prelude.{◌≡◌, ◌<◌, ℕ, List, ◌++◌, length, take, false, OnOk, IfErr};
 ghost use Rattle.std.specs.Io.KnownBytes.{Appends};
-ghost use Rattle.lift_base.specs.Output.{Takes, TakesFront, sink_of};
+ghost use Rattle.lift_base.specs.Output.{Takes, TakesFront, CallsForAll, CallsUpToFault, sink_of};
 
+use crate::count::ProofCount;
 use std::io::Write;
 use std::marker::Model;
 
@@ -14,14 +15,21 @@ pub struct WriteFault {
     pub written: usize,
 }
 
-/// Writes all of the bytes, or as many as the fault says.
-pub fn put_all<W: Write>(writer: &mut W, bytes: &[u8]) -> Result<(), WriteFault>
+/// Writes all of the bytes, or as many as the fault says. The writer's calls are counted.
+fn put_counted<W: Write>(
+    writer: &mut W,
+    calls: &mut ProofCount,
+    bytes: &[u8],
+) -> Result<(), WriteFault>
     ensures ok { OnOk result (Appends (W.contents writer.old) (W.contents writer.new) bytes.now) }
     ensures front { IfErr result (λ fault. Appends (W.contents writer.old) (W.contents writer.new) (take fault.written bytes.now)) }
     ensures within { IfErr result (λ fault. fault.written < length bytes.now) }
+    ensures calls { OnOk result (CallsForAll (length bytes.now) calls.old.count calls.new.count) }
+    ensures calls_so_far { IfErr result (λ fault. CallsUpToFault fault.written calls.old.count calls.new.count) }
 {
     let mut written = 0usize;
     while written < bytes.len() {
+        *calls = ProofCount::next(calls);
         match writer.write(&bytes[written..]) {
             Ok(0) => return Err(WriteFault { written }),
             Ok(count) => written += count,
@@ -31,10 +39,21 @@ pub fn put_all<W: Write>(writer: &mut W, bytes: &[u8]) -> Result<(), WriteFault>
     Ok(())
 }
 
-/// A writer with whether a call of it failed or took nothing. The only way to the writer is `put`, so that binds.
+/// Writes all of the bytes, or as many as the fault says.
+pub fn put_all<W: Write>(writer: &mut W, bytes: &[u8]) -> Result<(), WriteFault>
+    ensures ok { OnOk result (Appends (W.contents writer.old) (W.contents writer.new) bytes.now) }
+    ensures front { IfErr result (λ fault. Appends (W.contents writer.old) (W.contents writer.new) (take fault.written bytes.now)) }
+    ensures within { IfErr result (λ fault. fault.written < length bytes.now) }
+{
+    put_counted(writer, &mut ProofCount::new(), bytes)
+}
+
+/// A writer with the number of its calls, which only proofs read, and whether one of them failed or took nothing. The only
+/// way to the writer is `put`, so the count binds.
 #[derive(Drop)]
 pub struct Watched<W: Drop> {
     writer: W,
+    calls: ProofCount,
     failed: bool,
 }
 
@@ -43,16 +62,17 @@ impl<W: Drop> Model for Watched<W> {
 
     ghost Value = { OutputState W };
 
-    ghost view = { λ w. record { writer = w.writer; failed = w.failed } };
+    ghost view = { λ w. record { writer = w.writer; calls = w.calls.count; failed = w.failed } };
 }
 
 impl<W: Drop> Watched<W> {
-    /// A writer of which no call has failed.
+    /// A writer that was not called yet.
     pub fn new(writer: W) -> Self
-        ensures { result ≡ record { writer = writer; failed = false } }
+        ensures { result ≡ record { writer = writer; calls = 0; failed = false } }
     {
         Watched {
             writer,
+            calls: ProofCount::new(),
             failed: false,
         }
     }
@@ -61,7 +81,11 @@ impl<W: Drop> Watched<W> {
     pub fn into_inner(self) -> W
         ensures { result ≡ self.writer }
     {
-        let Watched { writer, failed: _ } = self;
+        let Watched {
+            writer,
+            calls: _,
+            failed: _,
+        } = self;
         writer
     }
 
@@ -79,7 +103,7 @@ impl<W: Write + Drop> Watched<W> {
         ensures ok { OnOk result (Takes bytes.now (sink_of W.contents self.old) (sink_of W.contents self.new)) }
         ensures front { IfErr result (λ fault. TakesFront fault.written bytes.now (sink_of W.contents self.old) (sink_of W.contents self.new)) }
     {
-        let outcome = put_all(&mut self.writer, bytes);
+        let outcome = put_counted(&mut self.writer, &mut self.calls, bytes);
         if outcome.is_err() {
             self.failed = true;
         }

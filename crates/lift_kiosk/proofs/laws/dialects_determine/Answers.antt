@@ -1,0 +1,18 @@
+use Rattle.lift_kiosk.proofs.Determined.{outcome_is, exchanges_are, written_is}
+use Rattle.lift_kiosk.proofs.Whole.{same_session, all_written}
+use Rattle.lift_kiosk.proofs.laws.dialects_determine.Goals as goal
+
+pub returns-clause-line : goal.returns-clause-line
+returns-clause-line g c unique = outcome_is g.T.Dialect.wants unique
+
+pub returns-clause-lines : goal.returns-clause-lines
+returns-clause-lines g c unique = exchanges_are g.T.Dialect.wants unique g.T.Dialect.keeps
+
+pub returns-clause-written : goal.returns-clause-written
+returns-clause-written g c unique = written_is g.T.Dialect.wants unique g.T.Dialect.keeps
+
+pub returns-clause-whole : goal.returns-clause-whole
+returns-clause-whole g c unique = same_session g.T.Dialect.wants unique g.T.Dialect.keeps
+
+pub returns-clause-text : goal.returns-clause-text
+returns-clause-text g c unique = all_written g.T.Dialect.wants unique g.T.Dialect.keeps
