@@ -1,24 +1,13 @@
-//! Reads the example buildings, and prints what is in them. Beside it stand the tests of `lift_building`.
+//! Reads the buildings `NAME.toml` that its words name, and prints what is in them, or why they are refused. Beside it stand the tests of
+//! `lift_building`.
 #![tactic(auto)]
 
 #[cfg(test)]
-mod bounds;
-#[cfg(test)]
-mod demo;
-#[cfg(test)]
-mod hostile;
-#[cfg(test)]
-mod order;
-#[cfg(test)]
-mod parts;
-#[cfg(test)]
-mod refusals;
+mod memory;
 
 use lift_base::{Floor, Letter};
-use lift_building::Building;
-use std::{fs, io};
-
-const EXAMPLES: [&str; 4] = ["demo", "office", "hospital", "tower"];
+use lift_building::{Building, BuildingFault};
+use std::{env, fs, io};
 
 fn floor(number: u8) -> Floor {
     Floor::new(number).unwrap_or_default()
@@ -63,6 +52,22 @@ fn show_car(rt: &impl Print, building: &Building, car: Letter) -> io::Result<()>
     println!(rt; "")
 }
 
+/// What is answered of the floor above the top and the car behind the last: no flight, no places, no floors.
+fn show_beyond(rt: &impl Print, building: &Building) -> io::Result<()> {
+    let (Some(above), Some(behind)) = (Floor::new(building.floors()), Letter::new(building.cars()))
+    else {
+        return Ok(());
+    };
+    println!(rt;
+        "beyond up {} down {} places {} serves {} {}",
+        building.flight(floor(0), above),
+        building.flight(above, floor(0)),
+        building.places(behind),
+        building.serves(Letter::default(), above),
+        building.serves(behind, floor(0))
+    )
+}
+
 fn show(rt: &impl Print, name: &str, building: &Building) -> io::Result<()> {
     let top = building.floors() - 1;
     println!(rt;
@@ -80,17 +85,41 @@ fn show(rt: &impl Print, name: &str, building: &Building) -> io::Result<()> {
     for car in 0..building.cars() {
         show_car(rt, building, Letter::new(car).unwrap_or_default())?;
     }
-    Ok(())
+    show_beyond(rt, building)
+}
+
+/// The key that a fault names.
+fn key_of(fault: &BuildingFault) -> Option<&'static str> {
+    match fault {
+        BuildingFault::Missing(field) => Some(field.name()),
+        BuildingFault::WrongType(field) => Some(field.name()),
+        BuildingFault::OutOfRange(field) => Some(field.name()),
+        _ => None,
+    }
+}
+
+/// The number of a fault, and the key or the floors that it names.
+fn show_fault(rt: &impl Print, name: &str, fault: &BuildingFault) -> io::Result<()> {
+    let number = fault.number();
+    print!(rt; "{name}: fault {number}")?;
+    if let Some(key) = key_of(fault) {
+        print!(rt; " {key}")?;
+    }
+    if let BuildingFault::Detour(from, by, to) = fault {
+        print!(rt; " {} {} {}", from.get(), by.get(), to.get())?;
+    }
+    println!(rt; "")
 }
 
 fn main(rt: HostRuntime) -> io::Result<()> {
     let alloc = rt.alloc();
-    for name in EXAMPLES {
+    let names: Vec<String> = env::args(&rt)?.skip(1).collect(alloc)?;
+    for name in &names {
         let file = format!(in alloc; "{name}.toml")?;
         let text = fs::read_to_string(&rt, file.as_str())?;
         match Building::read(alloc, text.as_str()) {
-            Ok(building) => show(&rt, name, &building)?,
-            Err(fault) => println!(rt; "{name}: fault {}", fault.number())?,
+            Ok(building) => show(&rt, name.as_str(), &building)?,
+            Err(fault) => show_fault(&rt, name.as_str(), &fault)?,
         }
     }
     Ok(())
