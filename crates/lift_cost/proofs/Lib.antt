@@ -1,3 +1,4 @@
 pub mod Earlier
 pub mod Costs
 pub mod Times
+pub mod Timetables

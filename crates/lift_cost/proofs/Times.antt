@@ -1,11 +1,10 @@
 -- Arrivals as sums, and where they stand.
-use Rattle.std.proofs.Common.{◌≡◌, ℕ, zero, suc, ◌+◌, ◌<◌, ◌≤◌, ◌||◌, Bool, true, false, List, [], ◌∷◌, ◌++◌, length, sym, ap, ◌∙◌, arith, refl, sum_by}
+use Rattle.std.proofs.Common.{◌≡◌, ℕ, zero, suc, ◌+◌, ◌≤◌, ◌||◌, Bool, true, false, List, [], ◌∷◌, ◌++◌, length, ap, ◌∙◌, arith, refl, sum_by}
 use Rattle.std.specs.Prelude.{slice_get, slice_index, unwrap_or, Some}
 use Rattle.std.specs.List.{range_with_len}
 use Rattle.std.proofs.lemmas.List.Sums.{sum_by_push}
 use Rattle.lift_base.specs.declared.travel.Halt.{Halt}
-use Rattle.lift_building.specs.Plan.{Plan, flight_ms}
-use Rattle.lift_building.specs.Arrivals.{arrivals_of, arrivals_from, floors_of}
+use Rattle.lift_building.specs.Arrivals.{arrivals_of}
 use Rattle.lift_building.proofs.Times.{arrivals_are}
 use Rattle.lift_stops.specs.StopList.{same_halt}
 use Rattle.lift_stops.specs.Parts.{has_halt, AllDiffer}
@@ -62,7 +61,7 @@ neither : (a b : Bool) → (a || b) ≡ false → (a ≡ false) × (b ≡ false)
 neither true b e = absurd cc
 neither false b e = (refl, e)
 
-no_moment : (hs : List Halt) (times : List ℕ) (h : Halt) → has_halt h hs ≡ false → moment_at h hs times ≡ 0
+pub no_moment : (hs : List Halt) (times : List ℕ) (h : Halt) → has_halt h hs ≡ false → moment_at h hs times ≡ 0
 no_moment [] times h e = refl
 no_moment (g ∷ hs) [] h e = refl
 no_moment (g ∷ hs) (time ∷ times) h e =

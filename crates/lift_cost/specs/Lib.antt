@@ -1,3 +1,4 @@
 pub mod Calls
 pub mod Cost
 pub mod Laws
+pub mod Timetable

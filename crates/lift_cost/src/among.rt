@@ -1,12 +1,13 @@
 //! Times among given halts.
 
 ghost use Rattle.std.specs.Prelude.{◌≡◌, ◌+◌, ◌*◌, ◌<◌, ◌≤◌, length, sum_by};
-ghost use Rattle.lift_building.specs.Arrivals.{arrivals_of};
 ghost use Rattle.lift_stops.specs.StopList.{same_halt, halt_at, stop_list};
 ghost use Rattle.lift_cost.specs.Calls.{AreWithin};
 ghost use Rattle.lift_cost.specs.Cost.{moment_at, arrival_at, total_etd, own_etd, waiting_row, with_call};
+ghost use Rattle.lift_cost.specs.Timetable.{place_of, IsTimetable};
 
 use crate::call::{NewCall, waiting_row};
+use crate::timetable::{place_of, timetable_of};
 use lift_base::{Halt, Position, Row};
 use lift_building::Building;
 use lift_stops::pass_of;
@@ -39,6 +40,15 @@ fn goal_of(position: &Position, row: &Row) -> Halt
     Halt { pass, floor }
 }
 
+/// The place of that halt in a table.
+fn goal_place(position: &Position, row: &Row) -> usize
+    ensures value { result ≡ place_of (halt_at position.now row.now row.now.to) }
+    ensures limit { result < 192 }
+    ensures floor { row.now.to < 64 }
+{
+    place_of(&goal_of(position, row))
+}
+
 /// When a car that leaves the position's floor now, and makes these halts, is at one of them; 0 where it isn't among
 /// them. At most 43,560,000 ms.
 #[tactic(auto, using(crate::proofs::Costs::arrival_short))]
@@ -61,49 +71,66 @@ pub fn etd_among(building: &Building, position: &Position, halts: &[Halt], row: 
     arrival_at(building, *position, halts, &goal_of(position, row))
 }
 
-/// The time of a call's passengers, once for each of them, where these moments are those of the halts.
+/// The time of a call's passengers, once for each of them, by the table of these halts.
 #[tactic(auto, using(crate::proofs::Costs::arrival_short))]
-fn party_among(
+fn party_at(
     building: &Building,
     position: &Position,
     halts: &[Halt],
-    moments: &[u64],
+    moments: &[u32; 192],
     row: &Row,
+    place: usize,
 ) -> u64
     requires few { length halts.now ≤ 66 }
-    requires count { length halts.now ≤ length moments.now }
-    requires moments { moments.now ≡ arrivals_of building.now position.now.floor halts.now }
+    requires moments { IsTimetable building.now position.now.floor halts.now moments.now }
+    requires place { place ≡ place_of (halt_at position.now row.now row.now.to) }
+    requires within { place < 192 }
+    requires floor { row.now.to < 64 }
     ensures value { result ≡ row.now.party * arrival_at building.now position.now.floor halts.now
         (halt_at position.now row.now row.now.to) }
     ensures limit { result ≤ 653400000 }
 {
     let _lawful = building.floors();
-    let time = moment_at(&goal_of(position, row), halts, moments);
+    let time = u64::from(moments[place]);
     prove!(time <= 43_560_000);
     u64::from(row.party.get()) * time
 }
 
-/// The times of all passengers of these calls, where their car makes these halts at these moments.
-fn total_among(
+/// The times of all passengers of some calls without a new call, and with it.
+struct Totals {
+    without: u64,
+    with: u64,
+}
+
+/// By the tables of the halts without the new call and with it.
+fn totals_among(
     building: &Building,
     position: &Position,
     halts: &[Halt],
-    moments: &[u64],
+    before: &[u32; 192],
+    halts_with: &[Halt],
+    after: &[u32; 192],
     rows: &[Row],
-) -> u64
-    requires halts { length halts.now ≤ 66 }
-    requires count { length halts.now ≤ length moments.now }
-    requires moments { moments.now ≡ arrivals_of building.now position.now.floor halts.now }
+) -> Totals
+    requires few { length halts.now ≤ 66 }
+    requires few_with { length halts_with.now ≤ 66 }
+    requires before { IsTimetable building.now position.now.floor halts.now before.now }
+    requires after { IsTimetable building.now position.now.floor halts_with.now after.now }
     requires rows { length rows.now ≤ 33 }
-    ensures value { result ≡ sum_by (λ row. row.party * arrival_at building.now position.now.floor halts.now
+    ensures without { result.without ≡ sum_by (λ row. row.party * arrival_at building.now position.now.floor halts.now
         (halt_at position.now row row.to)) rows.now }
-    ensures limit { result ≤ 33 * 653400000 }
+    ensures with { result.with ≡ sum_by (λ row. row.party * arrival_at building.now position.now.floor halts_with.now
+        (halt_at position.now row row.to)) rows.now }
+    ensures limit { result.with ≤ 33 * 653400000 }
 {
-    let mut total = 0u64;
+    let mut without = 0u64;
+    let mut with = 0u64;
     for row in rows {
-        total += party_among(building, position, halts, moments, row);
+        let place = goal_place(position, row);
+        without += party_at(building, position, halts, before, row, place);
+        with += party_at(building, position, halts_with, after, row, place);
     }
-    total
+    Totals { without, with }
 }
 
 /// The times of all passengers of a car without a new call, and with it those of the same and its own.
@@ -137,14 +164,17 @@ fn sums_among(
     ensures no_loss { result.without ≤ result.others }
     ensures limit { result.others + result.own ≤ 34 * 653400000 }
 {
-    let before = building.arrivals(*position, halts);
-    let after = building.arrivals(*position, halts_with);
-    let without = total_among(building, position, halts, &before, rows);
-    let others = total_among(building, position, halts_with, &after, rows);
-    let own = party_among(building, position, halts_with, &after, &waiting_row(call));
+    let before = timetable_of(building, position.floor, halts);
+    let after = timetable_of(building, position.floor, halts_with);
+    let Totals { without, with } = totals_among(
+        building, position, halts, &before, halts_with, &after, rows,
+    );
+    let row = waiting_row(call);
+    let place = goal_place(position, &row);
+    let own = party_at(building, position, halts_with, &after, &row, place);
     Sums {
         without,
-        others,
+        others: with,
         own,
     }
 }

@@ -7,6 +7,7 @@ mod call;
 mod cost;
 mod laws;
 mod scheduled;
+mod timetable;
 
 pub use among::arrival_at;
 pub use call::{NewCall, waiting_row};
