@@ -1,9 +1,5 @@
-//! Reads the buildings `NAME.toml` that its words name, and prints what is in them, or why they are refused. Beside it stand the tests of
-//! `lift_building`.
+//! Reads the buildings `NAME.toml` that its words name, and prints what is in them, or why they are refused.
 #![tactic(auto)]
-
-#[cfg(test)]
-mod memory;
 
 use lift_base::{Floor, Letter};
 use lift_building::{Building, BuildingFault};
@@ -80,6 +76,11 @@ fn show(rt: &impl Print, name: &str, building: &Building) -> io::Result<()> {
         "up {} down {}",
         building.flight(floor(0), floor(top)),
         building.flight(floor(top), floor(0))
+    )?;
+    let shape = building.shape(64);
+    println!(rt;
+        "shape {} {} {} {}",
+        shape.floors, shape.cars, shape.kiosks, shape.half
     )?;
     show_kiosks(rt, building)?;
     for car in 0..building.cars() {

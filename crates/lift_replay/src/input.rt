@@ -53,9 +53,10 @@ fn read_some<R: Read + Drop>(
 {
     let mut buffer = [0u8; CHUNK];
     let room = CHUNK.min(most - bytes.len() + 1);
-    match input.read(&mut buffer[..room]) {
+    let part = &mut buffer[..room];
+    match input.read(part) {
         Ok(count) => {
-            bytes.extend_from_slice(&buffer[..count])?;
+            bytes.extend_from_slice(&part[..count])?;
             Ok(count != 0)
         }
         Err(_) => Err(InputFault::Read),
