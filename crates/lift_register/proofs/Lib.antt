@@ -1,4 +1,5 @@
 pub mod HistoryLemmas
+pub mod Follows
 pub mod Sums
 pub mod EntryLemmas
 pub mod KeptLemmas

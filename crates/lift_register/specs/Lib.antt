@@ -8,3 +8,4 @@ pub mod Belongs
 pub mod Rows
 pub mod Steps
 pub mod Joins
+pub mod Follows

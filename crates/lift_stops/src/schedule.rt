@@ -4,6 +4,7 @@ ghost use Rattle.std.specs.Prelude.{◌≡◌, ◌≢◌, ◌+◌, ◌<◌, ◌�
 ghost use Rattle.std.specs.List.{flat_map};
 ghost use Rattle.lift_base.specs.declared.history.Row.{Row as RowValue};
 ghost use Rattle.lift_base.specs.History.{row_after};
+ghost use Rattle.lift_stops.specs.Parts.{AllDiffer};
 ghost use Rattle.lift_stops.specs.StopList.{StopsInOrder, stop_list, next_stop};
 ghost use Rattle.lift_stops.specs.Tally.{IsTally, legs_at};
 ghost use Rattle.lift_stops.specs.Schedule.{position_after};
@@ -151,6 +152,8 @@ impl Schedule {
     pub fn halts(&self) -> &[Halt]
         ensures halts { result.now ≡ stop_list self.now.rows self.now.position }
         ensures limit { length result.now ≤ 66 }
+        // No halt stands twice.
+        ensures differ { AllDiffer result.now }
 
         // Wherever the car is, the halts of an open call stand in the list in the order in which its passengers need them.
         ensures in_order { (row : RowValue) → Contains self.now.rows row → row.from ≢ row.to → StopsInOrder self.now.rows row }

@@ -4,6 +4,7 @@ ghost use Rattle.std.specs.Prelude.{◌≡◌, ◌≢◌, ℕ, ◌+◌, ◌<◌,
 ghost use Rattle.arrayvec.specs.ArrayVec.{array_vec_len};
 ghost use Rattle.lift_base.specs.declared.history.Row.{Row as RowValue};
 ghost use Rattle.lift_stops.specs.Insertion.{put, rank_of};
+ghost use Rattle.lift_stops.specs.Parts.{AllDiffer};
 ghost use Rattle.lift_stops.specs.StopList.{HasFloors, StopsInOrder, is_ahead, pass_of, dir_in, stop_list, stop_of, next_stop};
 
 use arrayvec::ArrayVec;
@@ -122,6 +123,8 @@ pub fn insert_row(halts: &mut ArrayVec<Halt, 66>, position: &Position, row: &Row
 pub fn stop_list(rows: &[Row], position: Position) -> ArrayVec<Halt, 66>
     requires { length rows.now ≤ 33 }
     ensures halts { result.items ≡ stop_list rows.now position }
+    // No halt stands twice.
+    ensures differ { AllDiffer result.items }
 
     // Wherever the car is, the halts of an open call stand in the list in the order in which its passengers need them.
     ensures in_order { (row : RowValue) → Contains rows.now row → row.from ≢ row.to → StopsInOrder rows.now row }

@@ -1,7 +1,10 @@
-use Rattle.std.proofs.Common.{◌≡◌, arith, sym, ◌∙◌, All, take, [], ◌∷◌}
+use Rattle.std.proofs.Common.{◌≡◌, arith, sym, subst, ap, ◌∙◌, All, List, take, [], ◌∷◌}
 use Rattle.std.proofs.lemmas.List.{take_more, take_all}
 use Rattle.std.proofs.lemmas.List.Elements.{All-append, All-cons, All-nil}
-use Rattle.lift_stops.specs.StopList.{HasFloors}
+use Rattle.lift_base.specs.declared.history.Row.{Row}
+use Rattle.lift_stops.specs.Parts.{AllDiffer}
+use Rattle.lift_stops.specs.StopList.{HasFloors, stop_list}
+use Rattle.lift_stops.proofs.Listed.{stops_differ}
 use Rattle.lift_stops.proofs.Halts.{stop_list-none, stop_list-own}
 use Rattle.lift_stops.proofs.stops.stop_list.Goals as goal
 
@@ -19,6 +22,12 @@ loop-row-preserved c =
       few = omega arith;
       floors = All-append HasFloors _ (c.row-item.result ∷ []) c.loop-row.invariant.floors (All-cons HasFloors c.row-item.result [] c.insert_row.ensures.floors (All-nil HasFloors));
     })
+
+pub returns-clause-differ : goal.returns-clause-differ
+returns-clause-differ c =
+    let all : take c.loop-row.row-index c.args.rows.now ≡ c.args.rows.now = take_all _ _ (omega arith) in
+    let listed = c.loop-row.invariant.listed ∙ ap (λ (rows : List Row). stop_list rows c.args.position) all in
+    subst AllDiffer (sym listed) (stops_differ c.args.rows.now c.args.position)
 
 pub returns-clause-in_order : goal.returns-clause-in_order
 returns-clause-in_order c row member apart position =
