@@ -9,3 +9,5 @@ mod faults;
 mod files;
 #[cfg(test)]
 mod memory;
+#[cfg(test)]
+mod noted;

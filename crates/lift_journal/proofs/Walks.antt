@@ -13,6 +13,7 @@ use Rattle.lift_journal.specs.declared.walk.Front.{Front}
 use Rattle.lift_journal.specs.Fronts.{Passes, passed}
 use Rattle.lift_journal.specs.declared.reads.AtGate.{AtGate}
 use Rattle.lift_journal.specs.Seen.{batch_of, ShowsAt}
+use Rattle.lift_journal.specs.Calls.{reads_from}
 use Rattle.lift_journal.proofs.Looking.{reads_none, well_none}
 use Rattle.lift_journal.proofs.Chains.{tail_is, from_gate, used_more}
 use Rattle.lift_journal.proofs.Orders.{front_push, front_rises, front_order, version_push, last_push}
@@ -85,6 +86,7 @@ pub record Walking (old now : DiskState) (start end : ℕ) (front : Front) : Typ
   pub only : ReadsOnly old now
   pub well : ReadsWell old now
   pub at : old.is_honest → IsSynced old → IsAtFront old.image start end front
+  pub trace : now.trace ≡ old.trace ++ reads_from start (front.gate - start)
 
 -- the first front
 pub starts : (image : Image) (start end : ℕ) (front : Front) → front.gate ≡ start → front.number ≡ 1 → front.version ≡ One → front.last ≡ None → IsAtFront image start end front
@@ -194,5 +196,6 @@ walk_begins disk start end front only_now some below is =
       few = omega (arith, gate, number);
       only = reads_none disk only_now;
       well = well_none disk;
+      trace = sym (append-nil disk.trace) ∙ ap (λ n. disk.trace ++ reads_from start n) (let none : 0 ≡ front.gate - start = omega (arith, gate) in none);
       at = λ honest synced. starts disk.image start end front gate number (ap (λ (f : Front). f.version) is) (ap (λ (f : Front). f.last) is);
     }

@@ -1,11 +1,15 @@
 -- Which calls of the device a format, an append, a checkpoint and an opening make, in their order.
-use Rattle.std.specs.Prelude.{◌≡◌, ◌<◌, ◌+◌, ◌++◌, ℕ, zero, suc, List, [], ◌∷◌, length, take, Result, OnOk, OnErr}
+use Rattle.std.specs.Prelude.{◌≡◌, ◌≤◌, ◌<◌, ◌+◌, ◌++◌, ℕ, zero, suc, Bool, if◌then◌else◌, List, [], ◌∷◌, length, take, Result, OnOk, OnErr}
 use Rattle.lift_base.specs.declared.history.Shape.{Shape}
 use Rattle.lift_disk.specs.Disk.{DiskState, Image}
 use Rattle.lift_disk.specs.Trace.{Access}
 use Rattle.lift_disk.specs.Trace.Access.{Read, Write, Sync}
 use Rattle.lift_journal.specs.Layout.{filled, stamp_bytes}
 use Rattle.lift_journal.specs.Steps.{marked, unmarked}
+
+-- the first sector of a half
+abbrev pub half_start : Bool → ℕ → ℕ
+half_start is_second half = if is_second then half + 2 else 2
 
 -- these sectors are written in a row
 abbrev pub writes_from : ℕ → Image → List Access
@@ -35,7 +39,7 @@ draft_calls gate [] = []
 draft_calls gate (body ∷ rest) = (writes_from (gate + 1) body ++ Write gate marked ∷ []) ++ draft_calls (gate + 1 + length body) rest
 
 -- So many calls of these were made, and not all.
-pub record IsFront (calls : List Access) (old new : DiskState) : Type 0 where
+pub record StopsIn (calls : List Access) (old new : DiskState) : Type 0 where
   pub count : ℕ
   pub some_left : count < length calls
   pub made : new.trace ≡ old.trace ++ take count calls
@@ -43,4 +47,20 @@ pub record IsFront (calls : List Access) (old new : DiskState) : Type 0 where
 -- These calls were made, one after another; where one failed, those before it.
 pub record Follows {T E : Type 0} (result : Result T E) (calls : List Access) (old new : DiskState) : Type 0 where
   pub all : OnOk result (new.trace ≡ old.trace ++ calls)
-  pub front : OnErr result (IsFront calls old new)
+  pub front : OnErr result (StopsIn calls old new)
+
+-- from this sector on some were read in a row, each once
+abbrev pub HasRead : ℕ → DiskState → DiskState → Type 0
+HasRead first old new = (count : ℕ) × (new.trace ≡ old.trace ++ reads_from first count)
+
+-- The opening of a device: a sync, the stamp, the pick, and so many sectors of the picked half in a row.
+abbrev pub opening_calls : ℕ → ℕ → List Access
+opening_calls start count = Sync ∷ Read 1 ∷ Read 0 ∷ reads_from start count
+
+-- the first of these calls were made, or all
+abbrev pub StartsWith : List Access → DiskState → DiskState → Type 0
+StartsWith calls old new = (count : ℕ) × (count ≤ length calls) × (new.trace ≡ old.trace ++ take count calls)
+
+-- The first calls of an opening were made, or all of them.
+abbrev pub ReadsInOrder : DiskState → DiskState → Type 0
+ReadsInOrder old new = (start count : ℕ) × StartsWith (opening_calls start count) old new

@@ -6,12 +6,13 @@ ghost use Rattle.lift_base.specs.Records.{IsLawful};
 ghost use Rattle.lift_disk.specs.Disk.{LeavesNow, LeavesOnly, MayLeave, IsSynced, Image, RunsOn};
 ghost use Rattle.lift_register.specs.Base.{base_records};
 ghost use Rattle.lift_journal.specs.Checkpoint.{batch_count, checkpoint_of, sectors_for};
-ghost use Rattle.lift_journal.specs.Layout.{bodies, Batch, new_batch, records_of, Holds, Picks, used};
+ghost use Rattle.lift_journal.specs.Layout.{bodies, IsBody, Batch, new_batch, records_of, Holds, Picks, used};
 ghost use Rattle.std.specs.Option.{option_map};
 ghost use Rattle.lift_journal.specs.Order.{IsEntry};
 ghost use Rattle.lift_journal.specs.Steps.{Makes, ReadsOnly, IsSyncedAt};
 ghost use Rattle.lift_journal.specs.Stops.{StopsShort, StopsCheckpoint};
 ghost use Rattle.lift_journal.specs.Told.{AnswersAsTold};
+ghost use Rattle.lift_journal.specs.Calls.{half_start, append_calls, opening_calls, StopsIn, ReadsInOrder};
 ghost use Rattle.lift_journal.specs.Fronts.{IsOfCursor};
 
 use crate::body::{body_count, put_body, sectors_of};
@@ -134,6 +135,10 @@ impl<D: Disk> Journal<D> {
         ensures opened { IfOk result (λ journal. journal.opened ≡ (D.state journal.device).failures) }
         ensures half { IfOk result (λ journal. LeavesNow (D.state journal.device) (Picks journal.is_second)) }
         ensures refused { IfErr result (λ err. Refuses (D.state disk) (D.state err.0) err.1) }
+        // A sync, the stamp, the pick, and the picked half up to its closing gate, sector by sector; where it is refused, a front of that.
+        ensures calls { IfOk result (λ journal. (D.state journal.device).trace
+            ≡ (D.state disk).trace ++ opening_calls (half_start journal.is_second journal.shape.half) (journal.used + 1)) }
+        ensures calls_before { IfErr result (λ err. ReadsInOrder (D.state disk) (D.state err.0)) }
     {
         let mut device = disk;
         match find_place(&mut device) {
@@ -181,6 +186,12 @@ impl<D: Disk> Journal<D> {
 
         ensures runs { RunsOn (D.state self.old.device) (D.state self.new.device) }
         ensures made { Makes result (bodies (length batch.now.items) + 4) (bodies (length batch.now.items) + 2) (D.state self.old.device) (D.state self.new.device) }
+        // The body and the next gate, a sync, the gate, a sync; where one fails, those before it.
+        ensures calls { OnOk result ((body : Image) × IsBody self.old.number (new_batch batch.now.items) body
+            × ((D.state self.new.device).trace ≡ (D.state self.old.device).trace
+            ++ append_calls (half_start self.old.is_second self.old.shape.half + self.old.used) body)) }
+        ensures calls_before { IsErrOf result JournalFault.Disk → (body : Image) × IsBody self.old.number (new_batch batch.now.items) body
+            × StopsIn (append_calls (half_start self.old.is_second self.old.shape.half + self.old.used) body) (D.state self.old.device) (D.state self.new.device) }
         ensures told { AnswersAsTold result (D.state self.old.device) (D.state self.new.device) }
         ensures stops { IsErrOf result JournalFault.Disk → (D.state self.old.device).is_honest → (D.state self.old.device).is_inert → (batches : List Batch)
             → LeavesNow (D.state self.old.device) (Holds self.old.shape batches)
@@ -359,6 +370,9 @@ impl<D: Disk> Journal<D> {
         ensures opened { OnOk result (self.new.opened ≡ (D.state self.new.device).failures) }
         ensures half { OnOk result (LeavesNow (D.state self.new.device) (Picks self.new.is_second)) }
         ensures refused { IfErr result (λ fault. Refuses (D.state self.old.device) (D.state self.new.device) fault) }
+        ensures calls { OnOk result ((D.state self.new.device).trace
+            ≡ (D.state self.old.device).trace ++ opening_calls (half_start self.new.is_second self.new.shape.half) (self.new.used + 1)) }
+        ensures calls_before { OnErr result (ReadsInOrder (D.state self.old.device) (D.state self.new.device)) }
         ensures breaks { IsErrOf result JournalFault.Disk → self.new.is_broken ≡ true }
         ensures stays { IfErr result (λ fault. (fault ≡ JournalFault.Disk) ⊎ (self.new.is_broken ≡ self.old.is_broken)) }
         ensures same { OnErr result ((self.new.shape ≡ self.old.shape) × (self.new.used ≡ self.old.used) × (self.new.opened ≡ self.old.opened)) }
@@ -380,6 +394,9 @@ impl<D: Disk> Journal<D> {
         ensures opened { OnOk result (self.new.opened ≡ (D.state self.new.device).failures) }
         ensures half { OnOk result (LeavesNow (D.state self.new.device) (Picks self.new.is_second)) }
         ensures refused { IfErr result (λ fault. Refuses (D.state self.old.device) (D.state self.new.device) fault) }
+        ensures calls { OnOk result ((D.state self.new.device).trace
+            ≡ (D.state self.old.device).trace ++ opening_calls (half_start self.new.is_second self.new.shape.half) (self.new.used + 1)) }
+        ensures calls_before { OnErr result (ReadsInOrder (D.state self.old.device) (D.state self.new.device)) }
         ensures breaks { IsErrOf result JournalFault.Disk → self.new.is_broken ≡ true }
         ensures stays { IfErr result (λ fault. (fault ≡ JournalFault.Disk) ⊎ (self.new.is_broken ≡ self.old.is_broken)) }
         ensures same { OnErr result ((self.new.shape ≡ self.old.shape) × (self.new.used ≡ self.old.used) × (self.new.opened ≡ self.old.opened)) }

@@ -1,5 +1,5 @@
 //! Where a formatted device goes on. This reads and writes nothing.
-ghost use Rattle.std.specs.Prelude.{◌≡◌, ◌⊎◌, ◌≤◌, ◌<◌, ◌+◌, ◌*◌, IsErrOf, IfOk, IfErr, OnOk};
+ghost use Rattle.std.specs.Prelude.{ℕ, ◌≡◌, ◌⊎◌, ◌≤◌, ◌<◌, ◌+◌, ◌-◌, ◌*◌, ◌++◌, [], ◌∷◌, IsErrOf, IfOk, IfErr, OnOk};
 ghost use Rattle.lift_base.specs.declared.history.Shape.{Shape as ShapeValue};
 ghost use Rattle.lift_base.specs.History.{IsWithinLimits};
 ghost use Rattle.lift_disk.specs.Disk.{IsSynced, Image, MayLeave};
@@ -10,6 +10,8 @@ ghost use Rattle.lift_journal.specs.Walk.{IsDamagedAt};
 ghost use Rattle.lift_journal.specs.Opening.{RefusedFor};
 ghost use Rattle.lift_journal.specs.Fronts.{IsOfChain, IsOfStamp};
 ghost use Rattle.lift_journal.specs.Told.{NoneFails};
+ghost use Rattle.lift_disk.specs.Trace.Access.{Read};
+ghost use Rattle.lift_journal.specs.Calls.{reads_from, opening_calls, StartsWith, ReadsInOrder};
 
 use crate::fault::JournalFault;
 use crate::reads::{read_mark, read_sector, settle};
@@ -38,6 +40,8 @@ fn read_shape<D: Disk>(disk: &mut D) -> Result<Shape, JournalFault>
         × ((D.state disk.old).is_honest → IsSynced (D.state disk.old) → IsStamped shape (D.state disk.old).image)) }
     ensures not_formatted { IsErrOf result JournalFault.NotFormatted → (D.state disk.old).is_honest → IsSynced (D.state disk.old)
         → (shape : ShapeValue) → IsStamped shape (D.state disk.old).image → ⊥ }
+    ensures read { OnOk result ((D.state disk.new).trace ≡ (D.state disk.old).trace ++ Read 1 ∷ []) }
+    ensures row { StartsWith (Read 1 ∷ []) (D.state disk.old) (D.state disk.new) }
 {
     if disk.sectors() < 2 {
         return Err(JournalFault::NotFormatted);
@@ -63,6 +67,8 @@ fn place_of<D: Disk>(disk: &mut D, shape: Shape) -> Result<Place, JournalFault>
         → StandsAt place.shape place.start place.gate place.number (D.state disk.new)) }
     ensures damaged { (s : _) → IsErrOf result (JournalFault.Damaged s) → (D.state disk.old).is_honest → IsSynced (D.state disk.old)
         → IsDamagedAt (D.state disk.old).image (start_of shape.half (D.state disk.old).image) (start_of shape.half (D.state disk.old).image + shape.half) s }
+    ensures read { IfOk result (λ place. (D.state disk.new).trace ≡ (D.state disk.old).trace ++ Read 0 ∷ reads_from place.start (place.gate - place.start + 1)) }
+    ensures row { (start count : ℕ) × StartsWith (Read 0 ∷ reads_from start count) (D.state disk.old) (D.state disk.new) }
 {
     let Ok(is_second) = read_mark(disk, 0) else {
         return Err(JournalFault::Disk);
@@ -89,6 +95,8 @@ pub fn find_place<D: Disk>(disk: &mut D) -> Result<Place, JournalFault>
     ensures stands { IfOk result (λ place. (D.state disk.old).is_honest → StandsAt place.shape place.start place.gate place.number (D.state disk.new)) }
     ensures refused { IfErr result (λ fault. RefusedFor fault (D.state disk.old) (D.state disk.new)) }
     ensures cause { IfErr result (λ fault. HasItsCause fault (D.state disk.old) (D.state disk.new)) }
+    ensures read { IfOk result (λ place. (D.state disk.new).trace ≡ (D.state disk.old).trace ++ opening_calls place.start (place.gate - place.start + 1)) }
+    ensures row { ReadsInOrder (D.state disk.old) (D.state disk.new) }
 {
     if settle(disk).is_err() {
         return Err(JournalFault::Disk);

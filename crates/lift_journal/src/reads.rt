@@ -1,8 +1,11 @@
 //! The journal's reads: they write nothing and stop at the first call that fails.
-ghost use Rattle.std.specs.Prelude.{◌≡◌, ◌≤◌, ◌<◌, ◌+◌, length, take, OnOk, IfOk, IfSome, true, false};
+ghost use Rattle.std.specs.Prelude.{◌≡◌, ◌≤◌, ◌<◌, ◌+◌, ◌-◌, ◌++◌, if◌then◌else◌, length, take, OnOk, OnErr, IfOk, IfSome, true, false};
 ghost use Rattle.lift_disk.specs.Disk.{IsSynced};
 ghost use Rattle.lift_record.specs.Header.{IsHeaderSpelling};
-ghost use Rattle.lift_journal.specs.Layout.{sector_at, is_marked};
+ghost use Rattle.lift_journal.specs.Layout.{sector_at, is_marked, bodies};
+ghost use Rattle.lift_disk.specs.Trace.{Records};
+ghost use Rattle.lift_disk.specs.Trace.Access.{Sync};
+ghost use Rattle.lift_journal.specs.Calls.{HasRead, reads_from};
 ghost use Rattle.lift_journal.specs.Steps.{Looks};
 ghost use Rattle.lift_journal.specs.Seen.{ShowsBody, ShowsAt, FitsBelow, zeros};
 
@@ -25,6 +28,7 @@ pub enum AtGate {
 pub fn settle<D: Disk>(disk: &mut D) -> Result<(), DiskFault>
     ensures looks { Looks result (D.state disk.old) (D.state disk.new) }
     ensures synced { OnOk result ((D.state disk.old).is_honest → IsSynced (D.state disk.new)) }
+    ensures recorded { Records result Sync (D.state disk.old).trace (D.state disk.new).trace }
 {
     disk.sync()
 }
@@ -36,6 +40,8 @@ pub fn read_sector<D: Disk>(disk: &mut D, sector: u32) -> Result<[u8; 512], Disk
     ensures length { IfOk result (λ bytes. length bytes ≡ 512) }
     ensures gives { IfOk result (λ bytes. (D.state disk.old).is_honest → IsSynced (D.state disk.old)
         → sector_at (D.state disk.old).image sector ≡ bytes) }
+    ensures read { OnOk result ((D.state disk.new).trace ≡ (D.state disk.old).trace ++ reads_from sector 1) }
+    ensures unread { OnErr result ((D.state disk.new).trace ≡ (D.state disk.old).trace) }
 {
     let mut buffer = [0; 512];
     disk.read(sector, &mut buffer)?;
@@ -50,6 +56,8 @@ fn read_second<D: Disk>(disk: &mut D, sector: u32, is_wanted: bool) -> Result<[u
     ensures gives { IfOk result (λ bytes. is_wanted ≡ true → (D.state disk.old).is_honest → IsSynced (D.state disk.old)
         → sector_at (D.state disk.old).image sector ≡ bytes) }
     ensures zeros { IfOk result (λ bytes. is_wanted ≡ false → bytes ≡ zeros) }
+    ensures read { OnOk result ((D.state disk.new).trace ≡ (D.state disk.old).trace ++ reads_from sector (if is_wanted then 1 else 0)) }
+    ensures unread { OnErr result ((D.state disk.new).trace ≡ (D.state disk.old).trace) }
 {
     if !is_wanted {
         return Ok([0; 512]);
@@ -72,6 +80,9 @@ fn read_rest<D: Disk>(
     ensures fits { IfOk result (λ found. IfSome found (λ stored. FitsBelow gate end stored)) }
     ensures seen { IfOk result (λ found. (D.state disk.old).is_honest → IsSynced (D.state disk.old)
         → sector_at (D.state disk.old).image (gate + 1) ≡ first.now → ShowsBody (D.state disk.old).image gate end header.number found) }
+    ensures row { HasRead (gate + 2) (D.state disk.old) (D.state disk.new) }
+    ensures whole { IfOk result (λ found. IfSome found (λ stored.
+        (D.state disk.new).trace ≡ (D.state disk.old).trace ++ reads_from (gate + 2) (bodies (length stored.records.items) - 1))) }
 {
     let count = header.count as usize;
     let bodies = body_count(count) as u32;
@@ -102,6 +113,9 @@ fn read_body<D: Disk>(
     ensures fits { IfOk result (λ found. IfSome found (λ stored. FitsBelow gate end stored)) }
     ensures seen { IfOk result (λ found. (D.state disk.old).is_honest → IsSynced (D.state disk.old)
         → ShowsBody (D.state disk.old).image gate end number found) }
+    ensures row { HasRead (gate + 1) (D.state disk.old) (D.state disk.new) }
+    ensures whole { IfOk result (λ found. IfSome found (λ stored.
+        (D.state disk.new).trace ≡ (D.state disk.old).trace ++ reads_from (gate + 1) (bodies (length stored.records.items)))) }
 {
     if end - gate <= 2 {
         return Ok(None);
@@ -125,6 +139,8 @@ pub fn read_mark<D: Disk>(disk: &mut D, sector: u32) -> Result<bool, DiskFault>
     ensures looks { Looks result (D.state disk.old) (D.state disk.new) }
     ensures gives { IfOk result (λ marked. (D.state disk.old).is_honest → IsSynced (D.state disk.old)
         → is_marked (sector_at (D.state disk.old).image sector) ≡ marked) }
+    ensures read { OnOk result ((D.state disk.new).trace ≡ (D.state disk.old).trace ++ reads_from sector 1) }
+    ensures unread { OnErr result ((D.state disk.new).trace ≡ (D.state disk.old).trace) }
 {
     let bytes = read_sector(disk, sector)?;
     Ok(has_mark(&bytes))
@@ -139,6 +155,10 @@ pub fn look<D: Disk>(disk: &mut D, gate: u32, end: u32, number: u32) -> Result<A
     ensures fits { IfOk result (λ at. (stored : _) → at ≡ AtGate.Batch stored → FitsBelow gate end stored) }
     ensures seen { IfOk result (λ at. (D.state disk.old).is_honest → IsSynced (D.state disk.old)
         → ShowsAt (D.state disk.old).image gate end number at) }
+    ensures row { HasRead gate (D.state disk.old) (D.state disk.new) }
+    ensures whole { IfOk result (λ at. (stored : _) → at ≡ AtGate.Batch stored
+        → (D.state disk.new).trace ≡ (D.state disk.old).trace ++ reads_from gate (1 + bodies (length stored.records.items))) }
+    ensures closed { IfOk result (λ at. at ≡ AtGate.Closed → (D.state disk.new).trace ≡ (D.state disk.old).trace ++ reads_from gate 1) }
 {
     if !read_mark(disk, gate)? {
         return Ok(AtGate::Closed);

@@ -1,4 +1,6 @@
 use Rattle.lift_journal.proofs.Looking.{reads_then, well_then, failed_then}
+use Rattle.std.proofs.Common.{◌+◌, arith}
+use Rattle.lift_journal.proofs.Following.{row_then}
 use Rattle.lift_journal.proofs.reads.look.Goals as goal
 
 pub returns-in-Ok-Some-clause-looks : goal.returns-in-Ok-Some-clause-looks
@@ -33,3 +35,18 @@ returns-in-Err-clause-looks g c =
       ok = tt;
       err = failed_then old mid new c.read_mark.ensures.looks.only c.in_ok-read_mark.ensures.looks.ok c.in-Err.ensures.looks.err;
     }
+
+pub returns-in-Ok-Some-clause-row : goal.returns-in-Ok-Some-clause-row
+returns-in-Ok-Some-clause-row g c =
+    row_then (g.D.Disk.state c.args.disk.now) (g.D.Disk.state c.read_mark.new.disk) (g.D.Disk.state c.read_body.new.disk) c.args.gate 1 (c.args.gate + 1) (omega arith)
+    c.in_ok-read_mark.ensures.read c.read_body.ensures.row
+
+pub returns-in-Ok-None-clause-row : goal.returns-in-Ok-None-clause-row
+returns-in-Ok-None-clause-row g c =
+    row_then (g.D.Disk.state c.args.disk.now) (g.D.Disk.state c.read_mark.new.disk) (g.D.Disk.state c.read_body.new.disk) c.args.gate 1 (c.args.gate + 1) (omega arith)
+    c.in_ok-read_mark.ensures.read c.read_body.ensures.row
+
+pub returns-in-Err-clause-row : goal.returns-in-Err-clause-row
+returns-in-Err-clause-row g c =
+    row_then (g.D.Disk.state c.args.disk.now) (g.D.Disk.state c.read_mark.new.disk) (g.D.Disk.state c.read_body.new.disk) c.args.gate 1 (c.args.gate + 1) (omega arith)
+    c.in_ok-read_mark.ensures.read c.read_body.ensures.row

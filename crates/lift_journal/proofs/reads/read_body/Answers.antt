@@ -1,6 +1,7 @@
-use Rattle.std.proofs.Common.{◌≡◌, length, refl, arith}
+use Rattle.std.proofs.Common.{◌≡◌, ◌+◌, length, refl, arith}
 use Rattle.lift_journal.proofs.Looking.{looks_then}
 use Rattle.lift_journal.proofs.Seeing.{no_header}
+use Rattle.lift_journal.proofs.Following.{row_then}
 use Rattle.lift_journal.proofs.reads.read_body.Goals as goal
 
 pub read_rest-requires-clause-header : goal.read_rest-requires-clause-header
@@ -18,3 +19,8 @@ pub returns-in-Some-clause-looks : goal.returns-in-Some-clause-looks
 returns-in-Some-clause-looks g c =
     looks_then c.read_rest.result (g.D.Disk.state c.args.disk.now) (g.D.Disk.state c.read_sector.new.disk) (g.D.Disk.state c.read_rest.new.disk)
     c.read_sector.ensures.looks.only c.in_ok-first.ensures.looks.ok c.read_rest.ensures.looks
+
+pub returns-in-Some-clause-row : goal.returns-in-Some-clause-row
+returns-in-Some-clause-row g c =
+    row_then (g.D.Disk.state c.args.disk.now) (g.D.Disk.state c.read_sector.new.disk) (g.D.Disk.state c.read_rest.new.disk) (c.args.gate + 1) 1 (c.args.gate + 2) (omega arith)
+    c.in_ok-first.ensures.read c.read_rest.ensures.row

@@ -1,10 +1,13 @@
-use Rattle.std.proofs.Common.{◌≡◌, ◌≤◌, length, ap, sym, subst, arith}
+use Rattle.std.proofs.Common.{◌≡◌, ◌≤◌, ◌+◌, ◌-◌, ◌++◌, ◌∙◌, length, ap, sym, subst, arith}
 use Rattle.lift_journal.specs.Walk.{IsDamagedAt}
 use Rattle.lift_journal.specs.declared.walk.Front.{Front}
 use Rattle.lift_journal.specs.declared.reads.AtGate.TheVariants.{Closed, Batch, Damaged}
 use Rattle.lift_journal.proofs.Walks.{IsAtFront, walk_begins, goes_on, ends, ends_early, none_here, may_not, seen_at}
 use Rattle.lift_journal.proofs.Looking.{reads_then, well_then, failed_then}
 use Rattle.lift_journal.proofs.Seeing.{bodies_few}
+use Rattle.lift_journal.specs.Layout.{bodies}
+use Rattle.lift_journal.specs.Calls.{reads_from}
+use Rattle.lift_journal.proofs.Following.{rows_then, row_then}
 use Rattle.lift_journal.proofs.walk.walk.Goals as goal
 
 pub pass-requires-clause-room : goal.pass-requires-clause-room
@@ -35,6 +38,12 @@ loop-front-preserved g c =
       few = omega (arith, inv.few, gate, number);
       only = reads_then old mid new inv.only c.look.ensures.looks.only;
       well = well_then old mid new inv.only inv.well c.in-Ok-Batch.ensures.looks.ok;
+      trace =
+          let more = 1 + bodies (length stored.records.items) in
+          let place : (front.gate - c.args.start) + more ≡ (front.gate + more) - c.args.start = omega (arith, inv.low) in
+          subst (λ (f : Front). new.trace ≡ old.trace ++ reads_from c.args.start (f.gate - c.args.start)) (sym is)
+          (rows_then old mid new c.args.start (front.gate - c.args.start) more front.gate (omega (arith, inv.low)) inv.trace (c.in-Ok-Batch.ensures.whole stored c.in-Ok-Batch.field-0-is)
+          ∙ ap (λ n. old.trace ++ reads_from c.args.start n) place);
       at = λ honest synced.
           let before = inv.well.kept honest synced in
           let shows = seen_at old.image mid.image front.gate c.args.end front.number c.in-Ok-Batch.field-0 (Batch stored) before.same c.in-Ok-Batch.field-0-is
@@ -161,3 +170,39 @@ returns-then-not-pass-clause-damaged g c s is honest synced =
     let here : front.gate ≡ s = cc is in
     subst (λ k. IsDamagedAt old.image c.args.start c.args.end k) here
     (may_not old.image c.args.start c.args.end front (inv.at honest synced) inv.below whole stored shows.0 shows.1 (λ passes. absurd (cc (c.pass.ensures.may.1 passes, c.if-not-pass.true))))
+
+pub returns-in-Err-clause-row : goal.returns-in-Err-clause-row
+returns-in-Err-clause-row g c =
+    let inv = c.loop-front.invariant in
+    row_then (g.D.Disk.state c.args.disk.now) (g.D.Disk.state c.loop-front.disk) (g.D.Disk.state c.look.new.disk) c.args.start (c.loop-front.front.gate - c.args.start) c.loop-front.front.gate
+    (omega (arith, inv.low)) inv.trace c.look.ensures.row
+
+pub returns-in-Ok-Damaged-clause-row : goal.returns-in-Ok-Damaged-clause-row
+returns-in-Ok-Damaged-clause-row g c =
+    let inv = c.loop-front.invariant in
+    row_then (g.D.Disk.state c.args.disk.now) (g.D.Disk.state c.loop-front.disk) (g.D.Disk.state c.look.new.disk) c.args.start (c.loop-front.front.gate - c.args.start) c.loop-front.front.gate
+    (omega (arith, inv.low)) inv.trace c.look.ensures.row
+
+pub returns-in-Ok-Closed-clause-row : goal.returns-in-Ok-Closed-clause-row
+returns-in-Ok-Closed-clause-row g c =
+    let inv = c.loop-front.invariant in
+    row_then (g.D.Disk.state c.args.disk.now) (g.D.Disk.state c.loop-front.disk) (g.D.Disk.state c.look.new.disk) c.args.start (c.loop-front.front.gate - c.args.start) c.loop-front.front.gate
+    (omega (arith, inv.low)) inv.trace c.look.ensures.row
+
+pub returns-then-may_end-clause-row : goal.returns-then-may_end-clause-row
+returns-then-may_end-clause-row g c =
+    let inv = c.loop-front.invariant in
+    row_then (g.D.Disk.state c.args.disk.now) (g.D.Disk.state c.loop-front.disk) (g.D.Disk.state c.look.new.disk) c.args.start (c.loop-front.front.gate - c.args.start) c.loop-front.front.gate
+    (omega (arith, inv.low)) inv.trace c.look.ensures.row
+
+pub returns-then-not-pass-clause-row : goal.returns-then-not-pass-clause-row
+returns-then-not-pass-clause-row g c =
+    let inv = c.loop-front.invariant in
+    row_then (g.D.Disk.state c.args.disk.now) (g.D.Disk.state c.loop-front.disk) (g.D.Disk.state c.look.new.disk) c.args.start (c.loop-front.front.gate - c.args.start) c.loop-front.front.gate
+    (omega (arith, inv.low)) inv.trace c.look.ensures.row
+
+pub returns-then-may_end-clause-whole : goal.returns-then-may_end-clause-whole
+returns-then-may_end-clause-whole g c =
+    let inv = c.loop-front.invariant in
+    rows_then (g.D.Disk.state c.args.disk.now) (g.D.Disk.state c.loop-front.disk) (g.D.Disk.state c.look.new.disk) c.args.start (c.loop-front.front.gate - c.args.start) 1 c.loop-front.front.gate
+    (omega (arith, inv.low)) inv.trace (c.in-Ok-Closed.ensures.closed c.in-Ok-Closed.field-0-is)

@@ -1,4 +1,4 @@
-use Rattle.std.proofs.Common.{◌≡◌, ◌⊎◌, ◌++◌, ◌+◌, false, nat_lt, inl, [], ◌∷◌, List, length, take, drop, sym, ◌∙◌, ap, subst, arith}
+use Rattle.std.proofs.Common.{◌≡◌, ◌⊎◌, ◌++◌, ◌+◌, ◌-◌, false, nat_lt, inl, [], ◌∷◌, List, length, take, drop, sym, ◌∙◌, ap, subst, arith}
 use Rattle.lift_base.specs.declared.history.Record.{Record}
 use Rattle.lift_disk.specs.Disk.{Image, LeavesNow, LeavesOnly}
 use Rattle.lift_disk.proofs.Moments.{leaves_none}
@@ -10,7 +10,9 @@ use Rattle.lift_journal.proofs.Looking.{open_ok, open_err}
 use Rattle.lift_journal.proofs.Seeing.{bodies_few}
 use Rattle.lift_journal.proofs.Standing.{picks_synced, append_picks, gate_high, ready, append_leaves, append_stands, lists_leave, lists_stand, same_batches, stands_then}
 use Rattle.lift_journal.specs.Told.{NoneFails, LastFails}
+use Rattle.lift_journal.specs.Calls.{half_start, append_calls, StopsIn}
 use Rattle.lift_journal.proofs.Telling.{none_made}
+use Rattle.lift_journal.proofs.Following.{begins_at}
 use Rattle.lift_journal.proofs.journal.Journal.append.Goals as goal
 
 pub returns-then-is_err-clause-any_moment : goal.returns-then-is_err-clause-any_moment
@@ -207,3 +209,40 @@ returns-clause-told g c = record {
       (open_ok c.write_batch.result _ (sym c.is_err.ensures.value ∙ c.if-is_err.false) c.write_batch.ensures.told.ok);
   err = tt;
 }
+
+pub returns-clause-calls : goal.returns-clause-calls
+returns-clause-calls g c =
+    let j = c.self.inside in
+    let old = g.D.Disk.state j.device in
+    let new = g.D.Disk.state c.write_batch.new.disk in
+    let items = c.args.batch.now.items in
+    let batch : Batch = record { version = Two; records = items } in
+    let sectors = c.sectors_of-body.result.now in
+    let is : c.body_count-bodies.result ≡ bodies (length items) = c.body_count-bodies.ensures ∙ ap bodies c.len.ensures.value in
+    let body = subst (λ (s : Image). IsBody j.number batch (take (bodies (length items)) s)) (sym c.sectors_of-body.ensures.cut) (subst (λ (l : List Record). IsBody j.number (record { version = Two; records = l }) (take (bodies (length l)) (take 512 c.put_body.new.text ∷ drop 512 c.put_body.new.text ∷ []))) c.deref.ensures.0 c.put_body.ensures) in
+    let place = c.self.invariant.place in
+    let gate : half_start (nat_lt 2 j.start) j.shape.half + (j.gate - j.start) ≡ j.gate = omega (arith, begins_at j.shape.half j.start (omega (arith, place.within.half.0)) place.halves, place.low) in
+    let made = open_ok c.write_batch.result (new.trace ≡ old.trace ++ append_calls j.gate (take c.body_count-bodies.result sectors)) (sym c.is_err.ensures.value ∙ c.if-is_err.false) c.write_batch.ensures.follows.all in
+    let here : (b : Image) × IsBody j.number batch b × (new.trace ≡ old.trace ++ append_calls (half_start (nat_lt 2 j.start) j.shape.half + (j.gate - j.start)) b) =
+    (take (bodies (length items)) sectors, body, made ∙ ap (λ k. old.trace ++ append_calls j.gate (take k sectors)) is ∙ ap (λ n. old.trace ++ append_calls n (take (bodies (length items)) sectors)) (sym gate)) in
+    subst (λ (v : JournalView g.row.D.Denot). (b : Image) × IsBody v.number batch b × (new.trace ≡ (g.D.Disk.state v.device).trace ++ append_calls (half_start v.is_second v.shape.half + v.used) b)) c.self.view_is here
+
+pub returns-then-is_err-clause-calls_before : goal.returns-then-is_err-clause-calls_before
+returns-then-is_err-clause-calls_before g c _ =
+    let j = c.self.inside in
+    let old = g.D.Disk.state j.device in
+    let new = g.D.Disk.state c.write_batch.new.disk in
+    let items = c.args.batch.now.items in
+    let batch : Batch = record { version = Two; records = items } in
+    let sectors = c.sectors_of-body.result.now in
+    let is : c.body_count-bodies.result ≡ bodies (length items) = c.body_count-bodies.ensures ∙ ap bodies c.len.ensures.value in
+    let body = subst (λ (s : Image). IsBody j.number batch (take (bodies (length items)) s)) (sym c.sectors_of-body.ensures.cut) (subst (λ (l : List Record). IsBody j.number (record { version = Two; records = l }) (take (bodies (length l)) (take 512 c.put_body.new.text ∷ drop 512 c.put_body.new.text ∷ []))) c.deref.ensures.0 c.put_body.ensures) in
+    let place = c.self.invariant.place in
+    let gate : half_start (nat_lt 2 j.start) j.shape.half + (j.gate - j.start) ≡ j.gate = omega (arith, begins_at j.shape.half j.start (omega (arith, place.within.half.0)) place.halves, place.low) in
+    let made = open_err c.write_batch.result (StopsIn (append_calls j.gate (take c.body_count-bodies.result sectors)) old new) (sym c.is_err.ensures.value ∙ c.if-is_err.true) c.write_batch.ensures.follows.front in
+    let here : (b : Image) × IsBody j.number batch b × StopsIn (append_calls (half_start (nat_lt 2 j.start) j.shape.half + (j.gate - j.start)) b) old new = (
+      take (bodies (length items)) sectors,
+      body,
+      subst (λ n. StopsIn (append_calls n (take (bodies (length items)) sectors)) old new) (sym gate) (subst (λ k. StopsIn (append_calls j.gate (take k sectors)) old new) is made),
+    ) in
+    subst (λ (v : JournalView g.row.D.Denot). (b : Image) × IsBody v.number batch b × StopsIn (append_calls (half_start v.is_second v.shape.half + v.used) b) (g.D.Disk.state v.device) new) c.self.view_is here

@@ -1,6 +1,8 @@
 use Rattle.lift_journal.proofs.Looking.{cause_told}
 use Rattle.lift_journal.proofs.Refusals.{good_refusal}
 use Rattle.lift_journal.proofs.Standing.{opens, picks_synced}
+use Rattle.std.proofs.Common.{◌+◌, ◌-◌, arith}
+use Rattle.lift_journal.proofs.Following.{opening_at}
 use Rattle.lift_journal.proofs.journal.Journal.open.Goals as goal
 
 pub returns-in-Ok-clause-opens : goal.returns-in-Ok-clause-opens
@@ -26,3 +28,9 @@ returns-in-Ok-clause-half g c =
     let place = c.in-Ok.place in
     picks_synced place.shape place.start place.gate place.number (g.D.Disk.state c.find_place.new.disk)
     (λ honest_new. c.in-Ok.ensures.stands (c.find_place.ensures.only.runs.honest.0 honest_new))
+
+pub returns-in-Ok-clause-calls : goal.returns-in-Ok-clause-calls
+returns-in-Ok-clause-calls g c =
+    let place = c.in-Ok.place in
+    opening_at (g.D.Disk.state c.args.disk) (g.D.Disk.state c.find_place.new.disk) place.shape.half place.start (place.gate - place.start + 1)
+    (omega (arith, c.in-Ok.ensures.place.within.half.0)) c.in-Ok.ensures.place.halves c.in-Ok.ensures.read

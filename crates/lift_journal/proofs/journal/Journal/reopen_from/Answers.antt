@@ -1,9 +1,11 @@
-use Rattle.std.proofs.Common.{◌≡◌, ◌-◌, ◌∙◌, refl, sym, ap, subst}
+use Rattle.std.proofs.Common.{◌≡◌, ◌+◌, ◌-◌, ◌++◌, ◌∙◌, nat_lt, arith, refl, sym, ap, subst}
 use Rattle.lift_journal.specs.Journal.{JournalView}
 use Rattle.lift_journal.specs.Opening.{Opens, Refuses}
 use Rattle.lift_journal.proofs.Looking.{cause_told}
 use Rattle.lift_journal.proofs.Refusals.{good_refusal}
 use Rattle.lift_journal.proofs.Standing.{opens, picks_synced}
+use Rattle.lift_journal.specs.Calls.{half_start, opening_calls, ReadsInOrder}
+use Rattle.lift_journal.proofs.Following.{opening_at}
 use Rattle.lift_journal.proofs.journal.Journal.reopen_from.Goals.{then-is_of_disk, else-is_of_disk}
 use Rattle.lift_journal.proofs.journal.Journal.reopen_from.Goals as goal
 
@@ -39,4 +41,21 @@ returns-after-is_of_disk-clause-refused g c =
     subst (λ (v : JournalView g.row.D.Denot). Refuses (g.D.Disk.state v.device) new c.in-Err.fault) c.self.view_is made in
     let after : (v : JournalView g.row.D.Denot) → c.if-is_of_disk.self ≡ v → v.device ≡ c.find_place.new.disk → Refuses (g.D.Disk.state c.args.self.now.device) (g.D.Disk.state c.if-is_of_disk.self.device) c.in-Err.fault =
     λ v is same. subst (λ (d : g.row.D.Denot). Refuses (g.D.Disk.state c.args.self.now.device) (g.D.Disk.state d) c.in-Err.fault) (sym (ap (λ (w : JournalView g.row.D.Denot). w.device) is ∙ same)) seen in
+    elim c.if-is_of_disk.branch [ then-is_of_disk w ↦ after _ w.self-is refl | else-is_of_disk w ↦ after _ w.self-is refl ]
+
+pub returns-in-Ok-clause-calls : goal.returns-in-Ok-clause-calls
+returns-in-Ok-clause-calls g c =
+    let place = c.in-Ok.place in
+    let new = g.D.Disk.state c.find_place.new.disk in
+    let made = opening_at (g.D.Disk.state c.self.inside.device) new place.shape.half place.start (place.gate - place.start + 1)
+    (omega (arith, c.in-Ok.ensures.place.within.half.0)) c.in-Ok.ensures.place.halves c.in-Ok.ensures.read in
+    subst (λ (v : JournalView g.row.D.Denot). new.trace ≡ (g.D.Disk.state v.device).trace ++ opening_calls (half_start (nat_lt 2 place.start) place.shape.half) (place.gate - place.start + 1)) c.self.view_is made
+
+pub returns-after-is_of_disk-clause-calls_before : goal.returns-after-is_of_disk-clause-calls_before
+returns-after-is_of_disk-clause-calls_before g c =
+    let new = g.D.Disk.state c.find_place.new.disk in
+    let seen : ReadsInOrder (g.D.Disk.state c.args.self.now.device) new =
+    subst (λ (v : JournalView g.row.D.Denot). ReadsInOrder (g.D.Disk.state v.device) new) c.self.view_is c.find_place.ensures.row in
+    let after : (v : JournalView g.row.D.Denot) → c.if-is_of_disk.self ≡ v → v.device ≡ c.find_place.new.disk → ReadsInOrder (g.D.Disk.state c.args.self.now.device) (g.D.Disk.state c.if-is_of_disk.self.device) =
+    λ v is same. subst (λ (d : g.row.D.Denot). ReadsInOrder (g.D.Disk.state c.args.self.now.device) (g.D.Disk.state d)) (sym (ap (λ (w : JournalView g.row.D.Denot). w.device) is ∙ same)) seen in
     elim c.if-is_of_disk.branch [ then-is_of_disk w ↦ after _ w.self-is refl | else-is_of_disk w ↦ after _ w.self-is refl ]

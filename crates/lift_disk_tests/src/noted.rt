@@ -1,0 +1,73 @@
+//! A device on a file that notes how it is called.
+use crate::calls::{get, put};
+use lift_disk::{Disk, SectorFile};
+use std::cell::Cell;
+use std::fs::{Metadata, OpenFile};
+use std::io;
+use std::os::unix::fs::FileExt;
+use std::test::Fail;
+
+/// Where the file was read and written last, and how often it was synced.
+#[derive(Drop)]
+struct Notes {
+    read: Cell<u64>,
+    written: Cell<u64>,
+    syncs: Cell<u32>,
+}
+
+/// Takes every call and keeps nothing.
+#[derive(Drop)]
+struct NotedFile<'n> {
+    notes: &'n Notes,
+}
+
+impl FileExt for NotedFile<'_> {
+    fn read_at(&self, buf: &mut [u8], offset: u64) -> io::Result<usize> {
+        self.notes.read.set(offset);
+        Ok(buf.len())
+    }
+
+    fn write_at(&self, buf: &[u8], offset: u64) -> io::Result<usize> {
+        self.notes.written.set(offset);
+        Ok(buf.len())
+    }
+}
+
+impl OpenFile for NotedFile<'_> {
+    fn metadata(&self) -> io::Result<Metadata> {
+        Ok(Metadata::of_file(0))
+    }
+
+    fn set_len(&self, _size: u64) -> io::Result<()> {
+        Ok(())
+    }
+
+    fn sync_all(&self) -> io::Result<()> {
+        Ok(())
+    }
+
+    fn sync_data(&self) -> io::Result<()> {
+        self.notes
+            .syncs
+            .set(self.notes.syncs.get().saturating_add(1));
+        Ok(())
+    }
+}
+
+/// Each call of the device is one of the file: at 512 times the sector, or a sync of its data.
+#[test]
+fn each_call_is_one_of_the_file(rt: HostRuntime) -> Result<(), Fail> {
+    let notes = Notes {
+        read: Cell::new(1),
+        written: Cell::new(1),
+        syncs: Cell::new(0),
+    };
+    let mut disk = SectorFile::over(NotedFile { notes: &notes }, 8);
+    assert!(rt; put(&mut disk, 3, 1) && notes.written.get() == 1536);
+    assert!(rt; put(&mut disk, 0, 1) && notes.written.get() == 0);
+    assert!(rt; get(&mut disk, 5) == Some(1) && notes.read.get() == 2560);
+    assert!(rt; notes.written.get() == 0 && notes.syncs.get() == 0);
+    assert!(rt; disk.sync().is_ok() && notes.syncs.get() == 1);
+    assert!(rt; disk.sync().is_ok() && notes.syncs.get() == 2);
+    Ok(())
+}
