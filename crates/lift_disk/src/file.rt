@@ -6,7 +6,6 @@ use crate::{Disk, DiskFault};
 use std::fs::{File, Files, OpenFile, OpenOptions};
 use std::{fs, io};
 
-
 /// Why a file can't be a device.
 #[derive(Drop)]
 pub enum FileFault {

@@ -47,7 +47,9 @@ impl OpenFile for NotedFile<'_> {
     }
 
     fn sync_data(&self) -> io::Result<()> {
-        self.notes.syncs.set(self.notes.syncs.get().saturating_add(1));
+        self.notes
+            .syncs
+            .set(self.notes.syncs.get().saturating_add(1));
         Ok(())
     }
 }

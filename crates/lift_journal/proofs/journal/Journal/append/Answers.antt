@@ -240,8 +240,7 @@ returns-then-is_err-clause-calls_before g c _ =
     let place = c.self.invariant.place in
     let gate : half_start (nat_lt 2 j.start) j.shape.half + (j.gate - j.start) ≡ j.gate = omega (arith, begins_at j.shape.half j.start (omega (arith, place.within.half.0)) place.halves, place.low) in
     let made = open_err c.write_batch.result (StopsIn (append_calls j.gate (take c.body_count-bodies.result sectors)) old new) (sym c.is_err.ensures.value ∙ c.if-is_err.true) c.write_batch.ensures.follows.front in
-    let here : (b : Image) × IsBody j.number batch b × StopsIn (append_calls (half_start (nat_lt 2 j.start) j.shape.half + (j.gate - j.start)) b) old new =
-    (
+    let here : (b : Image) × IsBody j.number batch b × StopsIn (append_calls (half_start (nat_lt 2 j.start) j.shape.half + (j.gate - j.start)) b) old new = (
       take (bodies (length items)) sectors,
       body,
       subst (λ n. StopsIn (append_calls n (take (bodies (length items)) sectors)) old new) (sym gate) (subst (λ k. StopsIn (append_calls j.gate (take k sectors)) old new) is made),
