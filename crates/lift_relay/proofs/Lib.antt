@@ -7,3 +7,11 @@ pub mod Flushed
 pub mod Paired
 pub mod Ran
 pub mod Crosses
+pub mod OneAsk
+pub mod Tied
+pub mod TiedScan
+pub mod TiedTake
+pub mod TiedFlush
+pub mod TiedTerminals
+pub mod TiedCrash
+pub mod TiedHistory

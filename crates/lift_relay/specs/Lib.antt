@@ -8,3 +8,6 @@ pub mod Allocator
 pub mod Flusher
 pub mod Relay
 pub mod Pair
+pub mod Laws
+pub mod Tie
+pub mod History

@@ -10,9 +10,11 @@ mod pair;
 mod places;
 mod relay;
 mod scan;
+mod tie;
 
 pub use allocator::Allocator;
 pub use batch::{Batch, Taken};
 pub use flusher::{FlushCounts, Flusher};
 pub use pair::{Gate, RunFault, run};
 pub use relay::{rejoin, split};
+pub use tie::relays_are_the_machines;

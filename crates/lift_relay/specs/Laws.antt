@@ -1,0 +1,37 @@
+-- What is known of the machine of events, whatever runs it, and of registers.
+use Rattle.std.specs.Prelude.{ℕ, List}
+use Rattle.lift_building.specs.Plan.{Plan, IsBuilding}
+use Rattle.lift_register.specs.Joins.{RegistersJoin}
+use Rattle.lift_policy.specs.Step.{State}
+use Rattle.lift_policy.specs.declared.command.Command.{Command}
+use Rattle.lift_world.specs.declared.event.Event.{Event}
+use Rattle.lift_world.specs.World.{World, start}
+use Rattle.lift_world.specs.Next.{run}
+use Rattle.lift_world.specs.Among.{LooksFindAsks}
+use Rattle.lift_world.specs.Beside.{GoesAreRuns, RunsJoin}
+use Rattle.lift_world.specs.Headline.{HearsInOrder, AllAskOneByOne, RecoversAcknowledged, RecoversLetters}
+use Rattle.lift_world.specs.Possible.{AsksOnceHeard, HearsTheNext, PullsInTurn, CallsInOrder}
+use Rattle.lift_world.specs.Relay.{IsQueueInOrder, AllocationsAreEvents, FlushesAreEvents, FailedFlushesAreEvents, BrokenFlushesAreEvents, PartsMeet}
+use Rattle.lift_world.specs.Stays.{StaysBetweenScans, StaysBetweenFlushes, StaysBrokenBetween}
+use Rattle.lift_world.specs.Turns.{HasRun}
+
+pub record RelayLaws : Type 0 where
+  pub allocations : (w : World) → AllocationsAreEvents w
+  pub flushes : (w : World) → FlushesAreEvents w
+  pub failures : (w : World) → FailedFlushesAreEvents w
+  pub broken : (w : World) → BrokenFlushesAreEvents w
+  pub parts : (w : World) → PartsMeet w
+  pub looks : (w : World) (terminal : ℕ) (command : Command) → LooksFindAsks w terminal command
+  pub decided : (building : Plan) (state : State) (commands : List Command) → HasRun building state commands
+  pub in_order : (building : Plan) (events : List Event) → IsQueueInOrder (run events (start building))
+  pub hears : (building : Plan) (events : List Event) → HearsInOrder (run events (start building))
+  pub one_by_one : (building : Plan) (events : List Event) → AllAskOneByOne (run events (start building))
+  pub possible : (w : World) → GoesAreRuns w
+  pub joined : (w : World) → RunsJoin w
+  pub asks : (w : World) → AsksOnceHeard w
+  pub hears_next : (w : World) → HearsTheNext w
+  pub pulls : (w : World) → PullsInTurn w
+  pub calls : (w : World) → CallsInOrder w
+  pub acknowledged : (building : Plan) (events : List Event) → IsBuilding building → RecoversAcknowledged (run events (start building))
+  pub letters : (building : Plan) (events : List Event) → IsBuilding building → RecoversLetters (run events (start building))
+  pub registers : RegistersJoin

@@ -1,0 +1,60 @@
+//! What the machine of events is while the two parts run.
+
+ghost use Rattle.lift_relay.specs.Laws.{RelayLaws};
+ghost use Rattle.lift_relay.specs.Tie.{SplitsAreNoEvents, RejoiningsAreNoEvents, FullTurnsAreNoEvents, EmptyTurnsAreNoEvents, SendingsAreNoEvents, NothingTakenIsNoEvent, TerminalsKeepParts};
+ghost use Rattle.lift_relay.specs.Tie.{ScansAreAllocations, FlushesAreFlushes, FailedFlushesAreFailures, BrokenFlushesAreBroken};
+ghost use Rattle.lift_relay.specs.Tie.{CrashesOfPartsShow, CrashesInFlushesShow, CrashesInFailuresShow};
+ghost use Rattle.lift_relay.specs.History.{RelayHistoriesAreRuns, RejoiningsGoOn, RelayCrashesShowGiven, RelayCrashesInTurnsShowGiven, RelayCrashesInFailuresShowGiven};
+
+use lift_disk::Disk;
+use lift_policy::Policy;
+use lift_register::registers_join;
+use lift_world::{
+    events_are_possible, every_run, parts_interleave, policies_are_covered, relays_are_events,
+    terminals_pass, turns_are_events,
+};
+
+// What is proved of the machine, whatever runs it.
+fn relay_laws()
+    ensures { RelayLaws }
+{
+    every_run();
+    events_are_possible();
+    turns_are_events();
+    relays_are_events();
+    parts_interleave();
+    terminals_pass();
+    registers_join();
+}
+
+/// The two parts are in some world of the machine between any two turns of each. A split of a clerk that is in one is no event, and nor
+/// is a rejoining; nor are a turn that found the line full or empty, the sending of a batch in hand, and a scan that took nothing. What
+/// terminals ask and hear leads to a world of the parts too. So does each turn, by possible events alone, where by the desk's rule what
+/// was taken was asked, and by the line's what was received was sent: a scan is the machine's, and its batch joins the queue; a
+/// flusher's turn makes the first batch of the queue safe and answers its commands, or the device fails it, or it answers Unknown after
+/// a fault. Whatever has happened so, each image that a crash may leave, also at any moment of a flusher's turn, reads as the register
+/// of the safe entries or of these with the batch, holds every entry that was acknowledged, and still names the car of each letter.
+pub fn relays_are_the_machines<D: Disk, P: Policy>()
+    ensures split { SplitsAreNoEvents D P }
+    ensures rejoined { RejoiningsAreNoEvents D P }
+    ensures full { FullTurnsAreNoEvents D P }
+    ensures empty { EmptyTurnsAreNoEvents D P }
+    ensures sent { SendingsAreNoEvents D P }
+    ensures nothing { (policy : P) → NothingTakenIsNoEvent D P (P.chooses policy) }
+    ensures terminals { TerminalsKeepParts D P }
+    ensures scans { (policy : P) → ScansAreAllocations D P (P.chooses policy) }
+    ensures flushes { FlushesAreFlushes D P }
+    ensures failures { FailedFlushesAreFailures D P }
+    ensures broken { BrokenFlushesAreBroken D P }
+    ensures crashes { CrashesOfPartsShow D P }
+    ensures within { CrashesInFlushesShow D P }
+    ensures within_failed { CrashesInFailuresShow D P }
+    ensures histories { RelayHistoriesAreRuns D P P.chooses }
+    ensures joined { RejoiningsGoOn D P P.chooses }
+    ensures shown { RelayCrashesShowGiven D P P.chooses }
+    ensures shown_within { RelayCrashesInTurnsShowGiven D P P.chooses }
+    ensures shown_within_failed { RelayCrashesInFailuresShowGiven D P P.chooses }
+{
+    policies_are_covered::<P>();
+    relay_laws();
+}
