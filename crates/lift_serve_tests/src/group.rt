@@ -1,0 +1,52 @@
+//! The demo building, and its keeper on a device in memory.
+ghost use Rattle.std.specs.Prelude.{◌≡◌, [], IfOk};
+
+use lift_building::Building;
+use lift_disk::{FuseDisk, MemDisk};
+use lift_journal::format;
+use lift_keeper::Keeper;
+use std::alloc::Global;
+use std::test::Fail;
+
+/// Ten floors, kiosks on floors 0 and 5; a flight takes 2,000 ms and 1,000 ms for each floor; cars A and B, for 8 persons.
+const DEMO: &str = "\
+floors = 10
+door_ms = 6000
+kiosks = [0, 5]
+flight = [
+[0,3000,4000,5000,6000,7000,8000,9000,10000,11000],
+[3000,0,3000,4000,5000,6000,7000,8000,9000,10000],
+[4000,3000,0,3000,4000,5000,6000,7000,8000,9000],
+[5000,4000,3000,0,3000,4000,5000,6000,7000,8000],
+[6000,5000,4000,3000,0,3000,4000,5000,6000,7000],
+[7000,6000,5000,4000,3000,0,3000,4000,5000,6000],
+[8000,7000,6000,5000,4000,3000,0,3000,4000,5000],
+[9000,8000,7000,6000,5000,4000,3000,0,3000,4000],
+[10000,9000,8000,7000,6000,5000,4000,3000,0,3000],
+[11000,10000,9000,8000,7000,6000,5000,4000,3000,0]]
+[[cars]]
+places = 8
+[[cars]]
+places = 8
+";
+
+pub(crate) fn demo(alloc: Global) -> Result<Building, Fail> {
+    Ok(Building::read(alloc, DEMO).ok().ok_or("refused")?)
+}
+
+/// A device with an empty journal for a building.
+pub(crate) fn formatted(alloc: Global, building: &Building) -> Result<FuseDisk, Fail> {
+    let mut disk = MemDisk::new(alloc, 130).ok().ok_or("memory")?;
+    format(&mut disk, building.shape(64)).ok().ok_or("a fault")?;
+    Ok(FuseDisk::new(disk))
+}
+
+/// The keeper that a device's journal begins with.
+pub(crate) fn opened<'b>(
+    disk: FuseDisk,
+    building: &'b Building,
+) -> Result<Keeper<'b, FuseDisk>, Fail>
+    ensures { IfOk result (λ keeper. keeper.state.batch ≡ []) }
+{
+    Ok(Keeper::open(disk, building).ok().ok_or("refused")?)
+}

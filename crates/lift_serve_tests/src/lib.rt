@@ -1,0 +1,11 @@
+//! Tests: a building that is served on a socket of this machine, in one process with the kiosks and cars that call.
+#![tactic(auto)]
+
+#[cfg(test)]
+mod callers;
+#[cfg(test)]
+mod group;
+#[cfg(test)]
+mod loopback;
+#[cfg(test)]
+mod side_by_side;

@@ -1,0 +1,338 @@
+//! Tests: `serve`, called over sockets.
+ghost use Rattle.std.specs.Prelude.{◌≡◌, []};
+ghost use Rattle.std.specs.Thread.{IsSync};
+
+use crate::callers::{address, follows};
+use crate::group::{demo, formatted, opened};
+use lift_building::Building;
+use lift_disk::{FuseDisk, Outcome};
+use lift_keeper::Keeper;
+use lift_policy::{Etd, FewestOpen, Shipped, ShortestWait};
+use lift_serve::{ServeFault, Served, serve};
+use std::alloc::Global;
+use std::net::{Net, TcpListener, TcpStream};
+use std::sync::Wait;
+use std::sync::atomic::{AtomicU64, Ordering};
+use std::test::Fail;
+use std::thread;
+use std::thread::Threads;
+use std::time::Clock;
+
+/// Eight connections end: three that are refused, a kiosk's and a car's two, and another car's one. The last of them ends
+/// one that is silent, one in the middle of a line, and a kiosk that nobody closed.
+const A_DAY: &str = "\
+0+
+1+
+1>KIOSK 2
+1<BAD
+1.
+2+
+2>HELLO
+2<BAD
+2.
+3+
+3>CAR A
+3<READY 0
+3>PLACE 0 up
+3<IDLE
+3-
+4+
+4>KIOSK 0
+4<READY 0
+5+
+5>KIOSK 0
+5<BUSY
+5.
+4>CALL 1 5
+4<CAR A
+4>CALL 2 64
+4<NO 1
+4>HELLO
+4<BAD
+4-
+4+
+4>KIOSK 0
+4<READY 1 A
+4>CALL 1 5
+4<CAR A
+3+
+3>CAR A
+3<READY 0
+3>PLACE 0 up
+3<NEXT 0 up
+3>STOP 1 0 up
+3<NEXT 5 up
+3>STOP 2 5 up
+3<IDLE
+3-
+3+
+3>CAR A
+3<READY 2
+3-
+6+
+6~KIOSK
+7+
+7>CAR B
+7<READY 0
+7-
+4.
+6.
+0.
+";
+
+/// The start behind it.
+const THE_NEXT_DAY: &str = "\
+1+
+1>KIOSK 0
+1<READY 1 A
+1>CALL 1 5
+1<CAR A
+1-
+";
+
+/// Both cars are placed, and kiosk 0 calls to floors 5, 8 and 3. The first answer is A by each policy.
+const FEWEST: &str = "\
+1+
+1>CAR A
+1<READY 0
+1>PLACE 0 up
+1<IDLE
+2+
+2>CAR B
+2<READY 0
+2>PLACE 9 down
+2<IDLE
+3+
+3>KIOSK 0
+3<READY 0
+3>CALL 1 5
+3<CAR A
+3>CALL 2 8
+3<CAR B
+3-
+1.
+2.
+";
+
+const SHORTEST: &str = "\
+1+
+1>CAR A
+1<READY 0
+1>PLACE 0 up
+1<IDLE
+2+
+2>CAR B
+2<READY 0
+2>PLACE 9 down
+2<IDLE
+3+
+3>KIOSK 0
+3<READY 0
+3>CALL 1 5
+3<CAR A
+3>CALL 2 8
+3<CAR A
+3>CALL 3 3
+3<CAR A
+3-
+1.
+2.
+";
+
+/// A car is placed. The second call of the device fails then, and all behind it: nobody knows what becomes of a command.
+const FAILING: &str = "\
+1+
+1>CAR A
+1<READY 0
+1>PLACE 0 up
+1<IDLE
+2+
+2>KIOSK 0
+2<READY 0
+2>CALL 1 5
+2<UNKNOWN
+2>CALL 1 5
+2<UNKNOWN
+1>PLACE 0 up
+1<UNKNOWN
+2-
+2+
+2>KIOSK 0
+2<READY 0
+2-
+1.
+";
+
+/// Behind a power cut that kept nothing of it.
+const BEHIND: &str = "\
+1+
+1>CAR A
+1<READY 0
+1>PLACE 0 up
+1<IDLE
+2+
+2>KIOSK 0
+2<READY 0
+2>CALL 1 5
+2<CAR A
+2-
+2+
+2>KIOSK 0
+2<READY 1 A
+2-
+1.
+";
+
+/// Follows a script, and counts one where it went as it has it.
+fn follow<R: Net<Listener = TcpListener, Stream = TcpStream>>(
+    rt: &R,
+    alloc: Global,
+    port: u16,
+    script: &str,
+    count: &AtomicU64,
+) {
+    if follows(rt, alloc, port, script) {
+        count.fetch_add(1, Ordering::SeqCst);
+    }
+}
+
+/// Serves on a socket until so many connections have ended, while a thread follows a script.
+fn serve_callers<
+    'b,
+    R: Threads + Wait + Clock + Net<Listener = TcpListener, Stream = TcpStream> + Sync,
+>(
+    rt: &R,
+    alloc: Global,
+    listener: &TcpListener,
+    port: u16,
+    script: &str,
+    count: &AtomicU64,
+    sessions: u32,
+    building: &Building,
+    keeper: Keeper<'b, FuseDisk>,
+    policy: Shipped,
+) -> Result<Served<'b, FuseDisk>, ServeFault>
+    requires { keeper.state.batch ≡ [] }
+{
+    thread::scope(
+        thread::scope_env(),
+        rt,
+        move |scope| -> Result<Served<FuseDisk>, ServeFault>
+            requires sync { IsSync R.row }
+            requires settled { keeper.state.batch ≡ [] }
+        {
+            if scope
+                .spawn(move || follow(rt, alloc, port, script, count))
+                .is_err()
+            {
+                return Err(ServeFault::Thread);
+            }
+            serve(rt, alloc, listener, sessions, building, keeper, policy)
+        },
+    )
+}
+
+/// The keeper behind the serving, where the script was followed and nothing but the device failed.
+fn served<'b, R: Threads + Wait + Clock + Net<Listener = TcpListener, Stream = TcpStream> + Sync>(
+    rt: &R,
+    alloc: Global,
+    building: &Building,
+    keeper: Keeper<'b, FuseDisk>,
+    policy: Shipped,
+    sessions: u32,
+    script: &str,
+) -> Result<Keeper<'b, FuseDisk>, Fail>
+    requires { keeper.state.batch ≡ [] }
+{
+    let listener = TcpListener::bind(rt, address(0))?;
+    let port = listener.local_addr()?.port();
+    let count = AtomicU64::new(0);
+    match serve_callers(
+        rt, alloc, &listener, port, script, &count, sessions, building, keeper, policy,
+    ) {
+        Ok(
+            Served {
+                keeper,
+                fault: None,
+            },
+        ) => {
+            if count.load(Ordering::SeqCst) == 1 {
+                Ok(keeper)
+            } else {
+                Err("not as the script has it".into())
+            }
+        }
+        _ => Err("a fault of serving".into()),
+    }
+}
+
+#[test]
+fn a_day_and_the_next(rt: HostRuntime) -> Result<(), Fail> {
+    let building = demo(rt.alloc())?;
+    let keeper = opened(formatted(rt.alloc(), &building)?, &building)?;
+    let keeper = served(
+        &rt,
+        rt.alloc(),
+        &building,
+        keeper,
+        Shipped::Etd(Etd),
+        8,
+        A_DAY,
+    )?;
+    let keeper = opened(keeper.into_disk(), &building)?;
+    let keeper = served(
+        &rt,
+        rt.alloc(),
+        &building,
+        keeper,
+        Shipped::Etd(Etd),
+        1,
+        THE_NEXT_DAY,
+    )?;
+    assert!(rt; !keeper.is_broken());
+    Ok(())
+}
+
+#[test]
+fn other_policies(rt: HostRuntime) -> Result<(), Fail> {
+    let building = demo(rt.alloc())?;
+    for (policy, script) in [
+        (Shipped::FewestOpen(FewestOpen), FEWEST),
+        (Shipped::ShortestWait(ShortestWait), SHORTEST),
+    ] {
+        let keeper = opened(formatted(rt.alloc(), &building)?, &building)?;
+        let keeper = served(&rt, rt.alloc(), &building, keeper, policy, 1, script)?;
+        assert!(rt; !keeper.is_broken());
+    }
+    Ok(())
+}
+
+#[test]
+fn a_device_fails(rt: HostRuntime) -> Result<(), Fail> {
+    let building = demo(rt.alloc())?;
+    let mut keeper = opened(formatted(rt.alloc(), &building)?, &building)?;
+    keeper.arm(1);
+    let keeper = served(
+        &rt,
+        rt.alloc(),
+        &building,
+        keeper,
+        Shipped::Etd(Etd),
+        2,
+        FAILING,
+    )?;
+    assert!(rt; keeper.is_broken());
+    let disk = keeper.into_disk().into_inner().cut(Outcome::Lose);
+    let keeper = opened(FuseDisk::new(disk), &building)?;
+    let keeper = served(
+        &rt,
+        rt.alloc(),
+        &building,
+        keeper,
+        Shipped::Etd(Etd),
+        2,
+        BEHIND,
+    )?;
+    assert!(rt; !keeper.is_broken() && keeper.register().open_count() == 1);
+    Ok(())
+}
