@@ -18,7 +18,7 @@ WRONG = {
     "pick-early": "a checkpoint's pick is written before its half is synced",
     "pick-kept": "a failed pick that was filled with A5 is read as the first half",
     "last-dropped": "a checkpoint loses the last command of each car",
-    "room-short": "a batch wants one sector more than it does",
+    "room-short": "a batch wants two sectors more than it does",
     "boards-both": "a stop boards the waiting of both directions",
     "leaves-by-direction": "passengers leave only at a stop of their direction",
     "behind-dropped": "a stop behind the car is dropped from its list",
@@ -661,7 +661,7 @@ class Group:
         if not batch:
             return
         calls, second, used, number = [], self.second, self.used, self.batches
-        room = used + bodies(len(batch)) + 2 + (wrong == "room-short")
+        room = used + bodies(len(batch)) + 2 + 2 * (wrong == "room-short")
         if room > self.shape.half:
             base = Register(self.base, self.entries[:safe]).base()
             calls, used = self.checkpoint_calls(base)

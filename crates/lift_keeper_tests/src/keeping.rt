@@ -14,15 +14,6 @@ const FAILED: Result<(), KeeperFault> = Err(KeeperFault::Journal(JournalFault::D
 
 const BROKEN: Result<(), KeeperFault> = Err(KeeperFault::Journal(JournalFault::Broken));
 
-/// What a power cut may leave in loose sectors.
-const OUTCOMES: [Outcome; 5] = [
-    Outcome::Keep,
-    Outcome::Lose,
-    Outcome::Fill(0),
-    Outcome::Fill(165),
-    Outcome::Fill(255),
-];
-
 type Group<'b> = Keeper<'b, FuseDisk>;
 
 fn car() -> Terminal {
@@ -82,14 +73,6 @@ fn worn<'b>(rt: &impl Abort, alloc: Global, building: &'b Building) -> Result<Gr
         assert!(rt; keeper.commit() == Ok(()));
     }
     Ok(keeper)
-}
-
-/// The number of the last stop that car A has told.
-fn last_stop(keeper: &Group) -> u32 {
-    match keeper.register().last(car()) {
-        Some(last) => last.number.get(),
-        None => 0,
-    }
 }
 
 /// The write of the gate fails, and the cut takes back what was written: the call is out, and its number is free.
@@ -195,32 +178,6 @@ fn a_failed_last_sync_keeps_the_stop(rt: HostRuntime) -> Result<(), Fail> {
     assert!(rt; keeper.commit() == FAILED);
     let mut keeper = after_cut(keeper, Outcome::Keep, &building)?;
     assert!(rt; stop(&mut keeper, 32) == Reply::Stopped(None) && keeper.pending() == 0);
-    Ok(())
-}
-
-/// The number of car A's last stop behind a cut, where this call of the eleven failed.
-fn left_by(call: u32, outcome: Outcome) -> u32 {
-    match outcome {
-        Outcome::Fill(165) if call >= 10 => 32,
-        Outcome::Keep if call == 11 => 32,
-        _ => 31,
-    }
-}
-
-/// Each of the eleven calls of a batch with a checkpoint fails in turn, and each cut leaves the stop or not.
-#[test]
-fn each_call_may_fail(rt: HostRuntime) -> Result<(), Fail> {
-    let building = demo(rt.alloc(), 1)?;
-    for call in 1..12 {
-        for outcome in OUTCOMES {
-            let mut keeper = worn(&rt, rt.alloc(), &building)?;
-            keeper.arm(call - 1);
-            assert!(rt; stop(&mut keeper, 32) == Reply::Stopped(None));
-            assert!(rt; keeper.commit() == FAILED);
-            let keeper = after_cut(keeper, outcome, &building)?;
-            assert!(rt; last_stop(&keeper) == left_by(call, outcome), "call {call}");
-        }
-    }
     Ok(())
 }
 
