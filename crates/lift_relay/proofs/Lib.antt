@@ -15,3 +15,4 @@ pub mod TiedFlush
 pub mod TiedTerminals
 pub mod TiedCrash
 pub mod TiedHistory
+pub mod TiedTurns

@@ -1,18 +1,26 @@
 //! What the machine of events is while the two parts run.
 
+ghost use Rattle.std.specs.Prelude.{◌≡◌, ◌⊎◌, Ok, Err, IfOk};
+ghost use Rattle.lift_relay.specs.Batch.{BatchState};
+ghost use Rattle.lift_relay.specs.Flusher.{IsEmptyTurn};
+ghost use Rattle.lift_relay.specs.Tie.{Flushes, FlushFails, FlushesBroken};
 ghost use Rattle.lift_relay.specs.Laws.{RelayLaws};
 ghost use Rattle.lift_relay.specs.Tie.{SplitsAreNoEvents, RejoiningsAreNoEvents, FullTurnsAreNoEvents, EmptyTurnsAreNoEvents, SendingsAreNoEvents, NothingTakenIsNoEvent, TerminalsKeepParts};
 ghost use Rattle.lift_relay.specs.Tie.{ScansAreAllocations, FlushesAreFlushes, FailedFlushesAreFailures, BrokenFlushesAreBroken};
 ghost use Rattle.lift_relay.specs.Tie.{CrashesOfPartsShow, CrashesInFlushesShow, CrashesInFailuresShow};
 ghost use Rattle.lift_relay.specs.History.{RelayHistoriesAreRuns, RejoiningsGoOn, RelayCrashesShowGiven, RelayCrashesInTurnsShowGiven, RelayCrashesInFailuresShowGiven};
 
+use crate::flusher::{FlushCounts, Flusher};
 use lift_disk::Disk;
+use lift_journal::JournalFault;
+use lift_keeper::KeeperFault;
 use lift_policy::Policy;
 use lift_register::registers_join;
 use lift_world::{
     events_are_possible, every_run, parts_interleave, policies_are_covered, relays_are_events,
     terminals_pass, turns_are_events,
 };
+use std::sync::Wait;
 
 // What is proved of the machine, whatever runs it.
 fn relay_laws()
@@ -57,4 +65,17 @@ pub fn relays_are_the_machines<D: Disk, P: Policy>()
 {
     policies_are_covered::<P>();
     relay_laws();
+}
+
+/// One turn of the flusher, with what it gives for the machine's turns.
+pub fn turn_flusher_once<R: Wait, D: Disk>(
+    rt: &R,
+    flusher: &mut Flusher<'_, '_, D>,
+) -> Result<FlushCounts, KeeperFault>
+    ensures flushes { IfOk result (λ counts. IsEmptyTurn flusher.old flusher.new (Ok counts) ⊎ ((batch : BatchState) × Flushes flusher.old flusher.new batch counts)) }
+    ensures fails { result ≡ Err (KeeperFault.Journal JournalFault.Disk) → (batch : BatchState) × FlushFails flusher.old flusher.new batch }
+    ensures rests { result ≡ Err (KeeperFault.Journal JournalFault.Broken)
+        → IsEmptyTurn flusher.old flusher.new (Err (KeeperFault.Journal JournalFault.Broken)) ⊎ ((batch : BatchState) × FlushesBroken flusher.old flusher.new batch) }
+{
+    flusher.turn(rt)
 }
