@@ -1,6 +1,6 @@
 -- Which words name a terminal.
-use Rattle.std.proofs.Common.{◌≡◌, ℕ, ◌≤◌, ◌<◌, ◌+◌, List, [], ◌∷◌, length, get_or, codes, Bor, true, sym, ap, subst, ◌∙◌, arith, inl, inr}
-use Rattle.std.specs.Prelude.{Option, Some, None, IfSome, IfNone}
+use Rattle.std.proofs.Common.{◌≡◌, ℕ, ◌≤◌, ◌<◌, ◌+◌, List, [], ◌∷◌, length, get_or, codes, Bor, true, sym, ap, subst, refl, ◌∙◌, arith, inl, inr}
+use Rattle.std.specs.Prelude.{Option, Some, None, IfSome, IfNone, Result, Ok, Err, IfErr}
 use Rattle.std.specs.Str.{IsAscii, bytes_eq}
 use Rattle.std.specs.Fmt.{decimal}
 use Rattle.std.proofs.lemmas.Fmt.{decimal_injective, IsAscii-decimal}
@@ -8,8 +8,11 @@ use Rattle.std.proofs.lemmas.Str.Ascii.{IsAscii-nil}
 use Rattle.lift_base.specs.Text.{AreWords}
 use Rattle.lift_base.proofs.Words.{one_reading, same_text}
 use Rattle.lift_base.proofs.Texts.{none_weaker, pair, texts}
-use Rattle.lift_kiosk.specs.Lines.{AreAscii}
+use Rattle.lift_kiosk.specs.Lines.{AreAscii, Fails, FindsEnd, GivesPart, Source}
+use Rattle.lift_kiosk.specs.declared.line.NoLine.{NoLine}
+use Rattle.lift_kiosk.specs.declared.line.NoLine.TheVariants.{AtEnd, NoCalls, Fault}
 use Rattle.lift_kiosk.proofs.Words.{ascii_with}
+use Rattle.lift_serve.specs.Connections.{EndsWithoutLine, first_reads}
 use Rattle.lift_serve.specs.FirstLine.{AreTerminalWords, IsCarWord, IsKioskWord, SpeaksFor}
 
 -- two words of which the first is this one
@@ -99,3 +102,16 @@ names_few_words cars kiosks line few many none terminal speaks =
     let words = few_words cars kiosks speaks.words terminal few many speaks.names in
     let long = none speaks.words speaks.spaced words.1 speaks.short in
     omega (arith, long, words.0)
+
+-- reading that ended without a line, by each of its reasons
+pub without_line : {L : Type 0} (result : Result L NoLine) (before after : Source) (left left' : ℕ) → left ≡ first_reads
+    → (result ≡ Err AtEnd → (part : List ℕ) × (mid : Source) × GivesPart part before mid × FindsEnd mid after)
+    → (result ≡ Err Fault → (part : List ℕ) × (mid : Source) × GivesPart part before mid × Fails mid after)
+    → (result ≡ Err NoCalls → (part : List ℕ) × GivesPart part before after × (left' ≡ 0))
+    → after.calls + left' ≡ before.calls + left → IfErr result (λ reason. EndsWithoutLine first_reads reason before after)
+without_line (Ok line) before after left left' all closed fault limit calls = tt
+without_line (Err AtEnd) before after left left' all closed fault limit calls = closed refl
+without_line (Err Fault) before after left left' all closed fault limit calls = fault refl
+without_line (Err NoCalls) before after left left' all closed fault limit calls =
+    let used = limit refl in
+    (used.0, used.1, omega (arith, used.2, calls, all))

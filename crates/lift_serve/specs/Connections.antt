@@ -1,8 +1,10 @@
 -- What comes of a connection.
-use Rattle.std.specs.Prelude.{ℕ, ◌≡◌, ◌⊎◌, List, [], ◌∷◌, ◌++◌, codes}
+use Rattle.std.specs.Prelude.{ℕ, ◌≡◌, ◌+◌, ◌⊎◌, List, [], ◌∷◌, ◌++◌, codes}
 use Rattle.std.specs.Str.Lines.{strip_carriage_return}
 use Rattle.lift_base.specs.Output.{Sink, Takes, TakesFront}
-use Rattle.lift_kiosk.specs.Lines.{GivesLine, Source}
+use Rattle.lift_kiosk.specs.Lines.{Fails, FindsEnd, GivesLine, GivesPart, Source}
+use Rattle.lift_kiosk.specs.declared.line.NoLine.{NoLine as LineMissing}
+use Rattle.lift_kiosk.specs.declared.line.NoLine.TheVariants.{AtEnd, NoCalls, Fault}
 use Rattle.lift_serve.specs.FirstLine.{SpeaksFor}
 use Rattle.lift_serve.specs.Visits.{HeldState, IsServed, Visits}
 use Rattle.lift_serve.specs.declared.attending.Outcome.{Outcome}
@@ -24,10 +26,21 @@ pub record NamesNone (cars kiosks : ℕ) (before after : Source) : Type 0 where
   pub read : GivesLine line before after
   pub none : (terminal : ℕ) → SpeaksFor cars kiosks (strip_carriage_return line) terminal → ⊥
 
--- Nothing is written where no line came; BAD where it names no terminal, BUSY where the lobby did not have its seat; else a session of it.
+-- Reading ended without a line, and for this reason: the end was found, or a call failed, or all of so many calls were used.
+abbrev pub EndsWithoutLine : (calls : ℕ) → LineMissing → (before after : Source) → Type 0
+EndsWithoutLine calls AtEnd before after = (part : List ℕ) × (mid : Source) × GivesPart part before mid × FindsEnd mid after
+EndsWithoutLine calls Fault before after = (part : List ℕ) × (mid : Source) × GivesPart part before mid × Fails mid after
+EndsWithoutLine calls NoCalls before after = (part : List ℕ) × GivesPart part before after × (after.calls ≡ before.calls + calls)
+
+-- how often the reader is called at most for a first line
+abbrev pub first_reads : ℕ
+first_reads = 100000000
+
+-- Nothing is written where no line came; BAD where it names no terminal, BUSY where the lobby did not have its seat; else there was
+-- a session of it, and the seat was put back as the session left it.
 abbrev pub Attends : (cars kiosks : ℕ) → Outcome → (source source' : Source) → (sink sink' : Sink) → Type 0
-Attends cars kiosks (NoLine reason) source source' sink sink' = sink' ≡ sink
+Attends cars kiosks (NoLine reason) source source' sink sink' = EndsWithoutLine first_reads reason source source' × (sink' ≡ sink)
 Attends cars kiosks Bad source source' sink sink' = NamesNone cars kiosks source source' × IsSaid (codes "BAD" ++ 10 ∷ []) sink sink'
 Attends cars kiosks (Busy absent) source source' sink sink' = Names cars kiosks absent source source' × IsSaid (codes "BUSY" ++ 10 ∷ []) sink sink'
-Attends cars kiosks (Visited terminal end) source source' sink sink' = (mid : Source) × Names cars kiosks terminal source mid
-    × (held : HeldState) × (held' : HeldState) × IsServed held × (held.seat.terminal ≡ terminal) × Visits held end held' mid source' sink sink'
+Attends cars kiosks (Visited held' end) source source' sink sink' = (terminal : ℕ) × (mid : Source) × Names cars kiosks terminal source mid
+    × (held : HeldState) × IsServed held × (held.seat.terminal ≡ terminal) × Visits held end held' mid source' sink sink'

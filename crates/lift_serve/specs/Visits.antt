@@ -1,8 +1,11 @@
 -- A terminal's sessions, one after the other.
-use Rattle.std.specs.Prelude.{ℕ, ◌≡◌, Bool, true, false, nat_lt, List, [], ◌∷◌, Option, Some, slice_get}
+use Rattle.std.specs.Prelude.{ℕ, ◌≡◌, Bool, true, false, nat_lt, List, [], ◌∷◌, Option, Some, None, slice_get}
 use Rattle.lift_desk.specs.Rule.{no_asks}
 use Rattle.atomic_table.specs.Seated.{TableId}
 use Rattle.lift_base.specs.Output.{Sink}
+use Rattle.lift_base.specs.declared.history.Content.{Content}
+use Rattle.lift_base.specs.declared.history.Content.TheVariants.{Letter, Stopped}
+use Rattle.lift_base.specs.declared.history.Last.{Last}
 use Rattle.lift_desk.specs.Seats.{IsSeatOf, TerminalSeat}
 use Rattle.lift_kiosk.specs.Desk.{port_view}
 use Rattle.lift_kiosk.specs.Lines.{Source}
@@ -13,6 +16,7 @@ use Rattle.lift_kiosk.specs.declared.terms.End.{End}
 use Rattle.lift_kiosk.specs.declared.terms.LastLetter.{LastLetter}
 use Rattle.lift_kiosk.specs.declared.terms.Limits.{Limits}
 use Rattle.lift_car.specs.Lines.{WantsMove, keeps_stop}
+use Rattle.lift_register.specs.Register.{RegisterState, last_of}
 
 -- nobody has asked at the seat
 abbrev pub IsNewSeat : TerminalSeat → Type 0
@@ -70,6 +74,25 @@ pub record Visits (held : HeldState) (end : End) (held' : HeldState) (source sou
   pub table : held'.seat.table ≡ held.seat.table
   pub terminal : held'.seat.terminal ≡ held.seat.terminal
   pub found : held'.found ≡ held.found
+
+-- the letter that a call got; a stop has none
+abbrev pub letter_in : Content → Option ℕ
+letter_in (Letter from to car party) = Some car
+letter_in (Stopped floor dir) = None
+
+-- what is known of a terminal's last command; the number is 0 where there was none
+abbrev pub known_of : Option Last → LastLetter
+known_of None = record { number = 0; letter = None }
+known_of (Some last) = record { number = last.number; letter = letter_in last.content }
+
+-- Each seat that waits is of this desk, and what is known of its terminal's last command is what the register has of it.
+abbrev pub AreAsFound : RegisterState → List TableId → List (Option HeldState) → Type 0
+AreAsFound register desk places = (place : ℕ) (held : HeldState) → slice_get places place ≡ Some (Some held)
+    → (held.desk ≡ desk) × (held.found ≡ known_of (last_of register place)) × (held.last ≡ held.found)
+
+-- nobody's seat waits
+abbrev pub AreEmpty : List (Option HeldState) → Type 0
+AreEmpty places = (place : ℕ) (held : HeldState) → slice_get places place ≡ Some (Some held) → ⊥
 
 -- each seat that waits is that of its place's terminal
 abbrev pub AreAtTheirPlaces : List (Option HeldState) → Type 0

@@ -1,16 +1,16 @@
 //! One connection, from its first line to its end.
 
-ghost use Rattle.std.specs.Prelude.{◌≡◌, ◌≤◌, IfOk, IfErr};
+ghost use Rattle.std.specs.Prelude.{◌≡◌, ◌≤◌, ℕ, List, IfOk, IfErr};
 ghost use Rattle.lift_base.specs.Output.{sink_of};
-ghost use Rattle.lift_kiosk.specs.Lines.{source_of};
-ghost use Rattle.lift_serve.specs.Connections.{Attends, IsSaid};
+ghost use Rattle.lift_kiosk.specs.Lines.{GivesLine, Keeps65, source_of};
+ghost use Rattle.lift_serve.specs.Connections.{Attends, EndsWithoutLine, IsSaid, first_reads};
 
 use crate::first_line::terminal_of;
 use crate::held::Held;
 use crate::lobby::{Absent, Lobby, Returned};
 use lift_base::Terminal;
 use lift_base::text::{Counted, Watched};
-use lift_kiosk::{End, NoLine, read_line};
+use lift_kiosk::{End, Line, NoLine, read_line};
 use std::io::{Read, Write};
 use std::sync::{Mutex, Wait};
 use std::thread::Parker;
@@ -21,7 +21,7 @@ const FIRST_READS: u32 = 100_000_000;
 
 /// What came of a connection.
 #[derive(Drop)]
-pub enum Outcome {
+pub enum Outcome<'d> {
     /// No first line came.
     NoLine(NoLine),
     /// Its first line names no terminal of the building.
@@ -29,7 +29,18 @@ pub enum Outcome {
     /// Another session has the seat of the terminal that it names: the lobby did not.
     Busy(Absent),
     /// There was a session of the terminal that it names, which ended so, and whose seat is back in the lobby.
-    Visited(Returned, End),
+    Visited(Returned<'d>, End),
+}
+
+/// The first line.
+#[tactic(auto, using(crate::proofs::FirstLines::without_line))]
+fn read_first<I: Read + Drop>(reader: &mut Counted<I>) -> Result<Line, NoLine>
+    ensures line { IfOk result (λ found. (line : List ℕ) × Keeps65 line found.bytes.items found.is_longer
+        × GivesLine line (source_of I.remaining reader.old) (source_of I.remaining reader.new)) }
+    ensures none { IfErr result (λ reason. EndsWithoutLine first_reads reason (source_of I.remaining reader.old) (source_of I.remaining reader.new)) }
+{
+    let mut left = FIRST_READS;
+    read_line(reader, &mut left)
 }
 
 fn take<'d>(
@@ -43,8 +54,8 @@ fn take<'d>(
     lobby.lock(rt).take(terminal)
 }
 
-fn put_back<'d>(rt: &impl Wait, lobby: &Mutex<Lobby<'d>>, held: Held<'d>) -> Returned
-    ensures { result ≡ held.entry.seat.terminal }
+fn put_back<'d>(rt: &impl Wait, lobby: &Mutex<Lobby<'d>>, held: Held<'d>) -> Returned<'d>
+    ensures { result ≡ held.entry }
 {
     lobby.lock(rt).put_back(held)
 }
@@ -61,22 +72,21 @@ fn say<O: Write + Drop>(writer: &mut Watched<O>, bytes: &[u8])
 
 /// Reads the first line, and serves the terminal that it names. Where the line names none of the building `BAD` is
 /// answered, and where its seat is in use `BUSY`.
-pub fn attend<R: Wait + Clock, I: Read + Drop, O: Write + Drop>(
+pub fn attend<'d, R: Wait + Clock, I: Read + Drop, O: Write + Drop>(
     rt: &R,
-    lobby: &Mutex<Lobby<'_>>,
+    lobby: &Mutex<Lobby<'d>>,
     bell: &Parker,
     cars: u8,
     kiosks: u8,
     reader: &mut Counted<I>,
     writer: &mut Watched<O>,
-) -> Outcome
+) -> Outcome<'d>
     requires cars { cars ≤ 16 }
     requires kiosks { kiosks ≤ 47 }
     ensures { Attends cars kiosks result (source_of I.remaining reader.old) (source_of I.remaining reader.new)
         (sink_of O.contents writer.old) (sink_of O.contents writer.new) }
 {
-    let mut left = FIRST_READS;
-    let line = match read_line(reader, &mut left) {
+    let line = match read_first(reader) {
         Ok(line) => line,
         Err(no_line) => return Outcome::NoLine(no_line),
     };

@@ -1,12 +1,13 @@
 //! Where the terminals' seats wait for their next sessions.
 
 ghost use Rattle.std.specs.Prelude.{◌≡◌, IfOk, IfErr, IfSome, IfNone, None, Some, Ok, length, slice_get, slice_set};
-ghost use Rattle.lift_serve.specs.Visits.{HeldState};
+ghost use Rattle.lift_serve.specs.Visits.{AreEmpty, HeldState};
 
 use crate::held::Held;
 use arrayvec::ArrayVec;
 use lift_base::Terminal;
 use std::marker::Model;
+use std::snapshot::Snapshot;
 
 /// The seats that no session has, each at its terminal's place.
 #[derive(Drop)]
@@ -39,25 +40,26 @@ impl Model for Absent {
     ghost view = { λ a. a.terminal };
 }
 
-/// That a terminal's seat was put back into a lobby. Only `put_back` makes one.
+/// That this place of a terminal, with its seat and what is known of it, was put back into a lobby. Only `put_back` makes one.
 #[derive(Drop)]
-pub struct Returned {
-    terminal: Terminal,
+pub struct Returned<'d> {
+    held: Snapshot<Held<'d>>,
 }
 
-impl Model for Returned {
-    ghost use Rattle.std.specs.Prelude.{ℕ};
+impl<'d> Model for Returned<'d> {
+    ghost use Rattle.lift_serve.specs.Visits.{HeldState};
 
-    ghost Value = { ℕ };
+    ghost Value = { HeldState };
 
-    ghost view = { λ r. r.terminal };
+    ghost view = { λ r. r.held.value };
 }
 
 impl<'d> Lobby<'d> {
     /// With nobody in it.
-    #[tactic(auto, using(crate::proofs::Places::one_empty_more))]
+    #[tactic(auto, using(crate::proofs::Places::one_empty_more, crate::proofs::Places::none_more, crate::proofs::Places::nothing_is_empty))]
     pub fn new() -> Self
-        ensures { length result ≡ 63 }
+        ensures places { length result ≡ 63 }
+        ensures empty { AreEmpty result }
     {
         let mut places = ArrayVec::new();
         for _ in 0..63usize {
@@ -94,15 +96,18 @@ impl<'d> Lobby<'d> {
 
     /// Its next session may have the seat.
     #[tactic(auto, using(crate::proofs::Places::own_place))]
-    pub fn put_back(&mut self, held: Held<'d>) -> Returned
+    pub fn put_back(&mut self, held: Held<'d>) -> Returned<'d>
         ensures put { self.new ≡ slice_set self.old held.entry.seat.terminal (Some held.entry) }
-        ensures returned { result ≡ held.entry.seat.terminal }
+        ensures returned { result ≡ held.entry }
     {
         let terminal = held.terminal();
         let at = usize::from(terminal.get());
+        let returned = Returned {
+            held: Snapshot::of(&held),
+        };
         if at < self.places.len() {
             self.places[at] = Some(held);
         }
-        Returned { terminal }
+        returned
     }
 }

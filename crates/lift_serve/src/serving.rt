@@ -2,9 +2,10 @@
 
 ghost use Rattle.std.specs.Prelude.{◌≡◌, ◌≤◌, [], All, IfOk, length, vec_len};
 ghost use Rattle.std.specs.Thread.{IsSync};
-ghost use Rattle.lift_desk.specs.Seats.{AreSeatsOf};
+ghost use Rattle.lift_desk.specs.Seats.{AreSeatsOf, IsSeatOf};
 ghost use Rattle.lift_serve.specs.Turning.{IsTurnedKeeper, Turned};
-ghost use Rattle.lift_serve.specs.Visits.{IsNewSeat};
+ghost use Rattle.lift_register.specs.Register.{last_of as last_in};
+ghost use Rattle.lift_serve.specs.Visits.{AreAsFound, IsNewSeat, known_of, letter_in as letter_of};
 
 use crate::attending::attend;
 use crate::connections::Connections;
@@ -79,7 +80,9 @@ struct Shared<'a, 'd> {
 }
 
 /// The letter that a kiosk's last call got.
-fn letter_in(content: &Content) -> Option<Letter> {
+fn letter_in(content: &Content) -> Option<Letter>
+    ensures { result ≡ letter_of content.now }
+{
     match content {
         Content::Letter { car, .. } => Some(*car),
         Content::Stopped { .. } => None,
@@ -87,7 +90,9 @@ fn letter_in(content: &Content) -> Option<Letter> {
 }
 
 /// What a register knows of a terminal's last command.
-fn last_of(register: &Register, terminal: Terminal) -> LastLetter {
+fn last_of(register: &Register, terminal: Terminal) -> LastLetter
+    ensures { result ≡ known_of (last_in register.now terminal) }
+{
     match register.last(terminal) {
         Some(last) => LastLetter {
             number: last.number,
@@ -111,7 +116,23 @@ fn new_pagers(alloc: Global) -> Result<Vec<Pager>, AllocError>
     Ok(pagers)
 }
 
-/// The lobby with all seats of a desk, and what a register knows of their terminals.
+/// A new seat's place, with what a register knows of its terminal.
+fn held_of<'d>(desk: &'d Desk, pagers: &'d [Pager], seat: Seat, register: &Register) -> Held<'d>
+    requires pagers { 63 ≤ length pagers.now }
+    requires new { IsNewSeat seat }
+    requires seated { IsSeatOf desk.now seat }
+    ensures desk { result.desk ≡ desk.now }
+    ensures found { result.found ≡ known_of (last_in register.now result.seat.terminal) }
+    ensures last { result.last ≡ result.found }
+{
+    let terminal = seat.terminal();
+    let pager = &pagers[usize::from(terminal.get())];
+    let found = last_of(register, terminal);
+    Held::new(desk, pager, seat, found)
+}
+
+/// The lobby with seats of a desk, and what a register knows of their terminals.
+#[tactic(auto, using(crate::proofs::Places::one_found_more, crate::proofs::Places::none_found))]
 fn lobby_of<'d>(
     desk: &'d Desk,
     pagers: &'d [Pager],
@@ -121,13 +142,11 @@ fn lobby_of<'d>(
     requires pagers { 63 ≤ length pagers.now }
     requires new { All IsNewSeat seats.items }
     requires seats { AreSeatsOf desk.now seats.items }
+    ensures { AreAsFound register.now desk.now result }
 {
     let mut lobby = Lobby::new();
     for seat in seats {
-        let terminal = seat.terminal();
-        let pager = &pagers[usize::from(terminal.get())];
-        let found = last_of(register, terminal);
-        let _returned = lobby.put_back(Held::new(desk, pager, seat, found));
+        let _returned = lobby.put_back(held_of(desk, pagers, seat, register));
     }
     lobby
 }
@@ -321,24 +340,24 @@ fn run<'d, 'b, R: Threads + Wait + Clock + Sync, D: Disk + Drop, P: Policy + Dro
     )
 }
 
-/// Serves at a desk of the building.
+/// Serves at the clerk's desk, whose seats these are.
 fn serve_at<'b, R: Threads + Wait + Clock + Sync, D: Disk + Drop, P: Policy + Drop>(
     rt: &R,
     alloc: Global,
     listener: &TcpListener,
     sessions: u32,
     building: &Building,
-    desk: &Desk,
     pagers: &[Pager],
     seats: Vec<Seat>,
     clerk: Clerk<'_, 'b, D, P>,
 ) -> Result<Served<'b, D>, ServeFault>
     requires pagers { 63 ≤ length pagers.now }
     requires new { All IsNewSeat seats.items }
-    requires seats { AreSeatsOf desk.now seats.items }
+    requires seats { AreSeatsOf clerk.desk seats.items }
     ensures { IfOk result (λ served. IsTurnedKeeper (P.chooses clerk.entry.policy) clerk.entry.policy clerk.entry.keeper served.keeper) }
 {
-    let lobby = Mutex::new(lobby_of(desk, pagers, seats, clerk.keeper().register()));
+    let register = clerk.keeper().register();
+    let lobby = Mutex::new(lobby_of(clerk.desk(), pagers, seats, register));
     let Ok(again) = listener.try_clone() else {
         return Err(ServeFault::Network);
     };
@@ -389,6 +408,6 @@ pub fn serve<'b, R: Threads + Wait + Clock + Sync, D: Disk + Drop, P: Policy + D
     };
     let clerk = Clerk::new(&desk, clerk, keeper, policy);
     serve_at(
-        rt, alloc, listener, sessions, building, &desk, &pagers, seats, clerk,
+        rt, alloc, listener, sessions, building, &pagers, seats, clerk,
     )
 }
