@@ -15,4 +15,4 @@ pub use allocator::Allocator;
 pub use batch::{Batch, Taken};
 pub use flusher::{FlushCounts, Flusher};
 pub use pair::{Gate, RunFault, run};
-pub use relay::{rejoin, split};
+pub use relay::{rejoin, split, tell};
