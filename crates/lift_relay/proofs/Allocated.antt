@@ -1,5 +1,5 @@
 -- What a turn of the allocator leaves.
-use Rattle.std.proofs.Common.{◌≡◌, ◌≢◌, ℕ, ◌<◌, ◌≤◌, ◌+◌, List, [], ◌∷◌, ◌++◌, length, refl, sym, ap, ◌∙◌, subst, append-nil, append_assoc, length-append, arith, inl, inr, ⊎_elim, ◌⊎◌}
+use Rattle.std.proofs.Common.{◌≡◌, ◌≢◌, ℕ, ◌<◌, ◌≤◌, ◌+◌, List, [], ◌∷◌, ◌++◌, length, refl, sym, ap, ◌∙◌, subst, append-nil, append_assoc, length-append, arith, inl, inr}
 use Rattle.atomic_table.specs.Seated.{TableId}
 use Rattle.lift_base.specs.declared.history.Entry.{Entry}
 use Rattle.lift_building.specs.Plan.{Plan}
@@ -11,12 +11,13 @@ use Rattle.lift_policy.specs.Run.{Run}
 use Rattle.lift_clerk.specs.declared.counts.Counts.{Counts}
 use Rattle.lift_clerk.specs.Turn.{settled}
 use Rattle.lift_policy.specs.declared.command.Command.{Command}
-use Rattle.lift_clerk.specs.Visits.{Visit, commands_of, served}
+use Rattle.lift_clerk.specs.Visits.{commands_of, served}
 use Rattle.std.proofs.lemmas.List.{length-map}
 use Rattle.lift_relay.specs.declared.batch.Taken.{Taken}
 use Rattle.lift_relay.specs.Batch.{BatchState, after, turns_behind, turns_of, turns_after, commands_in, replies_in}
-use Rattle.lift_relay.specs.Line.{SendState, IsNext, SendsOne, WasFull}
+use Rattle.lift_relay.specs.Line.{SendState, Begins, IsNext, SendsOne, WasFull}
 use Rattle.lift_relay.specs.Scan.{ScansAhead, TakesEach, turns_in}
+use Rattle.lift_relay.proofs.Queues.{full_by}
 use Rattle.lift_relay.specs.Allocator.{AllocatorState, DecidesAlong, GoesOnBehind, IsAllocator, IsScanTurn, IsAllocation}
 
 -- one batch more
@@ -115,6 +116,10 @@ pub record Between {P : Type 0} (old a : AllocatorState P) : Type 0 where
   pub sent : a.end.sent ≡ old.end.sent ++ old.hand
   pub line : a.end.line ≡ old.end.line
   pub same : a ≡ record old { end = a.end; hand = [] }
+  pub later : Begins old.end.gone a.end.gone
+
+then_later : (first mid last : List BatchState) → Begins first mid → Begins mid last → Begins first last
+then_later first mid last a b = (a.0 ++ b.0, b.1 ∙ ap (λ l. l ++ b.0) a.1 ∙ append_assoc first a.0 b.0)
 
 no_command : (taken : List Taken) (commands : List Command) → commands_in taken ≡ commands → commands ≡ [] → length taken ≡ 0
 no_command taken commands is none = sym (length-map taken (λ (t : Taken). t.command)) ∙ ap length is ∙ ap length none
@@ -132,8 +137,9 @@ pub scan_turn : {P : Type 0} (choice : Choice) (old a new : AllocatorState P) (c
     → (length taken ≡ 0 → (new.end.sent ++ new.hand ≡ a.end.sent) × (new.hand ≡ []))
     → (0 < length taken → new.end.sent ++ new.hand ≡ a.end.sent ++ batch ∷ [])
     → (new.hand ≢ [] → WasFull new.end)
+    → Begins a.end.gone new.end.gone
     → IsScanTurn choice old new counts
-scan_turn {P} choice old a new counts taken decided batch between scans commands entries settles place many accepted nothing some full =
+scan_turn {P} choice old a new counts taken decided batch between scans commands entries settles place many accepted nothing some full later =
     let same = between.same in
     let visits = scans.visits in
     record {
@@ -159,4 +165,33 @@ scan_turn {P} choice old a new counts taken decided batch between scans commands
       );
       taken = many ∙ sym (length-map taken (λ (t : Taken). t.command)) ∙ ap length scans.commands;
       accepted = accepted;
+      later = then_later old.end.gone a.end.gone new.end.gone between.later later;
     }
+
+-- ---- what a turn leaves
+pub looks : {P : Type 0} (choice : Choice) (old new : AllocatorState P) (counts : Counts) → IsAllocation choice old new counts → length old.end.sent < length old.end.gone + 4 → IsScanTurn choice old new counts
+looks choice old new counts (inl full) few = absurd (let most = full_by old.end full.was_full in omega arith)
+looks choice old new counts (inr scan) few = scan
+
+none_left : {P : Type 0} (choice : Choice) (old new : AllocatorState P) (counts : Counts) (scan : IsScanTurn choice old new counts) → length old.end.sent + length old.hand < length old.end.gone + 4
+    → (hand : List BatchState) → new.hand ≡ hand → (commands : List Command) → commands_of 0 scan.visits ≡ commands → hand ≡ []
+none_left choice old new counts scan few [] is commands are = refl
+none_left choice old new counts scan few (b ∷ hand) is [] are = sym is ∙ (scan.nothing are).1
+none_left choice old new counts scan few (b ∷ hand) is (c ∷ commands) are =
+    let full = full_by new.end (scan.full (λ none. absurd (cc))) in
+    let all = scan.some (λ none. absurd (cc)) in
+    absurd (omega (
+      arith,
+      ap length all,
+      length-append new.end.sent new.hand,
+      length-append (old.end.sent ++ old.hand) (scan.batch ∷ []),
+      length-append old.end.sent old.hand,
+      ap length is,
+      ap length scan.later.1,
+      length-append old.end.gone scan.later.0,
+    ))
+
+pub none_in_hand : {P : Type 0} (choice : Choice) (old new : AllocatorState P) (counts : Counts) → IsAllocation choice old new counts → length old.end.sent + length old.hand < length old.end.gone + 4 → new.hand ≡ []
+none_in_hand choice old new counts turn few =
+    let scan = looks choice old new counts turn (omega arith) in
+    none_left choice old new counts scan few new.hand refl (commands_of 0 scan.visits) refl

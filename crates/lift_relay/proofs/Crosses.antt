@@ -9,7 +9,6 @@ use denote.Param.SendFields.{declared_send, variants_send, as_row_send}
 use Rattle.std.proofs.Crossing.{crosses, Arc-send}
 use Rattle.core.proofs.snapshot.Sent.{snapshot_send}
 use Rattle.core.specs.contracts.option.Option as Option
-use Rattle.core.specs.contracts.snapshot.Snapshot as Snapshot
 use Rattle.std.specs.contracts.alloc.Global as Global
 use Rattle.std.specs.contracts.impls.GlobalAllocator.TheImpl as heap
 use Rattle.std.specs.contracts.sync.Arc as Arc

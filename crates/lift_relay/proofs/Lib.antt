@@ -1,4 +1,7 @@
 pub mod Moves
+pub mod Ends
+pub mod Queues
+pub mod Owing
 pub mod Noted
 pub mod Turns
 pub mod Scanned

@@ -2,7 +2,7 @@
 use Rattle.std.proofs.Common.{◌≡◌, ◌≢◌, ℕ, zero, suc, true, false, true≢false, List, [], ◌∷◌, ◌++◌, length, set, sym, refl, ap, ◌∙◌, subst, ⊎_elim, inl, inr, append_assoc, append-nil, ◌<◌, arith, length-append}
 use mathlib.Core.Option.{some, some-ne-none, some-injective}
 use lib.ListN.{get_elem?}
-use Rattle.crossbeam_queue.specs.Fifo.{Pushes, Pops, Forks, Learns}
+use Rattle.crossbeam_queue.specs.Fifo.{Pushes, Pops, Forks, Merges, Learns}
 use Rattle.crossbeam_queue.proofs.Lists.{at_set, at_snoc}
 use Rattle.atomic_table.specs.Seated.{TableId}
 use Rattle.lift_building.specs.Plan.{Plan}
@@ -10,7 +10,7 @@ use Rattle.lift_register.specs.Register.{RegisterState}
 use Rattle.lift_relay.specs.Batch.{BatchState, after, turns_behind}
 use Rattle.lift_relay.specs.declared.line.EndView.{EndView}
 use Rattle.lift_relay.specs.Line.{Begins, IsNext}
-use Rattle.lift_relay.specs.Rule.{opening, opening_view, begun_with, sending, receiving, most_batches, GoesOn, Lists, Fits, IsInOrder, IsKept, Named, Begun, Sent, Received, SentAllBut, ReceivedBefore}
+use Rattle.lift_relay.specs.Rule.{opening, opening_view, begun_with, sending, receiving, most_batches, joined, told_both, spent_pass, GoesOn, Lists, Fits, IsInOrder, IsKept, Named, Begun, Sent, Received, SentAllBut, ReceivedBefore, Waits}
 
 off : {A : Type 0} → false ≡ true → A
 off e = absurd (true≢false (sym e))
@@ -98,7 +98,7 @@ starts id v first is batch items views h at =
     let mine : Fits lists 0 (begun_with batch) = record { begun = refl; sends = λ _. (refl, refl, ([], refl), refl, refl, refl, refl); receives = λ _. (refl, refl, ([], refl), refl, refl, refl, refl) } in (
       begun_with batch,
       inr (subst (λ (p : List BatchState × List EndView). IsInOrder p.0 p.1) (λ i. (sym none i, sym (set_only views (opening (batch ∷ items)) (begun_with batch) id a.0 only) i))
-          (record { lists = lists; in_order = refl; few = omega arith; goes_on = (refl, refl); fits = one batch lists mine })),
+          (record { lists = lists; in_order = refl; few = omega arith; goes_on = (refl, refl); fits = one batch lists mine; four = omega arith })),
       record { only = ap (λ (u : EndView). u.sent) a.1 ∙ ap (λ l. batch ∷ l) none; begins = refl },
     ))
     (λ (o : IsInOrder (batch ∷ items) views). off (sym (ap (λ (u : EndView). u.begun) is) ∙ (o.fits id v at).begun))
@@ -135,6 +135,7 @@ sends_on n id v batch four may room next items views few h at =
               sends = λ p. absurd (apart ((g.sends p).0 ∙ sym a.0));
               receives = λ p. let r = g.receives p in (r.0, r.1, longer u.known l.sent batch r.2, r.3, r.4, r.5, r.6);
             });
+        four = omega (arith, length-append items (batch ∷ []));
       },
       record {
         begun = refl;
@@ -148,6 +149,7 @@ sends_on n id v batch four may room next items views few h at =
         items = items;
         few = subst (λ m. length items < m) four few;
         before = ap (λ x. x ++ batch ∷ []) a.1 ∙ order;
+        later = a.2;
       },
     )
 
@@ -183,6 +185,7 @@ receives_on id v may batch items views h at =
               sends = λ p. let r = g.sends p in (r.0, r.1, longer u.gone l.received batch r.2, r.3, r.4, r.5, r.6);
               receives = λ p. absurd (apart ((g.receives p).0 ∙ sym a.0));
             });
+        four = let most = h.four in omega arith;
       },
       record {
         begun = refl;
@@ -196,6 +199,7 @@ receives_on id v may batch items views h at =
         turns = refl;
         known = (items, order ∙ ap (λ x. (x ++ batch ∷ []) ++ items) (sym a.1));
         few = let most = h.few in omega (arith, ap length order, length-append received items, length-append l.received (batch ∷ []), length-append v.received (batch ∷ []), ap length a.1);
+        later = a.2;
       },
     )
 
@@ -241,6 +245,7 @@ ends_on id v may takes items views h at =
       in_order = h.in_order;
       few = h.few;
       goes_on = h.goes_on;
+      four = h.four;
       fits = λ j u e. ⊎_elim
           (λ (x : get_elem? vs j ≡ some u). (old j u x).0)
           (λ (is : receiving v ≡ u). subst (Fits next j) is (record {
@@ -254,3 +259,77 @@ ends_on id v may takes items views h at =
 pub ends : (id : ℕ) (v : EndView) → v.begun ≡ true → v.sends ≡ true → v.receives ≡ true → Forks IsKept id v (sending v) (receiving v)
 ends id v begun may takes items views h at =
     ⊎_elim (λ is. not_begun items views id v begun is at) (λ o. inr (ends_on id v may takes items views o at)) h
+
+-- the sending pass takes in the receiving one, and knows what both know, of what left the line and of what came into it as much as is true
+joins_on : (id other : ℕ) (v w : EndView) (gone known : List BatchState) → v.sends ≡ true → w.receives ≡ true → (items : List BatchState) (views : List EndView) (h : IsInOrder items views)
+    → Begins gone h.lists.received → Begins known h.lists.sent → get_elem? views id ≡ some v → other ≢ id
+    → get_elem? (set views id (record v { receives = true; received = w.received; gone = gone; known = known; behind = w.behind; turns_behind = w.turns_behind })) other ≡ some w
+    → IsInOrder items (set (set views id (record v { receives = true; received = w.received; gone = gone; known = known; behind = w.behind; turns_behind = w.turns_behind })) other spent_pass)
+joins_on id other v w gone known may takes items views h left came at apart at_other =
+    let l = h.lists in
+    let both : EndView = record v { receives = true; received = w.received; gone = gone; known = known; behind = w.behind; turns_behind = w.turns_behind } in
+    let vs = set views id both in
+    let mine = h.fits id v at in
+    let a = mine.sends may in
+    let was : get_elem? views other ≡ some w = ⊎_elim (λ (x : (other ≡ id) × (both ≡ w)). absurd (apart x.0)) (λ (x : (other ≢ id) × (get_elem? views other ≡ some w)). x.1) (at_set views id other both w at_other) in
+    let b = (h.fits other w was).receives takes in
+    let next : Lists = record l { receiver = id } in
+    let Now : ℕ → EndView → Type 0 = λ j u. j ≢ other → Fits next j u in
+    let here : Fits next id both = record {
+      begun = mine.begun;
+      sends = λ _. (a.0, a.1, left, a.3, a.4, a.5, a.6);
+      receives = λ _. (refl, b.1, came, a.3, a.4, b.5, b.6);
+    } in
+    let now : (j : ℕ) (u : EndView) → get_elem? vs j ≡ some u → Now j u = λ j u e.
+    ⊎_elim
+    (λ (x : (j ≡ id) × (both ≡ u)). subst (λ (y : ℕ × EndView). Now y.0 y.1) (λ i. (sym x.0 i, x.1 i)) (λ _. here))
+    (λ (x : (j ≢ id) × (get_elem? views j ≡ some u)). λ off_other.
+    let g = h.fits j u x.1 in
+    record { begun = g.begun; sends = g.sends; receives = λ p. absurd (off_other ((g.receives p).0 ∙ sym b.0)) })
+    (at_set views id j both u e) in
+    record {
+      lists = next;
+      in_order = h.in_order;
+      few = h.few;
+      goes_on = h.goes_on;
+      four = h.four;
+      fits = fit_set next vs other spent_pass (record { begun = refl; sends = λ p. off p; receives = λ p. off p }) (λ j u off_other e. now j u e off_other);
+    }
+
+pub joins : (id : ℕ) (v : EndView) (other : ℕ) (w : EndView) → v.begun ≡ true → v.sends ≡ true → w.receives ≡ true → Merges IsKept id v other w (joined v w) spent_pass
+joins id v other w begun may takes items views h at apart at_other =
+    ⊎_elim
+    (λ is. not_begun items views id v begun is at)
+    (λ (o : IsInOrder items views).
+    let was = ⊎_elim (λ (x : (other ≡ id) × (joined v w ≡ w)). absurd (apart x.0)) (λ (x : (other ≢ id) × (get_elem? views other ≡ some w)). x.1) (at_set views id other (joined v w) w at_other) in
+    inr (joins_on id other v w v.gone w.known may takes items views o ((o.fits id v at).sends may).2 ((o.fits other w was).receives takes).2 at apart at_other))
+    h
+
+all_of : (xs ys : List BatchState) → xs ≡ ys → Begins xs ys
+all_of xs ys is = ([], sym is ∙ sym (append-nil xs))
+
+pub tells : (id : ℕ) (v : EndView) (other : ℕ) (w : EndView) → v.begun ≡ true → v.sends ≡ true → w.receives ≡ true → Merges IsKept id v other w (told_both v w) spent_pass
+tells id v other w begun may takes items views h at apart at_other =
+    ⊎_elim
+    (λ is. not_begun items views id v begun is at)
+    (λ (o : IsInOrder items views).
+    let was = ⊎_elim (λ (x : (other ≡ id) × (told_both v w ≡ w)). absurd (apart x.0)) (λ (x : (other ≢ id) × (get_elem? views other ≡ some w)). x.1) (at_set views id other (told_both v w) w at_other) in
+    inr (joins_on id other v w w.received v.sent may takes items views o (all_of w.received o.lists.received ((o.fits other w was).receives takes).1) (all_of v.sent o.lists.sent ((o.fits id v at).sends may).1) at apart at_other))
+    h
+
+pub both_learn : (id : ℕ) (v : EndView) → v.begun ≡ true → v.sends ≡ true → v.receives ≡ true → Learns IsKept id v (Waits v)
+both_learn id v begun may takes items views h at =
+    ⊎_elim
+    (λ is. not_begun items views id v begun is at)
+    (λ (o : IsInOrder items views).
+    let l = o.lists in
+    let mine = o.fits id v at in
+    let a = mine.sends may in
+    let b = mine.receives takes in
+    let goes = subst (λ (p : Plan × List TableId × RegisterState × List ℕ). GoesOn p.0 p.1 p.2 p.3 items l.ahead l.turns_ahead) (λ i. (sym a.3 i, sym a.4 i, sym b.5 i, sym b.6 i)) o.goes_on in
+    record {
+      all = a.1 ∙ o.in_order ∙ ap (λ x. x ++ items) (sym b.1);
+      goes_on = subst (λ (p : RegisterState × List ℕ). GoesOn v.building v.desk v.behind v.turns_behind items p.0 p.1) (λ i. (sym a.5 i, sym a.6 i)) goes;
+      four = o.four;
+    })
+    h

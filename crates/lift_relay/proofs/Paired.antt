@@ -6,9 +6,8 @@ use Rattle.lift_keeper.specs.declared.fault.KeeperFault.{KeeperFault}
 use Rattle.lift_keeper.specs.Writer.{WriterView}
 use Rattle.lift_clerk.specs.declared.counts.Counts.{Counts}
 use Rattle.lift_relay.specs.declared.flusher.FlushCounts.{FlushCounts}
-use Rattle.lift_relay.specs.Line.{SendState}
 use Rattle.lift_relay.specs.Allocator.{AllocatorState, IsAllocation, IsFullTurn, IsScanTurn}
-use Rattle.lift_relay.specs.Flusher.{FlusherState, IsEmptyTurn, IsBatchTurn}
+use Rattle.lift_relay.specs.Flusher.{FlusherState}
 use Rattle.lift_relay.specs.Relay.{AreOfOne}
 use Rattle.lift_relay.specs.Pair.{AllocatorTurns, NoMore, OneMore, HandSent, IsSending, FlusherTurns, NoFlush, OneFlush, IsFlush, first_of, IsSameAllocator, IsSameFlusher}
 
@@ -32,7 +31,7 @@ flushes_joined state f g h before first last turns NoFlush = turns
 flushes_joined state f g h before first last turns (OneFlush {g = k} {first = mid} more flush is) = OneFlush (flushes_joined state f g k before first mid turns more) flush is
 
 -- ---- what they leave as it is
-allocator_stays : {P : Type 0} (choice : Choice) (old new : AllocatorState P) (counts : Counts) → IsAllocation choice old new counts → IsSameAllocator old new
+pub allocator_stays : {P : Type 0} (choice : Choice) (old new : AllocatorState P) (counts : Counts) → IsAllocation choice old new counts → IsSameAllocator old new
 allocator_stays {P} choice old new counts turn = ⊎_elim
     (λ (t : IsFullTurn old new counts). record {
       line = ap (λ (a : AllocatorState P). a.end.line) t.same;

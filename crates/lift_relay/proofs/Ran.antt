@@ -1,5 +1,5 @@
 -- What a run leaves, of both parts.
-use Rattle.std.proofs.Common.{◌≡◌, true, [], length, Option, Some, None, refl, ap, subst, inl, inr, ◌⊎◌, sym, ◌∙◌}
+use Rattle.std.proofs.Common.{◌≡◌, true, [], length, Option, Some, None, ap, subst, inl, inr, sym, ◌∙◌}
 use Rattle.lift_disk.specs.Disk.{DiskState}
 use Rattle.lift_policy.specs.Eligible.{Choice}
 use Rattle.lift_keeper.specs.declared.fault.KeeperFault.{KeeperFault}

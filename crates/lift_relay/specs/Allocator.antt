@@ -11,7 +11,7 @@ use Rattle.lift_clerk.specs.declared.counts.Counts.{Counts}
 use Rattle.lift_clerk.specs.Turn.{settled}
 use Rattle.lift_clerk.specs.Visits.{Visit, commands_of, served}
 use Rattle.lift_relay.specs.Batch.{BatchState, after, turns_behind, turns_of, commands_in, replies_in}
-use Rattle.lift_relay.specs.Line.{SendState, IsNext, WasFull}
+use Rattle.lift_relay.specs.Line.{SendState, Begins, IsNext, WasFull}
 use Rattle.lift_relay.specs.Scan.{TakesEach, turns_in}
 
 pub record AllocatorState (P : Type 0) : Type 0 where
@@ -80,6 +80,7 @@ pub record IsScanTurn {P : Type 0} (choice : Choice) (old new : AllocatorState P
   pub same_place : (new.desk ≡ old.desk) × (new.plan ≡ old.plan) × (new.policy ≡ old.policy) × (new.start ≡ old.start) × (new.end.line ≡ old.end.line)
   pub taken : counts.taken ≡ length (commands_of 0 visits)
   pub accepted : counts.accepted ≡ length decided.batch
+  pub later : Begins old.end.gone new.end.gone
 
 abbrev pub IsAllocation : {P : Type 0} → Choice → AllocatorState P → AllocatorState P → Counts → Type 0
 IsAllocation choice old new counts = IsFullTurn old new counts ⊎ IsScanTurn choice old new counts

@@ -11,6 +11,9 @@ use Rattle.lift_desk.specs.Words.{turn_of, last_of, ask_word}
 use Rattle.lift_desk.specs.Spelled.{IsAsk}
 use Rattle.lift_desk.specs.Seats.{ClerkPlace, IsNoteOf}
 use Rattle.lift_policy.specs.declared.command.Command.{Command}
+use Rattle.lift_policy.specs.Eligible.{any_eligible}
+use Rattle.lift_policy.specs.Step.{State}
+use Rattle.lift_policy.specs.Run.{Run}
 use Rattle.lift_relay.specs.declared.batch.Taken.{Taken}
 
 pub record BatchState : Type 0 where
@@ -61,11 +64,21 @@ abbrev pub AreNoted : List TableId → List ℕ → List Taken → Type 0
 AreNoted desk turns [] = Unit {0}
 AreNoted desk turns (taken ∷ commands) = IsNoted desk turns taken × AreNoted desk (turns_with turns taken) commands
 
--- What is true of every batch: its entries fit where they were decided, its commands are of terminals of the desk, and each has a note of its ask.
+-- Its commands with their replies are a run of the rules on the register that it was decided on, and its entries are what that run accepted.
+pub record IsDecided (batch : BatchState) : Type 0 where
+  pub first : State
+  pub last : State
+  pub on_register : first.register ≡ batch.before
+  pub sealed : first.batch ≡ []
+  pub run : Run batch.building any_eligible first (commands_in batch.commands) (replies_in batch.commands) last
+  pub entries : batch.entries ≡ last.batch
+
+-- What is true of every batch: its entries fit where they were decided, its commands are of terminals of the desk, each has a note of its ask, and its replies and entries are of one run.
 pub record IsBatch (batch : BatchState) : Type 0 where
   pub fits : FitFrom batch.building batch.before batch.entries
   pub at_desk : AreBelow (length batch.desk) (commands_in batch.commands)
   pub noted : AreNoted batch.desk batch.turns batch.commands
+  pub decided : IsDecided batch
 
 -- the register that a batch leads to, and the turns
 abbrev pub after : BatchState → RegisterState

@@ -1,5 +1,5 @@
 -- The part that makes batches safe and answers.
-use Rattle.std.specs.Prelude.{ℕ, ◌≡◌, ◌≢◌, ◌≤◌, Bool, true, false, List, [], ◌∷◌, length, slice_index_or, Option, Some, None, Result, Ok, Err}
+use Rattle.std.specs.Prelude.{ℕ, ◌≡◌, ◌≢◌, ◌≤◌, Bool, true, false, List, [], ◌∷◌, length, drop, ◌+◌, slice_index_or, Option, Some, None, Result, Ok, Err}
 use Rattle.atomic_table.specs.Seated.{TableId}
 use Rattle.lift_base.specs.declared.command.Reply.{Reply}
 use Rattle.lift_desk.specs.declared.words.Ask.{Ask}
@@ -14,7 +14,7 @@ use Rattle.lift_clerk.specs.Scanning.{told}
 use Rattle.lift_clerk.specs.Visits.{Visit, FindsAt}
 use Rattle.lift_relay.specs.declared.batch.Taken.{Taken}
 use Rattle.lift_relay.specs.declared.flusher.FlushCounts.{FlushCounts}
-use Rattle.lift_relay.specs.Batch.{BatchState}
+use Rattle.lift_relay.specs.Batch.{BatchState, IsDecided}
 use Rattle.lift_relay.specs.Line.{ReceiveState, ReceivesOne, WasEmpty}
 
 pub record FlusherState (D : Type 0) : Type 0 where
@@ -73,6 +73,15 @@ abbrev pub is_ok : {A B : Type 0} → Result A B → Bool
 is_ok (Ok a) = true
 is_ok (Err b) = false
 
+-- how many entries these batches have
+abbrev pub entries_of : List BatchState → ℕ
+entries_of [] = 0
+entries_of (batch ∷ batches) = length batch.entries + entries_of batches
+
+-- how many entries were received from one state of an end to another
+abbrev pub entries_between : ReceiveState → ReceiveState → ℕ
+entries_between old new = entries_of (drop (length old.received) new.received)
+
 -- A turn that received no batch. The line was empty at one moment, and nothing changes.
 pub record IsEmptyTurn {D : Type 0} (old new : FlusherState D) (result : Result FlushCounts KeeperFault) : Type 0 where
   pub was_empty : WasEmpty old.end
@@ -80,10 +89,11 @@ pub record IsEmptyTurn {D : Type 0} (old new : FlusherState D) (result : Result 
   pub whole : old.writer.is_broken ≡ false → result ≡ Ok (record { batches = 0; answers = 0 })
   pub broken : old.writer.is_broken ≡ true → result ≡ Err (Journal Broken)
 
--- A turn that received a batch, and then answered each of its commands, which its own looks gave.
+-- A turn that received a batch, and then answered each of its commands, which its own looks gave. The replies and the entries are of one run of the rules.
 pub record IsBatchTurn {D : Type 0} (old new : FlusherState D) (batch : BatchState) (result : Result FlushCounts KeeperFault) : Type 0 where
   pub receives : ReceivesOne old.end batch new.end
   pub answered : Answered (is_ok result) old.seat batch.commands new.seat
   pub counts : (counts : FlushCounts) → result ≡ Ok counts → (counts.batches ≡ 1) × (counts.answers ≡ length batch.commands)
   pub whole : (counts : FlushCounts) → result ≡ Ok counts → new.writer.is_broken ≡ false
   pub fails : result ≡ Err (Journal Disk) → (new.writer.doubt ≡ batch.entries) × (batch.entries ≢ [])
+  pub decided : IsDecided batch

@@ -1,6 +1,7 @@
 pub mod Batch
 pub mod Line
 pub mod Rule
+pub mod Queued
 pub mod SendInside
 pub mod ReceiveInside
 pub mod Scan

@@ -69,6 +69,7 @@ pub record SendsOne (old : SendState) (batch : BatchState) (new : SendState) : T
   pub items : List BatchState
   pub few : length items < 4
   pub before : new.sent ≡ new.gone ++ (items ++ batch ∷ [])
+  pub later : Begins old.gone new.gone
 
 -- the batch leaves at the front, it goes on from what was received, and what is behind it was sent
 pub record ReceivesOne (old : ReceiveState) (batch : BatchState) (new : ReceiveState) : Type 0 where
@@ -79,6 +80,7 @@ pub record ReceivesOne (old : ReceiveState) (batch : BatchState) (new : ReceiveS
   pub turns : new.turns ≡ turns_behind batch
   pub known : Begins new.received new.known
   pub few : length new.received ≤ 66060225
+  pub later : Begins old.known new.known
 
 -- at one moment four of these batches were in the line, and at least what was received by the last push had left it
 pub record WasFull (s : SendState) : Type 0 where

@@ -1,9 +1,13 @@
 -- What both parts do in a run, each on its own thread.
-use Rattle.std.specs.Prelude.{◌≡◌, ◌⊎◌, ◌↔◌, ◌<◌, ◌++◌, Bool, true, false, [], length, Option, Some, None, Result, Ok, Err, OnOk, OnErr, IfErr}
-use Rattle.lift_disk.specs.Disk.{DiskState, LeavesNow, LeavesOnly}
+use Rattle.std.specs.Prelude.{◌≡◌, ◌⊎◌, ◌↔◌, ◌<◌, ◌++◌, true, false, [], length, Option, Some, None, Result, Ok, Err, OnOk, OnErr, IfErr}
+use Rattle.lift_disk.specs.Disk.{DiskState, LeavesNow, LeavesOnly, RunsOn}
 use Rattle.lift_journal.specs.declared.fault.JournalFault.TheVariants.{Disk, Broken}
+use Rattle.lift_journal.specs.Steps.{Makes}
+use Rattle.lift_journal.specs.Told.{NoneFails}
 use Rattle.lift_policy.specs.Eligible.{Choice}
 use Rattle.lift_keeper.specs.Images.{IsImageOf, IsInDoubt}
+use Rattle.lift_keeper.specs.Reopening.{FailsBy}
+use Rattle.lift_keeper.specs.Writer.{StopsCommit, commit_calls, commit_writes, commit_used, commit_second}
 use Rattle.lift_keeper.specs.declared.fault.KeeperFault.{KeeperFault}
 use Rattle.lift_keeper.specs.declared.fault.KeeperFault.TheVariants.{Journal}
 use Rattle.lift_clerk.specs.Turn.{IsEither}
@@ -17,7 +21,7 @@ use Rattle.lift_relay.specs.declared.pair.Turned.{Turned}
 use Rattle.lift_relay.specs.declared.pair.Turned.TheVariants.{Refused, Done}
 use Rattle.lift_relay.specs.Batch.{BatchState}
 use Rattle.lift_relay.specs.Allocator.{AllocatorState, IsAllocation}
-use Rattle.lift_relay.specs.Flusher.{FlusherState, IsEmptyTurn, IsBatchTurn}
+use Rattle.lift_relay.specs.Flusher.{FlusherState, IsEmptyTurn, IsBatchTurn, entries_between}
 
 -- The batch in hand, if there is one, was sent behind all that was sent before, and nothing else changes.
 pub record IsSending {P : Type 0} (old new : AllocatorState P) : Type 0 where
@@ -50,6 +54,16 @@ pub record IsFlush {D : Type 0} (state : D → DiskState) (old new : FlusherStat
   pub since : OnErr answer (new.writer.opened < (state new.writer.device).failures)
   pub kept : (new.writer.plan ≡ old.writer.plan) × (new.writer.half ≡ old.writer.half) × (new.writer.opened ≡ old.writer.opened)
   pub same : (new.desk ≡ old.desk) × (new.end.line ≡ old.end.line)
+  pub whole : OnOk answer (((state new.writer.device).failures ≡ (state old.writer.device).failures) × (new.writer.is_broken ≡ false) × (new.writer.doubt ≡ []))
+  pub runs : RunsOn (state old.writer.device) (state new.writer.device)
+  pub made : Makes answer (commit_calls old.writer.register old.writer.used old.writer.half (entries_between old.end new.end))
+      (commit_writes old.writer.register old.writer.used old.writer.half (entries_between old.end new.end)) (state old.writer.device) (state new.writer.device)
+  pub used : OnOk answer (new.writer.used ≡ commit_used old.writer.register old.writer.used old.writer.half (entries_between old.end new.end))
+  pub second : OnOk answer (new.writer.is_second ≡ commit_second old.writer.is_second old.writer.used old.writer.half (entries_between old.end new.end))
+  pub told_ok : OnOk answer (NoneFails (state old.writer.device) (state new.writer.device))
+  pub told : IfErr answer (λ fault. FailsBy fault (state old.writer.device) (state new.writer.device))
+  pub stops : answer ≡ Err (Journal Disk) → (state old.writer.device).is_honest → (state old.writer.device).is_inert
+      → StopsCommit old.writer.plan old.writer.half old.writer.is_second old.writer.used old.writer.register new.writer.doubt (state old.writer.device) (state new.writer.device)
 
 -- the first fault of all turns, once one more has answered this
 abbrev pub first_of : Option KeeperFault → Result FlushCounts KeeperFault → Option KeeperFault

@@ -36,6 +36,8 @@ pub record IsRejoined {D P : Type 0} (a : AllocatorState P) (f : FlusherState D)
   pub nothing_in_hand : a.hand ≡ []
   pub all_answered : OwesNothing f.seat
   pub all_safe : (f.writer.is_broken ≡ true) ⊎ (a.state.register ≡ f.writer.register)
+  -- not their number alone
+  pub same_batches : a.end.sent ≡ f.end.received
 
 -- why not
 abbrev pub CannotJoin : {D P : Type 0} → AllocatorState P → FlusherState D → Type 0

@@ -58,6 +58,18 @@ sending v = record v { receives = false }
 abbrev pub receiving : EndView → EndView
 receiving v = record v { sends = false }
 
+-- both passes in one, which knows what each of them knew
+abbrev pub joined : EndView → EndView → EndView
+joined v w = record v { receives = true; received = w.received; known = w.known; behind = w.behind; turns_behind = w.turns_behind }
+
+-- the same, and each end is told where the other stands
+abbrev pub told_both : EndView → EndView → EndView
+told_both v w = record v { receives = true; received = w.received; gone = w.received; known = v.sent; behind = w.behind; turns_behind = w.turns_behind }
+
+-- a pass that was taken in by another
+abbrev pub spent_pass : EndView
+spent_pass = record opening_view { begun = true }
+
 -- each of these batches goes on from the register and the turns that those before it leave, from these to those
 abbrev pub GoesOn : Plan → List TableId → RegisterState → List ℕ → List BatchState → RegisterState → List ℕ → Type 0
 GoesOn building desk first turns [] last ended = (first ≡ last) × (turns ≡ ended)
@@ -91,6 +103,7 @@ pub record IsInOrder (items : List BatchState) (views : List EndView) : Type 0 w
   pub few : length lists.sent ≤ most_batches
   pub goes_on : GoesOn lists.building lists.desk lists.behind lists.turns_behind items lists.ahead lists.turns_ahead
   pub fits : (pass : ℕ) (v : EndView) → get_elem? views pass ≡ some v → Fits lists pass v
+  pub four : length items ≤ 4
 
 -- the line is in order, or hasn't begun, and then one pass has pushed all that is there
 abbrev pub IsKept : List BatchState → List EndView → Type 0
@@ -115,6 +128,7 @@ pub record Sent (v : EndView) (batch : BatchState) (w : EndView) : Type 0 where
   pub items : List BatchState
   pub few : length items < 4
   pub before : w.sent ≡ w.gone ++ (items ++ batch ∷ [])
+  pub later : Begins v.gone w.gone
 
 pub record Received (v : EndView) (batch : BatchState) (w : EndView) : Type 0 where
   pub begun : w.begun ≡ v.begun
@@ -128,6 +142,7 @@ pub record Received (v : EndView) (batch : BatchState) (w : EndView) : Type 0 wh
   pub turns : w.turns_behind ≡ turns_behind batch
   pub known : Begins w.received w.known
   pub few : length w.received ≤ most_batches
+  pub later : Begins v.known w.known
 
 -- what was sent ends with what the line holds, and what was received by the last push is not among it
 pub record SentAllBut (v : EndView) (items : List BatchState) : Type 0 where
@@ -140,3 +155,9 @@ pub record ReceivedBefore (v : EndView) (items : List BatchState) : Type 0 where
   pub sent : List BatchState
   pub all : sent ≡ v.received ++ items
   pub later : Begins v.known sent
+
+-- what the line holds, where one pass both sends and receives: just what was sent and not received, at most four, each going on from the one before it
+pub record Waits (v : EndView) (items : List BatchState) : Type 0 where
+  pub all : v.sent ≡ v.received ++ items
+  pub goes_on : GoesOn v.building v.desk v.behind v.turns_behind items v.ahead v.turns_ahead
+  pub four : length items ≤ 4

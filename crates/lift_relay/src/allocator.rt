@@ -1,13 +1,15 @@
 //! The part that takes asks and decides them.
 
 ghost use Rattle.std.specs.Prelude.{◌≡◌, ◌≢◌, ◌↔◌, ◌<◌, ◌≤◌, ◌+◌, [], ◌∷◌, ◌++◌, length, true, false};
-ghost use Rattle.lift_relay.specs.Line.{WasFull};
+ghost use Rattle.lift_relay.specs.Line.{Begins, WasFull};
 ghost use Rattle.lift_desk.specs.Seats.{IsClerkOf};
 ghost use Rattle.lift_relay.specs.Batch.{turns_of};
-ghost use Rattle.lift_relay.specs.Allocator.{IsAllocation};
+ghost use Rattle.lift_relay.specs.Allocator.{IsAllocation, IsScanTurn, DecidesAlong};
+ghost use Rattle.lift_relay.specs.Pair.{IsSameAllocator};
+ghost use Rattle.lift_relay.specs.Queued.{Queued};
 
 use crate::batch::Batch;
-use crate::line::SendEnd;
+use crate::line::{ReceiveEnd, SendEnd};
 use crate::scan::scan;
 use lift_clerk::Counts;
 use lift_desk::{Desk, TakeSeat};
@@ -116,9 +118,38 @@ impl<'d, 'b, P: Policy + Drop> Allocator<'d, 'b, P> {
 
     /// What it shows of the calls: those of all entries that it accepted.
     pub fn register(&self) -> &Register
-        ensures { result.now ≡ self.now.state.register }
+        ensures value { result.now ≡ self.now.state.register }
+        // Whatever was sent, and then the batch in hand, is a run of the rules from the split on, each batch on the state that those before it left.
+        ensures decides { DecidesAlong self.now.plan (P.chooses self.now.policy) self.now.start (self.now.end.sent ++ self.now.hand) self.now.state }
+        ensures sealed { self.now.state.batch ≡ [] }
+        // With no batch in hand it is that behind all that was sent.
+        ensures behind { self.now.hand ≡ [] → result.now ≡ self.now.end.register }
     {
         self.decider.register()
+    }
+
+    /// Compares it with the other end of its line. Both stay as they are.
+    pub(crate) fn compare(&mut self, receiver: ReceiveEnd) -> ReceiveEnd
+        requires line { receiver.line ≡ self.old.end.line }
+        requires building { receiver.building ≡ self.old.plan }
+        requires desk { receiver.desk ≡ self.old.desk }
+        ensures allocator { self.new ≡ self.old }
+        ensures receiver { result ≡ receiver }
+        ensures queued { Queued self.new.end result }
+    {
+        self.end.compare(receiver)
+    }
+
+    /// Tells it and the other end of its line how much was sent and how much was received.
+    pub(crate) fn tell(&mut self, receiver: ReceiveEnd) -> ReceiveEnd
+        requires line { receiver.line ≡ self.old.end.line }
+        requires building { receiver.building ≡ self.old.plan }
+        requires desk { receiver.desk ≡ self.old.desk }
+        ensures allocator { self.new ≡ record self.old { end = record self.old.end { gone = receiver.received } } }
+        ensures receiver { result ≡ record receiver { known = self.old.end.sent } }
+        ensures queued { Queued self.new.end result }
+    {
+        self.end.tell(receiver)
     }
 
     /// What it is made of, without its end of the line.
@@ -138,6 +169,7 @@ impl<'d, 'b, P: Policy + Drop> Allocator<'d, 'b, P> {
         ensures sent { result ≡ true → (self.new.hand ≡ []) × (self.new.end.sent ≡ self.old.end.sent ++ self.old.hand) }
         ensures same { result ≡ true → self.new ≡ record self.old { end = self.new.end; hand = [] } }
         ensures line { self.new.end.line ≡ self.old.end.line }
+        ensures later { Begins self.old.end.gone self.new.end.gone }
         ensures full { result ≡ false → (self.new ≡ self.old) × (self.old.hand ≢ []) × WasFull self.old.end }
     {
         let _terminals = self.desk.len();
@@ -157,6 +189,18 @@ impl<'d, 'b, P: Policy + Drop> Allocator<'d, 'b, P> {
     /// each terminal, in rising order, decides what was asked, and sends it as one batch, refusals and repeats too, if anything
     /// was taken; a batch that the line has no room for stays in hand.
     pub fn turn<R: Wait>(&mut self, rt: &R) -> Counts
+        ensures turns { IsAllocation (P.chooses self.old.policy) self.old self.new result }
+        // Where fewer than four batches of those that it knows to be in the line wait, it looks.
+        ensures looks { length self.old.end.sent < length self.old.end.gone + 4 → IsScanTurn (P.chooses self.old.policy) self.old self.new result }
+        // Where there is room for the batch in hand and one more, none is left in hand.
+        ensures sends { length self.old.end.sent + length self.old.hand < length self.old.end.gone + 4 → self.new.hand ≡ [] }
+        ensures same { IsSameAllocator self.old self.new }
+    {
+        self.send_and_scan(rt)
+    }
+
+    /// The turn.
+    fn send_and_scan<R: Wait>(&mut self, rt: &R) -> Counts
         ensures { IsAllocation (P.chooses self.old.policy) self.old self.new result }
     {
         if !self.send_hand(rt) {

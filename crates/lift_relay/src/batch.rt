@@ -1,7 +1,7 @@
 //! A sealed batch: the commands of one scan with their replies, and the entries that they add.
 ghost use Rattle.std.specs.Prelude.{◌≡◌, length};
 ghost use Rattle.lift_register.specs.Fits.{FitFrom};
-ghost use Rattle.lift_relay.specs.Batch.{AreBelow, AreNoted, commands_in, turns_of};
+ghost use Rattle.lift_relay.specs.Batch.{AreBelow, AreNoted, IsDecided, commands_in, turns_of};
 
 use arrayvec::ArrayVec;
 use lift_base::{Body, Entry, Number, Reply, Terminal};
@@ -71,6 +71,7 @@ impl Batch {
         requires fits { FitFrom building.now before.value entries.items }
         requires at_desk { AreBelow (length desk.now) (commands_in commands.items) }
         requires noted { AreNoted desk.now (turns_of seats.value) commands.items }
+        requires decided { IsDecided (record { commands = commands.items; entries = entries.items; building = building.now; before = before.value; desk = desk.now; turns = turns_of seats.value }) }
         ensures { result ≡ record { commands = commands.items; entries = entries.items; building = building.now; before = before.value; desk = desk.now; turns = turns_of seats.value } }
     {
         Batch {
@@ -83,10 +84,11 @@ impl Batch {
         }
     }
 
-    /// What was accepted of it, in its order. It fits where it was decided.
+    /// What was accepted of it, in its order. It fits where it was decided, and the replies are those of the same run.
     pub fn entries(&self) -> &ArrayVec<Entry, 63>
         ensures value { result.now.items ≡ self.now.entries }
         ensures fits { FitFrom self.now.building self.now.before self.now.entries }
+        ensures decided { IsDecided self.now }
     {
         &self.entries
     }

@@ -1,22 +1,31 @@
 //! The part that makes batches safe and answers.
 
 ghost use Rattle.std.specs.Prelude.{◌≡◌, ℕ, List, ◌<◌, ◌⊎◌, ◌↔◌, [], length, true, false, Ok, Err, IfOk, IfErr, OnOk, OnErr};
-ghost use Rattle.lift_disk.specs.Disk.{LeavesNow, LeavesOnly};
+ghost use Rattle.lift_disk.specs.Disk.{LeavesNow, LeavesOnly, RunsOn};
 ghost use Rattle.lift_desk.specs.Seats.{IsClerkOf, IsNoteOf, OwesNothing, Says, view_at};
+ghost use Rattle.lift_journal.specs.Steps.{Makes};
+ghost use Rattle.lift_journal.specs.Told.{NoneFails};
 ghost use Rattle.lift_keeper.specs.Images.{IsImageOf, IsInDoubt};
+ghost use Rattle.lift_keeper.specs.Reopening.{FailsBy};
+ghost use Rattle.lift_keeper.specs.Writer.{StopsCommit, commit_calls, commit_writes, commit_used, commit_second};
 ghost use Rattle.lift_clerk.specs.Turn.{IsEither};
 ghost use Rattle.lift_clerk.specs.Visits.{Visit};
 ghost use Rattle.lift_relay.specs.Batch.{BatchState, turns_behind, turns_with};
-ghost use Rattle.lift_relay.specs.Flusher.{AnswersOne, Answered, IsSettled, IsEmptyTurn, IsBatchTurn};
+ghost use Rattle.lift_relay.specs.Queued.{Queued};
+ghost use Rattle.lift_relay.specs.Relay.{AreOfOne};
+ghost use Rattle.lift_relay.specs.Flusher.{AnswersOne, Answered, IsSettled, IsEmptyTurn, IsBatchTurn, entries_between};
 
+use crate::allocator::Allocator;
 use crate::batch::{Batch, Taken};
 use crate::line::ReceiveEnd;
+use crate::places::with_both;
 use arrayvec::ArrayVec;
 use lift_base::{Reply, Terminal};
 use lift_desk::{ClerkSeat, Desk};
 use lift_disk::Disk;
 use lift_journal::JournalFault;
 use lift_keeper::{KeeperFault, Writer};
+use lift_policy::Policy;
 use lift_register::Register;
 use std::marker::Model;
 use std::mem;
@@ -136,18 +145,70 @@ impl<'d, 'b, D: Disk> Flusher<'d, 'b, D> {
         self.end.count()
     }
 
-    /// Whether it took an ask that it has not answered, of any terminal.
+    /// Whether it took an ask that it has not answered, of any terminal. Between its turns there is none.
     pub fn owes(&self) -> bool
-        ensures { (result ≡ false) ↔ OwesNothing self.now.seat }
+        ensures value { (result ≡ false) ↔ OwesNothing self.now.seat }
+        ensures none { result ≡ false }
     {
         owes(self.desk, &self.seat)
     }
 
     /// Whether what is safe is this register, or a call of the device has failed since it was last opened.
     pub fn may_join(&self, register: &Register) -> bool
-        ensures { (result ≡ true) ↔ ((self.now.writer.is_broken ≡ true) ⊎ (register.now ≡ self.now.writer.register)) }
+        ensures value { (result ≡ true) ↔ ((self.now.writer.is_broken ≡ true) ⊎ (register.now ≡ self.now.writer.register)) }
+        // Where nothing has failed, what is safe is what was received.
+        ensures safe { self.now.writer.is_broken ≡ false → self.now.writer.register ≡ self.now.end.register }
     {
         self.writer.is_broken() || register.is_same(self.writer.register())
+    }
+
+    /// Compares it with the other part, at the other end of its line. Both stay as they are.
+    pub(crate) fn compare<P: Policy + Drop>(&mut self, allocator: &mut Allocator<'_, '_, P>)
+        requires of_one { AreOfOne allocator.old self.old }
+        ensures flusher { self.new ≡ self.old }
+        ensures allocator { allocator.new ≡ allocator.old }
+        ensures queued { Queued allocator.new.end self.new.end }
+    {
+        with_both(
+            &mut self.end,
+            allocator,
+            |end: ReceiveEnd, allocator: Allocator<P>| -> (ReceiveEnd, Allocator<P>, ())
+                requires line { end.line ≡ allocator.end.line }
+                requires building { end.building ≡ allocator.plan }
+                requires desk { end.desk ≡ allocator.desk }
+                ensures same { (result.0 ≡ end) × (result.1 ≡ allocator.entry) }
+                ensures queued { Queued result.1.end result.0 }
+            {
+                let mut allocator = allocator;
+                let end = allocator.compare(end);
+                (end, allocator, ())
+            },
+        )
+    }
+
+    /// Tells it and the other part, at the other end of its line, how much was sent and how much was received.
+    pub(crate) fn tell<P: Policy + Drop>(&mut self, allocator: &mut Allocator<'_, '_, P>)
+        requires of_one { AreOfOne allocator.old self.old }
+        ensures flusher { self.new ≡ record self.old { end = record self.old.end { known = allocator.old.end.sent } } }
+        ensures allocator { allocator.new ≡ record allocator.old { end = record allocator.old.end { gone = self.old.end.received } } }
+        ensures queued { Queued allocator.new.end self.new.end }
+    {
+        with_both(
+            &mut self.end,
+            allocator,
+            |end: ReceiveEnd, allocator: Allocator<P>| -> (ReceiveEnd, Allocator<P>, ())
+                requires line { end.line ≡ allocator.end.line }
+                requires building { end.building ≡ allocator.plan }
+                requires desk { end.desk ≡ allocator.desk }
+                ensures end { result.0 ≡ record end { known = allocator.entry.end.sent } }
+                ensures allocator { result.1 ≡ record allocator.entry { end = record allocator.entry.end { gone = end.received } } }
+                ensures queued { Queued result.1.end result.0 }
+            {
+                let mut allocator = allocator;
+                let end = allocator.tell(end);
+                (end, allocator, ())
+            },
+        )
     }
 
     /// What it is made of, without its end of the line.
@@ -188,6 +249,25 @@ impl<'d, 'b, D: Disk> Flusher<'d, 'b, D> {
             × (self.new.writer.is_broken ≡ false) × (self.new.writer.doubt ≡ [])) }
         ensures kept { (self.new.writer.plan ≡ self.old.writer.plan) × (self.new.writer.half ≡ self.old.writer.half) × (self.new.writer.opened ≡ self.old.writer.opened) }
         ensures same { (self.new.desk ≡ self.old.desk) × (self.new.end.line ≡ self.old.end.line) }
+        // A batch that it was told of, it receives.
+        ensures finds { length self.old.end.received < length self.old.end.known → (batch : BatchState) × IsBatchTurn self.old self.new batch result }
+
+        // How many calls it makes: those of one commit, none where the batch has no entries and where none was received.
+        ensures runs { RunsOn (D.state self.old.writer.device) (D.state self.new.writer.device) }
+        ensures made { Makes result (commit_calls self.old.writer.register self.old.writer.used self.old.writer.half (entries_between self.old.end self.new.end))
+            (commit_writes self.old.writer.register self.old.writer.used self.old.writer.half (entries_between self.old.end self.new.end))
+            (D.state self.old.writer.device) (D.state self.new.writer.device) }
+        ensures used { OnOk result (self.new.writer.used
+            ≡ commit_used self.old.writer.register self.old.writer.used self.old.writer.half (entries_between self.old.end self.new.end)) }
+        ensures second { OnOk result (self.new.writer.is_second
+            ≡ commit_second self.old.writer.is_second self.old.writer.used self.old.writer.half (entries_between self.old.end self.new.end)) }
+        ensures told_ok { OnOk result (NoneFails (D.state self.old.writer.device) (D.state self.new.writer.device)) }
+        ensures told { IfErr result (λ fault. FailsBy fault (D.state self.old.writer.device) (D.state self.new.writer.device)) }
+
+        // Where a device stopped it that changes no byte in a failed call, the number of calls says what each cut leaves.
+        ensures stops { result ≡ Err (KeeperFault.Journal JournalFault.Disk) → (D.state self.old.writer.device).is_honest → (D.state self.old.writer.device).is_inert
+            → StopsCommit self.old.writer.plan self.old.writer.half self.old.writer.is_second self.old.writer.used
+            self.old.writer.register self.new.writer.doubt (D.state self.old.writer.device) (D.state self.new.writer.device) }
     {
         let batch = match self.end.receive(rt) {
             Some(batch) => batch,

@@ -16,5 +16,5 @@ pub use allocator::Allocator;
 pub use batch::{Batch, Taken};
 pub use flusher::{FlushCounts, Flusher};
 pub use pair::{Gate, RunFault, run};
-pub use relay::{rejoin, split};
+pub use relay::{rejoin, split, tell};
 pub use tie::{relays_are_the_machines, turn_flusher_once};

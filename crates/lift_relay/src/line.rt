@@ -1,9 +1,10 @@
 //! A queue of four batches with one end that sends and one that receives.
 ghost use Rattle.std.specs.Prelude.{◌≡◌, ◌<◌, ◌^◌, [], length, MatchResult, MatchOption, IfOk};
 ghost use Rattle.lift_relay.specs.Line.{SendsOne, ReceivesOne, IsNext, IsLine, WasFull, WasEmpty};
+ghost use Rattle.lift_relay.specs.Queued.{Queued};
 
 use crate::batch::Batch;
-use crossbeam_queue::protocol::{Lesson, Outcome, Protocol, Split};
+use crossbeam_queue::protocol::{Join, Lesson, Outcome, Protocol, Split};
 use crossbeam_queue::{Pass, RuledArrayQueue};
 use lift_base::Memory;
 use lift_building::Building;
@@ -56,6 +57,37 @@ impl Split<EndView> for Ends {
     ghost left = { sending };
 
     ghost right = { receiving };
+}
+
+// The sending pass takes in the receiving one.
+struct Together;
+
+impl Join<EndView> for Together {
+    ghost use Rattle.lift_relay.specs.Rule.{joined, spent_pass};
+
+    ghost both = { joined };
+
+    ghost spent = { spent_pass };
+}
+
+// The same, and each learns where the other stands.
+struct Tells;
+
+impl Join<EndView> for Tells {
+    ghost use Rattle.lift_relay.specs.Rule.{told_both, spent_pass};
+
+    ghost both = { told_both };
+
+    ghost spent = { spent_pass };
+}
+
+// What the queue holds, of a pass that both sends and receives.
+struct Holds;
+
+impl Lesson<Batch, EndView> for Holds {
+    ghost use Rattle.lift_relay.specs.Rule.{Waits};
+
+    ghost fact = { Waits };
 }
 
 // A batch without commands names the building, the desk and the first register.
@@ -199,6 +231,38 @@ impl SendEnd {
         ensures { result ≡ length self.now.sent }
     {
         self.count
+    }
+
+    /// Compares it with the other end of its line. Both stay as they are.
+    pub fn compare(&mut self, receiver: ReceiveEnd) -> ReceiveEnd
+        requires line { receiver.line ≡ self.old.line }
+        requires building { receiver.building ≡ self.old.building }
+        requires desk { receiver.desk ≡ self.old.desk }
+        ensures sender { self.new ≡ self.old }
+        ensures receiver { result ≡ receiver }
+        ensures queued { Queued self.new result }
+    {
+        let ReceiveEnd { line, pass, count } = receiver;
+        self.line.absorb::<Together>(&mut self.pass, pass);
+        self.line.learn_as::<Holds>(&mut self.pass);
+        let pass = self.line.another::<Ends>(&mut self.pass);
+        ReceiveEnd { line, pass, count }
+    }
+
+    /// Tells each end of its line where the other stands.
+    pub fn tell(&mut self, receiver: ReceiveEnd) -> ReceiveEnd
+        requires line { receiver.line ≡ self.old.line }
+        requires building { receiver.building ≡ self.old.building }
+        requires desk { receiver.desk ≡ self.old.desk }
+        ensures sender { self.new ≡ record self.old { gone = receiver.received } }
+        ensures receiver { result ≡ record receiver { known = self.old.sent } }
+        ensures queued { Queued self.new result }
+    {
+        let ReceiveEnd { line, pass, count } = receiver;
+        self.line.absorb::<Tells>(&mut self.pass, pass);
+        self.line.learn_as::<Holds>(&mut self.pass);
+        let pass = self.line.another::<Ends>(&mut self.pass);
+        ReceiveEnd { line, pass, count }
     }
 }
 

@@ -3,6 +3,7 @@
 ghost use Rattle.std.specs.Prelude.{◌≡◌, ◌≢◌, [], length, true, Some, None, Result};
 ghost use Rattle.lift_keeper.specs.declared.fault.KeeperFault.{KeeperFault};
 ghost use Rattle.lift_relay.specs.declared.flusher.FlushCounts.{FlushCounts};
+ghost use Rattle.lift_relay.specs.Queued.{Queued};
 ghost use Rattle.lift_relay.specs.Relay.{AreOfOne};
 ghost use Rattle.lift_relay.specs.Pair.{AllocatorTurns, FlusherTurns, IsFlush, first_of, ComesFrom, HaveTurned, IsRun, HaveRun, IsSameAllocator, IsSameFlusher};
 
@@ -250,8 +251,11 @@ where
     ensures same_allocator { IsSameAllocator allocator.old allocator.new }
     ensures same_flusher { IsSameFlusher flusher.old flusher.new }
     ensures of_one { AreOfOne allocator.new flusher.new }
+    // What was received, and then what the line holds, is what was sent; after a run it holds nothing.
+    ensures queued { Queued allocator.new.end flusher.new.end }
+    ensures received { result ≢ Some RunFault.Spawn → allocator.new.end.sent ≡ flusher.new.end.received }
 {
-    with_both(
+    let fault = with_both(
         allocator,
         flusher,
         |allocator: Allocator<P>, flusher: Flusher<D>| -> (
@@ -261,5 +265,7 @@ where
         )
             ensures { IsRun (P.chooses allocator.entry.policy) D.state allocator.entry result.0 flusher.entry result.1 result.2 }
         { run_owned(rt, allocator, flusher, gate) },
-    )
+    );
+    flusher.compare(allocator);
+    fault
 }

@@ -1,6 +1,7 @@
 //! A clerk in two parts, and the parts together again.
 
-ghost use Rattle.std.specs.Prelude.{◌≡◌, IfOk, IfErr};
+ghost use Rattle.std.specs.Prelude.{◌≡◌, ◌≢◌, ◌⊎◌, [], length, IfOk, IfErr, OnErr};
+ghost use Rattle.lift_relay.specs.Queued.{Queued};
 ghost use Rattle.lift_relay.specs.Relay.{AreParts, AreOfOne, IsRejoined, CannotJoin};
 
 use crate::allocator::Allocator;
@@ -23,6 +24,7 @@ pub fn split<'d, 'b, D: Disk, P: Policy + Drop>(
     clerk: Clerk<'d, 'b, D, P>,
 ) -> Result<(Allocator<'d, 'b, P>, Flusher<'d, 'b, D>), (Clerk<'d, 'b, D, P>, Memory)>
     ensures parts { IfOk result (λ parts. AreParts clerk.entry parts.0 parts.1) }
+    ensures of_one { IfOk result (λ parts. AreOfOne parts.0 parts.1) }
     ensures refused { IfErr result (λ back. back.0 ≡ clerk.entry) }
 {
     let desk = clerk.desk();
@@ -50,17 +52,38 @@ pub fn split<'d, 'b, D: Disk, P: Policy + Drop>(
     ))
 }
 
+/// Tells each of two parts that come of one `split` how much was sent and how much was received. Behind it the allocator's
+/// next turn sends where fewer than four batches wait, and the flusher's receives where one does. It changes nothing else.
+pub fn tell<'d, 'b, D: Disk, P: Policy + Drop>(
+    allocator: &mut Allocator<'d, 'b, P>,
+    flusher: &mut Flusher<'d, 'b, D>,
+)
+    requires of_one { AreOfOne allocator.old flusher.old }
+    ensures allocator { allocator.new ≡ record allocator.old { end = record allocator.old.end { gone = flusher.old.end.received } } }
+    ensures flusher { flusher.new ≡ record flusher.old { end = record flusher.old.end { known = allocator.old.end.sent } } }
+    // What was received, and then what the line holds, is what was sent.
+    ensures queued { Queued allocator.new.end flusher.new.end }
+    ensures of_one { AreOfOne allocator.new flusher.new }
+{
+    flusher.tell(allocator);
+}
+
 /// The clerk of two parts that come of one `split`. They come back as they were where as many batches weren't received as were
 /// sent, where one is in hand, where an ask that the flusher's look gave is unanswered, and where their registers differ though
-/// nothing has failed. Over a writer that a fault has broken the clerk is broken.
+/// nothing has failed; the last two never happen between turns. Over a writer that a fault has broken the clerk is broken.
 pub fn rejoin<'d, 'b, D: Disk, P: Policy + Drop>(
-    allocator: Allocator<'d, 'b, P>,
-    flusher: Flusher<'d, 'b, D>,
+    mut allocator: Allocator<'d, 'b, P>,
+    mut flusher: Flusher<'d, 'b, D>,
 ) -> Result<Clerk<'d, 'b, D, P>, (Allocator<'d, 'b, P>, Flusher<'d, 'b, D>)>
     requires of_one { AreOfOne allocator flusher }
     ensures joined { IfOk result (λ clerk. IsRejoined allocator.entry flusher.entry clerk) }
     ensures refused { IfErr result (λ parts. (parts.0 ≡ allocator.entry) × (parts.1 ≡ flusher.entry) × CannotJoin allocator.entry flusher.entry) }
+    // Nothing is owed between the flusher's turns, and where all was received the registers don't differ.
+    ensures waits { OnErr result ((length allocator.entry.end.sent ≢ length flusher.entry.end.received) ⊎ (allocator.entry.hand ≢ [])) }
+    // What was received, and then what the line holds, is what was sent.
+    ensures queued { Queued allocator.entry.end flusher.entry.end }
 {
+    flusher.compare(&mut allocator);
     if allocator.sent() != flusher.received()
         || allocator.has_batch_in_hand()
         || flusher.owes()

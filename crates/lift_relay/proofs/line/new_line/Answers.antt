@@ -1,6 +1,5 @@
-use Rattle.std.proofs.Common.{rules, ◌∙◌, sym, ap, refl}
+use Rattle.std.proofs.Common.{ap}
 use Rattle.lift_relay.specs.declared.line.EndView.{EndView}
-use Rattle.lift_relay.specs.Rule.{opening, opening_view, begun_with}
 use Rattle.lift_relay.proofs.Moves.{begins, names, starts, ends}
 use Rattle.lift_relay.proofs.line.new_line.Goals as goal
 

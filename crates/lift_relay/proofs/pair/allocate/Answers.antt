@@ -11,8 +11,8 @@ loop-preserved-then-counts-eq0 g c =
     let i = c.loop.invariant in
     let chooses = g.P.Policy.chooses in
     record {
-      turns = turns_more chooses c.args.allocator.now c.loop.allocator c.turn-counts.new.self c.turn-counts.result i.policy i.turns c.turn-counts.ensures;
-      policy = same_policy (chooses c.loop.allocator.policy) c.loop.allocator c.turn-counts.new.self c.turn-counts.result c.turn-counts.ensures ∙ i.policy;
+      turns = turns_more chooses c.args.allocator.now c.loop.allocator c.turn-counts.new.self c.turn-counts.result i.policy i.turns c.turn-counts.ensures.turns;
+      policy = same_policy (chooses c.loop.allocator.policy) c.loop.allocator c.turn-counts.new.self c.turn-counts.result c.turn-counts.ensures.turns ∙ i.policy;
     }
 
 pub loop-preserved : goal.loop-preserved
@@ -20,6 +20,6 @@ loop-preserved g c =
     let i = c.loop.invariant in
     let chooses = g.P.Policy.chooses in
     record {
-      turns = turns_more chooses c.args.allocator.now c.loop.allocator c.turn-counts.new.self c.turn-counts.result i.policy i.turns c.turn-counts.ensures;
-      policy = same_policy (chooses c.loop.allocator.policy) c.loop.allocator c.turn-counts.new.self c.turn-counts.result c.turn-counts.ensures ∙ i.policy;
+      turns = turns_more chooses c.args.allocator.now c.loop.allocator c.turn-counts.new.self c.turn-counts.result i.policy i.turns c.turn-counts.ensures.turns;
+      policy = same_policy (chooses c.loop.allocator.policy) c.loop.allocator c.turn-counts.new.self c.turn-counts.result c.turn-counts.ensures.turns ∙ i.policy;
     }

@@ -1,4 +1,3 @@
-use Rattle.std.proofs.Common.{◌≡◌}
 use Rattle.lift_relay.specs.Pair.{AllocatorTurns, FlusherTurns}
 use Rattle.lift_relay.proofs.pair.drain.Given as goal
 

@@ -1,25 +1,62 @@
+use Rattle.std.proofs.Common.{sym, ap, ◌∙◌, subst}
+use Rattle.lift_relay.specs.Allocator.{AllocatorState}
+use Rattle.lift_relay.specs.Flusher.{FlusherState}
+use Rattle.lift_relay.specs.Pair.{HaveRun, IsSameAllocator, IsSameFlusher}
+use Rattle.lift_relay.specs.Relay.{AreOfOne}
+use Rattle.lift_relay.proofs.Queues.{all_received}
 use Rattle.lift_relay.proofs.Paired.{still_of_one}
-use Rattle.lift_relay.proofs.Ran.{broken_of, allocator_of, flusher_of}
+use Rattle.lift_relay.proofs.Ran.{refused_of, ran_of, broken_of, allocator_of, flusher_of}
 use Rattle.lift_relay.proofs.pair.run.Goals as goal
 
+pub compare-requires : goal.compare-requires
+compare-requires g c =
+    let choice = g.P.Policy.chooses c.args.allocator.now.policy in
+    let state = g.D.Disk.state in
+    let ran = c.with_both-fault.ensures in
+    record {
+      of_one = still_of_one c.args.allocator.now c.with_both-fault.new.a c.args.flusher.now c.with_both-fault.new.b
+          (allocator_of choice state c.args.allocator.now c.with_both-fault.new.a c.args.flusher.now c.with_both-fault.new.b c.with_both-fault.result ran)
+          (flusher_of choice state c.args.allocator.now c.with_both-fault.new.a c.args.flusher.now c.with_both-fault.new.b c.with_both-fault.result ran)
+          c.requires.of_one;
+    }
+
+pub returns-clause-refused : goal.returns-clause-refused
+returns-clause-refused g c = λ spawn.
+    let both = refused_of (g.P.Policy.chooses c.args.allocator.now.policy) g.D.Disk.state c.args.allocator.now c.with_both-fault.new.a c.args.flusher.now c.with_both-fault.new.b c.with_both-fault.result c.with_both-fault.ensures spawn in
+    (c.compare.ensures.allocator ∙ both.0, c.compare.ensures.flusher ∙ both.1)
+
+pub returns-clause-ran : goal.returns-clause-ran
+returns-clause-ran g c = λ ran.
+    let choice = g.P.Policy.chooses c.args.allocator.now.policy in
+    subst (λ (p : AllocatorState g.row.P.Denot × FlusherState g.row.D.Denot). HaveRun choice g.D.Disk.state c.args.allocator.now p.0 c.args.flusher.now p.1 c.with_both-fault.result)
+    (λ i. (sym c.compare.ensures.allocator i, sym c.compare.ensures.flusher i))
+    (ran_of choice g.D.Disk.state c.args.allocator.now c.with_both-fault.new.a c.args.flusher.now c.with_both-fault.new.b c.with_both-fault.result c.with_both-fault.ensures ran)
+
+pub returns-clause-received : goal.returns-clause-received
+returns-clause-received g c = λ ran. all_received c.compare.new.allocator.end c.compare.new.self.end c.compare.ensures.queued (returns-clause-ran g c ran).all_received
+
 pub returns-clause-broken : goal.returns-clause-broken
-returns-clause-broken g c =
-    broken_of (g.P.Policy.chooses c.args.allocator.now.policy) g.D.Disk.state c.args.allocator.now c.with_both.new.a c.args.flusher.now c.with_both.new.b c.with_both.result c.with_both.ensures
+returns-clause-broken g c = λ of is.
+    ap (λ (f : FlusherState g.row.D.Denot). f.writer.is_broken) c.compare.ensures.flusher
+    ∙ broken_of (g.P.Policy.chooses c.args.allocator.now.policy) g.D.Disk.state c.args.allocator.now c.with_both-fault.new.a c.args.flusher.now c.with_both-fault.new.b c.with_both-fault.result c.with_both-fault.ensures of is
 
 pub returns-clause-same_allocator : goal.returns-clause-same_allocator
 returns-clause-same_allocator g c =
-    allocator_of (g.P.Policy.chooses c.args.allocator.now.policy) g.D.Disk.state c.args.allocator.now c.with_both.new.a c.args.flusher.now c.with_both.new.b c.with_both.result c.with_both.ensures
+    subst (λ (a : AllocatorState g.row.P.Denot). IsSameAllocator c.args.allocator.now a) (sym c.compare.ensures.allocator)
+    (allocator_of (g.P.Policy.chooses c.args.allocator.now.policy) g.D.Disk.state c.args.allocator.now c.with_both-fault.new.a c.args.flusher.now c.with_both-fault.new.b c.with_both-fault.result c.with_both-fault.ensures)
 
 pub returns-clause-same_flusher : goal.returns-clause-same_flusher
 returns-clause-same_flusher g c =
-    flusher_of (g.P.Policy.chooses c.args.allocator.now.policy) g.D.Disk.state c.args.allocator.now c.with_both.new.a c.args.flusher.now c.with_both.new.b c.with_both.result c.with_both.ensures
+    subst (λ (f : FlusherState g.row.D.Denot). IsSameFlusher c.args.flusher.now f) (sym c.compare.ensures.flusher)
+    (flusher_of (g.P.Policy.chooses c.args.allocator.now.policy) g.D.Disk.state c.args.allocator.now c.with_both-fault.new.a c.args.flusher.now c.with_both-fault.new.b c.with_both-fault.result c.with_both-fault.ensures)
 
 pub returns-clause-of_one : goal.returns-clause-of_one
 returns-clause-of_one g c =
     let choice = g.P.Policy.chooses c.args.allocator.now.policy in
     let state = g.D.Disk.state in
-    let ran = c.with_both.ensures in
-    still_of_one c.args.allocator.now c.with_both.new.a c.args.flusher.now c.with_both.new.b
-    (allocator_of choice state c.args.allocator.now c.with_both.new.a c.args.flusher.now c.with_both.new.b c.with_both.result ran)
-    (flusher_of choice state c.args.allocator.now c.with_both.new.a c.args.flusher.now c.with_both.new.b c.with_both.result ran)
-    c.requires.of_one
+    let ran = c.with_both-fault.ensures in
+    let before = still_of_one c.args.allocator.now c.with_both-fault.new.a c.args.flusher.now c.with_both-fault.new.b
+    (allocator_of choice state c.args.allocator.now c.with_both-fault.new.a c.args.flusher.now c.with_both-fault.new.b c.with_both-fault.result ran)
+    (flusher_of choice state c.args.allocator.now c.with_both-fault.new.a c.args.flusher.now c.with_both-fault.new.b c.with_both-fault.result ran)
+    c.requires.of_one in
+    subst (λ (p : AllocatorState g.row.P.Denot × FlusherState g.row.D.Denot). AreOfOne p.0 p.1) (λ i. (sym c.compare.ensures.allocator i, sym c.compare.ensures.flusher i)) before

@@ -15,7 +15,7 @@ use Rattle.lift_relay.specs.declared.batch.Taken.{Taken}
 use Rattle.lift_relay.specs.Scan.{ScansAhead, turns_in}
 use Rattle.lift_relay.proofs.Noted.{noted_more}
 use Rattle.lift_relay.proofs.Turns.{uses}
-use Rattle.lift_relay.proofs.Scanned.{Looked, looked-at, scans-more, scans-none, below, run-keeps}
+use Rattle.lift_relay.proofs.Scanned.{Looked, looked-at, scans-more, below, run-keeps}
 use Rattle.lift_relay.proofs.scan.scan.Goals as goal
 
 pub loop-t-preserved : goal.loop-t-preserved

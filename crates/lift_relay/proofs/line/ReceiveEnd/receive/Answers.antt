@@ -1,4 +1,3 @@
-use Rattle.std.proofs.Common.{rules}
 use Rattle.lift_relay.proofs.Moves.{receives, receiver_learns}
 use Rattle.lift_relay.proofs.line.ReceiveEnd.receive.Goals as goal
 

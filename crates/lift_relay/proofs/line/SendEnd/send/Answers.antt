@@ -1,4 +1,4 @@
-use Rattle.std.proofs.Common.{rules, ap, ◌∙◌, sym, subst, length, ◌<◌}
+use Rattle.std.proofs.Common.{ap, ◌∙◌, sym, subst, length, ◌<◌}
 use Rattle.crossbeam_queue.specs.Passes.{ruled_capacity, view}
 use Rattle.lift_relay.specs.Line.{SendState, IsNext}
 use Rattle.lift_relay.proofs.Moves.{sends, sender_learns}

@@ -1,0 +1,41 @@
+-- What the line holds, by its two ends.
+use Rattle.std.proofs.Common.{◌≡◌, ℕ, ◌+◌, ◌≤◌, List, [], ◌∷◌, ◌++◌, length, drop, refl, sym, ap, ◌∙◌, append-nil, length-append, arith}
+use Rattle.lift_relay.specs.Batch.{BatchState}
+use Rattle.lift_relay.specs.Line.{SendState, ReceiveState, ReceivesOne, WasFull, WasEmpty}
+use Rattle.lift_relay.specs.Queued.{Queued}
+use Rattle.lift_relay.specs.Flusher.{entries_of, entries_between}
+
+no_more : {A : Type 0} (xs ys : List A) → length xs ≡ length xs + length ys → ys ≡ []
+no_more xs [] same = refl
+no_more xs (y ∷ ys) same = absurd (omega arith)
+
+-- as many were received as were sent
+pub none_waits : (s : SendState) (r : ReceiveState) (q : Queued s r) → length s.sent ≡ length r.received → q.items ≡ []
+none_waits s r q same = no_more r.received q.items (sym same ∙ ap length q.in_order ∙ length-append r.received q.items)
+
+pub all_received : (s : SendState) (r : ReceiveState) → Queued s r → length s.sent ≡ length r.received → s.sent ≡ r.received
+all_received s r q same = q.in_order ∙ ap (λ l. r.received ++ l) (none_waits s r q same) ∙ append-nil r.received
+
+drop_all : (xs : List BatchState) → drop (length xs) xs ≡ []
+drop_all [] = refl
+drop_all (x ∷ xs) = drop_all xs
+
+drop_front : (xs ys : List BatchState) → drop (length xs) (xs ++ ys) ≡ ys
+drop_front [] ys = refl
+drop_front (x ∷ xs) ys = drop_front xs ys
+
+pub between_none : (r : ReceiveState) → entries_between r r ≡ 0
+between_none r = ap entries_of (drop_all r.received)
+
+pub between_one : (old new : ReceiveState) (batch : BatchState) → ReceivesOne old batch new → entries_between old new ≡ length batch.entries
+between_one old new batch one = ap (λ l. entries_of (drop (length old.received) l)) one.receives ∙ ap entries_of (drop_front old.received (batch ∷ [])) ∙ zero_right (length batch.entries)
+  where
+    zero_right : (n : ℕ) → n + 0 ≡ n
+    zero_right n = omega arith
+
+-- it was full of what had not left it
+pub full_by : (s : SendState) → WasFull s → length s.gone + 4 ≤ length s.sent
+full_by s full = omega (arith, full.four, ap length full.all, length-append full.received full.items, ap length full.later.1, length-append s.gone full.later.0)
+
+pub empty_by : (r : ReceiveState) → WasEmpty r → length r.known ≤ length r.received
+empty_by r empty = omega (arith, ap length empty.1, length-append r.known empty.0)

@@ -1,0 +1,26 @@
+use Rattle.std.proofs.Common.{rules, ◌≡◌, length, subst}
+use Rattle.lift_relay.specs.Allocator.{AllocatorState}
+use Rattle.lift_relay.specs.Flusher.{FlusherState}
+use Rattle.lift_relay.specs.Relay.{IsRejoined}
+use Rattle.lift_relay.proofs.Queues.{all_received}
+use Rattle.lift_relay.proofs.relay.rejoin.Goals as goal
+
+pub returns-clause-joined : goal.returns-clause-joined
+returns-clause-joined g c =
+    let a = c.compare.new.allocator in
+    let f = c.compare.new.self in
+    let counts : length a.end.sent ≡ length f.end.received = search rules in
+    let joined : IsRejoined a f c.new.result = record {
+      desk = search rules;
+      seat = search rules;
+      state = search rules;
+      writer = search rules;
+      policy = search rules;
+      all_received = counts;
+      nothing_in_hand = search rules;
+      all_answered = search rules;
+      all_safe = search rules;
+      same_batches = all_received a.end f.end c.compare.ensures.queued counts;
+    } in
+    subst (λ (p : AllocatorState g.row.P.Denot × FlusherState g.row.D.Denot). IsRejoined p.0 p.1 c.new.result)
+    (λ i. (c.compare.ensures.allocator i, c.compare.ensures.flusher i)) joined
