@@ -14,10 +14,10 @@ use std::test::Fail;
 
 /// A commit of kiosk 0's second call, behind its first one and so many stops of car A, each in a batch of its own.
 #[derive(Clone, Copy)]
-pub(crate) struct Work {
-    pub(crate) stops: u32,
+struct Work {
+    stops: u32,
     /// How many calls of the device the commit makes.
-    pub(crate) calls: u32,
+    calls: u32,
     /// How many of them make the checkpoint, if there is one: the last but one writes the pick, and the last one syncs it.
     calls_of_checkpoint: u32,
 }
@@ -25,7 +25,7 @@ pub(crate) struct Work {
 impl Work {
     /// How many calls an opening makes behind these first failures: the sync, the stamp, the pick, the chain twice, two
     /// sectors for each batch, and the closing gate once. The half that a checkpoint begins has one batch.
-    pub(crate) fn calls_of_opening(&self, first: &Failures) -> u32 {
+    fn calls_of_opening(&self, first: &Failures) -> u32 {
         let batches = if first.is_in(self.calls) {
             2
         } else if first.is_in(self.calls_of_checkpoint) {
@@ -237,14 +237,14 @@ fn stop_all<D: Failing + Drop>(rt: &impl Abort, alloc: Global, work: &Work) -> R
 }
 
 /// A batch in a half that has room for it: body, next gate, sync, gate, sync.
-pub(crate) const APPENDED: Work = Work {
+const APPENDED: Work = Work {
     stops: 0,
     calls: 5,
     calls_of_checkpoint: 0,
 };
 
 /// The 32nd batch, behind a checkpoint: body, gate, closing gate, sync, pick, sync.
-pub(crate) const CHECKPOINTED: Work = Work {
+const CHECKPOINTED: Work = Work {
     stops: 30,
     calls: 11,
     calls_of_checkpoint: 6,

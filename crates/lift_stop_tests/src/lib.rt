@@ -6,10 +6,6 @@
 #[cfg(test)]
 mod commits;
 #[cfg(test)]
-mod desks;
-#[cfg(test)]
 mod failing;
 #[cfg(test)]
 mod group;
-#[cfg(test)]
-mod turns;
