@@ -1,9 +1,13 @@
 -- What is said of a device on a real file.
-use Rattle.std.specs.Prelude.{ℕ, List, [], false}
+use Rattle.std.specs.Prelude.{ℕ, ◌/◌, if◌then◌else◌, nat_lt, List, [], false}
 use Rattle.lift_disk.specs.Trace.{Access}
 use Rattle.lift_disk.specs.Disk.{DiskState}
 use Rattle.lift_disk.specs.declared.sectors.SectorFile.{SectorFile}
 use Rattle.lift_disk.specs.declared.file.FileDisk.{FileDisk}
+
+-- the whole sectors of so many bytes, as many of them as can be numbered
+abbrev pub sectors_in : ℕ → ℕ
+sectors_in bytes = if nat_lt (bytes / 512) 4294967295 then bytes / 512 else 4294967295
 
 -- Its sectors, its counts and its calls. Nothing shows that it is honest, so nothing is said of what it holds.
 abbrev pub sector_file_state_of : {F : Type 0} → SectorFile F → DiskState

@@ -22,6 +22,7 @@ pub trait Disk {
         requires { sector < (state self.old).size }
         ensures goes_on { GoesOn (state self.old) (state self.new) }
         ensures cause { HasCause result (state self.old) (state self.new) }
+        ensures counted { OnErr result ((state self.new).failures ≡ (state self.old).failures + 1) }
         ensures told { FailsAsTold result (state self.old) (state self.new) }
         ensures writes { (state self.new).writes ≡ (state self.old).writes }
         ensures recorded { Records result (Read sector) (state self.old).trace (state self.new).trace }
@@ -39,6 +40,7 @@ pub trait Disk {
         requires { sector < (state self.old).size }
         ensures goes_on { GoesOn (state self.old) (state self.new) }
         ensures cause { HasCause result (state self.old) (state self.new) }
+        ensures counted { OnErr result ((state self.new).failures ≡ (state self.old).failures + 1) }
         ensures told { FailsAsToldOrShort result (state self.old) (state self.new) }
         ensures writes { (state self.new).writes ≡ (state self.old).writes + 1 }
         ensures recorded { Records result (Write sector bytes.now) (state self.old).trace (state self.new).trace }
@@ -54,6 +56,7 @@ pub trait Disk {
     fn sync(&mut self) -> Result<(), DiskFault>
         ensures goes_on { GoesOn (state self.old) (state self.new) }
         ensures cause { HasCause result (state self.old) (state self.new) }
+        ensures counted { OnErr result ((state self.new).failures ≡ (state self.old).failures + 1) }
         ensures told { FailsAsToldOrShort result (state self.old) (state self.new) }
         ensures writes { (state self.new).writes ≡ (state self.old).writes }
         ensures recorded { Records result Sync (state self.old).trace (state self.new).trace }

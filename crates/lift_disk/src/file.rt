@@ -1,5 +1,6 @@
 //! A device on a file of the operating system.
 ghost use Rattle.std.specs.Prelude.{◌≡◌, [], IfOk};
+ghost use Rattle.lift_disk.specs.Files.{sectors_in};
 
 use crate::sectors::{SECTOR_BYTES, SectorFile, offset_of};
 use crate::{Disk, DiskFault};
@@ -13,6 +14,13 @@ pub enum FileFault {
     System(io::Error),
     /// A folder, a pipe or another thing that is no plain file stands there.
     NotAFile,
+}
+
+/// How many whole sectors a file of so many bytes has, 4,294,967,295 at most.
+fn whole_sectors(bytes: u64) -> u32
+    ensures { result ≡ sectors_in bytes }
+{
+    u32::try_from(bytes / SECTOR_BYTES).unwrap_or(u32::MAX)
 }
 
 /// A file of whole sectors. Nothing shows that it keeps what was synced.
@@ -40,8 +48,7 @@ impl FileDisk {
             .open(rt, path)
             .map_err(FileFault::System)?;
         let bytes = file.metadata().map_err(FileFault::System)?.len();
-        let sectors = u32::try_from(bytes / SECTOR_BYTES).unwrap_or(u32::MAX);
-        Ok(FileDisk::over(file, sectors))
+        Ok(FileDisk::over(file, whole_sectors(bytes)))
     }
 
     /// Makes a file of so many sectors of zeros, or makes one that is there into that.
