@@ -3,7 +3,7 @@ use Rattle.std.proofs.Common.{◌≡◌, ◌<◌, ◌≤◌, ◌+◌, ◌-◌, �
 use Rattle.std.specs.Option.{option_to_list}
 use Rattle.std.specs.List.{AllByRecursion}
 use Rattle.std.proofs.Math.Seq.{take-add}
-use Rattle.std.proofs.lemmas.List.{take-take, take_all, take-append-drop, take-append-le, drop-drop, drop-take, drop-set-lt, take-set-le, length-set, length-take-le}
+use Rattle.std.proofs.lemmas.List.{append-nil, take-take, take_all, take-append-drop, take-append-le, drop-drop, drop-take, drop-set-lt, take-set-le, length-set, length-take-le}
 use Rattle.std.proofs.lemmas.List.Elements.{recursion_from_All, All-from_recursion, All-take, All-drop}
 use Rattle.lift_base.specs.declared.history.Record.{Record}
 use Rattle.lift_base.specs.Records.{IsRecord, IsLawful}
@@ -21,6 +21,10 @@ use Rattle.lift_journal.specs.Steps.{overwritten, marked, IsInRange}
 use Rattle.lift_journal.specs.Walk.{IsFront, IsSoundFront, Reaches}
 use Rattle.lift_journal.specs.Checkpoint.{in_batches, batch_count, checkpoint_of, sectors_for}
 use Rattle.lift_journal.specs.Told.{NoneFails}
+use Rattle.lift_disk.specs.Trace.{Access}
+use Rattle.lift_disk.specs.Trace.Access.{Write}
+use Rattle.lift_journal.specs.Calls.{body_of, draft_calls, writes_from, StopsIn}
+use Rattle.lift_journal.proofs.Following.{all_then, front_then, front_more}
 use Rattle.lift_journal.proofs.Telling.{none_made, passes_then}
 use Rattle.lift_journal.proofs.Appends.{overwritten_there, length-overwritten, sector_set}
 use Rattle.lift_journal.proofs.Bases.{base_in_order, base_complete}
@@ -198,6 +202,60 @@ module _ (start end gate : ℕ) (batches : List Batch) (batch : Batch) (body old
         next = omega (arith, room, size);
       }) sound
 
+-- the calls that write some batches, and then others behind them
+draft_append : (gate number : ℕ) (first second : List Batch)
+    → draft_calls gate number (first ++ second) ≡ draft_calls gate number first ++ draft_calls (gate + used first) (number + length first) second
+draft_append gate number [] second =
+    ap (λ g. draft_calls g number second) (let same : gate ≡ gate + 0 = omega arith in same)
+    ∙ ap (λ n. draft_calls (gate + 0) n second) (let same : number ≡ number + 0 = omega arith in same)
+draft_append gate number (batch ∷ first) second =
+    let calls = writes_from (gate + 1) (body_of number batch) ++ Write gate marked ∷ [] in
+    let next = gate + (1 + size_of batch) in
+    let done = draft_calls next (number + 1) first in
+    ap (λ (l : List Access). calls ++ l) (draft_append next (number + 1) first second)
+    ∙ sym (append_assoc calls done (draft_calls (next + used first) (number + 1 + length first) second))
+    ∙ ap (λ g. (calls ++ done) ++ draft_calls g (number + 1 + length first) second) (let same : next + used first ≡ gate + suc (size_of batch + used first) = omega arith in same)
+    ∙ ap (λ n. (calls ++ done) ++ draft_calls (gate + suc (size_of batch + used first)) n second) (let same : number + 1 + length first ≡ number + suc (length first) = omega arith in same)
+
+batches_split : (count more : ℕ) (records : List Record) → in_batches (count + more) records ≡ in_batches count records ++ in_batches more (drop (63 * count) records)
+batches_split zero more records =
+    ap (λ n. in_batches n records) (let same : 0 + more ≡ more = omega arith in same)
+    ∙ ap (λ n. in_batches more (drop n records)) (let same : 0 ≡ 63 * 0 = omega arith in same)
+batches_split (suc count) more records =
+    let first : Batch = record { version = Two; records = take 63 records } in
+    let place : drop (63 * count) (drop 63 records) ≡ drop (63 * suc count) records =
+    drop-drop (63 * count) 63 records ∙ ap (λ n. drop n records) (let sum : 63 + 63 * count ≡ 63 * suc count = omega arith in sum) in
+    ap (λ n. in_batches n records) (let same : suc count + more ≡ suc (count + more) = omega arith in same)
+    ∙ ap (λ (l : List Batch). first ∷ l) (batches_split count more (drop 63 records))
+    ∙ ap (λ (l : List Record). first ∷ (in_batches count (drop 63 records) ++ in_batches more l)) place
+
+-- those of the next batch, whatever stands behind it
+draft_next : (start gate count : ℕ) (records : List Record) (tail : List Batch) (body : Image) → gate ≡ start + used (in_batches count records) → body ≡ body_of (count + 1) (batch_at count records)
+    → draft_calls start 1 (in_batches count records ++ batch_at count records ∷ tail)
+    ≡ draft_calls start 1 (in_batches count records) ++ ((writes_from (gate + 1) body ++ Write gate marked ∷ []) ++ draft_calls (gate + (1 + size_of (batch_at count records))) (count + 1 + 1) tail)
+draft_next start gate count records tail body at is =
+    let batches = in_batches count records in
+    let batch = batch_at count records in
+    let done = draft_calls start 1 batches in
+    draft_append start 1 batches (batch ∷ tail)
+    ∙ ap (λ g. done ++ draft_calls g (1 + length batches) (batch ∷ tail)) (sym at)
+    ∙ ap (λ n. done ++ draft_calls gate n (batch ∷ tail)) (let same : 1 + length batches ≡ count + 1 = omega (arith, length_batches count records) in same)
+    ∙ ap (λ (b : Image). done ++ ((writes_from (gate + 1) b ++ Write gate marked ∷ []) ++ draft_calls (gate + (1 + size_of batch)) (count + 1 + 1) tail)) (sym is)
+
+-- the calls of all batches, where one of the next fails
+pub draft_stops : (old now new : DiskState) (start gate count end : ℕ) (records : List Record) (body : Image) → gate ≡ start + used (in_batches count records) → body ≡ body_of (count + 1) (batch_at count records)
+    → count < end → now.trace ≡ old.trace ++ draft_calls start 1 (in_batches count records) → StopsIn (writes_from (gate + 1) body ++ Write gate marked ∷ []) now new
+    → StopsIn (draft_calls start 1 (in_batches end records)) old new
+draft_stops old now new start gate count end records body at is below was front =
+    let calls = writes_from (gate + 1) body ++ Write gate marked ∷ [] in
+    let done = draft_calls start 1 (in_batches count records) in
+    let tail = in_batches (end - count - 1) (drop 63 (drop (63 * count) records)) in
+    let rest = draft_calls (gate + (1 + size_of (batch_at count records))) (count + 1 + 1) tail in
+    let whole : in_batches end records ≡ in_batches count records ++ batch_at count records ∷ tail =
+    ap (λ n. in_batches n records) (let sum : end ≡ count + suc (end - count - 1) = omega (arith, below) in sum) ∙ batches_split count (suc (end - count - 1)) records in
+    subst (λ (l : List Access). StopsIn l old new) (sym (ap (draft_calls start 1) whole ∙ draft_next start gate count records tail body at is))
+    (front_then old now new done (calls ++ rest) was (front_more now new calls rest front))
+
 -- From the start on so many batches of a checkpoint are written.
 pub record Drafted (old now : DiskState) (start gate count : ℕ) (records : List Record) : Type 0 where
   pub runs : RunsOn old now
@@ -205,6 +263,7 @@ pub record Drafted (old now : DiskState) (start gate count : ℕ) (records : Lis
   pub writes : now.writes ≡ old.writes + used (in_batches count records)
   pub failures : now.failures ≡ old.failures
   pub told : NoneFails old now
+  pub trace : now.trace ≡ old.trace ++ draft_calls start 1 (in_batches count records)
   pub touched : LooseWithin (IsInRange start (start + 64)) old → TouchesOnly (IsInRange start (start + 64)) old now
   pub at : gate ≡ start + used (in_batches count records)
   pub steady : old.is_honest → old.is_steady → now.is_steady
@@ -217,6 +276,7 @@ drafted_none disk start records only_now = record {
   writes = omega arith;
   failures = refl;
   told = none_made disk;
+  trace = sym (append-nil disk.trace);
   touched = λ loose. touches_none (IsInRange start (start + 64)) disk loose only_now;
   at = omega arith;
   steady = λ honest steady. steady;
@@ -235,11 +295,12 @@ module _ (old now new : DiskState) (start gate count : ℕ) (records : List Reco
   pub drafted_more : (body : Image) → gate + 1 + length body < start + 64 → length body ≡ size_of (batch_at count records)
       → IsBody (count + 1) (batch_at count records) body → IsInOrder records
       → RunsOn now new → new.calls ≡ now.calls + (1 + length body) → new.writes ≡ now.writes + (1 + length body) → new.failures ≡ now.failures → NoneFails now new
+      → body ≡ body_of (count + 1) (batch_at count records) → new.trace ≡ now.trace ++ (writes_from (gate + 1) body ++ Write gate marked ∷ [])
       → ((low high : ℕ) → low ≤ gate → gate + 1 + length body ≤ high → LooseWithin (IsInRange low high) now → TouchesOnly (IsInRange low high) now new)
       → (now.is_honest → now.is_steady → IsSteadyAt (slice_set (overwritten now.image (gate + 1) body) gate marked) new)
       → IsWhole now
       → Drafted old new start (gate + (length body + 1)) (count + 1) records
-  drafted_more body room size spelled order runs called wrote quiet told touched written whole_now =
+  drafted_more body room size spelled order runs called wrote quiet told exact made touched written whole_now =
       let batch = batch_at count records in
       let batches = in_batches count records in
       let more : in_batches (count + 1) records ≡ batches ++ batch ∷ [] =
@@ -250,6 +311,12 @@ module _ (old now new : DiskState) (start gate count : ℕ) (records : List Reco
         writes = omega (arith, wrote, so_far.writes, ap used more, used_more batches batch, size);
         failures = quiet ∙ so_far.failures;
         told = passes_then old now new so_far.runs so_far.told told;
+        trace =
+            let calls = writes_from (gate + 1) body ++ Write gate marked ∷ [] in
+            let done = draft_calls start 1 batches in
+            let listed : draft_calls start 1 (in_batches (count + 1) records) ≡ done ++ calls =
+            ap (draft_calls start 1) more ∙ draft_next start gate count records [] body so_far.at exact ∙ ap (λ (l : List Access). done ++ l) (append-nil calls) in
+            all_then old now new done calls so_far.trace made ∙ ap (λ (l : List Access). old.trace ++ l) (sym listed);
         touched = drafted_touched (length body) (omega (arith, room)) touched;
         at = omega (arith, so_far.at, ap used more, used_more batches batch, size);
         steady = λ honest steady. (written (so_far.runs.honest.1 honest) (so_far.steady honest steady)).steady;
@@ -272,6 +339,11 @@ pub next_body : (count size : ℕ) (records items : List Record) (sectors : Imag
 next_body count size records items sectors is sized body =
     subst (λ (l : List Record). IsBody (count + 1) (record { version = Two; records = l }) (take size sectors)) is
     (subst (λ k. IsBody (count + 1) (record { version = Two; records = items }) (take k sectors)) (sym sized) body)
+
+pub next_exact : (count size : ℕ) (records items : List Record) (sectors : Image) → items ≡ take 63 (drop (63 * count) records) → size ≡ bodies (length items)
+    → take (bodies (length items)) sectors ≡ body_of (count + 1) (record { version = Two; records = items }) → take size sectors ≡ body_of (count + 1) (batch_at count records)
+next_exact count size records items sectors is sized exact =
+    ap (λ k. take k sectors) sized ∙ exact ∙ ap (λ (l : List Record). body_of (count + 1) (record { version = Two; records = l })) is
 
 -- there is room for it
 pub next_room : (start gate count size end : ℕ) (records items : List Record) → gate ≡ start + used (in_batches count records) → count < end → end ≤ 10 → size ≡ bodies (length items) → gate + 1 + size < start + 64

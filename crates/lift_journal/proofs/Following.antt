@@ -1,13 +1,15 @@
 -- Which calls were made, run after run.
-use Rattle.std.proofs.Common.{◌≡◌, ◌⊎◌, ◌<◌, ◌≤◌, ◌+◌, inl, inr, true, nat_lt, cond, ◌++◌, [], ◌∷◌, ℕ, zero, suc, List, length, take, refl, sym, ◌∙◌, ap, arith, Result, Ok, Err, length-append}
+use Rattle.std.proofs.Common.{◌≡◌, ◌⊎◌, not, false, ◌≤◌, ◌+◌, inl, inr, true, nat_lt, cond, ◌++◌, [], ◌∷◌, ℕ, zero, suc, List, length, take, refl, sym, ◌∙◌, ap, arith, Result, Ok, Err, length-append}
 use Rattle.std.specs.Prelude.{IsErrAnd, IfOk}
 use Rattle.std.proofs.lemmas.Result.{err_from_is_err_and}
 use Rattle.std.proofs.lemmas.List.{take-append-le, append_assoc, append-nil}
-use Rattle.std.proofs.Math.Seq.{take-append-add, take-length}
+use Rattle.std.proofs.Math.Seq.{take-append-add}
 use Rattle.lift_disk.specs.Disk.{DiskState, Image}
 use Rattle.lift_disk.specs.Trace.{Access, Records}
 use Rattle.lift_disk.specs.Trace.Access.{Read, Write}
-use Rattle.lift_journal.specs.Calls.{writes_from, reads_from, HasRead, StartsWith, half_start, opening_calls, StopsIn, Follows}
+use Rattle.lift_journal.specs.Calls.{writes_from, reads_from, HasRead, half_start, pick_of, checkpoint_calls, opening_calls, StopsIn, Follows}
+use Rattle.lift_journal.specs.Layout.{Batch}
+use Rattle.lift_journal.specs.Switch.{IsOtherHalf}
 
 -- one call
 pub front_one : (call : Access) (old new : DiskState) → new.trace ≡ old.trace → StopsIn (call ∷ []) old new
@@ -72,38 +74,31 @@ rows_then old mid new first a b next at was is =
     is ∙ ap (λ n. mid.trace ++ reads_from n b) at ∙ ap (λ (l : List Access). l ++ reads_from (first + a) b) was ∙ append_assoc old.trace (reads_from first a) (reads_from (first + a) b)
     ∙ ap (λ (l : List Access). old.trace ++ l) (sym (reads-append first a b))
 
-pub row_then : (old mid new : DiskState) (first a next : ℕ) → next ≡ first + a → mid.trace ≡ old.trace ++ reads_from first a → HasRead next mid new → HasRead first old new
-row_then old mid new first a next at was row = (a + row.0, rows_then old mid new first a row.0 next at was row.1)
+pub row_then : (old mid new : DiskState) (first a next most end : ℕ) → next ≡ first + a → mid.trace ≡ old.trace ++ reads_from first a → HasRead next most end mid new → HasRead first (a + most) end old new
+row_then old mid new first a next most end at was row = (a + row.0, omega (arith, row.1), omega (arith, at, row.2), rows_then old mid new first a row.0 next at was row.3)
 
 -- no call
-pub row_none : (old new : DiskState) (first : ℕ) → new.trace ≡ old.trace → HasRead first old new
-row_none old new first same = (0, same ∙ sym (append-nil old.trace))
-
--- the first calls of a list, or all
-pub starts_then : (old mid new : DiskState) (first second : List Access) → mid.trace ≡ old.trace ++ first → StartsWith second mid new → StartsWith (first ++ second) old new
-starts_then old mid new first second was starts = (
-  length first + starts.0,
-  omega (arith, starts.1, length-append first second),
-  all_then old mid new first (take starts.0 second) was starts.2 ∙ ap (λ (l : List Access). old.trace ++ l) (sym (take-append-add first second starts.0)),
-)
-
-pub starts_more : (old new : DiskState) (first second : List Access) → StartsWith first old new → StartsWith (first ++ second) old new
-starts_more old new first second starts = (
-  starts.0,
-  omega (arith, starts.1, length-append first second),
-  starts.2 ∙ ap (λ (l : List Access). old.trace ++ l) (sym (take-append-le starts.0 first second starts.1)),
-)
-
-pub starts_all : (old new : DiskState) (calls : List Access) → new.trace ≡ old.trace ++ calls → StartsWith calls old new
-starts_all old new calls is = (length calls, omega arith, is ∙ ap (λ (l : List Access). old.trace ++ l) (sym (take-length calls)))
-
-pub starts_none : (old new : DiskState) (calls : List Access) → new.trace ≡ old.trace → StartsWith calls old new
-starts_none old new calls same = (0, omega arith, same ∙ sym (append-nil old.trace))
+pub row_none : (old new : DiskState) (first most end : ℕ) → first ≤ end → new.trace ≡ old.trace → HasRead first most end old new
+row_none old new first most end low same = (0, omega arith, omega (arith, low), same ∙ sym (append-nil old.trace))
 
 -- where a half begins
 pub begins_at : (half start : ℕ) → 1 ≤ half → (start ≡ 2) ⊎ (start ≡ half + 2) → half_start (nat_lt 2 start) half ≡ start
 begins_at half start some (inl is) = ap (λ b. cond b (half + 2) 2) (ap (nat_lt 2) is) ∙ sym is
 begins_at half start some (inr is) = ap (λ b. cond b (half + 2) 2) (let second : nat_lt 2 start ≡ true = grind (arith, some, is) in second) ∙ sym is
+
+-- where the other half begins, and what picks it
+pub picked_at : (half start other : ℕ) (pick : List ℕ) → 1 ≤ half → (start ≡ 2) ⊎ (start ≡ half + 2) → IsOtherHalf half start other pick
+    → (other ≡ half_start (not (nat_lt 2 start)) half) × (pick ≡ pick_of (not (nat_lt 2 start)))
+picked_at half start other pick some halves (inl is) =
+    let first : nat_lt 2 start ≡ false = ap (nat_lt 2) is.0 in
+    (is.1 ∙ ap (λ b. half_start (not b) half) (sym first), is.2 ∙ ap (λ b. pick_of (not b)) (sym first))
+picked_at half start other pick some (inl at) (inr is) = absurd (is.0 at)
+picked_at half start other pick some (inr at) (inr is) =
+    let second : nat_lt 2 start ≡ true = grind (arith, some, at) in
+    (is.1 ∙ ap (λ b. half_start (not b) half) (sym second), is.2 ∙ ap (λ b. pick_of (not b)) (sym second))
+
+pub calls_at : {start other : ℕ} {pick mark : List ℕ} (batches : List Batch) → (start ≡ other) × (pick ≡ mark) → checkpoint_calls start pick batches ≡ checkpoint_calls other mark batches
+calls_at {start} {other} {pick} {mark} batches is = ap (λ n. checkpoint_calls n pick batches) is.0 ∙ ap (λ (p : List ℕ). checkpoint_calls other p batches) is.1
 
 -- an opening, by the half that is picked
 pub opening_at : (old new : DiskState) (half start count : ℕ) → 1 ≤ half → (start ≡ 2) ⊎ (start ≡ half + 2) → new.trace ≡ old.trace ++ opening_calls start count

@@ -21,3 +21,4 @@ pub mod Switching
 pub mod Picking
 pub mod Checkpoints
 pub mod Replacing
+pub mod Ending

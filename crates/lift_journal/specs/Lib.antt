@@ -12,3 +12,4 @@ pub mod Opening
 pub mod Checkpoint
 pub mod Switch
 pub mod Fault
+pub mod Behind

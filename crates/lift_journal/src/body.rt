@@ -5,7 +5,8 @@ ghost use Rattle.lift_base.specs.Records.{IsLawful};
 ghost use Rattle.lift_record.specs.Record.{spelling_of};
 ghost use Rattle.lift_record.specs.Header.{header_bytes};
 ghost use Rattle.lift_record.specs.declared.version.Version.TheVariants.{Two};
-ghost use Rattle.lift_journal.specs.Layout.{IsBody, IsRecordIn, bodies, filled};
+ghost use Rattle.lift_journal.specs.Layout.{IsBody, IsRecordIn, bodies, filled, new_batch};
+ghost use Rattle.lift_journal.specs.Calls.{body_of};
 
 use crate::bytes::put;
 use lift_base::Record;
@@ -54,7 +55,8 @@ pub fn put_body(text: &mut [u8; 1024], batch: &[Record], number: u32)
     requires few { length batch.now ≤ 63 }
     requires numbered { 1 ≤ number }
     requires lawful { All IsLawful batch.now }
-    ensures { IsBody number (record { version = Two; records = batch.now }) (take (bodies (length batch.now)) (take 512 text.new ∷ drop 512 text.new ∷ [])) }
+    ensures spelled { IsBody number (record { version = Two; records = batch.now }) (take (bodies (length batch.now)) (take 512 text.new ∷ drop 512 text.new ∷ [])) }
+    ensures exact { take (bodies (length batch.now)) (take 512 text.new ∷ drop 512 text.new ∷ []) ≡ body_of number (new_batch batch.now) }
 {
     put_text(text, batch, number);
 }

@@ -2,7 +2,7 @@
 ghost use Rattle.std.specs.Prelude.{◌≡◌, ◌≤◌, ◌<◌, ◌+◌, ◌^◌, ◌⊎◌, ◌++◌, [], ◌∷◌, ℕ, length, take, drop, slice_get, slice_set, OnOk, OnErr, IfOk};
 ghost use Rattle.lift_disk.specs.Disk.{HasCause, LooseWithin, TouchesOnly, LeavesOnly, ChangesWithin, IsSteadyAt, IsSynced, RunsOn};
 ghost use Rattle.lift_register.specs.Base.{base_records};
-ghost use Rattle.lift_journal.specs.Layout.{sector_at};
+ghost use Rattle.lift_journal.specs.Layout.{sector_at, used};
 ghost use Rattle.lift_journal.specs.Steps.{Makes, overwritten, IsInRange, IsSyncedAt, marked, unmarked};
 ghost use Rattle.lift_journal.specs.Walk.{Reaches};
 ghost use Rattle.lift_journal.specs.Checkpoint.{batch_count, checkpoint_of, sectors_for};
@@ -10,7 +10,7 @@ ghost use Rattle.lift_journal.specs.Switch.{IsOtherHalf, HasWritten, StopsSwitch
 ghost use Rattle.lift_journal.specs.Stops.{Misses};
 ghost use Rattle.lift_journal.specs.Told.{StopsAsTold};
 ghost use Rattle.lift_disk.specs.Trace.Access.{Write};
-ghost use Rattle.lift_journal.specs.Calls.{Follows, writes_from, puts};
+ghost use Rattle.lift_journal.specs.Calls.{Follows, writes_from, puts, draft_calls, checkpoint_calls};
 
 use crate::body::{body_count, put_body, sectors_of};
 use crate::device::{mark, write_sectors};
@@ -94,9 +94,11 @@ fn write_batches<D: Disk>(disk: &mut D, register: &Register, start: u32) -> Resu
     ensures made { Makes result (sectors_for (length (base_records register.now))) (sectors_for (length (base_records register.now))) (D.state disk.old) (D.state disk.new) }
     ensures cause { HasCause result (D.state disk.old) (D.state disk.new) }
     ensures told { StopsAsTold result (D.state disk.old) (D.state disk.new) }
+    ensures follows { Follows result (draft_calls start 1 (checkpoint_of (base_records register.now))) (D.state disk.old) (D.state disk.new) }
     ensures touched { LooseWithin (IsInRange start (start + 64)) (D.state disk.old)
         → TouchesOnly (IsInRange start (start + 64)) (D.state disk.old) (D.state disk.new) }
     ensures gate { IfOk result (λ gate. (gate ≡ start + sectors_for (length (base_records register.now))) × (gate < start + 64)) }
+    ensures placed { IfOk result (λ gate. gate ≡ start + used (checkpoint_of (base_records register.now))) }
     ensures steady { OnOk result ((D.state disk.old).is_honest → (D.state disk.old).is_steady → (D.state disk.new).is_steady) }
     ensures reached { IfOk result (λ gate. (D.state disk.old).is_honest → (D.state disk.old).is_steady
         → (end : ℕ) → start + 64 ≤ end → end ≤ (D.state disk.old).size
@@ -171,6 +173,7 @@ pub fn write_checkpoint<D: Disk>(
     ensures made { Makes result (sectors_for (length (base_records register.now)) + 4) (sectors_for (length (base_records register.now)) + 2) (D.state disk.old) (D.state disk.new) }
     ensures cause { HasCause result (D.state disk.old) (D.state disk.new) }
     ensures told { StopsAsTold result (D.state disk.old) (D.state disk.new) }
+    ensures follows { Follows result (checkpoint_calls start pick.now (checkpoint_of (base_records register.now))) (D.state disk.old) (D.state disk.new) }
     ensures gate { IfOk result (λ gate. (gate ≡ start + sectors_for (length (base_records register.now))) × (gate < start + 64)) }
     ensures any_moment { (end : ℕ) → start + 64 ≤ end → end ≤ (D.state disk.old).size
         → ((D.state disk.old).is_honest → IsSynced (D.state disk.old))

@@ -1,5 +1,5 @@
 //! Batches of records, each in the journal whole or not at all.
-ghost use Rattle.std.specs.Prelude.{ℕ, ◌≡◌, ◌≤◌, ◌<◌, ◌+◌, ◌-◌, ◌++◌, ◌⊎◌, ◌↔◌, if◌then◌else◌, None, List, [], ◌∷◌, IsTrue, length, OnOk, true, false, not, All, Ok, Err, IsErrOf, IfOk, IfErr, OnErr};
+ghost use Rattle.std.specs.Prelude.{ℕ, ◌≡◌, ◌≤◌, ◌<◌, ◌+◌, ◌-◌, ◌++◌, ◌⊎◌, ◌↔◌, if◌then◌else◌, None, List, [], ◌∷◌, IsTrue, length, OnOk, true, false, not, All, Ok, Err, IsErrOf, IfOk, IfErr, IfSome, OnErr};
 ghost use Rattle.lift_base.specs.declared.history.Record.{Record as RecordValue};
 ghost use Rattle.lift_base.specs.History.{IsWithinLimits};
 ghost use Rattle.lift_base.specs.Records.{IsLawful};
@@ -12,7 +12,8 @@ ghost use Rattle.lift_journal.specs.Order.{IsEntry};
 ghost use Rattle.lift_journal.specs.Steps.{Makes, ReadsOnly, IsSyncedAt};
 ghost use Rattle.lift_journal.specs.Stops.{StopsShort, StopsCheckpoint};
 ghost use Rattle.lift_journal.specs.Told.{AnswersAsTold};
-ghost use Rattle.lift_journal.specs.Calls.{half_start, append_calls, opening_calls, StopsIn, ReadsInOrder};
+ghost use Rattle.lift_journal.specs.Calls.{half_start, append_calls, pick_of, checkpoint_calls, opening_calls, reads_from, StopsIn, HasRead, HasReadAt};
+ghost use Rattle.lift_journal.specs.Behind.{RefusedBehind};
 ghost use Rattle.lift_journal.specs.Fronts.{IsOfCursor};
 
 use crate::body::{body_count, put_body, sectors_of};
@@ -135,10 +136,11 @@ impl<D: Disk> Journal<D> {
         ensures opened { IfOk result (λ journal. journal.opened ≡ (D.state journal.device).failures) }
         ensures half { IfOk result (λ journal. LeavesNow (D.state journal.device) (Picks journal.is_second)) }
         ensures refused { IfErr result (λ err. Refuses (D.state disk) (D.state err.0) err.1) }
-        // A sync, the stamp, the pick, and the picked half up to its closing gate, sector by sector; where it is refused, a front of that.
+        // A sync, the stamp, the pick, and the picked half up to its closing gate, sector by sector; where it is refused, up to the sector that
+        // refuses it.
         ensures calls { IfOk result (λ journal. (D.state journal.device).trace
             ≡ (D.state disk).trace ++ opening_calls (half_start journal.is_second journal.shape.half) (journal.used + 1)) }
-        ensures calls_before { IfErr result (λ err. ReadsInOrder (D.state disk) (D.state err.0)) }
+        ensures calls_before { IfErr result (λ err. RefusedBehind err.1 (D.state disk) (D.state err.0)) }
     {
         let mut device = disk;
         match find_place(&mut device) {
@@ -249,6 +251,12 @@ impl<D: Disk> Journal<D> {
         ensures runs { RunsOn (D.state self.old.device) (D.state self.new.device) }
         ensures made { Makes result (sectors_for (length (base_records register.now)) + 4) (sectors_for (length (base_records register.now)) + 2)
             (D.state self.old.device) (D.state self.new.device) }
+        // In the half that isn't picked: each batch and its gate, a closed gate, a sync, the pick, a sync; where one fails, those before it.
+        ensures calls { OnOk result ((D.state self.new.device).trace ≡ (D.state self.old.device).trace
+            ++ checkpoint_calls (half_start (not self.old.is_second) self.old.shape.half) (pick_of (not self.old.is_second)) (checkpoint_of (base_records register.now))) }
+        ensures calls_before { IsErrOf result JournalFault.Disk
+            → StopsIn (checkpoint_calls (half_start (not self.old.is_second) self.old.shape.half) (pick_of (not self.old.is_second)) (checkpoint_of (base_records register.now)))
+            (D.state self.old.device) (D.state self.new.device) }
         ensures told { AnswersAsTold result (D.state self.old.device) (D.state self.new.device) }
 
         // Where it stopped says which half a cut leaves picked.
@@ -330,6 +338,16 @@ impl<D: Disk> Journal<D> {
         ensures same { (self.new.shape ≡ self.old.shape) × (self.new.used ≡ self.old.used) × (self.new.opened ≡ self.old.opened) }
         ensures second { self.new.is_second ≡ self.old.is_second }
         ensures number { self.new.number ≡ self.old.number }
+        // The gate and its body in a row, and at the end no call; where it is refused, as far as that came.
+        ensures calls { IfOk result (λ found. IfSome found (λ records. (D.state self.new.device).trace ≡ (D.state self.old.device).trace
+            ++ reads_from (half_start self.old.is_second self.old.shape.half + cursor.old.skipped) (1 + bodies (length records.items)))) }
+        ensures rests { result ≡ Ok None → (self.new ≡ self.old) × (cursor.new ≡ cursor.old) }
+        ensures calls_failed { IsErrOf result JournalFault.Disk → HasRead (half_start self.old.is_second self.old.shape.half + cursor.old.skipped) 2
+            (half_start self.old.is_second self.old.shape.half + self.old.shape.half) (D.state self.old.device) (D.state self.new.device) }
+        ensures calls_damaged { (s : _) → IsErrOf result (JournalFault.Damaged s)
+            → HasReadAt s (half_start self.old.is_second self.old.shape.half + self.old.shape.half) (D.state self.old.device) (D.state self.new.device) }
+        ensures moves { IfOk result (λ found. IfSome found (λ records. (cursor.new.skipped ≡ cursor.old.skipped + (1 + bodies (length records.items)))
+            × (cursor.new.given ≡ cursor.old.given + 1))) }
         // At any device: the end is told only behind all used sectors, and damage only of the cursor's own gate.
         ensures ends { result ≡ Ok None → self.old.used ≤ cursor.old.skipped }
         ensures at_gate { (s : _) → IsErrOf result (JournalFault.Damaged s)
@@ -372,7 +390,7 @@ impl<D: Disk> Journal<D> {
         ensures refused { IfErr result (λ fault. Refuses (D.state self.old.device) (D.state self.new.device) fault) }
         ensures calls { OnOk result ((D.state self.new.device).trace
             ≡ (D.state self.old.device).trace ++ opening_calls (half_start self.new.is_second self.new.shape.half) (self.new.used + 1)) }
-        ensures calls_before { OnErr result (ReadsInOrder (D.state self.old.device) (D.state self.new.device)) }
+        ensures calls_before { IfErr result (λ fault. RefusedBehind fault (D.state self.old.device) (D.state self.new.device)) }
         ensures breaks { IsErrOf result JournalFault.Disk → self.new.is_broken ≡ true }
         ensures stays { IfErr result (λ fault. (fault ≡ JournalFault.Disk) ⊎ (self.new.is_broken ≡ self.old.is_broken)) }
         ensures same { OnErr result ((self.new.shape ≡ self.old.shape) × (self.new.used ≡ self.old.used) × (self.new.opened ≡ self.old.opened)) }
@@ -396,7 +414,7 @@ impl<D: Disk> Journal<D> {
         ensures refused { IfErr result (λ fault. Refuses (D.state self.old.device) (D.state self.new.device) fault) }
         ensures calls { OnOk result ((D.state self.new.device).trace
             ≡ (D.state self.old.device).trace ++ opening_calls (half_start self.new.is_second self.new.shape.half) (self.new.used + 1)) }
-        ensures calls_before { OnErr result (ReadsInOrder (D.state self.old.device) (D.state self.new.device)) }
+        ensures calls_before { IfErr result (λ fault. RefusedBehind fault (D.state self.old.device) (D.state self.new.device)) }
         ensures breaks { IsErrOf result JournalFault.Disk → self.new.is_broken ≡ true }
         ensures stays { IfErr result (λ fault. (fault ≡ JournalFault.Disk) ⊎ (self.new.is_broken ≡ self.old.is_broken)) }
         ensures same { OnErr result ((self.new.shape ≡ self.old.shape) × (self.new.used ≡ self.old.used) × (self.new.opened ≡ self.old.opened)) }
@@ -462,6 +480,7 @@ impl<D: Arm> Journal<D> {
         ensures told { IsTold (D.fails_by calls (D.state self.old.device).calls) (D.state self.new.device) }
         ensures rest { (self.new.shape ≡ self.old.shape) × (self.new.used ≡ self.old.used) × (self.new.opened ≡ self.old.opened) × (self.new.is_broken ≡ self.old.is_broken) }
         ensures second { self.new.is_second ≡ self.old.is_second }
+        ensures number { self.new.number ≡ self.old.number }
     {
         self.device.arm(calls);
     }

@@ -11,7 +11,8 @@ ghost use Rattle.lift_journal.specs.Opening.{RefusedFor};
 ghost use Rattle.lift_journal.specs.Fronts.{IsOfChain, IsOfStamp};
 ghost use Rattle.lift_journal.specs.Told.{NoneFails};
 ghost use Rattle.lift_disk.specs.Trace.Access.{Read};
-ghost use Rattle.lift_journal.specs.Calls.{reads_from, opening_calls, StartsWith, ReadsInOrder};
+ghost use Rattle.lift_journal.specs.Calls.{reads_from, opening_calls};
+ghost use Rattle.lift_journal.specs.Behind.{StampBehind, EndsInHalf, RefusedBehind};
 
 use crate::fault::JournalFault;
 use crate::reads::{read_mark, read_sector, settle};
@@ -41,7 +42,7 @@ fn read_shape<D: Disk>(disk: &mut D) -> Result<Shape, JournalFault>
     ensures not_formatted { IsErrOf result JournalFault.NotFormatted → (D.state disk.old).is_honest → IsSynced (D.state disk.old)
         → (shape : ShapeValue) → IsStamped shape (D.state disk.old).image → ⊥ }
     ensures read { OnOk result ((D.state disk.new).trace ≡ (D.state disk.old).trace ++ Read 1 ∷ []) }
-    ensures row { StartsWith (Read 1 ∷ []) (D.state disk.old) (D.state disk.new) }
+    ensures behind { IfErr result (λ fault. StampBehind fault (D.state disk.old) (D.state disk.new)) }
 {
     if disk.sectors() < 2 {
         return Err(JournalFault::NotFormatted);
@@ -68,7 +69,8 @@ fn place_of<D: Disk>(disk: &mut D, shape: Shape) -> Result<Place, JournalFault>
     ensures damaged { (s : _) → IsErrOf result (JournalFault.Damaged s) → (D.state disk.old).is_honest → IsSynced (D.state disk.old)
         → IsDamagedAt (D.state disk.old).image (start_of shape.half (D.state disk.old).image) (start_of shape.half (D.state disk.old).image + shape.half) s }
     ensures read { IfOk result (λ place. (D.state disk.new).trace ≡ (D.state disk.old).trace ++ Read 0 ∷ reads_from place.start (place.gate - place.start + 1)) }
-    ensures row { (start count : ℕ) × StartsWith (Read 0 ∷ reads_from start count) (D.state disk.old) (D.state disk.new) }
+    ensures behind { IfErr result (λ fault. (fault ≡ JournalFault.Disk) × ((D.state disk.new).trace ≡ (D.state disk.old).trace)
+        ⊎ EndsInHalf fault (Read 0 ∷ []) ((D.state disk.old).is_honest × IsSynced (D.state disk.old)) (D.state disk.old).image (D.state disk.old) (D.state disk.new)) }
 {
     let Ok(is_second) = read_mark(disk, 0) else {
         return Err(JournalFault::Disk);
@@ -96,7 +98,7 @@ pub fn find_place<D: Disk>(disk: &mut D) -> Result<Place, JournalFault>
     ensures refused { IfErr result (λ fault. RefusedFor fault (D.state disk.old) (D.state disk.new)) }
     ensures cause { IfErr result (λ fault. HasItsCause fault (D.state disk.old) (D.state disk.new)) }
     ensures read { IfOk result (λ place. (D.state disk.new).trace ≡ (D.state disk.old).trace ++ opening_calls place.start (place.gate - place.start + 1)) }
-    ensures row { ReadsInOrder (D.state disk.old) (D.state disk.new) }
+    ensures behind { IfErr result (λ fault. RefusedBehind fault (D.state disk.old) (D.state disk.new)) }
 {
     if settle(disk).is_err() {
         return Err(JournalFault::Disk);

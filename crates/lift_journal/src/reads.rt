@@ -5,7 +5,7 @@ ghost use Rattle.lift_record.specs.Header.{IsHeaderSpelling};
 ghost use Rattle.lift_journal.specs.Layout.{sector_at, is_marked, bodies};
 ghost use Rattle.lift_disk.specs.Trace.{Records};
 ghost use Rattle.lift_disk.specs.Trace.Access.{Sync};
-ghost use Rattle.lift_journal.specs.Calls.{HasRead, reads_from};
+ghost use Rattle.lift_journal.specs.Calls.{HasRead, HasReadAt, reads_from};
 ghost use Rattle.lift_journal.specs.Steps.{Looks};
 ghost use Rattle.lift_journal.specs.Seen.{ShowsBody, ShowsAt, FitsBelow, zeros};
 
@@ -73,14 +73,15 @@ fn read_rest<D: Disk>(
     header: Header,
     first: &[u8; 512],
 ) -> Result<Option<Stored>, DiskFault>
-    requires below { gate < end }
+    requires below { gate + 2 < end }
     requires inside { end ≤ (D.state disk.old).size }
     requires header { IsHeaderSpelling (take 16 first.now) header }
     ensures looks { Looks result (D.state disk.old) (D.state disk.new) }
     ensures fits { IfOk result (λ found. IfSome found (λ stored. FitsBelow gate end stored)) }
     ensures seen { IfOk result (λ found. (D.state disk.old).is_honest → IsSynced (D.state disk.old)
         → sector_at (D.state disk.old).image (gate + 1) ≡ first.now → ShowsBody (D.state disk.old).image gate end header.number found) }
-    ensures row { HasRead (gate + 2) (D.state disk.old) (D.state disk.new) }
+    ensures row { OnOk result (HasRead (gate + 2) 1 end (D.state disk.old) (D.state disk.new)) }
+    ensures unread { OnErr result (HasRead (gate + 2) 0 end (D.state disk.old) (D.state disk.new)) }
     ensures whole { IfOk result (λ found. IfSome found (λ stored.
         (D.state disk.new).trace ≡ (D.state disk.old).trace ++ reads_from (gate + 2) (bodies (length stored.records.items) - 1))) }
 {
@@ -113,7 +114,8 @@ fn read_body<D: Disk>(
     ensures fits { IfOk result (λ found. IfSome found (λ stored. FitsBelow gate end stored)) }
     ensures seen { IfOk result (λ found. (D.state disk.old).is_honest → IsSynced (D.state disk.old)
         → ShowsBody (D.state disk.old).image gate end number found) }
-    ensures row { HasRead (gate + 1) (D.state disk.old) (D.state disk.new) }
+    ensures row { OnOk result (HasRead (gate + 1) 2 end (D.state disk.old) (D.state disk.new)) }
+    ensures unread { OnErr result (HasRead (gate + 1) 1 end (D.state disk.old) (D.state disk.new)) }
     ensures whole { IfOk result (λ found. IfSome found (λ stored.
         (D.state disk.new).trace ≡ (D.state disk.old).trace ++ reads_from (gate + 1) (bodies (length stored.records.items)))) }
 {
@@ -155,7 +157,8 @@ pub fn look<D: Disk>(disk: &mut D, gate: u32, end: u32, number: u32) -> Result<A
     ensures fits { IfOk result (λ at. (stored : _) → at ≡ AtGate.Batch stored → FitsBelow gate end stored) }
     ensures seen { IfOk result (λ at. (D.state disk.old).is_honest → IsSynced (D.state disk.old)
         → ShowsAt (D.state disk.old).image gate end number at) }
-    ensures row { HasRead gate (D.state disk.old) (D.state disk.new) }
+    ensures damaged { IfOk result (λ at. at ≡ AtGate.Damaged → HasReadAt gate end (D.state disk.old) (D.state disk.new)) }
+    ensures unread { OnErr result (HasRead gate 2 end (D.state disk.old) (D.state disk.new)) }
     ensures whole { IfOk result (λ at. (stored : _) → at ≡ AtGate.Batch stored
         → (D.state disk.new).trace ≡ (D.state disk.old).trace ++ reads_from gate (1 + bodies (length stored.records.items))) }
     ensures closed { IfOk result (λ at. at ≡ AtGate.Closed → (D.state disk.new).trace ≡ (D.state disk.old).trace ++ reads_from gate 1) }

@@ -1,9 +1,10 @@
 //! The way along a chain to its closed gate.
-ghost use Rattle.std.specs.Prelude.{◌≡◌, ◌≤◌, ◌<◌, ◌+◌, ◌-◌, ◌++◌, ◌^◌, ◌↔◌, IsTrue, IsErrOf, IfOk, IfErr, None};
+ghost use Rattle.std.specs.Prelude.{◌≡◌, ◌≤◌, ◌<◌, ◌+◌, ◌-◌, ◌++◌, ◌^◌, ◌↔◌, [], IsTrue, IsErrOf, IfOk, IfErr, None};
 ghost use Rattle.lift_disk.specs.Disk.{IsSynced};
 ghost use Rattle.lift_record.specs.declared.version.Version.TheVariants.{One};
 ghost use Rattle.lift_journal.specs.Steps.{Examines};
-ghost use Rattle.lift_journal.specs.Calls.{HasRead, reads_from};
+ghost use Rattle.lift_journal.specs.Calls.{reads_from};
+ghost use Rattle.lift_journal.specs.Behind.{EndsIn};
 ghost use Rattle.lift_journal.specs.Walk.{EndsAt, IsDamagedAt};
 ghost use Rattle.lift_journal.specs.Fronts.{Passes, passed, IsOfChain};
 
@@ -71,7 +72,8 @@ pub fn walk<D: Disk>(disk: &mut D, start: u32, end: u32) -> Result<Front, Journa
     ensures place { IfOk result (λ at. (start ≤ at.gate) × (at.gate < end) × (1 ≤ at.number) × (at.number ≤ at.gate)) }
     ensures damaged { (s : _) → IsErrOf result (JournalFault.Damaged s) → (D.state disk.old).is_honest → IsSynced (D.state disk.old)
         → IsDamagedAt (D.state disk.old).image start end s }
-    ensures row { HasRead start (D.state disk.old) (D.state disk.new) }
+    ensures behind { IfErr result (λ fault. EndsIn fault [] start end ((D.state disk.old).is_honest × IsSynced (D.state disk.old)) (D.state disk.old).image
+        (D.state disk.old) (D.state disk.new)) }
     ensures whole { IfOk result (λ at. (D.state disk.new).trace ≡ (D.state disk.old).trace ++ reads_from start (at.gate - start + 1)) }
 {
     let mut front = Front::at(start);

@@ -1,4 +1,4 @@
-use Rattle.std.proofs.Common.{◌≡◌, ◌+◌, ◌*◌, [], ◌∷◌, List, length, take, drop, All, sym, ◌∙◌, ap, subst, arith}
+use Rattle.std.proofs.Common.{◌≡◌, ◌+◌, ◌*◌, ◌++◌, [], ◌∷◌, List, length, take, drop, All, sym, ◌∙◌, ap, subst, arith}
 use Rattle.std.proofs.lemmas.Result.{err_from_is_err_and}
 use Rattle.lift_base.specs.declared.history.Record.{Record}
 use Rattle.lift_base.specs.Records.{IsLawful}
@@ -9,7 +9,9 @@ use Rattle.lift_journal.specs.Layout.{bodies, used, IsBody}
 use Rattle.lift_journal.specs.Walk.{Reaches}
 use Rattle.lift_journal.specs.Checkpoint.{in_batches, batch_count, sectors_for}
 use Rattle.lift_journal.proofs.Bases.{base_in_order}
-use Rattle.lift_journal.proofs.Checkpoints.{Drafted, drafted_touched, drafted_more, lawful_part, next_size, next_body, next_room, used_most, used_within, used_checkpoint}
+use Rattle.lift_journal.proofs.Checkpoints.{Drafted, drafted_touched, drafted_more, lawful_part, next_size, next_body, next_exact, next_room, draft_stops, used_most, used_within, used_checkpoint}
+use Rattle.lift_journal.specs.Calls.{body_of, draft_calls, StopsIn}
+use Rattle.lift_journal.proofs.Following.{err_follows}
 use Rattle.lift_journal.proofs.Telling.{fails_then, err_stops}
 use Rattle.lift_journal.proofs.checkpoint.write_batches.Goals as goal
 
@@ -63,11 +65,15 @@ loop-index-preserved g c =
     let is : n ≡ bodies (length items) = c.body_count-bodies.ensures ∙ ap bodies c.len.ensures.value in
     let long = next_size n items c.sectors_of-body.result.now is c.sectors_of-body.ensures.length in
     let room = next_room c.args.start c.loop-index.gate k n c.batches_for-index-end.result records items c.loop-index.invariant.at c.loop-index-test.true c.batches_for-index-end.ensures.limit is in
-    let written = subst (λ (s : Image). IsBody (k + 1) (record { version = Two; records = items }) (take (bodies (length items)) s)) (sym c.sectors_of-body.ensures.cut) (subst (λ (l : List Record). IsBody (k + 1) (record { version = Two; records = l }) (take (bodies (length l)) (take 512 c.put_body.new.text ∷ drop 512 c.put_body.new.text ∷ []))) c.deref.ensures.0 c.put_body.ensures) in
+    let written = subst (λ (s : Image). IsBody (k + 1) (record { version = Two; records = items }) (take (bodies (length items)) s)) (sym c.sectors_of-body.ensures.cut) (subst (λ (l : List Record). IsBody (k + 1) (record { version = Two; records = l }) (take (bodies (length l)) (take 512 c.put_body.new.text ∷ drop 512 c.put_body.new.text ∷ []))) c.deref.ensures.0 c.put_body.ensures.spelled) in
+    let exact : take (bodies (length items)) c.sectors_of-body.result.now ≡ body_of (k + 1) (record { version = Two; records = items }) =
+    ap (λ (s : Image). take (bodies (length items)) s) c.sectors_of-body.ensures.cut
+    ∙ subst (λ (l : List Record). take (bodies (length l)) (take 512 c.put_body.new.text ∷ drop 512 c.put_body.new.text ∷ []) ≡ body_of (k + 1) (record { version = Two; records = l })) c.deref.ensures.0 c.put_body.ensures.exact in
     subst (λ m. Drafted old new c.args.start (c.loop-index.gate + (m + 1)) (k + 1) records) long
     (drafted_more old now new c.args.start c.loop-index.gate k records c.loop-index.invariant sectors (omega (arith, long, room)) (long ∙ is ∙ ap (λ (l : List Record). bodies (length l)) c.base_batch-batch.ensures)
     (next_body k n records items c.sectors_of-body.result.now c.base_batch-batch.ensures is written) (base_in_order c.args.register.now c.base_len.ensures.lawful)
-    c.write_open_batch.ensures.runs c.in_ok-write_open_batch.ensures.made.calls c.in_ok-write_open_batch.ensures.made.writes c.in_ok-write_open_batch.ensures.cause.ok c.in_ok-write_open_batch.ensures.told.ok c.write_open_batch.ensures.touched c.in_ok-write_open_batch.ensures.written (g.met.D.Disk.whole c.loop-index.disk))
+    c.write_open_batch.ensures.runs c.in_ok-write_open_batch.ensures.made.calls c.in_ok-write_open_batch.ensures.made.writes c.in_ok-write_open_batch.ensures.cause.ok c.in_ok-write_open_batch.ensures.told.ok
+    (next_exact k n records items c.sectors_of-body.result.now c.base_batch-batch.ensures is exact) c.in_ok-write_open_batch.ensures.follows.all c.write_open_batch.ensures.touched c.in_ok-write_open_batch.ensures.written (g.met.D.Disk.whole c.loop-index.disk))
 
 pub returns-clause-gate : goal.returns-clause-gate
 returns-clause-gate g c =
@@ -129,3 +135,38 @@ returns-in_err-write_open_batch-clause-told g c =
 
 pub returns-clause-told : goal.returns-clause-told
 returns-clause-told g c = record { ok = c.loop-index.invariant.told; err = tt }
+
+pub returns-in_err-write_open_batch-clause-follows : goal.returns-in_err-write_open_batch-clause-follows
+returns-in_err-write_open_batch-clause-follows g c =
+    let items = c.base_batch-batch.result.items in
+    let records = base_records c.args.register.now in
+    let old = g.D.Disk.state c.args.disk.now in
+    let new = g.D.Disk.state c.write_open_batch.new.disk in
+    let n = c.body_count-bodies.result in
+    let k = c.loop-index.index in
+    let is : n ≡ bodies (length items) = c.body_count-bodies.ensures ∙ ap bodies c.len.ensures.value in
+    let all : c.batches_for-index-end.result ≡ batch_count (length records) = c.batches_for-index-end.ensures.value ∙ ap batch_count c.base_len.ensures.value in
+    let exact : take (bodies (length items)) c.sectors_of-body.result.now ≡ body_of (k + 1) (record { version = Two; records = items }) =
+    ap (λ (s : Image). take (bodies (length items)) s) c.sectors_of-body.ensures.cut
+    ∙ subst (λ (l : List Record). take (bodies (length l)) (take 512 c.put_body.new.text ∷ drop 512 c.put_body.new.text ∷ []) ≡ body_of (k + 1) (record { version = Two; records = l })) c.deref.ensures.0 c.put_body.ensures.exact in
+    err_follows _ c.from_residual.result old new (draft_calls c.args.start 1 (in_batches (batch_count (length records)) records)) c.from_residual.ensures.1
+    (subst (λ m. StopsIn (draft_calls c.args.start 1 (in_batches m records)) old new) all
+    (draft_stops old (g.D.Disk.state c.loop-index.disk) new c.args.start c.loop-index.gate k c.batches_for-index-end.result records (take n c.sectors_of-body.result.now) c.loop-index.invariant.at
+    (next_exact k n records items c.sectors_of-body.result.now c.base_batch-batch.ensures is exact) c.loop-index-test.true c.loop-index.invariant.trace c.in_err-write_open_batch.ensures.follows.front))
+
+pub returns-clause-follows : goal.returns-clause-follows
+returns-clause-follows g c =
+    let records = base_records c.args.register.now in
+    let all : c.loop-index.index ≡ batch_count (length records) =
+    omega (arith, c.loop-index-test.false, c.loop-index.auto.index-end, c.batches_for-index-end.ensures.value, ap batch_count c.base_len.ensures.value) in
+    record {
+      all = subst (λ m. (g.D.Disk.state c.loop-index.disk).trace ≡ (g.D.Disk.state c.args.disk.now).trace ++ draft_calls c.args.start 1 (in_batches m records)) all c.loop-index.invariant.trace;
+      front = tt;
+    }
+
+pub returns-clause-placed : goal.returns-clause-placed
+returns-clause-placed g c =
+    let records = base_records c.args.register.now in
+    let all : c.loop-index.index ≡ batch_count (length records) =
+    omega (arith, c.loop-index-test.false, c.loop-index.auto.index-end, c.batches_for-index-end.ensures.value, ap batch_count c.base_len.ensures.value) in
+    c.loop-index.invariant.at ∙ ap (λ m. c.args.start + used (in_batches m records)) all

@@ -1,9 +1,9 @@
-use Rattle.std.proofs.Common.{◌≡◌, ◌+◌, length, slice_set, slice_get, ◌∙◌, ap, arith}
+use Rattle.std.proofs.Common.{◌≡◌, ◌+◌, ◌++◌, length, subst, slice_set, slice_get, ◌∙◌, ap, arith}
 use Rattle.std.proofs.lemmas.List.{length-set}
 use Rattle.lift_disk.specs.Disk.{Image, ChangesWithin}
 use Rattle.lift_disk.proofs.History.{set_other}
 use Rattle.lift_register.specs.Base.{base_records}
-use Rattle.lift_journal.specs.Layout.{sector_at}
+use Rattle.lift_journal.specs.Layout.{sector_at, used}
 use Rattle.lift_journal.specs.Steps.{IsInRange, unmarked}
 use Rattle.lift_journal.specs.Checkpoint.{sectors_for}
 use Rattle.lift_disk.proofs.Moments.{changes_more, changes_twice}
@@ -11,6 +11,8 @@ use Rattle.lift_journal.proofs.Looking.{err_any}
 use Rattle.lift_journal.specs.Checkpoint.{checkpoint_of}
 use Rattle.lift_journal.proofs.Appends.{sector_set}
 use Rattle.lift_journal.proofs.Switching.{checkpoint_leaves, written_left, writing_stops}
+use Rattle.lift_journal.specs.Calls.{Follows, draft_calls, puts}
+use Rattle.lift_journal.proofs.Following.{all_then, front_then, front_more, err_follows}
 use Rattle.lift_journal.proofs.Telling.{passes_then, fails_then, err_stops}
 use Rattle.lift_journal.proofs.checkpoint.write_checkpoint.Goals as goal
 
@@ -105,3 +107,36 @@ returns-in_err-switch_half-clause-stops g c =
     (touched.within honest) (c.in_ok-gate.ensures.reached honest synced.steady end high inside) c.in_ok-gate.ensures.made.calls
     (c.in_err-switch_half.ensures.stops c.args.start (c.args.start + 64) (omega (arith, c.in_ok-gate.ensures.gate.0)) c.in_ok-gate.ensures.gate.1 touched.loose
     honest_mid (runs.inert.1 inert) (c.in_ok-gate.ensures.steady honest synced.steady)))
+
+pub returns-in_err-gate-clause-follows : goal.returns-in_err-gate-clause-follows
+returns-in_err-gate-clause-follows g c =
+    let old = g.D.Disk.state c.args.disk.now in
+    let new = g.D.Disk.state c.write_batches.new.disk in
+    let batches = checkpoint_of (base_records c.args.register.now) in
+    let switch = puts (c.args.start + used batches) unmarked ++ puts 0 c.args.pick.now in
+    err_follows _ c.from_residual.result old new (draft_calls c.args.start 1 batches ++ switch) c.from_residual.ensures.1
+    (front_more old new (draft_calls c.args.start 1 batches) switch c.in_err-gate.ensures.follows.front)
+
+pub returns-in_err-switch_half-clause-follows : goal.returns-in_err-switch_half-clause-follows
+returns-in_err-switch_half-clause-follows g c =
+    let old = g.D.Disk.state c.args.disk.now in
+    let mid = g.D.Disk.state c.write_batches.new.disk in
+    let new = g.D.Disk.state c.switch_half.new.disk in
+    let batches = checkpoint_of (base_records c.args.register.now) in
+    let drafts = draft_calls c.args.start 1 batches in
+    subst (λ gate. Follows c.from_residual-in_err-switch_half.result (drafts ++ (puts gate unmarked ++ puts 0 c.args.pick.now)) old new) c.in_ok-gate.ensures.placed
+    (err_follows _ c.from_residual-in_err-switch_half.result old new (drafts ++ (puts c.in_ok-gate.gate unmarked ++ puts 0 c.args.pick.now)) c.from_residual-in_err-switch_half.ensures.1
+    (front_then old mid new drafts (puts c.in_ok-gate.gate unmarked ++ puts 0 c.args.pick.now) c.in_ok-gate.ensures.follows.all c.in_err-switch_half.ensures.follows.front))
+
+pub returns-clause-follows : goal.returns-clause-follows
+returns-clause-follows g c =
+    let old = g.D.Disk.state c.args.disk.now in
+    let mid = g.D.Disk.state c.write_batches.new.disk in
+    let new = g.D.Disk.state c.switch_half.new.disk in
+    let batches = checkpoint_of (base_records c.args.register.now) in
+    let drafts = draft_calls c.args.start 1 batches in
+    record {
+      all = subst (λ gate. new.trace ≡ old.trace ++ (drafts ++ (puts gate unmarked ++ puts 0 c.args.pick.now))) c.in_ok-gate.ensures.placed
+          (all_then old mid new drafts (puts c.in_ok-gate.gate unmarked ++ puts 0 c.args.pick.now) c.in_ok-gate.ensures.follows.all c.in_ok-switch_half.ensures.follows.all);
+      front = tt;
+    }

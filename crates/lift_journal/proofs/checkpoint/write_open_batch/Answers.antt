@@ -6,7 +6,7 @@ use Rattle.lift_journal.specs.Steps.{overwritten, marked, IsInRange}
 use Rattle.lift_journal.proofs.Telling.{call_stops, stops_then}
 use Rattle.lift_disk.specs.Trace.Access.{Write}
 use Rattle.lift_journal.specs.Calls.{Follows, writes_from}
-use Rattle.lift_journal.proofs.Following.{front_one, one_follows, front_more, follows_then, err_follows}
+use Rattle.lift_journal.proofs.Following.{one_follows, front_more, follows_then, err_follows}
 use Rattle.lift_journal.proofs.checkpoint.write_open_batch.Goals as goal
 
 pub returns-in_err-write_sectors-clause-touched : goal.returns-in_err-write_sectors-clause-touched

@@ -8,10 +8,12 @@ use Rattle.lift_journal.specs.Opening.{RefusedFor}
 use Rattle.lift_journal.proofs.Looking.{reads_then, well_then, ok_weaker, cause_then, if_err_weaker, if_err_both, open_ok, open_err}
 use Rattle.lift_journal.proofs.Refusing.{refused_stamp, refused_chain}
 use Rattle.lift_journal.specs.Told.{NoneFails}
-use Rattle.std.proofs.Common.{[], ◌∷◌}
+use Rattle.std.proofs.Common.{[], ◌∷◌, inl, arith}
 use Rattle.lift_disk.specs.Trace.Access.{Read, Sync}
-use Rattle.lift_journal.specs.Calls.{reads_from, opening_calls}
-use Rattle.lift_journal.proofs.Following.{all_then, starts_then, starts_more, starts_none, if_ok_weaker}
+use Rattle.lift_journal.specs.Behind.{RefusedBehind}
+use Rattle.lift_journal.proofs.Following.{all_then, if_ok_weaker}
+use Rattle.lift_journal.proofs.Ending.{stamp_behind, half_behind}
+use Rattle.std.proofs.lemmas.List.{append-nil}
 use Rattle.lift_journal.proofs.place.find_place.Goals as goal
 
 pub returns-in-Err-clause-only : goal.returns-in-Err-clause-only
@@ -84,13 +86,13 @@ returns-clause-told g c =
     let both : ReadsWell old read = well_then old mid read c.settle.ensures.looks.only well c.in-Ok.ensures.examines.ok in
     ok_weaker c.place_of.result (ReadsWell read new) (NoneFails old new) (λ last. (well_then old read new only both last).told) c.place_of.ensures.examines.ok
 
-pub returns-in-Err-clause-row : goal.returns-in-Err-clause-row
-returns-in-Err-clause-row g c =
+pub returns-in-Err-clause-behind : goal.returns-in-Err-clause-behind
+returns-in-Err-clause-behind g c =
     let old = g.D.Disk.state c.args.disk.now in
     let mid = g.D.Disk.state c.settle.new.disk in
     let new = g.D.Disk.state c.read_shape.new.disk in
     let synced = open_ok c.settle.result (mid.trace ≡ old.trace ++ Sync ∷ []) (sym c.is_err.ensures.value ∙ c.if-is_err.false) c.settle.ensures.recorded.ok in
-    (0, 0, starts_more old new (Sync ∷ Read 1 ∷ []) (Read 0 ∷ []) (starts_then old mid new (Sync ∷ []) (Read 1 ∷ []) synced c.read_shape.ensures.row))
+    stamp_behind c.in-Err.fault old mid new synced c.settle.ensures.looks.only.runs.size c.in-Err.ensures.behind
 
 pub returns-clause-read : goal.returns-clause-read
 returns-clause-read g c =
@@ -102,18 +104,24 @@ returns-clause-read g c =
     if_ok_weaker c.place_of.result _ _
     (λ place is. all_then old read new (Sync ∷ Read 1 ∷ []) _ (all_then old mid read (Sync ∷ []) (Read 1 ∷ []) synced c.in-Ok.ensures.read) is) c.place_of.ensures.read
 
-pub returns-clause-row : goal.returns-clause-row
-returns-clause-row g c =
+pub returns-clause-behind : goal.returns-clause-behind
+returns-clause-behind g c =
     let old = g.D.Disk.state c.args.disk.now in
     let mid = g.D.Disk.state c.settle.new.disk in
     let read = g.D.Disk.state c.read_shape.new.disk in
     let new = g.D.Disk.state c.place_of.new.disk in
+    let first = c.settle.ensures.looks.only in
+    let second = c.read_shape.ensures.examines.only in
     let synced = open_ok c.settle.result (mid.trace ≡ old.trace ++ Sync ∷ []) (sym c.is_err.ensures.value ∙ c.if-is_err.false) c.settle.ensures.recorded.ok in
-    let row = c.place_of.ensures.row in
-    (row.0, row.1, starts_then old read new (Sync ∷ Read 1 ∷ []) (Read 0 ∷ reads_from row.0 row.1) (all_then old mid read (Sync ∷ []) (Read 1 ∷ []) synced c.in-Ok.ensures.read) row.2)
+    let safe : old.is_honest → IsSynced mid = open_ok c.settle.result (old.is_honest → IsSynced mid) (sym c.is_err.ensures.value ∙ c.if-is_err.false) c.settle.ensures.synced in
+    let traced : read.trace ≡ old.trace ++ Sync ∷ Read 1 ∷ [] = all_then old mid read (Sync ∷ []) (Read 1 ∷ []) synced c.in-Ok.ensures.read in
+    if_err_weaker c.place_of.result _ (λ fault. RefusedBehind fault old new)
+    (λ fault _ behind. half_behind fault old read new traced (second.runs.size ∙ first.runs.size) c.place_of.ensures.examines.only
+    (λ honest. (let honest_mid = first.runs.honest.1 honest in (second.runs.honest.1 honest_mid, (c.in-Ok.ensures.examines.ok.kept honest_mid (safe honest)).synced))) behind) c.place_of.ensures.behind
 
-pub returns-then-is_err-clause-row : goal.returns-then-is_err-clause-row
-returns-then-is_err-clause-row g c =
+pub returns-then-is_err-clause-behind : goal.returns-then-is_err-clause-behind
+returns-then-is_err-clause-behind g c =
     let old = g.D.Disk.state c.args.disk.now in
     let new = g.D.Disk.state c.settle.new.disk in
-    (0, 0, starts_none old new (opening_calls 0 0) (open_err c.settle.result (new.trace ≡ old.trace) (sym c.is_err.ensures.value ∙ c.if-is_err.true) c.settle.ensures.recorded.err))
+    let same = open_err c.settle.result (new.trace ≡ old.trace) (sym c.is_err.ensures.value ∙ c.if-is_err.true) c.settle.ensures.recorded.err in
+    inl (record { count = 0; some_left = omega arith; made = same ∙ sym (append-nil old.trace) })

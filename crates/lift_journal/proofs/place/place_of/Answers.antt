@@ -1,8 +1,10 @@
 use Rattle.lift_journal.proofs.Looking.{reads_then, well_then, cause_then}
-use Rattle.std.proofs.Common.{[], ◌∷◌}
+use Rattle.std.proofs.Common.{◌≡◌, ◌⊎◌, ◌+◌, [], ◌∷◌, inl, inr, refl}
 use Rattle.lift_disk.specs.Trace.Access.{Read}
-use Rattle.lift_journal.specs.Calls.{reads_from}
-use Rattle.lift_journal.proofs.Following.{all_then, starts_all, starts_none}
+use Rattle.lift_journal.proofs.Following.{all_then}
+use Rattle.lift_journal.proofs.Ending.{ends_then}
+use Rattle.lift_disk.specs.Disk.{IsSynced}
+use Rattle.lift_journal.proofs.place.place_of.Goals.{then-is_second, else-is_second}
 use Rattle.lift_journal.proofs.place.place_of.Goals as goal
 
 pub returns-in-Ok-walk-clause-examines : goal.returns-in-Ok-walk-clause-examines
@@ -31,20 +33,23 @@ pub returns-in-Ok-walk-clause-read : goal.returns-in-Ok-walk-clause-read
 returns-in-Ok-walk-clause-read g c =
     all_then (g.D.Disk.state c.args.disk.now) (g.D.Disk.state c.read_mark.new.disk) (g.D.Disk.state c.walk.new.disk) (Read 0 ∷ []) _ c.in-Ok.ensures.read c.in-Ok-walk.ensures.whole
 
-pub returns-in-Ok-walk-clause-row : goal.returns-in-Ok-walk-clause-row
-returns-in-Ok-walk-clause-row g c =
+pub returns-in-Err-clause-behind : goal.returns-in-Err-clause-behind
+returns-in-Err-clause-behind g c =
     let old = g.D.Disk.state c.args.disk.now in
+    let mid = g.D.Disk.state c.read_mark.new.disk in
     let new = g.D.Disk.state c.walk.new.disk in
-    let row = c.walk.ensures.row in
-    (_, row.0, starts_all old new _ (all_then old (g.D.Disk.state c.read_mark.new.disk) new (Read 0 ∷ []) _ c.in-Ok.ensures.read row.1))
+    let runs = c.read_mark.ensures.looks.only.runs in
+    let well = c.in-Ok.ensures.looks.ok in
+    let start = c.if-is_second.start in
+    let end = start + c.args.shape.half in
+    let halves : (start ≡ 2) ⊎ (start ≡ c.args.shape.half + 2) = elim c.if-is_second.branch [ then-is_second w ↦ inr w.start-is | else-is_second w ↦ inl w.start-is ] in
+    inr (
+      start,
+      end,
+      record { shape = c.args.shape; within = c.requires.within; inside = c.requires.room; starts = halves; ends = refl },
+      ends_then c.in-Err.fault (Read 0 ∷ []) [] start end (mid.is_honest × IsSynced mid) (old.is_honest × IsSynced old) mid.image old.image old mid new c.in-Ok.ensures.read
+          (λ known. (let kept = well.kept known.0 known.1 in ((runs.honest.1 known.0, kept.synced), kept.same))) c.in-Err.ensures.behind,
+    )
 
-pub returns-in-Err-clause-row : goal.returns-in-Err-clause-row
-returns-in-Err-clause-row g c =
-    let old = g.D.Disk.state c.args.disk.now in
-    let new = g.D.Disk.state c.walk.new.disk in
-    let row = c.walk.ensures.row in
-    (_, row.0, starts_all old new _ (all_then old (g.D.Disk.state c.read_mark.new.disk) new (Read 0 ∷ []) _ c.in-Ok.ensures.read row.1))
-
-pub returns-in_default-clause-row : goal.returns-in_default-clause-row
-returns-in_default-clause-row g c =
-    (0, 0, starts_none (g.D.Disk.state c.args.disk.now) (g.D.Disk.state c.read_mark.new.disk) (Read 0 ∷ reads_from 0 0) c.in_default.ensures.unread)
+pub returns-in_default-clause-behind : goal.returns-in_default-clause-behind
+returns-in_default-clause-behind g c = inl (refl, c.in_default.ensures.unread)

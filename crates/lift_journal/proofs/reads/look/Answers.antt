@@ -1,6 +1,6 @@
 use Rattle.lift_journal.proofs.Looking.{reads_then, well_then, failed_then}
 use Rattle.std.proofs.Common.{◌+◌, arith}
-use Rattle.lift_journal.proofs.Following.{row_then}
+use Rattle.lift_journal.proofs.Following.{row_then, rows_then}
 use Rattle.lift_journal.proofs.reads.look.Goals as goal
 
 pub returns-in-Ok-Some-clause-looks : goal.returns-in-Ok-Some-clause-looks
@@ -36,17 +36,13 @@ returns-in-Err-clause-looks g c =
       err = failed_then old mid new c.read_mark.ensures.looks.only c.in_ok-read_mark.ensures.looks.ok c.in-Err.ensures.looks.err;
     }
 
-pub returns-in-Ok-Some-clause-row : goal.returns-in-Ok-Some-clause-row
-returns-in-Ok-Some-clause-row g c =
-    row_then (g.D.Disk.state c.args.disk.now) (g.D.Disk.state c.read_mark.new.disk) (g.D.Disk.state c.read_body.new.disk) c.args.gate 1 (c.args.gate + 1) (omega arith)
-    c.in_ok-read_mark.ensures.read c.read_body.ensures.row
+pub returns-in-Ok-None-clause-damaged : goal.returns-in-Ok-None-clause-damaged
+returns-in-Ok-None-clause-damaged g c _ =
+    let row = c.in-Ok-None.ensures.row in
+    (row.0, row.1, omega (arith, row.2, c.requires.below), rows_then (g.D.Disk.state c.args.disk.now) (g.D.Disk.state c.read_mark.new.disk) (g.D.Disk.state c.read_body.new.disk) c.args.gate 1 row.0 (c.args.gate + 1) (omega arith)
+    c.in_ok-read_mark.ensures.read row.3)
 
-pub returns-in-Ok-None-clause-row : goal.returns-in-Ok-None-clause-row
-returns-in-Ok-None-clause-row g c =
-    row_then (g.D.Disk.state c.args.disk.now) (g.D.Disk.state c.read_mark.new.disk) (g.D.Disk.state c.read_body.new.disk) c.args.gate 1 (c.args.gate + 1) (omega arith)
-    c.in_ok-read_mark.ensures.read c.read_body.ensures.row
-
-pub returns-in-Err-clause-row : goal.returns-in-Err-clause-row
-returns-in-Err-clause-row g c =
-    row_then (g.D.Disk.state c.args.disk.now) (g.D.Disk.state c.read_mark.new.disk) (g.D.Disk.state c.read_body.new.disk) c.args.gate 1 (c.args.gate + 1) (omega arith)
-    c.in_ok-read_mark.ensures.read c.read_body.ensures.row
+pub returns-in-Err-clause-unread : goal.returns-in-Err-clause-unread
+returns-in-Err-clause-unread g c =
+    row_then (g.D.Disk.state c.args.disk.now) (g.D.Disk.state c.read_mark.new.disk) (g.D.Disk.state c.read_body.new.disk) c.args.gate 1 (c.args.gate + 1) 1 c.args.end (omega arith)
+    c.in_ok-read_mark.ensures.read c.in-Err.ensures.unread

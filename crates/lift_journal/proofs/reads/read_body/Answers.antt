@@ -1,5 +1,5 @@
 use Rattle.std.proofs.Common.{◌≡◌, ◌+◌, length, refl, arith}
-use Rattle.lift_journal.proofs.Looking.{looks_then}
+use Rattle.lift_journal.proofs.Looking.{looks_then, ok_weaker, err_weaker}
 use Rattle.lift_journal.proofs.Seeing.{no_header}
 use Rattle.lift_journal.proofs.Following.{row_then}
 use Rattle.lift_journal.proofs.reads.read_body.Goals as goal
@@ -22,5 +22,10 @@ returns-in-Some-clause-looks g c =
 
 pub returns-in-Some-clause-row : goal.returns-in-Some-clause-row
 returns-in-Some-clause-row g c =
-    row_then (g.D.Disk.state c.args.disk.now) (g.D.Disk.state c.read_sector.new.disk) (g.D.Disk.state c.read_rest.new.disk) (c.args.gate + 1) 1 (c.args.gate + 2) (omega arith)
-    c.in_ok-first.ensures.read c.read_rest.ensures.row
+    ok_weaker c.read_rest.result _ _ (λ row. row_then (g.D.Disk.state c.args.disk.now) (g.D.Disk.state c.read_sector.new.disk) (g.D.Disk.state c.read_rest.new.disk)
+    (c.args.gate + 1) 1 (c.args.gate + 2) 1 c.args.end (omega arith) c.in_ok-first.ensures.read row) c.read_rest.ensures.row
+
+pub returns-in-Some-clause-unread : goal.returns-in-Some-clause-unread
+returns-in-Some-clause-unread g c =
+    err_weaker c.read_rest.result _ _ (λ row. row_then (g.D.Disk.state c.args.disk.now) (g.D.Disk.state c.read_sector.new.disk) (g.D.Disk.state c.read_rest.new.disk)
+    (c.args.gate + 1) 1 (c.args.gate + 2) 0 c.args.end (omega arith) c.in_ok-first.ensures.read row) c.read_rest.ensures.unread

@@ -1,4 +1,4 @@
-use Rattle.std.proofs.Common.{◌≡◌, ◌≤◌, ◌+◌, ◌-◌, ◌++◌, ◌∙◌, length, ap, sym, subst, arith}
+use Rattle.std.proofs.Common.{◌≡◌, ◌≤◌, ◌+◌, ◌-◌, ◌++◌, ◌∙◌, length, refl, ap, sym, subst, arith}
 use Rattle.lift_journal.specs.Walk.{IsDamagedAt}
 use Rattle.lift_journal.specs.declared.walk.Front.{Front}
 use Rattle.lift_journal.specs.declared.reads.AtGate.TheVariants.{Closed, Batch, Damaged}
@@ -7,7 +7,7 @@ use Rattle.lift_journal.proofs.Looking.{reads_then, well_then, failed_then}
 use Rattle.lift_journal.proofs.Seeing.{bodies_few}
 use Rattle.lift_journal.specs.Layout.{bodies}
 use Rattle.lift_journal.specs.Calls.{reads_from}
-use Rattle.lift_journal.proofs.Following.{rows_then, row_then}
+use Rattle.lift_journal.proofs.Following.{rows_then}
 use Rattle.lift_journal.proofs.walk.walk.Goals as goal
 
 pub pass-requires-clause-room : goal.pass-requires-clause-room
@@ -171,35 +171,67 @@ returns-then-not-pass-clause-damaged g c s is honest synced =
     subst (λ k. IsDamagedAt old.image c.args.start c.args.end k) here
     (may_not old.image c.args.start c.args.end front (inv.at honest synced) inv.below whole stored shows.0 shows.1 (λ passes. absurd (cc (c.pass.ensures.may.1 passes, c.if-not-pass.true))))
 
-pub returns-in-Err-clause-row : goal.returns-in-Err-clause-row
-returns-in-Err-clause-row g c =
+pub returns-in-Err-clause-behind : goal.returns-in-Err-clause-behind
+returns-in-Err-clause-behind g c =
     let inv = c.loop-front.invariant in
-    row_then (g.D.Disk.state c.args.disk.now) (g.D.Disk.state c.loop-front.disk) (g.D.Disk.state c.look.new.disk) c.args.start (c.loop-front.front.gate - c.args.start) c.loop-front.front.gate
-    (omega (arith, inv.low)) inv.trace c.look.ensures.row
+    let front = c.loop-front.front in
+    let row = c.in-Err.ensures.unread in
+    record {
+      gate = front.gate;
+      more = row.0;
+      low = inv.low;
+      few = row.1;
+      inside = row.2;
+      made = rows_then (g.D.Disk.state c.args.disk.now) (g.D.Disk.state c.loop-front.disk) (g.D.Disk.state c.look.new.disk) c.args.start (front.gate - c.args.start) row.0 front.gate
+          (omega (arith, inv.low)) inv.trace row.3;
+      reached = λ known. (let at = inv.at known.0 known.1 in (at.batches, at.reached));
+    }
 
-pub returns-in-Ok-Damaged-clause-row : goal.returns-in-Ok-Damaged-clause-row
-returns-in-Ok-Damaged-clause-row g c =
+pub returns-in-Ok-Damaged-clause-behind : goal.returns-in-Ok-Damaged-clause-behind
+returns-in-Ok-Damaged-clause-behind g c =
     let inv = c.loop-front.invariant in
-    row_then (g.D.Disk.state c.args.disk.now) (g.D.Disk.state c.loop-front.disk) (g.D.Disk.state c.look.new.disk) c.args.start (c.loop-front.front.gate - c.args.start) c.loop-front.front.gate
-    (omega (arith, inv.low)) inv.trace c.look.ensures.row
+    let front = c.loop-front.front in
+    let row = c.in-Ok-Damaged.ensures.damaged c.in-Ok-Damaged.field-0-is in
+    record {
+      more = row.0;
+      low = inv.low;
+      few = row.1;
+      inside = row.2;
+      made = rows_then (g.D.Disk.state c.args.disk.now) (g.D.Disk.state c.loop-front.disk) (g.D.Disk.state c.look.new.disk) c.args.start (front.gate - c.args.start) (1 + row.0) front.gate
+          (omega (arith, inv.low)) inv.trace row.3;
+      damaged = λ known. returns-in-Ok-Damaged-clause-damaged g c front.gate refl known.0 known.1;
+    }
 
-pub returns-in-Ok-Closed-clause-row : goal.returns-in-Ok-Closed-clause-row
-returns-in-Ok-Closed-clause-row g c =
+pub returns-in-Ok-Closed-clause-behind : goal.returns-in-Ok-Closed-clause-behind
+returns-in-Ok-Closed-clause-behind g c =
     let inv = c.loop-front.invariant in
-    row_then (g.D.Disk.state c.args.disk.now) (g.D.Disk.state c.loop-front.disk) (g.D.Disk.state c.look.new.disk) c.args.start (c.loop-front.front.gate - c.args.start) c.loop-front.front.gate
-    (omega (arith, inv.low)) inv.trace c.look.ensures.row
+    let front = c.loop-front.front in
+    record {
+      more = 0;
+      low = inv.low;
+      few = omega arith;
+      inside = omega (arith, inv.below);
+      made = rows_then (g.D.Disk.state c.args.disk.now) (g.D.Disk.state c.loop-front.disk) (g.D.Disk.state c.look.new.disk) c.args.start (front.gate - c.args.start) 1 front.gate
+          (omega (arith, inv.low)) inv.trace (c.in-Ok-Closed.ensures.closed c.in-Ok-Closed.field-0-is);
+      damaged = λ known. returns-in-Ok-Closed-clause-damaged g c front.gate refl known.0 known.1;
+    }
 
-pub returns-then-may_end-clause-row : goal.returns-then-may_end-clause-row
-returns-then-may_end-clause-row g c =
+pub returns-then-not-pass-clause-behind : goal.returns-then-not-pass-clause-behind
+returns-then-not-pass-clause-behind g c =
     let inv = c.loop-front.invariant in
-    row_then (g.D.Disk.state c.args.disk.now) (g.D.Disk.state c.loop-front.disk) (g.D.Disk.state c.look.new.disk) c.args.start (c.loop-front.front.gate - c.args.start) c.loop-front.front.gate
-    (omega (arith, inv.low)) inv.trace c.look.ensures.row
-
-pub returns-then-not-pass-clause-row : goal.returns-then-not-pass-clause-row
-returns-then-not-pass-clause-row g c =
-    let inv = c.loop-front.invariant in
-    row_then (g.D.Disk.state c.args.disk.now) (g.D.Disk.state c.loop-front.disk) (g.D.Disk.state c.look.new.disk) c.args.start (c.loop-front.front.gate - c.args.start) c.loop-front.front.gate
-    (omega (arith, inv.low)) inv.trace c.look.ensures.row
+    let front = c.loop-front.front in
+    let stored = c.in-Ok-Batch.stored in
+    let fits = c.in-Ok-Batch.ensures.fits stored c.in-Ok-Batch.field-0-is in
+    let few = bodies_few (length stored.records.items) in
+    record {
+      more = bodies (length stored.records.items);
+      low = inv.low;
+      few = omega (arith, few);
+      inside = omega (arith, fits.below);
+      made = rows_then (g.D.Disk.state c.args.disk.now) (g.D.Disk.state c.loop-front.disk) (g.D.Disk.state c.look.new.disk) c.args.start (front.gate - c.args.start) (1 + bodies (length stored.records.items)) front.gate
+          (omega (arith, inv.low)) inv.trace (c.in-Ok-Batch.ensures.whole stored c.in-Ok-Batch.field-0-is);
+      damaged = λ known. returns-then-not-pass-clause-damaged g c front.gate refl known.0 known.1;
+    }
 
 pub returns-then-may_end-clause-whole : goal.returns-then-may_end-clause-whole
 returns-then-may_end-clause-whole g c =

@@ -23,7 +23,7 @@ returns-then-is_err-clause-any_moment g c =
     let items = c.args.batch.now.items in
     let batch : Batch = record { version = Two; records = items } in
     let is : c.body_count-bodies.result ≡ size_of batch = c.body_count-bodies.ensures ∙ ap bodies c.len.ensures.value in
-    let body = subst (λ (s : Image). IsBody j.number batch (take (bodies (length items)) s)) (sym c.sectors_of-body.ensures.cut) (subst (λ (l : List Record). IsBody j.number (record { version = Two; records = l }) (take (bodies (length l)) (take 512 c.put_body.new.text ∷ drop 512 c.put_body.new.text ∷ []))) c.deref.ensures.0 c.put_body.ensures) in
+    let body = subst (λ (s : Image). IsBody j.number batch (take (bodies (length items)) s)) (sym c.sectors_of-body.ensures.cut) (subst (λ (l : List Record). IsBody j.number (record { version = Two; records = l }) (take (bodies (length l)) (take 512 c.put_body.new.text ∷ drop 512 c.put_body.new.text ∷ []))) c.deref.ensures.0 c.put_body.ensures.spelled) in
     let stands = c.self.invariant.stands c.if-self.false in
     let leaves = append_leaves j.shape j.start j.gate j.number c.body_count-bodies.result old items new c.write_batch.ensures.runs stands c.requires.entries
     (λ honest. c.write_batch.ensures.any_moment j.shape (stands honest).batches batch
@@ -39,7 +39,7 @@ invariant_of-self-2 g c =
     let items = c.args.batch.now.items in
     let batch : Batch = record { version = Two; records = items } in
     let is : c.body_count-bodies.result ≡ size_of batch = c.body_count-bodies.ensures ∙ ap bodies c.len.ensures.value in
-    let body = subst (λ (s : Image). IsBody j.number batch (take (bodies (length items)) s)) (sym c.sectors_of-body.ensures.cut) (subst (λ (l : List Record). IsBody j.number (record { version = Two; records = l }) (take (bodies (length l)) (take 512 c.put_body.new.text ∷ drop 512 c.put_body.new.text ∷ []))) c.deref.ensures.0 c.put_body.ensures) in
+    let body = subst (λ (s : Image). IsBody j.number batch (take (bodies (length items)) s)) (sym c.sectors_of-body.ensures.cut) (subst (λ (l : List Record). IsBody j.number (record { version = Two; records = l }) (take (bodies (length l)) (take 512 c.put_body.new.text ∷ drop 512 c.put_body.new.text ∷ []))) c.deref.ensures.0 c.put_body.ensures.spelled) in
     let few = bodies_few (length items) in
     let place = c.self.invariant.place in
     let quiet = open_ok c.write_batch.result (new.failures ≡ old.failures) (sym c.is_err.ensures.value ∙ c.if-is_err.false) c.write_batch.ensures.cause.ok in
@@ -71,7 +71,7 @@ returns-clause-acknowledged g c =
     let items = c.args.batch.now.items in
     let batch : Batch = record { version = Two; records = items } in
     let is : c.body_count-bodies.result ≡ size_of batch = c.body_count-bodies.ensures ∙ ap bodies c.len.ensures.value in
-    let body = subst (λ (s : Image). IsBody j.number batch (take (bodies (length items)) s)) (sym c.sectors_of-body.ensures.cut) (subst (λ (l : List Record). IsBody j.number (record { version = Two; records = l }) (take (bodies (length l)) (take 512 c.put_body.new.text ∷ drop 512 c.put_body.new.text ∷ []))) c.deref.ensures.0 c.put_body.ensures) in
+    let body = subst (λ (s : Image). IsBody j.number batch (take (bodies (length items)) s)) (sym c.sectors_of-body.ensures.cut) (subst (λ (l : List Record). IsBody j.number (record { version = Two; records = l }) (take (bodies (length l)) (take 512 c.put_body.new.text ∷ drop 512 c.put_body.new.text ∷ []))) c.deref.ensures.0 c.put_body.ensures.spelled) in
     let stands = c.self.invariant.stands c.if-self.false in
     let stood = append_stands j.shape j.start j.gate j.number c.body_count-bodies.result old items new (start_of j.shape.half old.image) c.write_batch.ensures.runs stands c.requires.entries
     (λ honest. open_ok c.write_batch.result _ (sym c.is_err.ensures.value ∙ c.if-is_err.false) c.write_batch.ensures.written j.shape (stands honest).batches batch honest
@@ -86,7 +86,7 @@ returns-clause-any_moment g c =
     let items = c.args.batch.now.items in
     let batch : Batch = record { version = Two; records = items } in
     let is : c.body_count-bodies.result ≡ size_of batch = c.body_count-bodies.ensures ∙ ap bodies c.len.ensures.value in
-    let body = subst (λ (s : Image). IsBody j.number batch (take (bodies (length items)) s)) (sym c.sectors_of-body.ensures.cut) (subst (λ (l : List Record). IsBody j.number (record { version = Two; records = l }) (take (bodies (length l)) (take 512 c.put_body.new.text ∷ drop 512 c.put_body.new.text ∷ []))) c.deref.ensures.0 c.put_body.ensures) in
+    let body = subst (λ (s : Image). IsBody j.number batch (take (bodies (length items)) s)) (sym c.sectors_of-body.ensures.cut) (subst (λ (l : List Record). IsBody j.number (record { version = Two; records = l }) (take (bodies (length l)) (take 512 c.put_body.new.text ∷ drop 512 c.put_body.new.text ∷ []))) c.deref.ensures.0 c.put_body.ensures.spelled) in
     let stands = c.self.invariant.stands c.if-self.false in
     let leaves = append_leaves j.shape j.start j.gate j.number c.body_count-bodies.result old items new c.write_batch.ensures.runs stands c.requires.entries
     (λ honest. c.write_batch.ensures.any_moment j.shape (stands honest).batches batch
@@ -102,7 +102,7 @@ returns-then-is_err-clause-any_moment_listed g c =
     let items = c.args.batch.now.items in
     let batch : Batch = record { version = Two; records = items } in
     let is : c.body_count-bodies.result ≡ size_of batch = c.body_count-bodies.ensures ∙ ap bodies c.len.ensures.value in
-    let body = subst (λ (s : Image). IsBody j.number batch (take (bodies (length items)) s)) (sym c.sectors_of-body.ensures.cut) (subst (λ (l : List Record). IsBody j.number (record { version = Two; records = l }) (take (bodies (length l)) (take 512 c.put_body.new.text ∷ drop 512 c.put_body.new.text ∷ []))) c.deref.ensures.0 c.put_body.ensures) in
+    let body = subst (λ (s : Image). IsBody j.number batch (take (bodies (length items)) s)) (sym c.sectors_of-body.ensures.cut) (subst (λ (l : List Record). IsBody j.number (record { version = Two; records = l }) (take (bodies (length l)) (take 512 c.put_body.new.text ∷ drop 512 c.put_body.new.text ∷ []))) c.deref.ensures.0 c.put_body.ensures.spelled) in
     let stands = c.self.invariant.stands c.if-self.false in
     let leaves = λ (batches : List Batch) (lists : LeavesNow old (Holds j.shape batches)). lists_leave j.shape j.start j.gate j.number old stands batches lists batch new c.write_batch.ensures.runs.honest
     (λ honest. c.write_batch.ensures.any_moment j.shape (stands honest).batches batch (λ _. ready j.shape j.start j.gate j.number c.body_count-bodies.result old items c.sectors_of-body.result.now (stands honest) is c.if-self-bodies.false c.sectors_of-body.ensures.length body c.requires.entries)) in
@@ -117,7 +117,7 @@ returns-clause-any_moment_listed g c =
     let items = c.args.batch.now.items in
     let batch : Batch = record { version = Two; records = items } in
     let is : c.body_count-bodies.result ≡ size_of batch = c.body_count-bodies.ensures ∙ ap bodies c.len.ensures.value in
-    let body = subst (λ (s : Image). IsBody j.number batch (take (bodies (length items)) s)) (sym c.sectors_of-body.ensures.cut) (subst (λ (l : List Record). IsBody j.number (record { version = Two; records = l }) (take (bodies (length l)) (take 512 c.put_body.new.text ∷ drop 512 c.put_body.new.text ∷ []))) c.deref.ensures.0 c.put_body.ensures) in
+    let body = subst (λ (s : Image). IsBody j.number batch (take (bodies (length items)) s)) (sym c.sectors_of-body.ensures.cut) (subst (λ (l : List Record). IsBody j.number (record { version = Two; records = l }) (take (bodies (length l)) (take 512 c.put_body.new.text ∷ drop 512 c.put_body.new.text ∷ []))) c.deref.ensures.0 c.put_body.ensures.spelled) in
     let stands = c.self.invariant.stands c.if-self.false in
     let leaves = λ (batches : List Batch) (lists : LeavesNow old (Holds j.shape batches)). lists_leave j.shape j.start j.gate j.number old stands batches lists batch new c.write_batch.ensures.runs.honest
     (λ honest. c.write_batch.ensures.any_moment j.shape (stands honest).batches batch (λ _. ready j.shape j.start j.gate j.number c.body_count-bodies.result old items c.sectors_of-body.result.now (stands honest) is c.if-self-bodies.false c.sectors_of-body.ensures.length body c.requires.entries)) in
@@ -132,7 +132,7 @@ returns-clause-listed g c =
     let items = c.args.batch.now.items in
     let batch : Batch = record { version = Two; records = items } in
     let is : c.body_count-bodies.result ≡ size_of batch = c.body_count-bodies.ensures ∙ ap bodies c.len.ensures.value in
-    let body = subst (λ (s : Image). IsBody j.number batch (take (bodies (length items)) s)) (sym c.sectors_of-body.ensures.cut) (subst (λ (l : List Record). IsBody j.number (record { version = Two; records = l }) (take (bodies (length l)) (take 512 c.put_body.new.text ∷ drop 512 c.put_body.new.text ∷ []))) c.deref.ensures.0 c.put_body.ensures) in
+    let body = subst (λ (s : Image). IsBody j.number batch (take (bodies (length items)) s)) (sym c.sectors_of-body.ensures.cut) (subst (λ (l : List Record). IsBody j.number (record { version = Two; records = l }) (take (bodies (length l)) (take 512 c.put_body.new.text ∷ drop 512 c.put_body.new.text ∷ []))) c.deref.ensures.0 c.put_body.ensures.spelled) in
     let stands = c.self.invariant.stands c.if-self.false in
     let stood = λ (batches : List Batch) (lists : LeavesNow old (Holds j.shape batches)). lists_stand j.shape j.start j.gate j.number old stands batches lists batch new c.write_batch.ensures.runs.honest
     (start_of j.shape.half old.image)
@@ -154,7 +154,7 @@ returns-then-is_err-clause-stops g c _ =
     let items = c.args.batch.now.items in
     let batch : Batch = record { version = Two; records = items } in
     let is : c.body_count-bodies.result ≡ size_of batch = c.body_count-bodies.ensures ∙ ap bodies c.len.ensures.value in
-    let body = subst (λ (s : Image). IsBody j.number batch (take (bodies (length items)) s)) (sym c.sectors_of-body.ensures.cut) (subst (λ (l : List Record). IsBody j.number (record { version = Two; records = l }) (take (bodies (length l)) (take 512 c.put_body.new.text ∷ drop 512 c.put_body.new.text ∷ []))) c.deref.ensures.0 c.put_body.ensures) in
+    let body = subst (λ (s : Image). IsBody j.number batch (take (bodies (length items)) s)) (sym c.sectors_of-body.ensures.cut) (subst (λ (l : List Record). IsBody j.number (record { version = Two; records = l }) (take (bodies (length l)) (take 512 c.put_body.new.text ∷ drop 512 c.put_body.new.text ∷ []))) c.deref.ensures.0 c.put_body.ensures.spelled) in
     let stands = c.self.invariant.stands c.if-self.false in
     let made = λ (honest : old.is_honest) (inert : old.is_inert) (batches : List Batch) (lists : LeavesNow old (Holds j.shape batches)).
     (let at = stands honest in
@@ -219,7 +219,7 @@ returns-clause-calls g c =
     let batch : Batch = record { version = Two; records = items } in
     let sectors = c.sectors_of-body.result.now in
     let is : c.body_count-bodies.result ≡ bodies (length items) = c.body_count-bodies.ensures ∙ ap bodies c.len.ensures.value in
-    let body = subst (λ (s : Image). IsBody j.number batch (take (bodies (length items)) s)) (sym c.sectors_of-body.ensures.cut) (subst (λ (l : List Record). IsBody j.number (record { version = Two; records = l }) (take (bodies (length l)) (take 512 c.put_body.new.text ∷ drop 512 c.put_body.new.text ∷ []))) c.deref.ensures.0 c.put_body.ensures) in
+    let body = subst (λ (s : Image). IsBody j.number batch (take (bodies (length items)) s)) (sym c.sectors_of-body.ensures.cut) (subst (λ (l : List Record). IsBody j.number (record { version = Two; records = l }) (take (bodies (length l)) (take 512 c.put_body.new.text ∷ drop 512 c.put_body.new.text ∷ []))) c.deref.ensures.0 c.put_body.ensures.spelled) in
     let place = c.self.invariant.place in
     let gate : half_start (nat_lt 2 j.start) j.shape.half + (j.gate - j.start) ≡ j.gate = omega (arith, begins_at j.shape.half j.start (omega (arith, place.within.half.0)) place.halves, place.low) in
     let made = open_ok c.write_batch.result (new.trace ≡ old.trace ++ append_calls j.gate (take c.body_count-bodies.result sectors)) (sym c.is_err.ensures.value ∙ c.if-is_err.false) c.write_batch.ensures.follows.all in
@@ -236,7 +236,7 @@ returns-then-is_err-clause-calls_before g c _ =
     let batch : Batch = record { version = Two; records = items } in
     let sectors = c.sectors_of-body.result.now in
     let is : c.body_count-bodies.result ≡ bodies (length items) = c.body_count-bodies.ensures ∙ ap bodies c.len.ensures.value in
-    let body = subst (λ (s : Image). IsBody j.number batch (take (bodies (length items)) s)) (sym c.sectors_of-body.ensures.cut) (subst (λ (l : List Record). IsBody j.number (record { version = Two; records = l }) (take (bodies (length l)) (take 512 c.put_body.new.text ∷ drop 512 c.put_body.new.text ∷ []))) c.deref.ensures.0 c.put_body.ensures) in
+    let body = subst (λ (s : Image). IsBody j.number batch (take (bodies (length items)) s)) (sym c.sectors_of-body.ensures.cut) (subst (λ (l : List Record). IsBody j.number (record { version = Two; records = l }) (take (bodies (length l)) (take 512 c.put_body.new.text ∷ drop 512 c.put_body.new.text ∷ []))) c.deref.ensures.0 c.put_body.ensures.spelled) in
     let place = c.self.invariant.place in
     let gate : half_start (nat_lt 2 j.start) j.shape.half + (j.gate - j.start) ≡ j.gate = omega (arith, begins_at j.shape.half j.start (omega (arith, place.within.half.0)) place.halves, place.low) in
     let made = open_err c.write_batch.result (StopsIn (append_calls j.gate (take c.body_count-bodies.result sectors)) old new) (sym c.is_err.ensures.value ∙ c.if-is_err.true) c.write_batch.ensures.follows.front in

@@ -1,4 +1,6 @@
-use Rattle.std.proofs.Common.{◌≡◌, ◌+◌, List, Some, length, refl, ◌∙◌, ap, subst, arith}
+use Rattle.std.proofs.Common.{◌≡◌, ◌<◌, ◌+◌, ◌++◌, List, Some, length, nat_lt, refl, sym, ◌∙◌, ap, subst, arith}
+use Rattle.lift_journal.specs.Calls.{half_start, reads_from, HasRead, HasReadAt}
+use Rattle.lift_journal.proofs.Following.{begins_at}
 use Rattle.lift_journal.specs.Layout.{Batch, Holds, used, bodies, size_of}
 use Rattle.lift_journal.specs.Journal.{JournalView, CursorView, IsCursorIn, IsNext}
 use Rattle.lift_journal.specs.Seen.{batch_of}
@@ -109,3 +111,48 @@ returns-in-Ok-Batch-clause-told g c = record {
   ok = subst (λ (v : JournalView g.row.D.Denot). NoneFails (g.D.Disk.state v.device) (g.D.Disk.state c.look.new.disk)) c.self.view_is c.in-Ok-Batch.ensures.looks.ok.told;
   err = tt;
 }
+
+pub returns-in-Ok-Batch-clause-calls : goal.returns-in-Ok-Batch-clause-calls
+returns-in-Ok-Batch-clause-calls g c =
+    let j = c.self.inside in
+    let place = c.self.invariant.place in
+    let new = g.D.Disk.state c.look.new.disk in
+    let more = 1 + bodies (length c.in-Ok-Batch.stored.records.items) in
+    let gate : half_start (nat_lt 2 j.start) j.shape.half ≡ j.start = begins_at j.shape.half j.start (omega (arith, place.within.half.0)) place.halves in
+    subst (λ (v : JournalView g.row.D.Denot). new.trace ≡ (g.D.Disk.state v.device).trace ++ reads_from (half_start v.is_second v.shape.half + c.args.cursor.now.skipped) more) c.self.view_is
+    (subst (λ (w : CursorView). new.trace ≡ (g.D.Disk.state j.device).trace ++ reads_from (half_start (nat_lt 2 j.start) j.shape.half + w.skipped) more) c.cursor.view_is
+    (c.in-Ok-Batch.ensures.whole c.in-Ok-Batch.stored c.in-Ok-Batch.field-0-is ∙ ap (λ n. (g.D.Disk.state j.device).trace ++ reads_from (n + c.cursor.inside.skipped) more) (sym gate)))
+
+pub returns-in-Err-clause-calls_failed : goal.returns-in-Err-clause-calls_failed
+returns-in-Err-clause-calls_failed g c _ =
+    let j = c.self.inside in
+    let place = c.self.invariant.place in
+    let new = g.D.Disk.state c.look.new.disk in
+    let gate : half_start (nat_lt 2 j.start) j.shape.half ≡ j.start = begins_at j.shape.half j.start (omega (arith, place.within.half.0)) place.halves in
+    subst (λ (v : JournalView g.row.D.Denot). HasRead (half_start v.is_second v.shape.half + c.args.cursor.now.skipped) 2 (half_start v.is_second v.shape.half + v.shape.half) (g.D.Disk.state v.device) new) c.self.view_is
+    (subst (λ (w : CursorView). HasRead (half_start (nat_lt 2 j.start) j.shape.half + w.skipped) 2 (half_start (nat_lt 2 j.start) j.shape.half + j.shape.half) (g.D.Disk.state j.device) new) c.cursor.view_is
+    (subst (λ n. HasRead (n + c.cursor.inside.skipped) 2 (n + j.shape.half) (g.D.Disk.state j.device) new) (sym gate) c.in-Err.ensures.unread))
+
+pub returns-in-Ok-Damaged-clause-calls_damaged : goal.returns-in-Ok-Damaged-clause-calls_damaged
+returns-in-Ok-Damaged-clause-calls_damaged g c s is =
+    let j = c.self.inside in
+    let place = c.self.invariant.place in
+    let new = g.D.Disk.state c.look.new.disk in
+    let gate : half_start (nat_lt 2 j.start) j.shape.half ≡ j.start = begins_at j.shape.half j.start (omega (arith, place.within.half.0)) place.halves in
+    let here : j.start + c.cursor.inside.skipped ≡ s = cc is in
+    subst (λ (v : JournalView g.row.D.Denot). HasReadAt s (half_start v.is_second v.shape.half + v.shape.half) (g.D.Disk.state v.device) new) c.self.view_is
+    (subst (λ k. HasReadAt k (half_start (nat_lt 2 j.start) j.shape.half + j.shape.half) (g.D.Disk.state j.device) new) here
+    (subst (λ n. HasReadAt (j.start + c.cursor.inside.skipped) (n + j.shape.half) (g.D.Disk.state j.device) new) (sym gate) (c.in-Ok-Damaged.ensures.damaged c.in-Ok-Damaged.field-0-is)))
+
+pub returns-in-Ok-Closed-clause-calls_damaged : goal.returns-in-Ok-Closed-clause-calls_damaged
+returns-in-Ok-Closed-clause-calls_damaged g c s is =
+    let j = c.self.inside in
+    let place = c.self.invariant.place in
+    let new = g.D.Disk.state c.look.new.disk in
+    let gate : half_start (nat_lt 2 j.start) j.shape.half ≡ j.start = begins_at j.shape.half j.start (omega (arith, place.within.half.0)) place.halves in
+    let here : j.start + c.cursor.inside.skipped ≡ s = cc is in
+    let low : j.start + c.cursor.inside.skipped + 0 < j.start + j.shape.half = omega (arith, c.if-cursor-self.false, place.low, place.below) in
+    subst (λ (v : JournalView g.row.D.Denot). HasReadAt s (half_start v.is_second v.shape.half + v.shape.half) (g.D.Disk.state v.device) new) c.self.view_is
+    (subst (λ k. HasReadAt k (half_start (nat_lt 2 j.start) j.shape.half + j.shape.half) (g.D.Disk.state j.device) new) here
+    (subst (λ n. HasReadAt (j.start + c.cursor.inside.skipped) (n + j.shape.half) (g.D.Disk.state j.device) new) (sym gate)
+    (0, omega arith, low, c.in-Ok-Closed.ensures.closed c.in-Ok-Closed.field-0-is)))

@@ -4,7 +4,8 @@ use Rattle.lift_journal.specs.Opening.{Opens, Refuses}
 use Rattle.lift_journal.proofs.Looking.{cause_told}
 use Rattle.lift_journal.proofs.Refusals.{good_refusal}
 use Rattle.lift_journal.proofs.Standing.{opens, picks_synced}
-use Rattle.lift_journal.specs.Calls.{half_start, opening_calls, ReadsInOrder}
+use Rattle.lift_journal.specs.Calls.{half_start, opening_calls}
+use Rattle.lift_journal.specs.Behind.{RefusedBehind}
 use Rattle.lift_journal.proofs.Following.{opening_at}
 use Rattle.lift_journal.proofs.journal.Journal.reopen_from.Goals.{then-is_of_disk, else-is_of_disk}
 use Rattle.lift_journal.proofs.journal.Journal.reopen_from.Goals as goal
@@ -54,8 +55,9 @@ returns-in-Ok-clause-calls g c =
 pub returns-after-is_of_disk-clause-calls_before : goal.returns-after-is_of_disk-clause-calls_before
 returns-after-is_of_disk-clause-calls_before g c =
     let new = g.D.Disk.state c.find_place.new.disk in
-    let seen : ReadsInOrder (g.D.Disk.state c.args.self.now.device) new =
-    subst (λ (v : JournalView g.row.D.Denot). ReadsInOrder (g.D.Disk.state v.device) new) c.self.view_is c.find_place.ensures.row in
-    let after : (v : JournalView g.row.D.Denot) → c.if-is_of_disk.self ≡ v → v.device ≡ c.find_place.new.disk → ReadsInOrder (g.D.Disk.state c.args.self.now.device) (g.D.Disk.state c.if-is_of_disk.self.device) =
-    λ v is same. subst (λ (d : g.row.D.Denot). ReadsInOrder (g.D.Disk.state c.args.self.now.device) (g.D.Disk.state d)) (sym (ap (λ (w : JournalView g.row.D.Denot). w.device) is ∙ same)) seen in
+    let fault = c.in-Err.fault in
+    let seen : RefusedBehind fault (g.D.Disk.state c.args.self.now.device) new =
+    subst (λ (v : JournalView g.row.D.Denot). RefusedBehind fault (g.D.Disk.state v.device) new) c.self.view_is c.in-Err.ensures.behind in
+    let after : (v : JournalView g.row.D.Denot) → c.if-is_of_disk.self ≡ v → v.device ≡ c.find_place.new.disk → RefusedBehind fault (g.D.Disk.state c.args.self.now.device) (g.D.Disk.state c.if-is_of_disk.self.device) =
+    λ v is same. subst (λ (d : g.row.D.Denot). RefusedBehind fault (g.D.Disk.state c.args.self.now.device) (g.D.Disk.state d)) (sym (ap (λ (w : JournalView g.row.D.Denot). w.device) is ∙ same)) seen in
     elim c.if-is_of_disk.branch [ then-is_of_disk w ↦ after _ w.self-is refl | else-is_of_disk w ↦ after _ w.self-is refl ]

@@ -1,4 +1,4 @@
-use Rattle.std.proofs.Common.{◌≡◌, ◌⊎◌, ◌+◌, not, nat_lt, [], List, length, ◌∙◌, ap, subst, arith}
+use Rattle.std.proofs.Common.{◌≡◌, ◌⊎◌, ◌+◌, ◌++◌, not, nat_lt, [], List, length, ◌∙◌, ap, subst, arith}
 use Rattle.lift_base.specs.declared.history.Record.{Record}
 use Rattle.lift_disk.specs.Disk.{LeavesNow, LeavesOnly}
 use Rattle.lift_register.specs.Base.{base_records}
@@ -11,6 +11,9 @@ use Rattle.lift_journal.proofs.Standing.{holds_synced, same_batches}
 use Rattle.lift_journal.specs.Stops.{StopsCheckpoint}
 use Rattle.lift_journal.specs.Told.{NoneFails, LastFails}
 use Rattle.lift_journal.proofs.Telling.{none_made}
+use Rattle.lift_disk.specs.Trace.{Access}
+use Rattle.lift_journal.specs.Calls.{half_start, pick_of, checkpoint_calls, StopsIn}
+use Rattle.lift_journal.proofs.Following.{picked_at, calls_at}
 use Rattle.lift_journal.proofs.journal.Journal.replace.Goals as goal
 
 pub invariant_of-self : goal.invariant_of-self
@@ -172,3 +175,22 @@ returns-in-Ok-clause-counted g c _ = used_checkpoint (base_records c.args.regist
 
 pub returns-in-Err-clause-counted : goal.returns-in-Err-clause-counted
 returns-in-Err-clause-counted g c _ = used_checkpoint (base_records c.args.register.now) (omega (arith, c.base_len.ensures.limit.0, c.base_len.ensures.value))
+
+pub returns-in-Ok-clause-calls : goal.returns-in-Ok-clause-calls
+returns-in-Ok-clause-calls g c =
+    let j = c.self.inside in
+    let new = g.D.Disk.state c.write_checkpoint.new.disk in
+    let batches = checkpoint_of (base_records c.args.register.now) in
+    let other = picked_at j.shape.half j.start c.other_half-start.result.0 c.other_half-start.result.1 (omega (arith, c.self.invariant.place.within.half.0)) c.self.invariant.place.halves c.other_half-start.ensures in
+    subst (λ (v : JournalView g.row.D.Denot). new.trace ≡ (g.D.Disk.state v.device).trace ++ checkpoint_calls (half_start (not v.is_second) v.shape.half) (pick_of (not v.is_second)) batches) c.self.view_is
+    (c.in-Ok.ensures.follows.all ∙ ap (λ (l : List Access). (g.D.Disk.state j.device).trace ++ l) (calls_at batches other))
+
+pub returns-in-Err-clause-calls_before : goal.returns-in-Err-clause-calls_before
+returns-in-Err-clause-calls_before g c _ =
+    let j = c.self.inside in
+    let old = g.D.Disk.state j.device in
+    let new = g.D.Disk.state c.write_checkpoint.new.disk in
+    let batches = checkpoint_of (base_records c.args.register.now) in
+    let other = picked_at j.shape.half j.start c.other_half-start.result.0 c.other_half-start.result.1 (omega (arith, c.self.invariant.place.within.half.0)) c.self.invariant.place.halves c.other_half-start.ensures in
+    subst (λ (v : JournalView g.row.D.Denot). StopsIn (checkpoint_calls (half_start (not v.is_second) v.shape.half) (pick_of (not v.is_second)) batches) (g.D.Disk.state v.device) new) c.self.view_is
+    (subst (λ (l : List Access). StopsIn l old new) (calls_at batches other) c.in-Err.ensures.follows.front)
