@@ -1,12 +1,20 @@
 -- A line has one reading as words.
-use Rattle.std.proofs.Common.{◌≡◌, ◌≢◌, ℕ, suc, ◌^◌, ◌≤◌, ◌<◌, true, false, List, [], ◌∷◌, ◌++◌, length, get_or, Bor, refl, sym, ap, ◌∙◌, arith, map}
-use Rattle.std.proofs.lemmas.List.{length-map, map-append}
+use Rattle.std.proofs.Common.{◌≡◌, ◌≢◌, ℕ, suc, ◌^◌, ◌≤◌, ◌<◌, ◌+◌, true, false, List, [], ◌∷◌, ◌++◌, All, Some, length, get_or, slice_get, take, drop, Bor, refl, sym, ap, ◌∙◌, arith, map}
+use Rattle.std.proofs.lemmas.List.{length-map, map-append, take-append-drop, at_drop_more}
+use Rattle.std.proofs.lemmas.Option.{slice_get_within, get_or_from_slice_get}
 use Rattle.std.specs.Fmt.{decimal}
 use Rattle.std.specs.List.{AllByRecursion}
 use Rattle.std.specs.Str.{bytes_eq}
 use Rattle.std.proofs.lemmas.Slice.Eq.{bytes_eq-Decides}
 use Rattle.lift_base.specs.Text.{HasNoSpace, spaced, AreWords}
 use Rattle.lift_base.proofs.Numbers.{digits_only}
+
+-- a text is cut at a byte of it
+pub cut_at : (text : List ℕ) (place byte : ℕ) → slice_get text place ≡ Some byte → text ≡ take place text ++ byte ∷ drop (place + 1) text
+cut_at text place byte here =
+    let read : get_or text place 0 ≡ byte = get_or_from_slice_get text place byte 0 here in
+    sym (take-append-drop place text) ∙ at_drop_more (λ behind. take place text ++ behind) text place 0 (slice_get_within text place byte here)
+    ∙ ap (λ b. take place text ++ b ∷ drop (place + 1) text) read
 
 -- two texts that go to the first space alike are alike behind it
 pub first_space : (xs ys a b : List ℕ) → HasNoSpace xs → HasNoSpace ys → xs ++ (32 ∷ a) ≡ ys ++ (32 ∷ b) → (xs ≡ ys) × (a ≡ b)
@@ -86,12 +94,12 @@ same_text xs ys e = (bytes_eq-Decides xs ys).0 e
 pub other_text : (xs ys : List ℕ) → bytes_eq xs ys ≡ false → xs ≢ ys
 other_text xs ys e same = let equal = (bytes_eq-Decides xs ys).1 same in cc
 
-no_space_from : (xs : List ℕ) → ((i : ℕ) → i < length xs → get_or xs i 0 ≢ 32) → HasNoSpace xs
+no_space_from : (xs : List ℕ) → All (λ b. b ≢ 32) xs → HasNoSpace xs
 no_space_from [] each = tt
-no_space_from (x ∷ xs) each = (each 0 (omega arith), no_space_from xs (λ i lt. each (suc i) (omega (arith, lt))))
+no_space_from (x ∷ xs) each = (each 0 0 (omega arith), no_space_from xs (λ i d lt. each (suc i) d (omega (arith, lt))))
 
 pub all_read : (line rest : List ℕ) (words : List (Bor (List ℕ))) (word : Bor (List ℕ)) → AllByRecursion HasNoSpace (map (λ w. w.now) words) → line ≡ spaced (map (λ w. w.now) words ++ word.now ∷ [])
-    → ((i : ℕ) → i < length word.now → get_or word.now i 0 ≢ 32) → AreWords line (map (λ w. w.now) (words ++ word ∷ []))
+    → All (λ b. b ≢ 32) word.now → AreWords line (map (λ w. w.now) (words ++ word ∷ []))
 all_read line rest words word apart joined no_space =
     let pushed = map-append (λ (w : Bor (List ℕ)). w.now) words (word ∷ []) in rw pushed (record {
       some = some_pushed (map (λ w. w.now) words) word.now;
@@ -100,12 +108,12 @@ all_read line rest words word apart joined no_space =
     })
 
 pub one_more : (line rest behind : List ℕ) (words : List (Bor (List ℕ))) (word : Bor (List ℕ)) → AllByRecursion HasNoSpace (map (λ w. w.now) words) → line ≡ spaced (map (λ w. w.now) words ++ rest ∷ [])
-    → (rest ≡ word.now ++ (32 ∷ behind)) × ((i : ℕ) → i < length word.now → get_or word.now i 0 ≢ 32)
+    → rest ≡ word.now ++ (32 ∷ behind) → All (λ b. b ≢ 32) word.now
     → AllByRecursion HasNoSpace (map (λ w. w.now) (words ++ word ∷ [])) × (line ≡ spaced (map (λ w. w.now) (words ++ word ∷ []) ++ behind ∷ []))
-one_more line rest behind words word apart joined cut =
+one_more line rest behind words word apart joined cut no_space =
     let pushed = map-append (λ (w : Bor (List ℕ)). w.now) words (word ∷ []) in rw pushed (
-      apart-push (map (λ w. w.now) words) word.now apart (no_space_from word.now cut.1),
-      joined ∙ ap (λ r. spaced (map (λ w. w.now) words ++ r ∷ [])) cut.0 ∙ spaced-cut (map (λ w. w.now) words) word.now behind,
+      apart-push (map (λ w. w.now) words) word.now apart (no_space_from word.now no_space),
+      joined ∙ ap (λ r. spaced (map (λ w. w.now) words ++ r ∷ [])) cut ∙ spaced-cut (map (λ w. w.now) words) word.now behind,
     )
 
 pub too_many : (line rest : List ℕ) (words : List (Bor (List ℕ))) (others : List (List ℕ)) → AllByRecursion HasNoSpace (map (λ w. w.now) words) → line ≡ spaced (map (λ w. w.now) words ++ rest ∷ [])

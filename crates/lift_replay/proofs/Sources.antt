@@ -12,13 +12,11 @@ use Rattle.lift_replay.specs.Source.{IsScript, LacksDivider, divider, ended}
 abbrev is_end : ℕ → Bool
 is_end b = b == 10
 
-no_end : (xs : List ℕ) → ((k : ℕ) → k < length xs → get_or xs k 0 ≢ 10) → All (λ b. is_end b ≡ false) xs
-no_end xs free k d inside =
-    let same : get_or xs k d ≡ get_or xs k 0 = grind (arith, common_steps) in
-    ne_eqb _ 10 (λ e. free k inside (sym same ∙ e))
+no_end : (xs : List ℕ) → All (λ b. b ≢ 10) xs → All (λ b. is_end b ≡ false) xs
+no_end xs free k d inside = ne_eqb _ 10 (free k d inside)
 
 -- a text with no end of a line is one line
-pub last_line : (text : List ℕ) → 0 < length text → ((k : ℕ) → k < length text → get_or text k 0 ≢ 10) → lines text ≡ text ∷ lines []
+pub last_line : (text : List ℕ) → 0 < length text → All (λ b. b ≢ 10) text → lines text ≡ text ∷ lines []
 last_line text some free =
     ap lines_of_parts (slice_split_none is_end text (no_end text free)) ∙ ap (λ t. cond t [] (text ∷ [])) (ne_eqb (length text) 0 (λ z. omega arith))
 
@@ -27,7 +25,7 @@ more_parts x [] some = absurd (omega arith)
 more_parts x (y ∷ more) some = refl
 
 -- what stands before the first end of a line is the first line
-cut_line : (text line behind : List ℕ) → text ≡ line ++ (10 ∷ behind) → ((k : ℕ) → k < length line → get_or line k 0 ≢ 10) → lines text ≡ strip_carriage_return line ∷ lines behind
+cut_line : (text line behind : List ℕ) → text ≡ line ++ (10 ∷ behind) → All (λ b. b ≢ 10) line → lines text ≡ strip_carriage_return line ∷ lines behind
 cut_line text line behind is free =
     ap lines is ∙ ap lines_of_parts (slice_split_at is_end line 10 behind (no_end line free) refl)
     ∙ more_parts line (slice_split is_end behind) (omega (arith, length-slice_split is_end behind))
@@ -44,13 +42,13 @@ stripped line front e =
     let before : take (length line - 1) line ≡ front = grind (arith, common_steps) in
     ap (λ t. cond t (take (length line - 1) line) line) (eq-eqb _ 13 last) ∙ before
 
-pub whole_line : (text line behind : List ℕ) → (text ≡ line ++ (10 ∷ behind)) × ((k : ℕ) → k < length line → get_or line k 0 ≢ 10)
+pub whole_line : (text line behind : List ℕ) → text ≡ line ++ (10 ∷ behind) → All (λ b. b ≢ 10) line
     → ((front : List ℕ) → line ≢ front ++ (13 ∷ [])) → lines text ≡ line ∷ lines behind
-whole_line text line behind parts none = cut_line text line behind parts.0 parts.1 ∙ ap (λ first. first ∷ lines behind) (whole line none)
+whole_line text line behind cut free none = cut_line text line behind cut free ∙ ap (λ first. first ∷ lines behind) (whole line none)
 
-pub stripped_line : (text line front behind : List ℕ) → (text ≡ line ++ (10 ∷ behind)) × ((k : ℕ) → k < length line → get_or line k 0 ≢ 10)
+pub stripped_line : (text line front behind : List ℕ) → text ≡ line ++ (10 ∷ behind) → All (λ b. b ≢ 10) line
     → line ≡ front ++ (13 ∷ []) → lines text ≡ front ∷ lines behind
-stripped_line text line front behind parts e = cut_line text line behind parts.0 parts.1 ∙ ap (λ first. first ∷ lines behind) (stripped line front e)
+stripped_line text line front behind cut free e = cut_line text line behind cut free ∙ ap (λ first. first ∷ lines behind) (stripped line front e)
 
 -- so far no line is a divider
 abbrev pub Above : (text rest building : List ℕ) → Type 0

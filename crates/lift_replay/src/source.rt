@@ -4,6 +4,7 @@ ghost use Rattle.std.specs.Prelude.{◌≡◌, ◌<◌, ◌≤◌, ◌+◌, ◌^
 ghost use Rattle.std.specs.Str.Lines.{lines};
 ghost use Rattle.lift_replay.specs.Source.{IsScript, LacksDivider};
 
+use lift_base::text::split_at_byte;
 use std::alloc::{AllocError, Global};
 
 /// A line without its end (a line feed, with a carriage return before it or none), and what stands behind it; none where
@@ -16,7 +17,7 @@ fn next_line(text: &str) -> Option<(&str, &str)>
     if text.is_empty() {
         return None;
     }
-    match text.split_once('\n') {
+    match split_at_byte(text, b'\n') {
         None => Some((text, "")),
         Some((line, behind)) => match line.strip_suffix('\r') {
             None => Some((line, behind)),

@@ -1,17 +1,14 @@
 use Rattle.std.proofs.Common.{arith, rules}
-use Rattle.std.proofs.lemmas.Str.Pattern.{split_parts}
 use Rattle.lift_base.proofs.Words.{all_read, one_more, too_many}
 use Rattle.lift_base.proofs.text.words.words_of.Goals as goal
 
 pub returns-in-None-clause-some : goal.returns-in-None-clause-some
 returns-in-None-clause-some c =
-    let none = rw c.in-None.is at (split_parts 32 c.loop.rest.now c.split_once.result c.split_once.ensures.cases (omega arith)) in
-    rw c.push.ensures.items (all_read c.args.line.now c.loop.rest.now c.loop.words.items c.loop.rest c.loop.invariant.apart c.loop.invariant.joined none)
+    rw c.push.ensures.items (all_read c.args.line.now c.loop.rest.now c.loop.words.items c.loop.rest c.loop.invariant.apart c.loop.invariant.joined c.in-None.ensures.none)
 
 pub loop-preserved : goal.loop-preserved
 loop-preserved c =
-    let parts = rw c.in-Some.is at (split_parts 32 c.loop.rest.now c.split_once.result c.split_once.ensures.cases (omega arith)) in
-    let more = one_more _ c.loop.rest.now c.in-Some.behind.now c.loop.words.items c.in-Some.word c.loop.invariant.apart c.loop.invariant.joined parts in
+    let more = one_more _ c.loop.rest.now c.in-Some.behind.now c.loop.words.items c.in-Some.word c.loop.invariant.apart c.loop.invariant.joined c.in-Some.ensures.cut c.in-Some.ensures.first in
     record {
       text = search rules;
       count = search rules;
