@@ -399,7 +399,7 @@ pub hears_keep : (slots id : ℕ) (me : M) → me.0.asks ≡ true → Allows IsK
 hears_keep slots id me may s r _ at _ =
     let n : ℕ = get_or s.words 1 0 in
     let so = hears_so s r id me.0 may at (is_awaited me.0.terminal n) refl in
-    (at_terminal me.0 (with_hearing me.0.terminal n), keeps, tt, so.0, (refl, so.1, so.2))
+    (at_terminal me.0 (with_hearing me.0.terminal n), keeps, tt, so.0, (refl, refl, so.1, so.2))
 
 pub meets_keep : (slots id : ℕ) (me : M) → me.0.asks ≡ true → Allows IsKept slots id me 1 (λ n. n) (Met (step slots 1 0 0 none) me)
 meets_keep slots id me may s r _ at _ =
@@ -719,7 +719,7 @@ looks_ahead_keep slots id me may none' s r _ at _ =
       keeps,
       tt,
       so.0,
-      (refl, so.1, omega arith, λ same. n_is ∙ ap last_of (sym (prefix_whole me.0.clerk.told l.asked told (omega arith)))),
+      (refl, refl, so.1, omega arith, λ same. n_is ∙ ap last_of (sym (prefix_whole me.0.clerk.told l.asked told (omega arith)))),
     )
 
 pub lt_true : (m n : ℕ) → m < n → nat_lt m n ≡ true

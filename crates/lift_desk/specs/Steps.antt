@@ -72,18 +72,20 @@ Looked step before found after =
     × IsPrefix before.0.clerk.told (with_taking before.0.clerk found).taken
     × (is_new before.0.clerk before.0.noted ≡ true → found ≡ before.0.noted)
 
--- an ask that is taken ahead of the answers is spelled; its turn is no earlier than that of the last ask which the seat was told of, and that ask is the only one with its turn
+-- it is the ask word that is loaded; an ask that is taken ahead of the answers is spelled; its turn is no earlier than that of the last ask which the seat was told of, and that ask is the only one with its turn
 abbrev pub LookedAhead : Step (Unit {0}) → Seated → ℕ → Seated → Type 0
 LookedAhead step before found after =
-    (after ≡ (at_clerk before.0 (with_taking before.0.clerk found), before.1))
+    (step.word ≡ 0)
+    × (after ≡ (at_clerk before.0 (with_taking before.0.clerk found), before.1))
     × (is_new before.0.clerk found ≡ true → IsAskWord found)
     × (length before.0.clerk.told ≤ turn_of found)
     × (turn_of found ≡ length before.0.clerk.told → found ≡ last_of before.0.clerk.told)
 
--- an answer that is heard is spelled, with the turn and the number of the last ask; then all that the terminal was told of is heard
+-- it is the answer word that is loaded; an answer that is heard is spelled, with the turn and the number of the last ask; then all that the terminal was told of is heard
 abbrev pub Heard : Step (Unit {0}) → Seated → ℕ → Seated → Type 0
 Heard step before found after =
-    (after ≡ (at_terminal before.0 (with_hearing before.0.terminal found), before.1))
+    (step.word ≡ 1)
+    × (after ≡ (at_terminal before.0 (with_hearing before.0.terminal found), before.1))
     × (is_awaited before.0.terminal found ≡ true → IsReplyWord found × (turn_of found ≡ length before.0.terminal.asked) × (number_of found ≡ number_of (last_of before.0.terminal.asked)))
     × IsPrefix before.0.terminal.told (with_hearing before.0.terminal found).heard
 

@@ -28,7 +28,7 @@ invariant_of-self-2 c =
     let word : ℕ = c.load-word.result in
     let old : view_in c.self.inside.badge.views ≡ m = ap (λ b. view_in b.views) (sym c.replace-badge.ensures.value) ∙ ap view_in s.2 in
     let b = c.into_badge.ensures in
-    let new : view_in c.into_badge.result.views ≡ at_clerk m (with_taking m.clerk word) = ap view_in b.2 ∙ ap (λ me. me.0) c.load-word.ensures.2.0 in
+    let new : view_in c.into_badge.result.views ≡ at_clerk m (with_taking m.clerk word) = ap view_in b.2 ∙ ap (λ me. me.0) c.load-word.ensures.2.1 in
     let turn : c.turn_of-turn.result ≡ turn_of word = c.turn_of-turn.ensures.turn in
     let was_turn : c.self.inside.turn ≡ turn_of (last_of m.clerk.taken) = i.turn ∙ ap (λ (v : View). turn_of (last_of v.clerk.taken)) old in
     let later = c.if-turn-self.false in
@@ -48,7 +48,7 @@ returns-clause-known c =
     let word : ℕ = c.load-word.result in
     let old : view_in c.self.inside.badge.views ≡ m = ap (λ b. view_in b.views) (sym c.replace-badge.ensures.value) ∙ ap view_in c.into_seat-seat.ensures.2 in
     let load = c.load-word.ensures.2 in
-    let new : view_in c.into_badge.result.views ≡ at_clerk m (with_taking m.clerk word) = ap view_in c.into_badge.ensures.2 ∙ ap (λ me. me.0) load.0 in
+    let new : view_in c.into_badge.result.views ≡ at_clerk m (with_taking m.clerk word) = ap view_in c.into_badge.ensures.2 ∙ ap (λ me. me.0) load.1 in
     let turn : c.turn_of-turn.result ≡ turn_of word = c.turn_of-turn.ensures.turn in
     let was_turn : c.self.inside.turn ≡ turn_of (last_of m.clerk.taken) = i.turn ∙ ap (λ (v : View). turn_of (last_of v.clerk.taken)) old in
     let later = c.if-turn-self.false in
@@ -56,7 +56,7 @@ returns-clause-known c =
     let taken : (view_in c.into_badge.result.views).clerk.taken ≡ m.clerk.taken ++ word ∷ [] = ap (λ (v : View). v.clerk.taken) new ∙ taken_more m.clerk word fresh in
     let last_is : turn_of (last_of (view_in c.into_badge.result.views).clerk.taken) ≡ turn_of word = ap (λ l. turn_of (last_of l)) taken ∙ ap turn_of (last_of-push m.clerk.taken word) in
     let told : length c.args.self.now.view.told ≡ length m.clerk.told = ap (λ (p : ClerkPlace). length p.view.told) (sym c.self.view_is) ∙ ap (λ (v : View). length v.clerk.told) old in
-    let begun : length m.clerk.told ≤ turn_of word = load.2 in
+    let begun : length m.clerk.told ≤ turn_of word = load.3 in
     omega arith
 
 pub returns-clause-finds : goal.returns-clause-finds
@@ -66,7 +66,7 @@ returns-clause-finds c ask h =
     let word : ℕ = c.load-word.result in
     let old : view_in c.self.inside.badge.views ≡ m = ap (λ b. view_in b.views) (sym c.replace-badge.ensures.value) ∙ ap view_in c.into_seat-seat.ensures.2 in
     let load = c.load-word.ensures.2 in
-    let new : view_in c.into_badge.result.views ≡ at_clerk m (with_taking m.clerk word) = ap view_in c.into_badge.ensures.2 ∙ ap (λ me. me.0) load.0 in
+    let new : view_in c.into_badge.result.views ≡ at_clerk m (with_taking m.clerk word) = ap view_in c.into_badge.ensures.2 ∙ ap (λ me. me.0) load.1 in
     let turn : c.turn_of-turn.result ≡ turn_of word = c.turn_of-turn.ensures.turn in
     let was_turn : c.self.inside.turn ≡ turn_of (last_of m.clerk.taken) = i.turn ∙ ap (λ (v : View). turn_of (last_of v.clerk.taken)) old in
     let later = c.if-turn-self.false in
@@ -77,7 +77,7 @@ returns-clause-finds c ask h =
     let many : length c.args.self.now.view.told ≡ length m.clerk.told = ap length told in
     let above = h.1 in (
       refl,
-      λ same. c.in_ok-ask.ensures.known (length c.args.self.now.view.told) ask (omega arith) h.0 (load.3 (sym last_is ∙ same ∙ many) ∙ ap last_of (sym told) ∙ h.2),
+      λ same. c.in_ok-ask.ensures.known (length c.args.self.now.view.told) ask (omega arith) h.0 (load.4 (sym last_is ∙ same ∙ many) ∙ ap last_of (sym told) ∙ h.2),
     )
 
 pub returns-clause-turn : goal.returns-clause-turn
@@ -86,7 +86,7 @@ returns-clause-turn c some =
     let m : View = c.into_seat-seat.result.me.0 in
     let word : ℕ = c.load-word.result in
     let old : view_in c.self.inside.badge.views ≡ m = ap (λ b. view_in b.views) (sym c.replace-badge.ensures.value) ∙ ap view_in c.into_seat-seat.ensures.2 in
-    let new : view_in c.into_badge.result.views ≡ at_clerk m (with_taking m.clerk word) = ap view_in c.into_badge.ensures.2 ∙ ap (λ me. me.0) c.load-word.ensures.2.0 in
+    let new : view_in c.into_badge.result.views ≡ at_clerk m (with_taking m.clerk word) = ap view_in c.into_badge.ensures.2 ∙ ap (λ me. me.0) c.load-word.ensures.2.1 in
     let turn : c.turn_of-turn.result ≡ turn_of word = c.turn_of-turn.ensures.turn in
     let limit = c.turn_of-turn.ensures.in_range in
     let was_turn : c.self.inside.turn ≡ turn_of (last_of m.clerk.taken) = i.turn ∙ ap (λ (v : View). turn_of (last_of v.clerk.taken)) old in
@@ -102,7 +102,7 @@ returns-clause-last c =
     let m : View = c.into_seat-seat.result.me.0 in
     let word : ℕ = c.load-word.result in
     let old : view_in c.self.inside.badge.views ≡ m = ap (λ b. view_in b.views) (sym c.replace-badge.ensures.value) ∙ ap view_in c.into_seat-seat.ensures.2 in
-    let new : view_in c.into_badge.result.views ≡ at_clerk m (with_taking m.clerk word) = ap view_in c.into_badge.ensures.2 ∙ ap (λ me. me.0) c.load-word.ensures.2.0 in
+    let new : view_in c.into_badge.result.views ≡ at_clerk m (with_taking m.clerk word) = ap view_in c.into_badge.ensures.2 ∙ ap (λ me. me.0) c.load-word.ensures.2.1 in
     let turn : c.turn_of-turn.result ≡ turn_of word = c.turn_of-turn.ensures.turn in
     let was_turn : c.self.inside.turn ≡ turn_of (last_of m.clerk.taken) = i.turn ∙ ap (λ (v : View). turn_of (last_of v.clerk.taken)) old in
     let later = c.if-turn-self.false in
