@@ -1,14 +1,5 @@
-//! Devices that are told to fail, and power cuts.
-use lift_disk::{Arm, FlakyDisk, FuseDisk, MemDisk, Outcome};
-
-/// What a power cut may leave in loose sectors.
-pub(crate) const OUTCOMES: [Outcome; 5] = [
-    Outcome::Keep,
-    Outcome::Lose,
-    Outcome::Fill(0),
-    Outcome::Fill(165),
-    Outcome::Fill(255),
-];
+//! Devices that are told to fail.
+use lift_disk::{Arm, FlakyDisk, FuseDisk, MemDisk};
 
 /// A device over one in memory, which fails no call until it is armed.
 pub(crate) trait Failing: Arm {

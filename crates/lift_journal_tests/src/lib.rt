@@ -1,26 +1,15 @@
-//! Tests of `lift_journal`: worked images, none of them made by the program, faults at each call, cuts, and files.
+//! Tests of `lift_journal`: the calls of the device and their bytes, what is read, and calls and recoveries that are stopped.
+//! Images, whole and damaged, are data, tried by `tools/try-images`.
 #![tactic(auto)]
 
 #[cfg(test)]
-mod appending;
-#[cfg(test)]
-mod arbitrary;
-#[cfg(test)]
-mod checkpoints;
+mod calls;
 #[cfg(test)]
 mod cuts;
-#[cfg(test)]
-mod faults;
-#[cfg(test)]
-mod files;
 #[cfg(test)]
 mod listing;
 #[cfg(test)]
 mod noting;
-#[cfg(test)]
-mod numbers;
-#[cfg(test)]
-mod opening;
 #[cfg(test)]
 mod reading;
 #[cfg(test)]

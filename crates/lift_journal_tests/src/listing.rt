@@ -1,6 +1,5 @@
 //! What a journal lists, and its calls under their conditions.
-use crate::records::{batch, stop, stops};
-use arrayvec::ArrayVec;
+use crate::records::{batch, stops};
 use lift_base::{Record, Shape};
 use lift_disk::{Disk, DiskFault};
 use lift_journal::{Journal, JournalFault, format};
@@ -44,16 +43,4 @@ pub(crate) fn lists<D: Disk>(journal: &mut Journal<D>, batches: &[&[Record]]) ->
         }
     }
     matches!(journal.next(&mut cursor), Ok(None)) && matches!(journal.next(&mut cursor), Ok(None))
-}
-
-/// Whether the journal lists batches of one stop each, numbered from 1 to this.
-pub(crate) fn lists_stops<D: Disk>(journal: &mut Journal<D>, count: u32) -> bool {
-    let mut cursor = journal.first();
-    for place in 0..count {
-        match journal.next(&mut cursor) {
-            Ok(Some(found)) if found.as_slice() == [stop(place.wrapping_add(1))].as_slice() => {}
-            _ => return false,
-        }
-    }
-    matches!(journal.next(&mut cursor), Ok(None))
 }

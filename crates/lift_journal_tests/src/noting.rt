@@ -29,10 +29,6 @@ impl<D: Disk> NotingDisk<D> {
     pub(crate) fn calls(&self) -> &[Call] {
         self.calls.as_slice()
     }
-
-    pub(crate) fn into_inner(self) -> D {
-        self.inner
-    }
 }
 
 impl<D: Disk> Disk for NotingDisk<D> {

@@ -4,7 +4,7 @@ ghost use Rattle.lift_base.specs.Records.{IsLawful};
 ghost use Rattle.lift_journal.specs.Order.{IsEntry};
 
 use arrayvec::ArrayVec;
-use lift_base::{Content, Dir, Floor, Last, Letter, Number, Party, Record, Shape, Terminal};
+use lift_base::{Dir, Floor, Letter, Number, Party, Record, Shape, Terminal};
 use lift_record::is_lawful;
 
 /// Ten floors, two cars, two kiosks, and halves of 64 sectors.
@@ -36,21 +36,6 @@ pub(crate) fn allot(number: u32, persons: u8) -> Record {
         to: Floor::new(5).unwrap_or_default(),
         car: Letter::default(),
         party: Party::new(persons).unwrap_or_default(),
-    }
-}
-
-/// The last call of kiosk 0, from floor 0 to floor 5, that was allotted to car A.
-pub(crate) fn last_call(number: u32) -> Record {
-    let content = Content::Letter {
-        from: Floor::default(),
-        to: Floor::new(5).unwrap_or_default(),
-        car: Letter::default(),
-        party: Party::default(),
-    };
-    let number = Number::new(number).unwrap_or_default();
-    Record::Last {
-        terminal: Terminal::new(16).unwrap_or_default(),
-        last: Last { number, content },
     }
 }
 

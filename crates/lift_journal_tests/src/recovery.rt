@@ -1,10 +1,10 @@
 //! A call that is stopped, a power cut, and a recovery that is stopped too and begun again: in the end the journal lists
 //! what stood there before the call, or what the call was to leave.
 use crate::cuts::Failing;
-use crate::faults::with_two;
-use crate::listing::{add_stops, lists};
-use crate::records::{stop, stops};
+use crate::listing::{add_stops, lists, make};
+use crate::records::{demo, stop, stops};
 use crate::registers::{is_checkpoint, medium, small};
+use crate::sectors::{OPEN, header, put, stop_bytes, text_of};
 use lift_disk::{Disk, FlakyDisk, FuseDisk, MemDisk, Outcome};
 use lift_journal::{Journal, JournalFault};
 use lift_register::Register;
@@ -23,6 +23,27 @@ const CUTS: [Option<Outcome>; 6] = [
     Some(Outcome::Fill(255)),
 ];
 
+/// The device with a journal of two batches of one stop each, in this version.
+fn with_two(rt: &impl Abort, mut disk: MemDisk, version: u8) -> MemDisk {
+    assert!(rt; make(&mut disk, demo()) == Some(Ok(())));
+    let is_put = put(&mut disk, 2, &text_of(&[OPEN]))
+        && put(
+            &mut disk,
+            3,
+            &text_of(&[header(version, 1, 1), stop_bytes(1)]),
+        )
+        && put(&mut disk, 4, &text_of(&[OPEN]))
+        && put(
+            &mut disk,
+            5,
+            &text_of(&[header(version, 1, 2), stop_bytes(2)]),
+        )
+        && put(&mut disk, 6, &text_of(&[]))
+        && disk.sync().is_ok();
+    assert!(rt; is_put);
+    disk
+}
+
 /// What a journal lists.
 #[derive(Clone, Copy)]
 enum Listed<'a> {
@@ -37,6 +58,8 @@ enum Listed<'a> {
 /// A call of the journal.
 #[derive(Clone, Copy)]
 struct Work<'a> {
+    /// The version of the first two batches.
+    version: u8,
     before: Listed<'a>,
     after: Listed<'a>,
     /// How many calls of the device it makes.
@@ -70,7 +93,7 @@ fn go_on<D: Disk>(journal: &mut Journal<D>, listed: &Listed) -> Option<Result<()
 impl<'a> Work<'a> {
     /// The device with what stands there before the call.
     fn prepare(&self, rt: &impl Abort, disk: MemDisk) -> MemDisk {
-        let disk = with_two(rt, disk);
+        let disk = with_two(rt, disk, self.version);
         if let Listed::Checkpoint(register) = self.before {
             let mut journal = Journal::open(disk).ok().expect(rt, "a journal");
             assert!(rt; journal.replace(register) == Ok(()));
@@ -269,39 +292,30 @@ fn stop_all<R: AllocGlobal + Abort>(rt: &R, work: &Work) {
     }
 }
 
-/// A batch of one stop: an opening syncs, reads the stamp and the pick, two sectors for each batch, and the closing gate.
-#[test]
-fn an_append_recovers(rt: HostRuntime) {
-    let work = Work {
-        before: Listed::Two,
-        after: Listed::Three(1),
-        calls: 5,
-        calls_before: 8,
-        calls_after: 10,
-        is_set: true,
-    };
-    stop_all(&rt, &work);
-}
-
-/// A batch of 63 stops, which takes a sector more.
+/// A batch of 63 stops, behind batches of the first version and of the second: an opening syncs, reads the stamp and the
+/// pick, two sectors for each batch, three for the long one, and the closing gate.
 #[test]
 fn a_long_append_recovers(rt: HostRuntime) {
-    let work = Work {
-        before: Listed::Two,
-        after: Listed::Three(63),
-        calls: 6,
-        calls_before: 8,
-        calls_after: 11,
-        is_set: true,
-    };
-    stop_all(&rt, &work);
+    for version in [1, 2] {
+        let work = Work {
+            version,
+            before: Listed::Two,
+            after: Listed::Three(63),
+            calls: 6,
+            calls_before: 8,
+            calls_after: 11,
+            is_set: true,
+        };
+        stop_all(&rt, &work);
+    }
 }
 
-/// A checkpoint of one sector, into the second half.
+/// A checkpoint of one sector, from a half of the first version into the second half.
 #[test]
-fn a_checkpoint_recovers(rt: HostRuntime) {
+fn a_checkpoint_of_old_batches_recovers(rt: HostRuntime) {
     let register = small(&rt, 1);
     let work = Work {
+        version: 1,
         before: Listed::Two,
         after: Listed::Checkpoint(&register),
         calls: 6,
@@ -319,6 +333,7 @@ fn a_long_checkpoint_recovers(rt: HostRuntime) {
     let earlier = small(&rt, 1);
     assert!(rt; register.base_len() == 67);
     let work = Work {
+        version: 2,
         before: Listed::Checkpoint(&earlier),
         after: Listed::Checkpoint(&register),
         calls: 9,

@@ -86,24 +86,6 @@ pub(crate) fn medium<R: AllocGlobal + Abort>(rt: &R) -> Register {
     register
 }
 
-/// The register with the most records: 32 open calls for each of 16 cars, and 63 last commands.
-pub(crate) fn largest<R: AllocGlobal + Abort>(rt: &R) -> Register {
-    let building = Building::read(rt.alloc(), LARGEST)
-        .ok()
-        .expect(rt, "a building");
-    let mut register = Register::empty(demo());
-    for car in 0..16 {
-        for kiosk in 0..32 {
-            assert!(rt; take(&mut register, &building, &row(kiosk, car)));
-        }
-    }
-    for index in 0..63 {
-        assert!(rt; take(&mut register, &building, &last(index, 11)));
-    }
-    assert!(rt; take(&mut register, &building, &Record::Done { count: 5 }));
-    register
-}
-
 /// The place behind these records, where they are the register's from this place on.
 fn place_behind(register: &Register, place: usize, records: &[Record]) -> Option<usize> {
     let mut next = place;

@@ -40,28 +40,3 @@ fn headers_are_spelled(rt: HostRuntime) {
     }
     assert!(rt; Version::One.number() == 1);
 }
-
-/// Bytes that differ from a good header at one place and are none.
-#[test]
-fn other_headers_are_refused(rt: HostRuntime) {
-    let header = [0x4Cu8, 0x42, 2, 0, 0, 1, 0, 0, 0, 0, 0, 1, 0, 0, 0, 0];
-    for (at, byte) in [
-        (0, 0),
-        (1, 0),
-        (2, 0),
-        (2, 3),
-        (3, 1),
-        (5, 0),
-        (5, 64),
-        (4, 1),
-        (6, 1),
-        (7, 1),
-        (11, 0),
-        (12, 1),
-        (15, 1),
-    ] {
-        let mut bytes = header;
-        *bytes.get_mut(at).expect(&rt, "below 16") = byte;
-        assert!(rt; decode_header(&bytes).is_none(), "byte {at} = {byte}");
-    }
-}

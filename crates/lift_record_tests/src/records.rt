@@ -101,61 +101,6 @@ fn first_version_is_read(rt: HostRuntime) {
     assert!(rt; decode(Version::One, &party).is_none());
 }
 
-/// The bytes with this one at this place.
-fn with_byte(bytes: [u8; 16], at: usize, byte: u8) -> [u8; 16] {
-    let mut changed = bytes;
-    if let Some(place) = changed.get_mut(at) {
-        *place = byte;
-    }
-    changed
-}
-
-/// Bytes that differ from a good spelling at one place and are no spelling.
-#[test]
-fn other_bytes_are_refused(rt: HostRuntime) {
-    let calls = [1u8, 16, 0, 5, 0, 2, 0, 0, 0, 0, 0, 1, 0, 0, 0, 0];
-    let stops = [2u8, 0, 7, 1, 0, 0, 0, 0, 0, 0, 0, 1, 0, 0, 0, 0];
-    let rows = [4u8, 16, 0, 5, 0, 2, 1, 0, 0, 0, 0, 1, 0, 0, 0, 0];
-    let done = [6u8, 0, 0, 0, 0, 0, 0, 0, 0x2E, 0xFF, 0xFF, 0xD1, 0, 0, 0, 0];
-    for (good, at, byte) in [
-        (calls, 0, 0),
-        (calls, 0, 3),
-        (calls, 0, 7),
-        (calls, 1, 0),
-        (calls, 1, 15),
-        (calls, 1, 63),
-        (calls, 2, 64),
-        (calls, 2, 5),
-        (calls, 3, 0),
-        (calls, 3, 64),
-        (calls, 4, 16),
-        (calls, 5, 0),
-        (calls, 5, 16),
-        (calls, 6, 1),
-        (calls, 7, 1),
-        (calls, 8, 1),
-        (calls, 11, 0),
-        (calls, 12, 1),
-        (calls, 15, 1),
-        (stops, 1, 16),
-        (stops, 3, 2),
-        (stops, 4, 1),
-        (stops, 5, 1),
-        (stops, 11, 0),
-        (rows, 6, 2),
-        (rows, 5, 0),
-        (done, 1, 1),
-        (done, 5, 1),
-        (done, 11, 0xD2),
-    ] {
-        assert!(rt; decode(Version::Two, &good).is_some());
-        assert!(rt;
-            decode(Version::Two, &with_byte(good, at, byte)).is_none(),
-            "byte {at} = {byte}"
-        );
-    }
-}
-
 /// Records that the types allow and the journal may not hold.
 #[test]
 fn unlawful_records_are_told(rt: HostRuntime) {
