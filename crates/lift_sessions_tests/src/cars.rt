@@ -1,11 +1,13 @@
 //! Sessions of cars.
 use crate::served::{Served, ample, floor, number, only_seat, open, stop};
+use crate::streams::{Endless, Narrow};
 use lift_base::text::{Counted, Watched};
 use lift_base::{Body, Dir, Number, Reason, Reply};
 use lift_car::{CarEnd, session};
 use lift_desk::DeskParts;
-use lift_kiosk::End;
+use lift_kiosk::{End, Limits, Port};
 use std::alloc::{AllocError, Global};
+use std::io::{Read, Write};
 use std::test::Fail;
 
 #[derive(Drop)]
@@ -82,29 +84,166 @@ fn repeats_leave_the_last_number(rt: HostRuntime) -> Result<(), Fail> {
     Ok(())
 }
 
-/// Each line is answered `BAD`, and nothing is asked.
+/// Each of these 15 lines is answered `BAD`, and nothing is asked.
+const MALFORMED: &[u8] = b"\
+PLACE 0\n\
+PLACE 0 left\n\
+PLACE 0 Up\n\
+PLACE 00 up\n\
+PLACE 1000 up\n\
+PLACE 1 0 up\n\
+STOP 0 up\n\
+STOP 16777216 0 up\n\
+STOP 01 0 up\n\
+STOP 1 0 up \n\
+STOP 1 0 up now\n\
+STOP 1 0  up\n\
+CALL 1 5\n\
+stop 1 0 up\n\
+\xC3\x28\n";
+
 #[test]
 fn malformed_moves(rt: HostRuntime) -> Result<(), Fail> {
-    for line in [
-        b"PLACE 0\n".as_slice(),
-        b"PLACE 0 left\n",
-        b"PLACE 0 Up\n",
-        b"PLACE 00 up\n",
-        b"PLACE 1000 up\n",
-        b"PLACE 1 0 up\n",
-        b"STOP 0 up\n",
-        b"STOP 16777216 0 up\n",
-        b"STOP 01 0 up\n",
-        b"STOP 1 0 up \n",
-        b"STOP 1 0 up now\n",
-        b"STOP 1 0  up\n",
-        b"CALL 1 5\n",
-        b"stop 1 0 up\n",
-        b"\xC3\x28\n",
-    ] {
-        let talk = talk(rt.alloc(), line, &[], 16_777_215)?;
-        assert!(rt; talk.output.as_slice() == b"READY 16777215\nBAD\n".as_slice());
-        assert!(rt; talk.taken.is_empty());
+    let talk = talk(rt.alloc(), MALFORMED, &[], 16_777_215)?;
+    let mut wanted = Vec::new(rt.alloc());
+    wanted.extend_from_slice(b"READY 16777215\n")?;
+    for _ in 0..15u8 {
+        wanted.extend_from_slice(b"BAD\n")?;
     }
+    assert!(rt; talk.output.as_slice() == wanted.as_slice() && talk.taken.is_empty());
+    Ok(())
+}
+
+/// A session of a car at floor 0 over these streams, which is told its stop there and is idle behind it.
+fn talk_over<R: Read + Drop, W: Write + Drop>(
+    alloc: Global,
+    reader: R,
+    writer: W,
+    limits: Limits,
+) -> Result<(W, CarEnd), AllocError> {
+    let DeskParts {
+        desk,
+        mut seats,
+        clerk,
+    } = open(alloc)?;
+    let seat = only_seat(&desk, &mut seats);
+    let replies = [Reply::Placed(Some(stop(0, Dir::Up))), Reply::Stopped(None)];
+    let mut port = Served::new(alloc, &desk, seat, clerk, &replies, 0);
+    let mut writer = Watched::new(writer);
+    let end = session(
+        &mut Counted::new(reader),
+        &mut writer,
+        &mut port,
+        number(0),
+        limits,
+    );
+    Ok((writer.into_inner(), end))
+}
+
+const INPUT: &[u8] = b"PLACE 0 up\nHELLO\nSTOP 1 0 up\n";
+
+const OUTPUT: &[u8] = b"READY 0\nNEXT 0 up\nBAD\nIDLE\n";
+
+/// A reader that fails at one of its calls: the lines before it were answered.
+#[test]
+fn readers_fail(rt: HostRuntime) -> Result<(), Fail> {
+    for calls in 0..35u64 {
+        let reader = Endless {
+            text: INPUT,
+            given: 0,
+            calls,
+        };
+        let (output, end) = talk_over(rt.alloc(), reader, Vec::new(rt.alloc()), ample())?;
+        let (whole, last) = match calls {
+            0..11 => (8, 0),
+            11..17 => (18, 0),
+            17..29 => (22, 0),
+            _ => (27, 1),
+        };
+        assert!(rt; output.as_slice() == &OUTPUT[..whole]);
+        assert!(rt; end.end == End::ReadFault && end.last == number(last));
+    }
+    Ok(())
+}
+
+/// A writer that fails, or takes nothing more, after so many bytes: these were written, and the stop that was heard counts.
+#[test]
+fn writers_fail(rt: HostRuntime) -> Result<(), Fail> {
+    for room in 0..27usize {
+        let last = if room < 22 { 0 } else { 1 };
+        for fails in [false, true] {
+            let writer = Narrow {
+                taken: Vec::new(rt.alloc()),
+                room,
+                fails,
+            };
+            let (writer, end) = talk_over(rt.alloc(), INPUT, writer, ample())?;
+            assert!(rt; writer.taken.as_slice() == &OUTPUT[..room]);
+            assert!(rt; end.end == End::WriteFault && end.last == number(last));
+        }
+    }
+    Ok(())
+}
+
+/// Lines, and calls of the reader.
+#[test]
+fn limits_end_a_session(rt: HostRuntime) -> Result<(), Fail> {
+    for (lines, reads, whole, end) in [
+        (0, 100, 8, End::Limit),
+        (1, 100, 18, End::Limit),
+        (3, 29, 27, End::Limit),
+        (4, 29, 27, End::Limit),
+        (4, 30, 27, End::Closed),
+        (4, 28, 22, End::Limit),
+    ] {
+        let limits = Limits {
+            lines,
+            looks: 2,
+            reads,
+        };
+        let (output, ended) = talk_over(rt.alloc(), INPUT, Vec::new(rt.alloc()), limits)?;
+        assert!(rt; output.as_slice() == &OUTPUT[..whole]);
+        assert!(rt; ended.end == end);
+    }
+    Ok(())
+}
+
+/// What a session of a car with so few looks writes, and how it ends.
+pub(crate) fn impatient(
+    alloc: Global,
+    port: &mut Served,
+    input: &[u8],
+    last: Number,
+) -> (Vec<u8>, CarEnd) {
+    let limits = Limits {
+        lines: 10,
+        looks: 1,
+        reads: 1000,
+    };
+    let mut writer = Watched::new(Vec::new(alloc));
+    let end = session(&mut Counted::new(input), &mut writer, port, last, limits);
+    (writer.into_inner(), end)
+}
+
+/// No answer in time; a later session brings it in, and greets with its number.
+#[test]
+fn late_stops_are_brought_in(rt: HostRuntime) -> Result<(), Fail> {
+    let DeskParts {
+        desk,
+        mut seats,
+        clerk,
+    } = open(rt.alloc())?;
+    let seat = only_seat(&desk, &mut seats);
+    let replies = [Reply::Stopped(None)];
+    let mut port = Served::new(rt.alloc(), &desk, seat, clerk, &replies, 5);
+    let input = b"STOP 4 1 up\nSTOP 4 1 up\n".as_slice();
+    let (first, late) = impatient(rt.alloc(), &mut port, input, number(3));
+    let (second, again) = impatient(rt.alloc(), &mut port, input, late.last);
+    port.turn();
+    let (third, closed) = impatient(rt.alloc(), &mut port, b"".as_slice(), again.last);
+    assert!(rt; first.as_slice() == b"READY 3\nLATE\n".as_slice() && late.end == End::Late);
+    assert!(rt; second.as_slice() == b"LATE\n".as_slice() && again.end == End::Late);
+    assert!(rt; third.as_slice() == b"READY 4\n".as_slice());
+    assert!(rt; closed.end == End::Closed && closed.last == number(4));
     Ok(())
 }

@@ -2,19 +2,53 @@
 use crate::served::{Served, floor, number, only_seat, open, stop};
 use lift_base::{Body, Dir, Letter, Number, Position, Reason, Reply, Stop};
 use lift_car::{Car, DriveEnd, Ending, ModelCar, drive};
-use lift_desk::DeskParts;
+use lift_desk::{AskRefusal, DeskParts};
 use lift_kiosk::{Limits, Port};
 use std::alloc::{AllocError, Global};
+use std::cell::Cell;
 use std::test::Fail;
 
-/// A model car with the places that it was sent to.
+/// A model car with the places that it was sent to, each with how many asks its port had stored until then.
 #[derive(Drop)]
-struct Recorder {
+struct Recorder<'a> {
     car: ModelCar,
-    stops: Vec<Position>,
+    asks: &'a Cell<usize>,
+    stops: Vec<(usize, Position)>,
 }
 
-impl Car for Recorder {
+/// A port that counts the asks that it stores, where its car sees them.
+#[derive(Drop)]
+struct Counting<'d, 'a> {
+    port: Served<'d>,
+    asks: &'a Cell<usize>,
+}
+
+impl<'d, 'a> Port for Counting<'d, 'a> {
+    ghost use Rattle.lift_kiosk.specs.Desk.{port_view, place_of};
+
+    ghost view = { λ c. port_view c.port.port.seat.view c.port.port.rests };
+
+    ghost place = { λ c. place_of c.port.port };
+
+    fn pending(&self) -> Option<Number> {
+        self.port.pending()
+    }
+
+    fn ask(&mut self, number: Number, body: Body) -> Result<(), AskRefusal> {
+        self.asks.set(self.asks.get().saturating_add(1));
+        self.port.ask(number, body)
+    }
+
+    fn hear(&mut self) -> Option<Reply> {
+        self.port.hear()
+    }
+
+    fn rest(&mut self) {
+        self.port.rest();
+    }
+}
+
+impl Car for Recorder<'_> {
     ghost use Rattle.lift_car.specs.Model.{place_of, IsSentTo};
 
     ghost told = { λ r. place_of r.car };
@@ -27,13 +61,13 @@ impl Car for Recorder {
 
     fn go(&mut self, stop: Stop) {
         self.car.go(stop);
-        let _kept = self.stops.push(self.car.tell());
+        let _kept = self.stops.push((self.asks.get(), self.car.tell()));
     }
 }
 
 #[derive(Drop)]
 struct Trip {
-    stops: Vec<Position>,
+    stops: Vec<(usize, Position)>,
     position: Position,
     end: DriveEnd,
     taken: Vec<(Number, Body)>,
@@ -62,28 +96,46 @@ fn limits(lines: u32) -> Limits {
 
 /// A drive of a car at floor 0, up, whose asks get these replies.
 fn driven(alloc: Global, replies: &[Reply], last: u32, lines: u32) -> Result<Trip, AllocError> {
+    let asks = Cell::new(0usize);
+    counted_drive(alloc, replies, last, lines, &asks)
+}
+
+fn counted_drive(
+    alloc: Global,
+    replies: &[Reply],
+    last: u32,
+    lines: u32,
+    asks: &Cell<usize>,
+) -> Result<Trip, AllocError> {
     let DeskParts {
         desk,
         mut seats,
         clerk,
     } = open(alloc)?;
     let seat = only_seat(&desk, &mut seats);
-    let mut port = Served::new(alloc, &desk, seat, clerk, replies, 0);
+    let served = Served::new(alloc, &desk, seat, clerk, replies, 0);
+    let mut port = Counting { port: served, asks };
     let mut car = Recorder {
         car: ModelCar { position: place(0) },
+        asks,
         stops: Vec::new(alloc),
     };
     let end = drive(&mut car, &mut port, number(last), limits(lines));
-    let Recorder { car, stops } = car;
+    let Recorder {
+        car,
+        asks: _,
+        stops,
+    } = car;
     Ok(Trip {
         stops,
         position: car.position,
         end,
-        taken: port.into_taken(),
+        taken: port.port.into_taken(),
     })
 }
 
-/// The car takes its passengers at floor 0 to floor 5, and is idle there.
+/// The car takes its passengers at floor 0 to floor 5, and is idle there. It goes to each stop before it reports it: to the
+/// first behind its first ask, to the second behind its second.
 #[test]
 fn car_makes_its_stops(rt: HostRuntime) -> Result<(), Fail> {
     let driven = driven(
@@ -97,7 +149,7 @@ fn car_makes_its_stops(rt: HostRuntime) -> Result<(), Fail> {
         0,
         4,
     )?;
-    assert!(rt; driven.stops.as_slice() == [place(0), place(5)].as_slice());
+    assert!(rt; driven.stops.as_slice() == [(1, place(0)), (2, place(5))].as_slice());
     let asks = [
         (number(0), Body::Place(floor(0), Dir::Up)),
         (number(1), Body::Stop(floor(0), Dir::Up)),

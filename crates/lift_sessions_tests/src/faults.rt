@@ -1,4 +1,5 @@
 //! Sessions whose reader or writer fails, or never ends.
+use crate::cars::impatient;
 use crate::served::{Served, ample, call, called, car, no_call, number, only_seat, open};
 use crate::streams::{Endless, Narrow};
 use lift_base::text::{Counted, Watched};
@@ -135,7 +136,7 @@ fn use_turns(port: &mut Served, number: Number, times: u32) -> u32 {
     answers
 }
 
-/// After 1,048,575 asks no turn is left.
+/// After 1,048,575 asks no turn is left, for lines of kiosks and for lines of cars.
 #[test]
 fn turns_run_out(rt: HostRuntime) -> Result<(), Fail> {
     let DeskParts {
@@ -157,5 +158,9 @@ fn turns_run_out(rt: HostRuntime) -> Result<(), Fail> {
     );
     assert!(rt; writer.into_inner().as_slice() == b"READY 0\nBAD\nNO 1\nSPENT\n".as_slice());
     assert!(rt; end.end == End::Spent && end.last == no_call());
+    let input = b"HELLO\nPLACE 64 up\nSTOP 1 5 up\nSTOP 1 5 up\n".as_slice();
+    let (output, end) = impatient(rt.alloc(), &mut port, input, number(0));
+    assert!(rt; output.as_slice() == b"READY 0\nBAD\nNO 1\nSPENT\n".as_slice());
+    assert!(rt; end.end == End::Spent && end.last == number(0));
     Ok(())
 }

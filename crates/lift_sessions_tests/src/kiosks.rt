@@ -1,4 +1,6 @@
 //! Sessions of kiosks.
+ghost use Rattle.std.specs.Prelude.{◌≡◌};
+
 use crate::served::{Served, ample, call, called, car, no_call, number, only_seat, open};
 use lift_base::text::{Counted, Watched};
 use lift_base::{Body, Number, Reason, Reply};
@@ -78,50 +80,54 @@ fn numbers_run_out(rt: HostRuntime) -> Result<(), Fail> {
     Ok(())
 }
 
-/// Each line is answered `BAD`, and nothing is asked.
+/// Each of these 26 lines is answered `BAD`, and nothing is asked.
+const MALFORMED: &[u8] = b"\
+\n\
+\x20\n\
+\x20CALL 1 5\n\
+CALL  1 5\n\
+CALL 1 5 \n\
+call 1 5\n\
+CALL 01 5\n\
+CALL 1 05\n\
+CALL +1 5\n\
+CALL -1 5\n\
+CALL 1\n\
+CALL 1 5 0\n\
+CALL 1 5 16\n\
+CALL 1 5 1 1\n\
+CALL 1 64 16\n\
+CALL 16777216 5\n\
+CALL 4294967297 5\n\
+CALL 1 1000\n\
+CALL 1 5\r\r\n\
+CALL 1 5\x00\n\
+\xFF\n\
+CALL 1 \xC3\xA9\n\
+PLACE 0 up\n\
+................................................................\n\
+.................................................................\n\
+CALL 1 5                                                         \n";
+
 #[test]
 fn malformed_lines(rt: HostRuntime) -> Result<(), Fail> {
-    for line in [
-        b"".as_slice(),
-        b" ",
-        b" CALL 1 5",
-        b"CALL  1 5",
-        b"CALL 1 5 ",
-        b"call 1 5",
-        b"CALL 01 5",
-        b"CALL 1 05",
-        b"CALL +1 5",
-        b"CALL -1 5",
-        b"CALL 1",
-        b"CALL 1 5 0",
-        b"CALL 1 5 16",
-        b"CALL 1 5 1 1",
-        b"CALL 1 64 16",
-        b"CALL 16777216 5",
-        b"CALL 4294967297 5",
-        b"CALL 1 1000",
-        b"CALL 1 5\r\r",
-        b"CALL 1 5\x00",
-        b"\xFF",
-        b"CALL 1 \xC3\xA9",
-        b"PLACE 0 up",
-        b"................................................................",
-        b".................................................................",
-        b"CALL 1 5                                                         ",
-    ] {
-        let mut input = Vec::new(rt.alloc());
-        input.extend_from_slice(line)?;
-        input.extend_from_slice(b"\nCALL 1 5\n")?;
-        let talk = talk(
-            rt.alloc(),
-            &input,
-            &[Reply::Car(car(15))],
-            no_call(),
-            ample(),
-        )?;
-        assert!(rt; talk.output.as_slice() == b"READY 0\nBAD\nCAR P\n".as_slice());
-        assert!(rt; talk.taken.len() == 1);
+    let mut input = Vec::new(rt.alloc());
+    input.extend_from_slice(MALFORMED)?;
+    input.extend_from_slice(b"CALL 1 5\n")?;
+    let talk = talk(
+        rt.alloc(),
+        &input,
+        &[Reply::Car(car(15))],
+        no_call(),
+        ample(),
+    )?;
+    let mut wanted = Vec::new(rt.alloc());
+    wanted.extend_from_slice(b"READY 0\n")?;
+    for _ in 0..26u8 {
+        wanted.extend_from_slice(b"BAD\n")?;
     }
+    wanted.extend_from_slice(b"CAR P\n")?;
+    assert!(rt; talk.output.as_slice() == wanted.as_slice() && talk.taken.len() == 1);
     Ok(())
 }
 
@@ -178,6 +184,23 @@ fn repeats_leave_the_last_call(rt: HostRuntime) -> Result<(), Fail> {
     Ok(())
 }
 
+/// What a session of a kiosk with so few looks writes, and how it ends.
+fn impatient(
+    alloc: Global,
+    port: &mut Served,
+    input: &[u8],
+    last: LastLetter,
+) -> (Vec<u8>, SessionEnd) {
+    let limits = Limits {
+        lines: 10,
+        looks: 1,
+        reads: 1000,
+    };
+    let mut writer = Watched::new(Vec::new(alloc));
+    let end = session(&mut Counted::new(input), &mut writer, port, last, limits);
+    (writer.into_inner(), end)
+}
+
 /// No answer in time; the next session brings it in.
 #[test]
 fn late_answers_are_brought_in(rt: HostRuntime) -> Result<(), Fail> {
@@ -189,44 +212,16 @@ fn late_answers_are_brought_in(rt: HostRuntime) -> Result<(), Fail> {
     let seat = only_seat(&desk, &mut seats);
     let replies = [Reply::Car(car(0))];
     let mut port = Served::new(rt.alloc(), &desk, seat, clerk, &replies, 5);
-    let limits = Limits {
-        lines: 10,
-        looks: 1,
-        reads: 1000,
-    };
-    let mut first = Watched::new(Vec::new(rt.alloc()));
     let input = b"CALL 1 5\nCALL 1 5\n".as_slice();
-    let end = session(
-        &mut Counted::new(input),
-        &mut first,
-        &mut port,
-        no_call(),
-        limits,
-    );
-    assert!(rt; first.into_inner().as_slice() == b"READY 0\nLATE\n".as_slice());
-    assert!(rt; end.end == End::Late && end.last == no_call());
-    assert!(rt; port.pending() == Some(number(1)));
-    let mut second = Watched::new(Vec::new(rt.alloc()));
-    let end = session(
-        &mut Counted::new(input),
-        &mut second,
-        &mut port,
-        end.last,
-        limits,
-    );
-    assert!(rt; second.into_inner().as_slice() == b"LATE\n".as_slice() && end.end == End::Late);
+    let (first, end) = impatient(rt.alloc(), &mut port, input, no_call());
+    let is_late = end.end == End::Late && end.last == no_call();
+    let (second, again) = impatient(rt.alloc(), &mut port, input, end.last);
     port.turn();
-    let mut third = Watched::new(Vec::new(rt.alloc()));
-    let nothing = b"".as_slice();
-    let end = session(
-        &mut Counted::new(nothing),
-        &mut third,
-        &mut port,
-        end.last,
-        limits,
-    );
-    assert!(rt; third.into_inner().as_slice() == b"READY 1 A\n".as_slice());
-    assert!(rt; end.end == End::Closed && end.last == called(1, 0));
+    let (third, closed) = impatient(rt.alloc(), &mut port, b"".as_slice(), again.last);
+    assert!(rt; first.as_slice() == b"READY 0\nLATE\n".as_slice() && is_late);
+    assert!(rt; second.as_slice() == b"LATE\n".as_slice() && again.end == End::Late);
+    assert!(rt; third.as_slice() == b"READY 1 A\n".as_slice());
+    assert!(rt; closed.end == End::Closed && closed.last == called(1, 0));
     Ok(())
 }
 
@@ -257,7 +252,23 @@ fn limits_end_a_session(rt: HostRuntime) -> Result<(), Fail> {
     Ok(())
 }
 
-/// The seat of a session serves the next one.
+/// What a session over a desk's own port writes, whose clerk doesn't turn, and the seat behind it.
+fn unanswered<'d>(alloc: Global, port: DeskPort<'d>, input: &[u8]) -> (Vec<u8>, DeskPort<'d>)
+    ensures { result.1.desk ≡ port.entry.desk }
+{
+    let mut port = port;
+    let mut writer = Watched::new(Vec::new(alloc));
+    let _late = session(
+        &mut Counted::new(input),
+        &mut writer,
+        &mut port,
+        no_call(),
+        ample(),
+    );
+    (writer.into_inner(), port)
+}
+
+/// The seat of a session serves the next one, which finds the ask that waits.
 #[test]
 fn seats_serve_again(rt: HostRuntime) -> Result<(), Fail> {
     let DeskParts {
@@ -266,27 +277,13 @@ fn seats_serve_again(rt: HostRuntime) -> Result<(), Fail> {
         clerk: _,
     } = open(rt.alloc())?;
     let seat = only_seat(&desk, &mut seats);
-    let mut port = DeskPort::new(&desk, seat);
-    let mut writer = Watched::new(Vec::new(rt.alloc()));
     let input = b"HELLO\nCALL 1 5\n".as_slice();
-    let first = session(
-        &mut Counted::new(input),
-        &mut writer,
-        &mut port,
-        no_call(),
-        ample(),
-    );
+    let (first, port) = unanswered(rt.alloc(), DeskPort::new(&desk, seat), input);
     let seat = port.into_seat();
-    assert!(rt; seat.pending() == Some(number(1)));
-    let mut port = DeskPort::new(&desk, seat);
-    let second = session(
-        &mut Counted::new(input),
-        &mut writer,
-        &mut port,
-        first.last,
-        ample(),
-    );
-    assert!(rt; first.end == End::Late && second.end == End::Late);
-    assert!(rt; writer.into_inner().as_slice() == b"READY 0\nBAD\nLATE\nLATE\n".as_slice());
+    let pending = seat.pending();
+    let (second, _port) = unanswered(rt.alloc(), DeskPort::new(&desk, seat), input);
+    assert!(rt; pending == Some(number(1)));
+    assert!(rt; first.as_slice() == b"READY 0\nBAD\nLATE\n".as_slice());
+    assert!(rt; second.as_slice() == b"LATE\n".as_slice());
     Ok(())
 }
