@@ -9,3 +9,4 @@ pub mod Guarding
 pub mod Reopenings
 pub mod Writers
 pub mod Keepers
+pub mod Reading

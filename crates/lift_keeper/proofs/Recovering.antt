@@ -21,6 +21,8 @@ use Rattle.lift_journal.proofs.Telling.{none_made, passes_then, fails_then}
 use Rattle.lift_journal.proofs.Chains.{used_below}
 use Rattle.lift_journal.proofs.Looking.{reads_none, reads_then}
 use Rattle.lift_journal.proofs.Orders.{order_at}
+use Rattle.lift_keeper.specs.Calls.{ReadsBehind}
+use Rattle.lift_keeper.proofs.Reading.{reads_nothing, behind_then}
 use Rattle.lift_keeper.specs.Opening.{KeepsAll, UnreadFor}
 use Rattle.lift_keeper.specs.Recovery.{RecordFits, with_all, AllFit, IsFirstMisfit, MakesRegister, RecoveryState, beginning, AllPass, all_passed, StopsAt, is_unended}
 use Rattle.lift_keeper.proofs.Recoveries.{pass_then, passed_then, register_passed, taken_passed, plan_passed, open_passed, fits_passed, passes_here, ended_closed}
@@ -39,6 +41,7 @@ pub record Recovering (old now : DiskState) (plan : Plan) (shape : Shape) (state
   pub only : ReadsOnly old now
   pub failures : now.failures ≡ old.failures
   pub told : NoneFails old now
+  pub row : ReadsBehind [] old now
   pub image : old.is_honest → now.image ≡ old.image
   pub synced : 0 < count → old.is_honest → IsSynced now
   pub at : old.is_honest → (batches : List Batch) → Holds shape batches old.image → IsUnderway plan batches state cursor count
@@ -49,6 +52,7 @@ pub record SameJournal {D : Type 0} (old now : JournalView D) (count : ℕ) : Ty
   pub used : now.used ≡ old.used
   pub opened : now.opened ≡ old.opened
   pub second : now.is_second ≡ old.is_second
+  pub number : now.number ≡ old.number
   pub broken : now.is_broken ≡ old.is_broken
   pub whole : 0 < count → old.is_broken ≡ false
   pub rests : old.is_broken ≡ true → now ≡ old
@@ -111,6 +115,7 @@ begins disk plan shape state cursor only_now start none is = record {
   only = reads_none disk only_now;
   failures = refl;
   told = none_made disk;
+  row = reads_nothing disk disk refl;
   image = λ honest. refl;
   synced = λ some. absurd (omega (arith, some));
   at = λ honest batches holds. record { within = start batches; given = none; pass = tt; same = is };
@@ -152,13 +157,14 @@ module _ (old mid new : DiskState) (plan : Plan) (shape : Shape) (state : Recove
         }
 
     -- one batch more was taken
-    pub goes_on : (next : RecoveryState) → AllPass state items → next ≡ all_passed state items → length items ≤ 63 → Recovering old new plan shape next behind (count + 1)
-    goes_on next pass same few = record {
+    pub goes_on : (next : RecoveryState) → AllPass state items → next ≡ all_passed state items → length items ≤ 63 → ReadsBehind [] mid new → Recovering old new plan shape next behind (count + 1)
+    goes_on next pass same few row = record {
       of_plan = ap (λ (s : RecoveryState). s.plan) same ∙ plan_passed state items ∙ inv.of_plan;
       few = omega (arith, ap (λ (s : RecoveryState). s.taken) same, taken_passed state items, inv.few, few);
       only = only_then;
       failures = all_then.failures;
       told = all_then.told;
+      row = behind_then [] old mid new inv.row row;
       image = λ honest. (all_then.kept honest).same;
       synced = λ some honest. (all_then.kept honest).synced;
       at = λ honest batches holds.

@@ -7,3 +7,4 @@ pub mod Cuts
 pub mod Writer
 pub mod Reopening
 pub mod Keeper
+pub mod Calls

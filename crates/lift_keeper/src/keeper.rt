@@ -1,6 +1,6 @@
 //! Decisions, and the batch that makes them safe.
 
-ghost use Rattle.std.specs.Prelude.{◌≡◌, ◌<◌, ◌≤◌, ◌+◌, ◌⊎◌, ◌↔◌, [], length, true, false, Ok, Err, IfOk, IfErr, OnOk, OnErr};
+ghost use Rattle.std.specs.Prelude.{◌≡◌, ◌<◌, ◌≤◌, ◌+◌, ◌⊎◌, ◌↔◌, [], ◌∷◌, length, true, false, Ok, Err, IfOk, IfErr, OnOk, OnErr};
 ghost use Rattle.lift_disk.specs.Disk.{LeavesNow, LeavesOnly, RunsOn};
 ghost use Rattle.lift_register.specs.Register.{register_of};
 ghost use Rattle.lift_register.specs.WellFormed.{IsWellFormed};
@@ -13,6 +13,8 @@ ghost use Rattle.lift_journal.specs.Told.{NoneFails};
 ghost use Rattle.lift_keeper.specs.Decider.{starting, IsPossible};
 ghost use Rattle.lift_keeper.specs.Images.{IsImageOf, IsImageIn, IsInDoubt};
 ghost use Rattle.lift_keeper.specs.Reopening.{Reopens, RefusesReopening, FailsBy};
+ghost use Rattle.lift_disk.specs.Trace.Access.{Sync};
+ghost use Rattle.lift_keeper.specs.Calls.{ReadsBehind, SyncsBeforeReading};
 ghost use Rattle.lift_keeper.specs.Writer.{StopsCommit, commit_calls, commit_writes, commit_used, commit_second};
 
 use crate::copies::copy_of;
@@ -58,6 +60,9 @@ impl<'b, D: Disk> Keeper<'b, D> {
         ensures whole { IfOk result (λ keeper. (keeper.writer.is_broken ≡ false) × (keeper.writer.doubt ≡ [])) }
         ensures opened { IfOk result (λ keeper. keeper.writer.opened ≡ (D.state keeper.writer.device).failures) }
         ensures refused { IfErr result (λ err. RefusesReopening building.now (D.state disk) (D.state err.0) err.1) }
+        // One sync before all reads.
+        ensures calls { IfOk result (λ keeper. ReadsBehind (Sync ∷ []) (D.state disk) (D.state keeper.writer.device)) }
+        ensures calls_before { IfErr result (λ err. SyncsBeforeReading err.1 (D.state disk) (D.state err.0)) }
     {
         match Writer::open(disk, building) {
             Ok(writer) => {
@@ -215,6 +220,8 @@ impl<'b, D: Disk> Keeper<'b, D> {
             × (self.new.writer.opened ≡ self.old.writer.opened)) }
         ensures place { OnErr result ((self.new.writer.half ≡ self.old.writer.half) × (self.new.writer.is_second ≡ self.old.writer.is_second) × (self.new.writer.used ≡ self.old.writer.used)) }
         ensures plan { self.new.writer.plan ≡ self.old.writer.plan }
+        ensures calls { OnOk result (ReadsBehind (Sync ∷ []) (D.state self.old.writer.device) (D.state self.new.writer.device)) }
+        ensures calls_before { IfErr result (λ fault. SyncsBeforeReading fault (D.state self.old.writer.device) (D.state self.new.writer.device)) }
     {
         self.writer.reopen()?;
         let building = self.decider.building();

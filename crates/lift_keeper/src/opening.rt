@@ -1,6 +1,6 @@
 //! Recovery: the register of an opened journal.
 
-ghost use Rattle.std.specs.Prelude.{◌≡◌, ◌↔◌, List, true, false, IsTrue, IfOk, IfErr, OnOk};
+ghost use Rattle.std.specs.Prelude.{◌≡◌, ◌↔◌, [], List, true, false, IsTrue, IfOk, IfErr, OnOk};
 ghost use Rattle.lift_building.specs.Plan.{shape_of};
 ghost use Rattle.lift_base.specs.declared.history.Record.{Record as RecordValue};
 ghost use Rattle.lift_journal.specs.Journal.{ReadsAs};
@@ -11,6 +11,7 @@ ghost use Rattle.lift_register.specs.Balanced.{IsBalanced};
 ghost use Rattle.lift_register.specs.WellFormed.{IsWellFormed};
 ghost use Rattle.lift_keeper.specs.Recovery.{MakesRegister, IsRegisterOf};
 ghost use Rattle.lift_keeper.specs.Opening.{KeepsAll, UnrecoveredFor};
+ghost use Rattle.lift_keeper.specs.Calls.{ReadsBehind};
 
 use crate::fault::KeeperFault;
 use crate::recovery::Recovery;
@@ -52,8 +53,10 @@ pub fn recover<D: Disk>(
     building: &Building,
 ) -> Result<Register, KeeperFault>
     ensures reads { ReadsOnly (D.state journal.old.device) (D.state journal.new.device) }
+    ensures row { ReadsBehind [] (D.state journal.old.device) (D.state journal.new.device) }
     ensures same { (journal.new.shape ≡ journal.old.shape) × (journal.new.used ≡ journal.old.used) × (journal.new.opened ≡ journal.old.opened) }
     ensures second { journal.new.is_second ≡ journal.old.is_second }
+    ensures number { journal.new.number ≡ journal.old.number }
     ensures kept { OnOk result (KeepsAll (D.state journal.old.device) (D.state journal.new.device)) }
     ensures whole { OnOk result ((journal.old.is_broken ≡ false) × (journal.new.is_broken ≡ false)) }
     ensures shape { OnOk result (journal.old.shape ≡ shape_of building.now journal.old.shape.half) }

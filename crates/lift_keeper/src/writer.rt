@@ -1,6 +1,6 @@
 //! The safe register, and the journal that it is safe in.
 
-ghost use Rattle.std.specs.Prelude.{◌≡◌, ◌<◌, ◌⊎◌, ◌↔◌, [], length, true, false, Ok, Err, IfOk, IfErr, OnOk, OnErr};
+ghost use Rattle.std.specs.Prelude.{◌≡◌, ◌<◌, ◌⊎◌, ◌↔◌, [], ◌∷◌, length, true, false, Ok, Err, IfOk, IfErr, OnOk, OnErr};
 ghost use Rattle.lift_disk.specs.Disk.{LeavesNow, LeavesOnly, MayLeave, RunsOn};
 ghost use Rattle.lift_register.specs.Register.{register_of};
 ghost use Rattle.lift_register.specs.Fits.{FitFrom};
@@ -11,6 +11,8 @@ ghost use Rattle.lift_journal.specs.Steps.{Makes};
 ghost use Rattle.lift_journal.specs.Told.{NoneFails};
 ghost use Rattle.lift_keeper.specs.Images.{IsImageOf, IsImageIn, IsInDoubt};
 ghost use Rattle.lift_keeper.specs.Reopening.{Reopens, RefusesReopening, FailsBy};
+ghost use Rattle.lift_disk.specs.Trace.Access.{Sync};
+ghost use Rattle.lift_keeper.specs.Calls.{ReadsBehind, SyncsBeforeReading};
 ghost use Rattle.lift_keeper.specs.Writer.{Guards, StopsCommit, commit_calls, commit_writes, commit_used, commit_second};
 
 use crate::copies::{apply_all, put_records};
@@ -73,6 +75,9 @@ impl<'b, D: Disk> Writer<'b, D> {
         ensures whole { IfOk result (λ writer. (writer.is_broken ≡ false) × (writer.doubt ≡ [])) }
         ensures opened { IfOk result (λ writer. writer.opened ≡ (D.state writer.device).failures) }
         ensures refused { IfErr result (λ err. RefusesReopening building.now (D.state disk) (D.state err.0) err.1) }
+        // One sync before all reads.
+        ensures calls { IfOk result (λ writer. ReadsBehind (Sync ∷ []) (D.state disk) (D.state writer.device)) }
+        ensures calls_before { IfErr result (λ err. SyncsBeforeReading err.1 (D.state disk) (D.state err.0)) }
     {
         let mut journal = match Journal::open(disk) {
             Ok(journal) => journal,
@@ -193,6 +198,8 @@ impl<'b, D: Disk> Writer<'b, D> {
         ensures unmoved { OnErr result ((self.new.register ≡ self.old.register) × (self.new.doubt ≡ self.old.doubt) × (self.new.opened ≡ self.old.opened)) }
         ensures place { OnErr result ((self.new.half ≡ self.old.half) × (self.new.is_second ≡ self.old.is_second) × (self.new.used ≡ self.old.used)) }
         ensures plan { self.new.plan ≡ self.old.plan }
+        ensures calls { OnOk result (ReadsBehind (Sync ∷ []) (D.state self.old.device) (D.state self.new.device)) }
+        ensures calls_before { IfErr result (λ fault. SyncsBeforeReading fault (D.state self.old.device) (D.state self.new.device)) }
     {
         match reopened(&mut self.journal, self.building) {
             Ok(register) => {
@@ -247,6 +254,9 @@ fn reopened<D: Disk>(journal: &mut Journal<D>, building: &Building) -> Result<Re
     ensures refused { IfErr result (λ fault. RefusesReopening building.now (D.state journal.old.device) (D.state journal.new.device) fault) }
     ensures stays { IfErr result (λ fault. (fault ≡ KeeperFault.Journal JournalFault.Disk) ⊎ (journal.new.is_broken ≡ journal.old.is_broken)) }
     ensures unmoved { OnErr result ((journal.new.shape ≡ journal.old.shape) × (journal.new.is_second ≡ journal.old.is_second) × (journal.new.used ≡ journal.old.used)) }
+    ensures number { OnErr result (journal.new.number ≡ journal.old.number) }
+    ensures calls { OnOk result (ReadsBehind (Sync ∷ []) (D.state journal.old.device) (D.state journal.new.device)) }
+    ensures calls_before { IfErr result (λ fault. SyncsBeforeReading fault (D.state journal.old.device) (D.state journal.new.device)) }
 {
     let former = match journal.reopen_from() {
         Ok(former) => former,

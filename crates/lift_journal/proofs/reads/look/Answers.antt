@@ -38,9 +38,13 @@ returns-in-Err-clause-looks g c =
 
 pub returns-in-Ok-None-clause-damaged : goal.returns-in-Ok-None-clause-damaged
 returns-in-Ok-None-clause-damaged g c _ =
-    let row = c.in-Ok-None.ensures.row in
-    (row.0, row.1, omega (arith, row.2, c.requires.below), rows_then (g.D.Disk.state c.args.disk.now) (g.D.Disk.state c.read_mark.new.disk) (g.D.Disk.state c.read_body.new.disk) c.args.gate 1 row.0 (c.args.gate + 1) (omega arith)
-    c.in_ok-read_mark.ensures.read row.3)
+    let row = c.in-Ok-None.ensures.row in (
+      row.0,
+      row.1,
+      omega (arith, row.2, c.requires.below),
+      rows_then (g.D.Disk.state c.args.disk.now) (g.D.Disk.state c.read_mark.new.disk) (g.D.Disk.state c.read_body.new.disk) c.args.gate 1 row.0 (c.args.gate + 1) (omega arith)
+          c.in_ok-read_mark.ensures.read row.3,
+    )
 
 pub returns-in-Err-clause-unread : goal.returns-in-Err-clause-unread
 returns-in-Err-clause-unread g c =

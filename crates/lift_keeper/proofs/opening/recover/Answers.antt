@@ -1,12 +1,14 @@
-use Rattle.std.proofs.Common.{◌≡◌, ◌≤◌, List, length, refl, sym, ◌∙◌, ap, subst, arith, false}
-use Rattle.std.specs.Prelude.{Some, None, Err, option_map}
+use Rattle.std.proofs.Common.{◌≡◌, ◌≤◌, ◌+◌, ◌++◌, [], List, length, refl, sym, ◌∙◌, ap, subst, arith, false}
+use Rattle.std.specs.Prelude.{Some, None, Ok, Err, IfSome, option_map}
+use Rattle.lift_journal.specs.Calls.{half_start, reads_from}
+use Rattle.lift_keeper.proofs.Reading.{reads_row, reads_nothing, behind_then, cursor_row}
 use Rattle.lift_journal.specs.declared.fault.JournalFault.{JournalFault}
 use Rattle.lift_register.specs.Register.{RegisterState}
 use Rattle.lift_keeper.specs.declared.fault.KeeperFault.{KeeperFault}
 use Rattle.lift_base.specs.declared.history.Record.{Record}
 use Rattle.lift_base.specs.declared.history.Shape.{Shape}
-use Rattle.lift_journal.specs.Journal.{IsCursorIn, IsNext}
-use Rattle.lift_journal.specs.Layout.{Batch, records_of, Holds}
+use Rattle.lift_journal.specs.Journal.{JournalView, IsCursorIn, IsNext}
+use Rattle.lift_journal.specs.Layout.{Batch, records_of, Holds, bodies}
 use Rattle.lift_keeper.specs.Opening.{KeepsAll, UnrecoveredFor}
 use Rattle.lift_keeper.specs.Recovery.{AllPass, all_passed, StopsAt, MakesRegister, IsFirstMisfit}
 use Rattle.lift_keeper.proofs.Recovering.{Recovering, not_true, begins, goes_on, all_then, misfits, makes, closed, not_so_many, unread, if_ok_weaker, if_err_weaker}
@@ -17,7 +19,7 @@ pub loop-round-init : goal.loop-round-init
 loop-round-init g c = (
   begins (g.D.Disk.state c.args.journal.now.device) c.args.building.now c.args.journal.now.shape c.new-recovery.result c.first-cursor.result
       (g.met.D.Disk.only_now c.args.journal.now.device) c.first-cursor.ensures.start c.first-cursor.ensures.none c.new-recovery.ensures,
-  record { shape = refl; used = refl; opened = refl; second = refl; broken = refl; whole = λ some. absurd (omega (arith, some)); rests = λ was. refl },
+  record { shape = refl; used = refl; opened = refl; second = refl; number = refl; broken = refl; whole = λ some. absurd (omega (arith, some)); rests = λ was. refl },
 )
 
 pub take_all-requires : goal.take_all-requires
@@ -41,12 +43,14 @@ loop-round-preserved g c =
     let now : c.take_all.new.self ≡ all_passed c.loop-round.recovery items = took.1 ∙ ap (all_passed c.loop-round.recovery) c.deref.ensures.0 in
     let few : length items ≤ 63 = omega (arith, c.deref.ensures.1, ap (λ (l : List Record). length l) c.deref.ensures.0) in
     let before : c.args.journal.now.is_broken ≡ false = not_true c.args.journal.now.is_broken (λ was. cc (c.in-Ok-Some.ensures.broken.1 (same.broken ∙ was))) in (
-      goes_on old mid new c.args.building.now c.args.journal.now.shape c.loop-round.recovery c.loop-round.cursor c.next.new.cursor c.loop-round._round inv c.in-Ok-Some.ensures.reads all items gives c.take_all.new.self pass now few,
+      goes_on old mid new c.args.building.now c.args.journal.now.shape c.loop-round.recovery c.loop-round.cursor c.next.new.cursor c.loop-round._round inv c.in-Ok-Some.ensures.reads all items gives c.take_all.new.self pass now few
+          (reads_row mid new _ _ (subst (λ (o : _). IfSome o (λ records. new.trace ≡ mid.trace ++ reads_from (half_start c.loop-round.journal.is_second c.loop-round.journal.shape.half + c.loop-round.cursor.skipped) (1 + bodies (length records.items)))) c.in-Ok-Some.field-0-is c.in-Ok-Some.ensures.calls)),
       record {
         shape = c.in-Ok-Some.ensures.same.0 ∙ same.shape;
         used = c.in-Ok-Some.ensures.same.1 ∙ same.used;
         opened = c.in-Ok-Some.ensures.same.2 ∙ same.opened;
         second = c.in-Ok-Some.ensures.second ∙ same.second;
+        number = c.in-Ok-Some.ensures.number ∙ same.number;
         broken = c.in-Ok-Some.ensures.stays ∙ sym before;
         whole = λ some. before;
         rests = λ was. absurd (cc (was, before));
@@ -163,3 +167,31 @@ returns-clause-refused g c =
       λ honest batches holds. absurd (not_so_many old mid c.args.building.now c.args.journal.now.shape c.loop-round.recovery c.loop-round.cursor
           (subst (Recovering old mid c.args.building.now c.args.journal.now.shape c.loop-round.recovery c.loop-round.cursor) end inv) honest batches holds),
     )
+
+pub returns-then-not-is_of-clause-row : goal.returns-then-not-is_of-clause-row
+returns-then-not-is_of-clause-row g c = (let disk = g.D.Disk.state c.args.journal.now.device in reads_nothing disk disk refl)
+
+pub returns-in-Err-clause-row : goal.returns-in-Err-clause-row
+returns-in-Err-clause-row g c =
+    let mid = g.D.Disk.state c.loop-round.journal.device in
+    let new = g.D.Disk.state c.next.new.self.device in
+    behind_then [] (g.D.Disk.state c.args.journal.now.device) mid new c.loop-round.invariant.0.row
+    (cursor_row c.in-Err.fault mid new _ _ c.in-Err.ensures.causes
+    (λ is. c.in-Err.ensures.calls_failed (ap (λ (f : JournalFault). Err f) is))
+    (λ s is. c.in-Err.ensures.calls_damaged s (ap (λ (f : JournalFault). Err f) is))
+    (λ is. ap (λ (v : JournalView g.row.D.Denot). (g.D.Disk.state v.device).trace) (c.in-Err.ensures.refused (ap (λ (f : JournalFault). Err f) is))))
+
+pub returns-in-Ok-None-clause-row : goal.returns-in-Ok-None-clause-row
+returns-in-Ok-None-clause-row g c =
+    let mid = g.D.Disk.state c.loop-round.journal.device in
+    let new = g.D.Disk.state c.next.new.self.device in
+    let rests = c.in-Ok-None.ensures.rests (ap (λ o. Ok o) c.in-Ok-None.field-0-is) in
+    behind_then [] (g.D.Disk.state c.args.journal.now.device) mid new c.loop-round.invariant.0.row
+    (reads_nothing mid new (ap (λ (v : JournalView g.row.D.Denot). (g.D.Disk.state v.device).trace) rests.0))
+
+pub returns-then-not-take_all-clause-row : goal.returns-then-not-take_all-clause-row
+returns-then-not-take_all-clause-row g c =
+    let mid = g.D.Disk.state c.loop-round.journal.device in
+    let new = g.D.Disk.state c.next.new.self.device in
+    behind_then [] (g.D.Disk.state c.args.journal.now.device) mid new c.loop-round.invariant.0.row
+    (reads_row mid new _ _ (subst (λ (o : _). IfSome o (λ records. new.trace ≡ mid.trace ++ reads_from (half_start c.loop-round.journal.is_second c.loop-round.journal.shape.half + c.loop-round.cursor.skipped) (1 + bodies (length records.items)))) c.in-Ok-Some.field-0-is c.in-Ok-Some.ensures.calls))

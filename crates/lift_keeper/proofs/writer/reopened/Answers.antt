@@ -1,10 +1,13 @@
-use Rattle.std.proofs.Common.{sym, ap, subst}
+use Rattle.std.proofs.Common.{[], ◌∷◌, inr, sym, ap, subst}
 use Rattle.lift_base.specs.declared.history.Shape.{Shape}
 use Rattle.lift_journal.specs.Journal.{JournalView}
 use Rattle.lift_journal.specs.Steps.{ReadsOnly}
 use Rattle.lift_journal.proofs.Looking.{reads_then}
 use Rattle.lift_keeper.specs.Reopening.{RefusesReopening}
 use Rattle.lift_keeper.proofs.Reopenings.{reopens, guards, refused_journal, refused_recovery}
+use Rattle.lift_disk.specs.Trace.Access.{Sync}
+use Rattle.lift_keeper.specs.Calls.{SyncsBeforeReading}
+use Rattle.lift_keeper.proofs.Reading.{behind_then, opening_row, refused_row}
 use Rattle.lift_keeper.proofs.writer.reopened.Goals as goal
 
 pub returns-in-Err-clause-refused : goal.returns-in-Err-clause-refused
@@ -40,3 +43,20 @@ returns-in-Ok-recover-clause-guards g c =
     guards c.args.building.now (g.D.Disk.state c.args.journal.now.device) (g.D.Disk.state middle.device) (g.D.Disk.state after.device) middle.shape middle.used
     c.in-Ok.ensures.opens c.recover.ensures.reads c.in-Ok-recover.register found.shape found.is_read found.kept middle.is_second c.in-Ok.ensures.half found.possible after.shape after.is_second after.used
     c.recover.ensures.same.0 c.recover.ensures.second c.recover.ensures.same.1
+
+pub returns-in-Err-clause-calls_before : goal.returns-in-Err-clause-calls_before
+returns-in-Err-clause-calls_before g c =
+    refused_row c.in-Err.fault (g.D.Disk.state c.args.journal.now.device) (g.D.Disk.state c.reopen_from.new.self.device) c.in-Err.ensures.calls_before
+
+pub returns-in-Ok-recover-clause-calls : goal.returns-in-Ok-recover-clause-calls
+returns-in-Ok-recover-clause-calls g c =
+    let old = g.D.Disk.state c.args.journal.now.device in
+    let mid = g.D.Disk.state c.reopen_from.new.self.device in
+    behind_then (Sync ∷ []) old mid (g.D.Disk.state c.recover.new.journal.device) (opening_row old mid _ _ c.in-Ok.ensures.calls) c.recover.ensures.row
+
+pub returns-in-Err-recover-clause-calls_before : goal.returns-in-Err-recover-clause-calls_before
+returns-in-Err-recover-clause-calls_before g c =
+    let old = g.D.Disk.state c.args.journal.now.device in
+    let mid = g.D.Disk.state c.reopen_from.new.self.device in
+    subst (λ (d : g.row.D.Denot). SyncsBeforeReading c.in-Err-recover.fault old (g.D.Disk.state d)) (sym c.return_to.ensures.device)
+    (inr (behind_then (Sync ∷ []) old mid (g.D.Disk.state c.recover.new.journal.device) (opening_row old mid _ _ c.in-Ok.ensures.calls) c.recover.ensures.row))

@@ -1,9 +1,12 @@
-use Rattle.std.proofs.Common.{false, refl, sym, ap, subst, arith}
+use Rattle.std.proofs.Common.{[], ◌∷◌, inr, false, refl, sym, ap, subst, arith}
 use Rattle.lift_base.specs.declared.history.Shape.{Shape}
 use Rattle.lift_keeper.specs.Reopening.{RefusesReopening}
 use Rattle.lift_keeper.proofs.Reopenings.{reopens, guards, refused_journal, refused_recovery}
 use Rattle.lift_keeper.proofs.Writers.{whole_writer}
 use Rattle.lift_journal.specs.Journal.{JournalView}
+use Rattle.lift_disk.specs.Trace.Access.{Sync}
+use Rattle.lift_keeper.specs.Calls.{SyncsBeforeReading}
+use Rattle.lift_keeper.proofs.Reading.{behind_then, opening_row, refused_row}
 use Rattle.lift_keeper.proofs.writer.Writer.open.Goals as goal
 
 pub returns-in-Err-clause-refused : goal.returns-in-Err-clause-refused
@@ -35,3 +38,19 @@ invariant_of-result g c =
     let counted = ap (λ (j : JournalView g.row.D.Denot). (g.D.Disk.state j.device).failures) c.of-opened.ensures in
     whole_writer c.args.building.now after c.in-Ok-recover.register c.of.result.value.items (g.D.Disk.state c.of-opened.result.value.device).failures false
     (g.D.Disk.state after.device) refl made found.whole.1 (cc (c.of.ensures, c.new.ensures)) (omega (arith, counted))
+
+pub returns-in-Err-clause-calls_before : goal.returns-in-Err-clause-calls_before
+returns-in-Err-clause-calls_before g c = refused_row c.in-Err.fault (g.D.Disk.state c.args.disk) (g.D.Disk.state c.in-Err.disk) c.in-Err.ensures.calls_before
+
+pub returns-in-Ok-recover-clause-calls : goal.returns-in-Ok-recover-clause-calls
+returns-in-Ok-recover-clause-calls g c =
+    let old = g.D.Disk.state c.args.disk in
+    let mid = g.D.Disk.state c.in-Ok.journal.device in
+    behind_then (Sync ∷ []) old mid (g.D.Disk.state c.recover.new.journal.device) (opening_row old mid _ _ c.in-Ok.ensures.calls) c.recover.ensures.row
+
+pub returns-in-Err-recover-clause-calls_before : goal.returns-in-Err-recover-clause-calls_before
+returns-in-Err-recover-clause-calls_before g c =
+    let old = g.D.Disk.state c.args.disk in
+    let mid = g.D.Disk.state c.in-Ok.journal.device in
+    subst (λ (d : g.row.D.Denot). SyncsBeforeReading c.in-Err-recover.fault old (g.D.Disk.state d)) (sym c.into_disk.ensures)
+    (inr (behind_then (Sync ∷ []) old mid (g.D.Disk.state c.recover.new.journal.device) (opening_row old mid _ _ c.in-Ok.ensures.calls) c.recover.ensures.row))
