@@ -5,3 +5,4 @@ pub mod Fills
 pub mod Cuts
 mod Traces
 mod Walks
+pub mod Waiting

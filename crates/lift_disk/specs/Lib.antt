@@ -6,3 +6,4 @@ pub mod Memory
 pub mod Outcomes
 pub mod Faults
 pub mod Files
+pub mod Runs

@@ -7,4 +7,5 @@ use Rattle.lift_disk.specs.Trace.Access.{Read, Write, Sync}
 abbrev pub access_of : Made → Access
 access_of (made.Read place) = Read place
 access_of (made.Write place bytes) = Write place bytes.now
+access_of (made.WriteRun place bytes) = Write place bytes.now
 access_of made.Sync = Sync

@@ -2,6 +2,8 @@
 ghost use Rattle.std.specs.Prelude.{◌≡◌, [], IfOk};
 ghost use Rattle.lift_disk.specs.Files.{sectors_in};
 
+use crate::buffered::Buffered;
+use crate::runs::{MOST_AHEAD, RunDisk};
 use crate::sectors::{SECTOR_BYTES, SectorFile, offset_of};
 use crate::{Disk, DiskFault};
 use std::fs::{File, Files, OpenFile, OpenOptions};
@@ -28,6 +30,9 @@ fn whole_sectors(bytes: u64) -> u32
 pub struct FileDisk {
     device: SectorFile<File>,
 }
+
+/// A file of whole sectors that is read 16 sectors at once, and whose neighbouring writes are made as one.
+pub type BufferedFile = Buffered<FileDisk>;
 
 impl FileDisk {
     ghost use Rattle.lift_disk.specs.Files.{file_state_of};
@@ -120,5 +125,24 @@ impl Disk for FileDisk {
 
     fn sync(&mut self) -> Result<(), DiskFault> {
         self.device.sync()
+    }
+}
+
+impl RunDisk for FileDisk {
+    fn announce(&mut self, sector: u32) {
+        self.device.announce(sector)
+    }
+
+    fn read_run(
+        &mut self,
+        sector: u32,
+        count: usize,
+        buffer: &mut [[u8; 512]; MOST_AHEAD],
+    ) -> Result<(), DiskFault> {
+        self.device.read_run(sector, count, buffer)
+    }
+
+    fn write_run(&mut self, sector: u32, run: &[[u8; 512]]) -> Result<(), DiskFault> {
+        self.device.write_run(sector, run)
     }
 }

@@ -2,6 +2,7 @@
 ghost use Rattle.std.specs.Prelude.{◌≡◌, ◌*◌, [], OnOk};
 ghost use Rattle.lift_disk.specs.Trace.{in_bytes};
 
+use crate::runs::{MOST_AHEAD, RunDisk};
 use crate::trace::{Made, ProofTrace};
 use crate::traced::TracedFile;
 use crate::{Disk, DiskFault};
@@ -97,6 +98,38 @@ impl<F: FileExt + OpenFile + Drop> Disk for SectorFile<F> {
             return Err(DiskFault);
         }
         self.trace = self.trace.then(&Made::Sync);
+        Ok(())
+    }
+}
+
+impl<F: FileExt + OpenFile + Drop> RunDisk for SectorFile<F> {
+    fn announce(&mut self, _sector: u32) {}
+
+    fn read_run(
+        &mut self,
+        sector: u32,
+        count: usize,
+        buffer: &mut [[u8; 512]; MOST_AHEAD],
+    ) -> Result<(), DiskFault> {
+        self.calls = ProofCount::next(&self.calls);
+        let bytes = buffer[..count].as_flattened_mut();
+        if self.file.read_run(bytes, offset_of(sector)).is_err() {
+            self.failures = ProofCount::next(&self.failures);
+            return Err(DiskFault);
+        }
+        self.trace = self.trace.then(&Made::Read(u64::from(sector)));
+        Ok(())
+    }
+
+    fn write_run(&mut self, sector: u32, run: &[[u8; 512]]) -> Result<(), DiskFault> {
+        self.calls = ProofCount::next(&self.calls);
+        self.writes = ProofCount::next(&self.writes);
+        let bytes = run.as_flattened();
+        if self.file.write_run(bytes, offset_of(sector)).is_err() {
+            self.failures = ProofCount::next(&self.failures);
+            return Err(DiskFault);
+        }
+        self.trace = self.trace.then(&Made::WriteRun(u64::from(sector), bytes));
         Ok(())
     }
 }

@@ -10,6 +10,8 @@ use std::marker::Model;
 pub(crate) enum Made<'a> {
     Read(u64),
     Write(u64, &'a [u8; 512]),
+    /// Several sectors, one behind the other.
+    WriteRun(u64, &'a [u8]),
     Sync,
 }
 

@@ -49,6 +49,28 @@ impl<F: FileExt + OpenFile + Drop> TracedFile<F> {
         Ok(())
     }
 
+    /// Reads so many bytes as the buffer has from this offset on.
+    pub(crate) fn read_run(&mut self, buffer: &mut [u8], offset: u64) -> Result<(), DiskFault>
+        ensures { Records result (Read offset) self.old.trace.calls self.new.trace.calls }
+    {
+        if self.file.read_exact_at(buffer, offset).is_err() {
+            return Err(DiskFault);
+        }
+        self.trace = self.trace.then(&Made::Read(offset));
+        Ok(())
+    }
+
+    /// Writes these bytes from this offset on.
+    pub(crate) fn write_run(&mut self, bytes: &[u8], offset: u64) -> Result<(), DiskFault>
+        ensures { Records result (Write offset bytes.now) self.old.trace.calls self.new.trace.calls }
+    {
+        if self.file.write_all_at(bytes, offset).is_err() {
+            return Err(DiskFault);
+        }
+        self.trace = self.trace.then(&Made::WriteRun(offset, bytes));
+        Ok(())
+    }
+
     /// By `fdatasync`: the bytes and what is needed to find them, without the file's times.
     pub(crate) fn sync(&mut self) -> Result<(), DiskFault>
         ensures { Records result Sync self.old.trace.calls self.new.trace.calls }

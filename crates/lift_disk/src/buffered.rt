@@ -1,0 +1,232 @@
+//! A device that reads ahead, and holds neighbouring writes back until it makes them as one.
+ghost use Rattle.std.specs.Prelude.{◌≡◌, ◌≤◌, ◌<◌, ◌+◌, [], ℕ, length, slice_get, Some, IsTrue, OnOk, IfOk, IfSome, IfNone};
+ghost use Rattle.lift_disk.specs.Runs.{HoldsRun, IsInRun, KeepsWrites, Opens, Rests, left_with, left_without, run_loose, run_whole, waiting, with_run};
+
+use crate::runs::{MOST_AHEAD, RunDisk};
+use crate::trace::{Made, ProofTrace};
+use crate::{Disk, DiskFault};
+use arrayvec::ArrayVec;
+use lift_base::ProofCount;
+
+/// At most so many writes are held back.
+const MOST_HELD: usize = 16;
+
+/// A device over another one. It reads 16 sectors at once, and makes up to 16 writes of neighbouring sectors, each behind
+/// the one before, as one: at the next write elsewhere, or at the next sync. A call that finds such a write failing fails.
+#[derive(Drop)]
+pub struct Buffered<R: RunDisk + Drop> {
+    device: R,
+    /// The first of the sectors that are still to be written.
+    from: u32,
+    pending: ArrayVec<[u8; 512], MOST_HELD>,
+    /// The first of the sectors that were read ahead, and how many.
+    ahead_from: u32,
+    ahead_count: usize,
+    ahead: [[u8; 512]; MOST_AHEAD],
+    failures: ProofCount,
+    calls: ProofCount,
+    writes: ProofCount,
+    trace: ProofTrace,
+    ghost inside: { from + length pending.items ≤ (R.state device).size },
+    ghost announced: { (R.state device).is_honest → (i : ℕ) → ¬ (R.state device).is_loose i → ¬ IsInRun from (length pending.items) i },
+    ghost count: { ahead_count ≤ 16 },
+    ghost read: { (R.state device).is_honest → HoldsRun ahead_from ahead_count ahead (R.state device).image },
+}
+
+impl<R: RunDisk + Drop> Buffered<R> {
+    /// A device of which nothing was read or written yet.
+    pub fn over(device: R) -> Buffered<R>
+        ensures size { (⟦<Buffered<R> as Disk>⟧.state result).size ≡ (R.state device).size }
+        ensures failures { (⟦<Buffered<R> as Disk>⟧.state result).failures ≡ 0 }
+        ensures calls { (⟦<Buffered<R> as Disk>⟧.state result).calls ≡ 0 }
+        ensures writes { (⟦<Buffered<R> as Disk>⟧.state result).writes ≡ 0 }
+        ensures trace { (⟦<Buffered<R> as Disk>⟧.state result).trace ≡ [] }
+        ensures image { (⟦<Buffered<R> as Disk>⟧.state result).image ≡ (R.state device).image }
+        ensures honest { (R.state device).is_honest → (⟦<Buffered<R> as Disk>⟧.state result).is_honest }
+    {
+        Buffered {
+            device,
+            from: 0,
+            pending: ArrayVec::new(),
+            ahead_from: 0,
+            ahead_count: 0,
+            ahead: [[0; 512]; MOST_AHEAD],
+            failures: ProofCount::new(),
+            calls: ProofCount::new(),
+            writes: ProofCount::new(),
+            trace: ProofTrace::new(),
+        }
+    }
+
+    /// What is still to be written to a sector.
+    fn held_back(&self, sector: u32) -> Option<&[u8; 512]>
+        ensures some { IfSome result (λ bytes. (R.state self.now.device).is_honest
+            → slice_get (with_run self.now.from self.now.pending.items (R.state self.now.device).image) sector ≡ Some bytes.now) }
+        ensures none { IfNone result (¬ IsInRun self.now.from (length self.now.pending.items) sector) }
+    {
+        if sector < self.from {
+            return None;
+        }
+        let place = (sector - self.from) as usize;
+        if self.pending.len() <= place {
+            return None;
+        }
+        Some(&self.pending[place])
+    }
+
+    /// What was read ahead of a sector.
+    fn read_ahead(&self, sector: u32) -> Option<&[u8; 512]>
+        ensures { IfSome result (λ bytes. (R.state self.now.device).is_honest → slice_get (R.state self.now.device).image sector ≡ Some bytes.now) }
+    {
+        if sector < self.ahead_from {
+            return None;
+        }
+        let place = (sector - self.ahead_from) as usize;
+        if self.ahead_count <= place {
+            return None;
+        }
+        Some(&self.ahead[place])
+    }
+
+    /// Makes the writes that were held back, as one. Behind it none is, also where it fails.
+    fn flush(&mut self) -> Result<(), DiskFault>
+        ensures rests { Rests (waiting (R.state self.old.device) self.old.from self.old.pending.items) (waiting (R.state self.new.device) self.new.from self.new.pending.items) }
+        ensures keeps { OnOk result (KeepsWrites (waiting (R.state self.old.device) self.old.from self.old.pending.items) (waiting (R.state self.new.device) self.new.from self.new.pending.items)) }
+        ensures none { self.new.pending.items ≡ [] }
+        ensures forgets { self.new.ahead_count ≡ 0 }
+        ensures counts { (self.new.failures ≡ self.old.failures) × (self.new.calls ≡ self.old.calls) × (self.new.writes ≡ self.old.writes) }
+        ensures trace { self.new.trace ≡ self.old.trace }
+    {
+        self.ahead_count = 0;
+        if self.pending.is_empty() {
+            return Ok(());
+        }
+        let outcome = self.device.write_run(self.from, self.pending.as_slice());
+        self.pending.clear();
+        outcome
+    }
+
+    /// Whether the sector is the next behind those that are held back, and one more has room.
+    fn is_next(&self, sector: u32) -> bool
+        ensures { IsTrue result → (self.now.from + length self.now.pending.items ≡ sector) × (length self.now.pending.items < 16) }
+    {
+        let held = self.pending.len();
+        held < MOST_HELD && self.from as usize + held == sector as usize
+    }
+
+    /// Makes the sector the next behind those that are held back.
+    fn make_room(&mut self, sector: u32) -> Result<(), DiskFault>
+        requires { sector < (R.state self.old.device).size }
+        ensures opens { Opens sector (waiting (R.state self.old.device) self.old.from self.old.pending.items) (waiting (R.state self.new.device) self.new.from self.new.pending.items) }
+        ensures keeps { OnOk result (KeepsWrites (waiting (R.state self.old.device) self.old.from self.old.pending.items) (waiting (R.state self.new.device) self.new.from self.new.pending.items)) }
+        ensures next { OnOk result (self.new.from + length self.new.pending.items ≡ sector) }
+        ensures room { OnOk result (length self.new.pending.items < 16) }
+        ensures counts { (self.new.failures ≡ self.old.failures) × (self.new.calls ≡ self.old.calls) × (self.new.writes ≡ self.old.writes) }
+        ensures trace { self.new.trace ≡ self.old.trace }
+    {
+        self.device.announce(sector);
+        if self.is_next(sector) {
+            return Ok(());
+        }
+        self.flush()?;
+        self.from = sector;
+        Ok(())
+    }
+
+    /// Reads 16 sectors from this one on, or as many as there are.
+    fn look_ahead(&mut self, sector: u32) -> Result<(), DiskFault>
+        requires { sector < (R.state self.old.device).size }
+        ensures rests { Rests (waiting (R.state self.old.device) self.old.from self.old.pending.items) (waiting (R.state self.new.device) self.new.from self.new.pending.items) }
+        ensures keeps { OnOk result (KeepsWrites (waiting (R.state self.old.device) self.old.from self.old.pending.items) (waiting (R.state self.new.device) self.new.from self.new.pending.items)) }
+        ensures gives { OnOk result ((R.state self.old.device).is_honest → slice_get (R.state self.new.device).image sector ≡ slice_get self.new.ahead 0) }
+        ensures pending { (self.new.from ≡ self.old.from) × (self.new.pending ≡ self.old.pending) }
+        ensures counts { (self.new.failures ≡ self.old.failures) × (self.new.calls ≡ self.old.calls) × (self.new.writes ≡ self.old.writes) }
+        ensures trace { self.new.trace ≡ self.old.trace }
+    {
+        let left = (self.device.sectors() - sector) as usize;
+        let count = left.min(MOST_AHEAD);
+        self.ahead_count = 0;
+        self.device.read_run(sector, count, &mut self.ahead)?;
+        self.ahead_from = sector;
+        self.ahead_count = count;
+        Ok(())
+    }
+
+    /// The sector's bytes, as they are to be read.
+    fn fetch(&mut self, sector: u32) -> Result<[u8; 512], DiskFault>
+        requires { sector < (R.state self.old.device).size }
+        ensures rests { Rests (waiting (R.state self.old.device) self.old.from self.old.pending.items) (waiting (R.state self.new.device) self.new.from self.new.pending.items) }
+        ensures keeps { OnOk result (KeepsWrites (waiting (R.state self.old.device) self.old.from self.old.pending.items) (waiting (R.state self.new.device) self.new.from self.new.pending.items)) }
+        ensures gives { IfOk result (λ bytes. (R.state self.old.device).is_honest → slice_get (waiting (R.state self.new.device) self.new.from self.new.pending.items).image sector ≡ Some bytes) }
+        ensures counts { (self.new.failures ≡ self.old.failures) × (self.new.calls ≡ self.old.calls) × (self.new.writes ≡ self.old.writes) }
+        ensures trace { self.new.trace ≡ self.old.trace }
+    {
+        if let Some(bytes) = self.held_back(sector) {
+            return Ok(*bytes);
+        }
+        if let Some(bytes) = self.read_ahead(sector) {
+            return Ok(*bytes);
+        }
+        self.look_ahead(sector)?;
+        Ok(self.ahead[0])
+    }
+}
+
+impl<R: RunDisk + Drop> Disk for Buffered<R> {
+    ghost use Rattle.lift_disk.specs.Runs.{buffered};
+
+    ghost state = { λ d. buffered (R.state d.device) d.from d.pending.items d.failures.count d.calls.count d.writes.count d.trace.calls };
+
+    ghost whole = { λ d honest. run_whole d.pending.items d.from (R.state d.device).image (R.state d.device).size (R.whole d.device honest) };
+
+    ghost counts_now = { λ d honest t left late now. R.counts_now d.device honest t left late
+        (left_without (R.state d.device).is_loose (R.state d.device).image (with_run d.from d.pending.items (R.state d.device).image) left
+        (run_loose (R.state d.device).is_loose d.pending.items d.from (R.state d.device).image (d.announced honest)) now) };
+
+    ghost only_now = { λ d honest left since. left_with (R.state d.device).is_loose (R.state d.device).image (with_run d.from d.pending.items (R.state d.device).image) left
+        (run_loose (R.state d.device).is_loose d.pending.items d.from (R.state d.device).image (d.announced honest)) (R.only_now d.device honest left since) };
+
+    ghost may_lose = { λ d honest. left_with (R.state d.device).is_loose (R.state d.device).image (with_run d.from d.pending.items (R.state d.device).image) (R.state d.device).synced
+        (run_loose (R.state d.device).is_loose d.pending.items d.from (R.state d.device).image (d.announced honest)) (R.may_lose d.device honest) };
+
+    fn sectors(&self) -> u32 {
+        self.device.sectors()
+    }
+
+    fn read(&mut self, sector: u32, buffer: &mut [u8; 512]) -> Result<(), DiskFault> {
+        self.calls = ProofCount::next(&self.calls);
+        match self.fetch(sector) {
+            Ok(bytes) => {
+                *buffer = bytes;
+                self.trace = self.trace.then(&Made::Read(u64::from(sector)));
+                Ok(())
+            }
+            Err(fault) => {
+                self.failures = ProofCount::next(&self.failures);
+                Err(fault)
+            }
+        }
+    }
+
+    fn write(&mut self, sector: u32, bytes: &[u8; 512]) -> Result<(), DiskFault> {
+        self.calls = ProofCount::next(&self.calls);
+        self.writes = ProofCount::next(&self.writes);
+        if self.make_room(sector).is_err() {
+            self.failures = ProofCount::next(&self.failures);
+            return Err(DiskFault);
+        }
+        self.pending.push(*bytes);
+        self.trace = self.trace.then(&Made::Write(u64::from(sector), bytes));
+        Ok(())
+    }
+
+    fn sync(&mut self) -> Result<(), DiskFault> {
+        self.calls = ProofCount::next(&self.calls);
+        if self.flush().is_err() || self.device.sync().is_err() {
+            self.failures = ProofCount::next(&self.failures);
+            return Err(DiskFault);
+        }
+        self.trace = self.trace.then(&Made::Sync);
+        Ok(())
+    }
+}
