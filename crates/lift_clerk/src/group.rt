@@ -93,6 +93,7 @@ pub fn turn_goes_on<D: Disk, P: Policy + Drop>(
         → Fails (P.chooses clerk.old.policy) clerk.old clerk.new }
     ensures rests { result ≡ Err (KeeperFault.Journal JournalFault.Broken)
         → IsBrokenTurn clerk.old clerk.new }
+    ensures broken { result ≡ Err (KeeperFault.Journal JournalFault.Broken) → clerk.old.keeper.writer.is_broken ≡ true }
     ensures causes { IfErr result (λ fault. (fault ≡ KeeperFault.Journal JournalFault.Disk)
         ⊎ (fault ≡ KeeperFault.Journal JournalFault.Broken)) }
     ensures kept { (clerk.new.desk ≡ clerk.old.desk) × (clerk.new.policy ≡ clerk.old.policy) }

@@ -101,6 +101,7 @@ pub fn turn_shows_letters<D: Disk, P: Policy + Drop>(
         → FailureShows P.chooses clerk.old clerk.new (D.state clerk.old.keeper.writer.device) (D.state clerk.new.keeper.writer.device) }
     ensures rests { result ≡ Err (KeeperFault.Journal JournalFault.Broken)
         → BrokenTurnShows P.chooses clerk.old clerk.new (D.state clerk.old.keeper.writer.device) (D.state clerk.new.keeper.writer.device) }
+    ensures broken { result ≡ Err (KeeperFault.Journal JournalFault.Broken) → clerk.old.keeper.writer.is_broken ≡ true }
     ensures causes { IfErr result (λ fault. (fault ≡ KeeperFault.Journal JournalFault.Disk) ⊎ (fault ≡ KeeperFault.Journal JournalFault.Broken)) }
     ensures kept { (clerk.new.desk ≡ clerk.old.desk) × (clerk.new.policy ≡ clerk.old.policy) }
 {
