@@ -1,8 +1,8 @@
 //! What the machine of events is while a clerk and its terminals run.
 
-ghost use Rattle.std.specs.Prelude.{ℕ, ◌≡◌, ◌⊎◌, true, Err, IfOk, IfErr, OnOk, OnErr};
+ghost use Rattle.std.specs.Prelude.{ℕ, ◌≡◌, ◌⊎◌, ◌↔◌, true, length, Err, IfOk, IfErr, OnOk, OnErr};
 ghost use mathlib.Core.List.{IsPrefix};
-ghost use Rattle.lift_desk.specs.Seats.{IsSeatOf, IsToldAnswer};
+ghost use Rattle.lift_desk.specs.Seats.{IsSeatOf, IsToldAnswer, Waits};
 ghost use Rattle.lift_clerk.specs.Group.{AtSeat, Asks, Hears};
 ghost use Rattle.lift_clerk.specs.Group.{GroupLaws, AsksAreAsks, HearsAreHears};
 ghost use Rattle.lift_clerk.specs.Group.{ToldAnswersAreHeard, ReadsAreNoEvents};
@@ -93,6 +93,7 @@ pub fn turn_goes_on<D: Disk, P: Policy + Drop>(
         → Fails (P.chooses clerk.old.policy) clerk.old clerk.new }
     ensures rests { result ≡ Err (KeeperFault.Journal JournalFault.Broken)
         → IsBrokenTurn clerk.old clerk.new }
+    ensures broken { result ≡ Err (KeeperFault.Journal JournalFault.Broken) → clerk.old.keeper.writer.is_broken ≡ true }
     ensures causes { IfErr result (λ fault. (fault ≡ KeeperFault.Journal JournalFault.Disk)
         ⊎ (fault ≡ KeeperFault.Journal JournalFault.Broken)) }
     ensures kept { (clerk.new.desk ≡ clerk.old.desk) × (clerk.new.policy ≡ clerk.old.policy) }
@@ -103,11 +104,14 @@ pub fn turn_goes_on<D: Disk, P: Policy + Drop>(
 }
 
 /// One ask, as the machine's asks want it: it is stored where the terminal has heard the answers to
-/// all earlier ones.
+/// all earlier ones, and a turn is left for it.
 pub fn ask_once(desk: &Desk, seat: &mut Seat, number: Number, body: Body) -> Result<(), AskRefusal>
     requires { IsSeatOf desk.now seat.old }
     ensures asks { OnOk result (AtSeat seat.old seat.new (λ before after terminal.
         Asks before after terminal (record { number = number; body = body }))) }
+    ensures waiting { (result ≡ Err AskRefusal.Waiting) ↔ Waits seat.old.view }
+    ensures spent { (result ≡ Err AskRefusal.Spent)
+        ↔ (¬ (Waits seat.old.view) × (length seat.old.view.asked ≡ 1048575)) }
     ensures refused { OnErr result (seat.new ≡ seat.old) }
     ensures stays { IsSeatOf desk.now seat.new }
 {

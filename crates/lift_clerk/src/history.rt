@@ -5,6 +5,7 @@ ghost use Rattle.lift_base.specs.declared.history.Entry.{Entry};
 ghost use Rattle.lift_disk.specs.Disk.{MayLeave, LeavesNow};
 ghost use Rattle.lift_register.specs.Register.{empty};
 ghost use Rattle.lift_desk.specs.Seats.{IsClerkOf, OwesNothing, clerk_of};
+ghost use Rattle.lift_keeper.specs.Decider.{starting};
 ghost use Rattle.lift_keeper.specs.Reopening.{Reopens as Recovers, RefusesReopening};
 ghost use Rattle.lift_world.specs.declared.event.Taken.{Taken};
 ghost use Rattle.lift_clerk.specs.Machine.{Reopens, Stays};
@@ -63,6 +64,9 @@ pub fn begin_over<'d, 'b, D: Disk, P: Policy + Drop>(
     requires answered { OwesNothing seat }
     requires unused { seat ≡ clerk_of desk.now }
     ensures parts { IfOk result (λ clerk. (clerk.desk ≡ desk.now) × (clerk.seat ≡ seat) × (clerk.policy ≡ policy) × (clerk.keeper.writer.plan ≡ building.now)) }
+    // No car has told where it is, nothing is in the batch, and nothing is in doubt.
+    ensures state { IfOk result (λ clerk. clerk.keeper.state ≡ starting clerk.keeper.writer.register) }
+    ensures whole { IfOk result (λ clerk. (clerk.keeper.writer.is_broken ≡ false) × (clerk.keeper.writer.doubt ≡ [])) }
     ensures recovers { IfOk result (λ clerk. Recovers building.now (D.state disk) (D.state clerk.keeper.writer.device)
         clerk.keeper.writer.register clerk.keeper.writer.half clerk.keeper.writer.is_second clerk.keeper.writer.used) }
     ensures first { IfOk result (λ clerk. clerk.keeper.writer.register ≡ empty → History P.chooses clerk [] []) }
@@ -97,6 +101,7 @@ pub fn turn_shows_letters<D: Disk, P: Policy + Drop>(
         → FailureShows P.chooses clerk.old clerk.new (D.state clerk.old.keeper.writer.device) (D.state clerk.new.keeper.writer.device) }
     ensures rests { result ≡ Err (KeeperFault.Journal JournalFault.Broken)
         → BrokenTurnShows P.chooses clerk.old clerk.new (D.state clerk.old.keeper.writer.device) (D.state clerk.new.keeper.writer.device) }
+    ensures broken { result ≡ Err (KeeperFault.Journal JournalFault.Broken) → clerk.old.keeper.writer.is_broken ≡ true }
     ensures causes { IfErr result (λ fault. (fault ≡ KeeperFault.Journal JournalFault.Disk) ⊎ (fault ≡ KeeperFault.Journal JournalFault.Broken)) }
     ensures kept { (clerk.new.desk ≡ clerk.old.desk) × (clerk.new.policy ≡ clerk.old.policy) }
 {
@@ -110,6 +115,9 @@ pub fn reopening_shows_letters<D: Disk, P: Policy + Drop>(
     clerk: &mut Clerk<'_, '_, D, P>,
 ) -> Result<(), KeeperFault>
     ensures opens { OnOk result ((D.state clerk.old.keeper.writer.device).is_honest → Reopens clerk.old clerk.new) }
+    // It is refused for a failed call alone, where the device is honest.
+    ensures refused { IfErr result (λ fault. RefusesReopening clerk.old.keeper.writer.plan (D.state clerk.old.keeper.writer.device) (D.state clerk.new.keeper.writer.device) fault) }
+    ensures good { IfErr result (λ fault. (D.state clerk.old.keeper.writer.device).is_honest → fault ≡ KeeperFault.Journal JournalFault.Disk) }
     ensures stays { OnErr result (Stays clerk.old clerk.new) }
     ensures same { OnErr result ((clerk.new.keeper.writer.is_broken ≡ true) ⊎ (clerk.new.keeper.writer.is_broken ≡ clerk.old.keeper.writer.is_broken)) }
     ensures kept { (clerk.new.desk ≡ clerk.old.desk) × (clerk.new.policy ≡ clerk.old.policy) }

@@ -3,6 +3,7 @@
 ghost use Rattle.std.specs.Prelude.{◌≡◌, ◌⊎◌, true, false, Err, IfOk, IfErr, OnOk, OnErr};
 ghost use Rattle.lift_disk.specs.Disk.{LeavesOnly};
 ghost use Rattle.lift_keeper.specs.Images.{IsInDoubt};
+ghost use Rattle.lift_keeper.specs.Reopening.{RefusesReopening};
 ghost use Rattle.lift_clerk.specs.Turn.{IsBrokenTurn, IsEither};
 ghost use Rattle.lift_clerk.specs.Laws.{Laws};
 ghost use Rattle.lift_clerk.specs.Machine.{TurnsAreTurns, FailuresAreFailures, BrokenTurnsAreBroken, TerminalsKeepIt};
@@ -104,6 +105,9 @@ pub fn reopen_once<D: Disk, P: Policy + Drop>(
     clerk: &mut Clerk<'_, '_, D, P>,
 ) -> Result<(), KeeperFault>
     ensures opens { OnOk result ((D.state clerk.old.keeper.writer.device).is_honest → Reopens clerk.old clerk.new) }
+    // It is refused for a failed call alone, where the device is honest.
+    ensures refused { IfErr result (λ fault. RefusesReopening clerk.old.keeper.writer.plan (D.state clerk.old.keeper.writer.device) (D.state clerk.new.keeper.writer.device) fault) }
+    ensures good { IfErr result (λ fault. (D.state clerk.old.keeper.writer.device).is_honest → fault ≡ KeeperFault.Journal JournalFault.Disk) }
     ensures stays { OnErr result (Stays clerk.old clerk.new) }
     ensures same { OnErr result ((clerk.new.keeper.writer.is_broken ≡ true) ⊎ (clerk.new.keeper.writer.is_broken ≡ clerk.old.keeper.writer.is_broken)) }
     ensures kept { (clerk.new.desk ≡ clerk.old.desk) × (clerk.new.policy ≡ clerk.old.policy) }
@@ -137,6 +141,9 @@ pub fn reopening_moves_the_machine<D: Disk, P: Policy + Drop>(
     clerk: &mut Clerk<'_, '_, D, P>,
 ) -> Result<(), KeeperFault>
     ensures opens { OnOk result ((D.state clerk.old.keeper.writer.device).is_honest → Reopens clerk.old clerk.new) }
+    // It is refused for a failed call alone, where the device is honest.
+    ensures refused { IfErr result (λ fault. RefusesReopening clerk.old.keeper.writer.plan (D.state clerk.old.keeper.writer.device) (D.state clerk.new.keeper.writer.device) fault) }
+    ensures good { IfErr result (λ fault. (D.state clerk.old.keeper.writer.device).is_honest → fault ≡ KeeperFault.Journal JournalFault.Disk) }
     ensures stays { OnErr result (Stays clerk.old clerk.new) }
     ensures same { OnErr result ((clerk.new.keeper.writer.is_broken ≡ true) ⊎ (clerk.new.keeper.writer.is_broken ≡ clerk.old.keeper.writer.is_broken)) }
     ensures kept { (clerk.new.desk ≡ clerk.old.desk) × (clerk.new.policy ≡ clerk.old.policy) }
