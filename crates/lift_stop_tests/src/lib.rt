@@ -1,4 +1,4 @@
-//! Each device call of a commit is stopped in turn, by a device that fails once and by one that fails from then on; behind it the
+//! Each device call of a commit, and of a turn of a clerk and of a flusher, is stopped in turn, by a device that fails once and by one that fails from then on; behind it the
 //! power is cut in five ways or not at all, and the recovery is stopped at each of its own calls too, and begun again. What was told
 //! is there each time. (Appends, checkpoints and openings of a journal are stopped so in `lift_journal_tests`.)
 #![tactic(auto)]
@@ -6,6 +6,14 @@
 #[cfg(test)]
 mod commits;
 #[cfg(test)]
+mod desks;
+#[cfg(test)]
 mod failing;
 #[cfg(test)]
 mod group;
+#[cfg(test)]
+mod parts;
+#[cfg(test)]
+mod tally;
+#[cfg(test)]
+mod turns;

@@ -1,0 +1,10 @@
+use Rattle.std.proofs.Common.{◌≡◌, ◌+◌, vec_len}
+use Rattle.lift_desk.specs.Seats.{IsSeatOf, AreSeatsOf}
+use Rattle.lift_stop_tests.proofs.desks.Terminals.of.Given as goal
+
+abbrev pub invariant-loop : goal.invariant-loop
+invariant-loop l = record {
+  seats : AreSeatsOf l.desk l.seats.items;
+  left : vec_len l.seats + l.counter ≡ 16;
+  kiosk : IsSeatOf l.desk l.kiosk;
+}
