@@ -23,3 +23,4 @@ pub mod RunPast
 pub mod RunTurns
 pub mod RunJoins
 pub mod RunMoments
+pub mod RunCuts

@@ -3,15 +3,18 @@ use Rattle.std.specs.Prelude.{ℕ, ◌≡◌, ◌≤◌, false, List, [], ◌++�
 use Rattle.std.specs.List.{flat_map}
 use mathlib.Core.List.{IsPrefix}
 use Rattle.lift_base.specs.declared.history.Entry.{Entry}
-use Rattle.lift_disk.specs.Disk.{DiskState, LeavesOnly}
+use Rattle.lift_disk.specs.Disk.{DiskState, Image, LeavesOnly}
 use Rattle.lift_desk.specs.Seats.{ClerkPlace, view_at}
 use Rattle.lift_policy.specs.Eligible.{Choice}
 use Rattle.lift_policy.specs.declared.command.Command.{Command}
 use Rattle.lift_world.specs.declared.event.Taken.{Taken as Held}
 use Rattle.lift_world.specs.World.{asks}
+use Rattle.lift_keeper.specs.Images.{IsInDoubt}
 use Rattle.lift_keeper.specs.declared.fault.KeeperFault.{KeeperFault}
 use Rattle.lift_clerk.specs.Clerk.{ClerkState}
-use Rattle.lift_clerk.specs.History.{IsRunOf, ShowsEither}
+use Rattle.lift_clerk.specs.Turn.{IsEither}
+use Rattle.lift_clerk.specs.Machine.{kept_of}
+use Rattle.lift_clerk.specs.History.{BeginsOver, IsRunOf, ShowsEither}
 use Rattle.lift_relay.specs.declared.flusher.FlushCounts.{FlushCounts}
 use Rattle.lift_relay.specs.declared.pair.RunFault.{RunFault}
 use Rattle.lift_relay.specs.Batch.{BatchState, commands_in}
@@ -19,7 +22,7 @@ use Rattle.lift_relay.specs.Allocator.{AllocatorState}
 use Rattle.lift_relay.specs.Flusher.{FlusherState, IsFlusher}
 use Rattle.lift_relay.specs.Relay.{AreParts, IsRejoined}
 use Rattle.lift_relay.specs.Pair.{AllocatorTurns, FlusherTurns, IsFlush, HaveRun}
-use Rattle.lift_relay.specs.Tie.{held_as, command_of, entries_of}
+use Rattle.lift_relay.specs.Tie.{held_as, command_of, entries_of, ReceivesSent, Flushes, FlushFails}
 use Rattle.lift_relay.specs.History.{Words, RelayHistory}
 
 -- each ask of a terminal was taken
@@ -78,3 +81,21 @@ abbrev pub TurnsStand : (D P : Type 0) → (P → Choice) → (D → DiskState) 
 TurnsStand D P chooses state = (a b : AllocatorState P) (f g h i : FlusherState D) (first next last : Option KeeperFault) (answer : Result FlushCounts KeeperFault) (safe : List Entry) (given : List Held)
     → HasPast chooses a f safe given → AllocatorTurns (chooses a.policy) a b → FlusherTurns state f None g first → IsFlush state g h answer → FlusherTurns state h next i last
     → b.hand ≡ [] → b.end.sent ≡ i.end.received → g.writer.is_broken ≡ false → TurnStands chooses f g h safe given (state g.writer.device) (state h.writer.device)
+
+-- A clerk that begins over what a crash of the parts left goes on with what had happened to them, in the world which that power cut and
+-- its recovery leave. The power is cut between two turns of the flusher, whatever the allocator has taken or sent,
+abbrev pub CutsGoOn : (D P : Type 0) → (P → Choice) → Type 0
+CutsGoOn D P chooses = (a : AllocatorState P) (f : FlusherState D) (clerk : ClerkState D P) (v : Words) (safe : List Entry) (given : List Held) (image : Image) → RelayHistory chooses a f v safe given
+    → (doubt : IsInDoubt f.writer.plan f.writer.register f.writer.doubt image) → BeginsOver f.writer.plan image clerk → IsRunOf clerk (kept_of safe f.writer.doubt doubt) given
+
+-- or at any moment of one,
+abbrev pub CutsInTurnsGoOn : (D P : Type 0) → (P → Choice) → Type 0
+CutsInTurnsGoOn D P chooses = (a : AllocatorState P) (f g : FlusherState D) (clerk : ClerkState D P) (v : Words) (safe : List Entry) (given : List Held) (batch : BatchState) (counts : FlushCounts) (image : Image)
+    → RelayHistory chooses a f v safe given → Flushes f g batch counts → ReceivesSent a g → (either : IsEither f.writer.plan f.writer.register g.end.register image) → BeginsOver f.writer.plan image clerk
+    → IsRunOf clerk (kept_of safe batch.entries either) given
+
+-- or of one that the device would fail.
+abbrev pub CutsInFailuresGoOn : (D P : Type 0) → (P → Choice) → Type 0
+CutsInFailuresGoOn D P chooses = (a : AllocatorState P) (f g : FlusherState D) (clerk : ClerkState D P) (v : Words) (safe : List Entry) (given : List Held) (batch : BatchState) (image : Image)
+    → RelayHistory chooses a f v safe given → FlushFails f g batch → ReceivesSent a g → (either : IsEither f.writer.plan f.writer.register g.end.register image) → BeginsOver f.writer.plan image clerk
+    → IsRunOf clerk (kept_of safe batch.entries either) given

@@ -9,10 +9,11 @@ ghost use Rattle.lift_relay.specs.Laws.{RelayLaws};
 ghost use Rattle.lift_relay.specs.Tie.{SplitsAreNoEvents, RejoiningsAreNoEvents, FullTurnsAreNoEvents, EmptyTurnsAreNoEvents, SendingsAreNoEvents, TellingsAreNoEvents, NothingTakenIsNoEvent, TerminalsKeepParts};
 ghost use Rattle.lift_relay.specs.Tie.{ScansAreAllocations, NextsAreAllocations, FlushesAreFlushes, FailedFlushesAreFailures, BrokenFlushesAreBroken};
 ghost use Rattle.lift_relay.specs.Tie.{CrashesOfPartsShow, CrashesInFlushesShow, CrashesInFailuresShow};
-ghost use Rattle.lift_relay.specs.Runs.{RunsAreHistories, TurnsStand, SplitsHavePasts, JoinedGoOn};
+ghost use Rattle.lift_relay.specs.Runs.{RunsAreHistories, TurnsStand, SplitsHavePasts, JoinedGoOn, CutsGoOn, CutsInTurnsGoOn, CutsInFailuresGoOn};
 ghost use Rattle.lift_relay.specs.History.{RelayHistoriesAreRuns, RejoiningsGoOn, RelayCrashesShowGiven, RelayCrashesInTurnsShowGiven, RelayCrashesInFailuresShowGiven};
 
 use crate::flusher::{FlushCounts, Flusher};
+use lift_clerk::crashes_are_the_machines;
 use lift_disk::Disk;
 use lift_journal::JournalFault;
 use lift_keeper::KeeperFault;
@@ -79,7 +80,11 @@ pub fn runs_are_histories<D: Disk, P: Policy>()
     ensures turns { TurnsStand D P P.chooses D.state }
     ensures split { SplitsHavePasts D P P.chooses }
     ensures joined { JoinedGoOn D P P.chooses }
+    ensures cuts { CutsGoOn D P P.chooses }
+    ensures cuts_within { CutsInTurnsGoOn D P P.chooses }
+    ensures cuts_within_failed { CutsInFailuresGoOn D P P.chooses }
 {
+    crashes_are_the_machines::<D, P>();
     policies_are_covered::<P>();
     relay_laws();
 }
