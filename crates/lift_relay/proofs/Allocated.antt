@@ -14,7 +14,7 @@ use Rattle.lift_policy.specs.declared.command.Command.{Command}
 use Rattle.lift_clerk.specs.Visits.{commands_of, served}
 use Rattle.std.proofs.lemmas.List.{length-map}
 use Rattle.lift_relay.specs.declared.batch.Taken.{Taken}
-use Rattle.lift_relay.specs.Batch.{BatchState, after, turns_behind, turns_of, turns_after, commands_in, replies_in}
+use Rattle.lift_relay.specs.Batch.{BatchState, after, turns_behind, turns_of, turns_after, commands_in, replies_in, noted_in}
 use Rattle.lift_relay.specs.Line.{SendState, Begins, IsNext, SendsOne, WasFull}
 use Rattle.lift_relay.specs.Scan.{ScansAhead, TakesEach, turns_in}
 use Rattle.lift_relay.proofs.Queues.{full_by}
@@ -150,6 +150,7 @@ scan_turn {P} choice old a new counts taken decided batch between scans commands
       takes = subst (λ (s : AllocatorState P). TakesEach s.seat visits) same scans.takes;
       looked = scans.looked ∙ ap (λ (s : AllocatorState P). served s.seat visits []) same;
       commands = ap commands_in commands ∙ scans.commands;
+      notes = ap noted_in commands ∙ scans.notes;
       run = subst (λ (p : AllocatorState P × List Command × List Taken). Run p.0.plan choice p.0.state p.1 (replies_in p.2) decided) (λ i. (same i, scans.commands i, sym commands i)) scans.run;
       entries = entries;
       after = settles;

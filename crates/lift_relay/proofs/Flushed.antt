@@ -3,19 +3,19 @@ use Rattle.std.proofs.Common.{◌≡◌, ◌≢◌, ℕ, zero, suc, ◌+◌, ◌
 use Rattle.std.specs.Prelude.{IfSome, nat_eq}
 use Rattle.std.proofs.Math.Seq.{take-suc}
 use Rattle.std.proofs.lemmas.Bool.Decides.{nat_tests}
-use Rattle.std.proofs.lemmas.List.{take_all, length-set, get_or-set_same, get_or-set_other}
+use Rattle.std.proofs.lemmas.List.{append_cancel_left, take_all, length-set, get_or-set_same, get_or-set_other}
 use Rattle.atomic_table.specs.Seated.{TableId}
 use Rattle.lift_base.specs.declared.command.Reply.{Reply}
 use Rattle.lift_desk.specs.declared.view.ClerkView.{ClerkView}
 use Rattle.lift_desk.specs.declared.words.Ask.{Ask}
 use Rattle.lift_desk.specs.Words.{turn_of, last_of, number_of, reply_word}
 use Rattle.lift_desk.specs.Steps.{with_taking, with_answer}
-use Rattle.lift_desk.specs.Seats.{ClerkPlace, no_place, placed_at, view_at, clerk_with, ahead_from, Owes, OwesNothing, Says}
+use Rattle.lift_desk.specs.Seats.{ClerkPlace, no_place, placed_at, view_at, clerk_with, ahead_from, TakesOf, Owes, OwesNothing, Says}
 use Rattle.lift_desk.proofs.Places.{view_at-here, view_at-else}
 use Rattle.lift_desk.proofs.WordLists.{last_of-push}
 use Rattle.lift_clerk.specs.Scanning.{told}
 use Rattle.lift_clerk.specs.Visits.{Visit, FindsAt}
-use Rattle.lift_clerk.proofs.Visiting.{finds-at}
+use Rattle.lift_clerk.proofs.Visiting.{finds-at, taken-new}
 use Rattle.lift_clerk.proofs.Scanned.{Looked}
 use Rattle.lift_relay.specs.declared.batch.Taken.{Taken}
 use Rattle.lift_relay.specs.Batch.{AreBelow, commands_in, turns_of, turns_with, turns_after, IsNoted, AreNoted}
@@ -29,18 +29,28 @@ number_given : (taken : Taken) (found : Option Ask) (n : ℕ) → IfSome found (
 number_given taken None n is gives = absurd gives
 number_given taken (Some ask) n is gives = is ∙ gives.0
 
+one_end : (xs : List ℕ) (x y : ℕ) → xs ++ x ∷ [] ≡ xs ++ y ∷ [] → x ≡ y
+one_end xs x y e = let same = append_cancel_left xs (x ∷ []) (y ∷ []) e in cc
+
+-- what is taken is the word that was read
+one_word : (view : ClerkView) (word other : ℕ) (found : Option Ask) (taken : Taken) → TakesOf view word found → GivesIt found taken → (with_taking view word).taken ≡ view.taken ++ other ∷ [] → word ≡ other
+one_word view word other None taken takes gives now = absurd gives
+one_word view word other (Some ask) taken takes gives now = one_end view.taken word other (sym (taken-new view word takes.0) ∙ now)
+
 -- the look gave the command, and its answer is stored
 pub gives_one : (is_safe : Bool) (places mid next : List ClerkPlace) (taken : Taken) (word : ℕ) (found : Option Ask) (reply : Reply) → Looked places mid taken.command.terminal word found → GivesIt found taken
     → view_at mid taken.command.terminal ≡ with_taking (view_at places taken.command.terminal) word
     → next ≡ clerk_with mid taken.command.terminal (with_answer (view_at mid taken.command.terminal)
     (reply_word (length (view_at mid taken.command.terminal).taken) (number_of (last_of (view_at mid taken.command.terminal).taken)) reply))
-    → reply ≡ told is_safe taken.reply → AnswersOne is_safe places taken (record { word = word; found = found }) next
-gives_one is_safe places mid next taken word found reply look gives here stored said =
+    → reply ≡ told is_safe taken.reply → (with_taking (view_at places taken.command.terminal) word).taken ≡ (view_at places taken.command.terminal).taken ++ taken.note.word ∷ []
+    → AnswersOne is_safe places taken (record { word = word; found = found }) next
+gives_one is_safe places mid next taken word found reply look gives here stored said noted =
     let t = taken.command.terminal in
     let number : number_of (last_of (view_at mid t).taken) ≡ taken.command.number = ap (λ (w : ClerkView). number_of (last_of w.taken)) here ∙ number_given taken found _ look.number gives in
     record {
       finds = finds places mid t word found look;
       gives = gives;
+      word = one_word (view_at places t) word taken.note.word found taken look.takes gives noted;
       answered = stored ∙ ap (λ (p : ℕ × Reply). clerk_with mid t (with_answer (view_at mid t) (reply_word (length (view_at mid t).taken) p.0 p.1))) (λ i. (number i, said i))
           ∙ ap (λ (l : List ClerkPlace). answered_at l taken (told is_safe taken.reply)) look.seat_is;
     }

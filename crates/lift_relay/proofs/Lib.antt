@@ -19,3 +19,8 @@ pub mod TiedTerminals
 pub mod TiedCrash
 pub mod TiedHistory
 pub mod TiedTurns
+pub mod RunPast
+pub mod RunTurns
+pub mod RunJoins
+pub mod RunMoments
+pub mod RunCuts

@@ -16,7 +16,8 @@ use Rattle.lift_policy.specs.declared.command.Command.{Command}
 use Rattle.lift_clerk.specs.Visits.{command_at}
 use Rattle.lift_clerk.proofs.Visiting.{taken-new, taken-old}
 use Rattle.lift_relay.specs.declared.batch.Taken.{Taken}
-use Rattle.lift_relay.specs.Batch.{commands_in, turns_of, turns_with, turns_after, IsNoted, AreNoted}
+use Rattle.lift_relay.specs.Batch.{commands_in, noted_in, turns_of, turns_with, turns_after, IsNoted, AreNoted}
+use Rattle.lift_relay.specs.Scan.{word_at}
 use Rattle.lift_relay.proofs.Turns.{below_is}
 
 noted_last : (desk : List TableId) (turns : List ℕ) (xs : List Taken) (x : Taken) → AreNoted desk turns xs → IsNoted desk (turns_after turns xs) x → AreNoted desk turns (xs ++ x ∷ [])
@@ -48,9 +49,11 @@ pub noted_more : (desk : List TableId) (turns : List ℕ) (taken : List Taken) (
     → commands_in (option_to_list more) ≡ command_at t found → IfSome more (λ (k : Taken). k.note ≡ note)
     → AreNoted desk turns taken → turns_after turns taken ≡ turns_of seat
     → AreNoted desk turns (taken ++ option_to_list more) × (turns_after turns (taken ++ option_to_list more) ≡ turns_of next)
+    × (noted_in (option_to_list more) ≡ word_at word found)
 noted_more desk turns taken None seat next t word None note inside is takes in_range last noted same_command same_note all used = (
   subst (AreNoted desk turns) (sym (append-nil taken)) all,
   ap (turns_after turns) (append-nil taken) ∙ used ∙ sym (turns_still seat t (with_taking (view_at seat t) word) (taken-old (view_at seat t) word takes)) ∙ ap turns_of (sym is),
+  refl,
 )
 noted_more desk turns taken (Some k) seat next t word None note inside is takes in_range last noted same_command same_note all used = absurd (cc)
 noted_more desk turns taken None seat next t word (Some ask) note inside is takes in_range last noted same_command same_note all used = absurd (cc)
@@ -77,4 +80,5 @@ noted_more desk turns taken (Some k) seat next t word (Some ask) note inside is 
       after_last turns taken k ∙ ap (λ l. turns_with l k) used
           ∙ ap (λ (p : ℕ × ℕ). set (turns_of seat) p.0 (turn_of p.1)) (λ i. (ap (λ (c : Command). c.terminal) is_command i, (ap (λ (n : NoteState). n.word) same_note ∙ of.1 ∙ ap (λ (w : ClerkView). last_of w.taken) here) i))
           ∙ sym (turns_set seat t v) ∙ ap turns_of (sym is),
+      ap (λ (w : ℕ). w ∷ []) (ap (λ (n : NoteState). n.word) same_note ∙ says),
     )

@@ -1,5 +1,5 @@
 -- A scan ahead of the answers that has come one terminal further, and what a whole one leaves.
-use Rattle.std.proofs.Common.{◌≡◌, ℕ, zero, suc, ◌+◌, ◌<◌, ◌≤◌, ◌^◌, false, List, [], ◌∷◌, ◌++◌, length, get_or, Option, Some, None, refl, sym, ap, ◌∙◌, subst, arith, length-append}
+use Rattle.std.proofs.Common.{◌≡◌, ℕ, zero, suc, ◌+◌, ◌<◌, ◌≤◌, ◌^◌, false, List, [], ◌∷◌, ◌++◌, length, get_or, Option, Some, None, refl, sym, ap, ◌∙◌, subst, arith, length-append, append_assoc, append-nil}
 use Rattle.std.specs.Prelude.{IfSome, IsSome}
 use Rattle.std.proofs.lemmas.List.{map-append}
 use Rattle.lift_base.specs.declared.command.Reply.{Reply}
@@ -22,8 +22,8 @@ use Rattle.lift_keeper.proofs.Keepers.{decided_keeper, settled_keeper}
 use Rattle.lift_clerk.specs.Visits.{Visit, command_at, commands_of}
 use Rattle.lift_clerk.proofs.Visiting.{commands-more, looked-more, untouched}
 use Rattle.lift_relay.specs.declared.batch.Taken.{Taken}
-use Rattle.lift_relay.specs.Batch.{commands_in, replies_in, AreBelow}
-use Rattle.lift_relay.specs.Scan.{TakesAt, TakesEach, ScansAhead}
+use Rattle.lift_relay.specs.Batch.{commands_in, replies_in, noted_in, AreBelow}
+use Rattle.lift_relay.specs.Scan.{TakesAt, TakesEach, ScansAhead, word_at, words_of}
 
 takes-more : (places : List ClerkPlace) (visits : List Visit) (n : ℕ) (v : Visit) → n ≡ length visits → n < length places → TakesEach places visits → TakesAt (get_or places n no_place) v
     → TakesEach places (visits ++ v ∷ [])
@@ -33,9 +33,14 @@ takes-more (p ∷ places) [] (suc n) v e h takes here = absurd (omega arith)
 takes-more (p ∷ places) (u ∷ visits) zero v e h takes here = absurd (omega arith)
 takes-more (p ∷ places) (u ∷ visits) (suc n) v e h takes here = (takes.0, takes-more places visits n v (omega arith) (omega arith) takes.1 here)
 
+-- the words of one look more
+words-more : (visits : List Visit) (v : Visit) → words_of (visits ++ v ∷ []) ≡ words_of visits ++ word_at v.word v.found
+words-more [] v = append-nil (word_at v.word v.found)
+words-more (u ∷ visits) v = ap (λ l. word_at u.word u.found ++ l) (words-more visits v) ∙ sym (append_assoc (word_at u.word u.found) (words_of visits) (word_at v.word v.found))
+
 -- nothing was looked at
 pub scans-none : (choice : Choice) (plan : Plan) (places : List ClerkPlace) (state : State) → ScansAhead choice plan places places state state [] 0
-scans-none choice plan places state = record { visits = []; count = refl; takes = tt; looked = refl; commands = refl; run = refl }
+scans-none choice plan places state = record { visits = []; count = refl; takes = tt; looked = refl; commands = refl; notes = refl; run = refl }
 
 -- what the call says of one look
 pub record Looked (seat next : List ClerkPlace) (n word : ℕ) (found : Option Ask) : Type 0 where
@@ -62,10 +67,10 @@ looked-at seat next n word found inside is takes in_range turn known told =
 
 pub scans-more : (choice : Choice) (plan : Plan) (places seat next : List ClerkPlace) (before mid after : State) (taken others : List Taken) (n word : ℕ) (found : Option Ask)
     → RunsJoin choice → n < length places → ScansAhead choice plan places seat before mid taken n → Looked seat next n word found
-    → commands_in others ≡ command_at n found
+    → commands_in others ≡ command_at n found → noted_in others ≡ word_at word found
     → Run plan choice mid (commands_in others) (replies_in others) after
     → ScansAhead choice plan places next before after (taken ++ others) (suc n)
-scans-more choice plan places seat next before mid after taken others n word found join inside old look same decides =
+scans-more choice plan places seat next before mid after taken others n word found join inside old look same noted decides =
     let visits = old.visits in
     let v : Visit = record { word = word; found = found } in
     let count : n ≡ length visits = sym old.count in
@@ -82,6 +87,7 @@ scans-more choice plan places seat next before mid after taken others n word fou
       count = omega (arith, length-append visits (v ∷ []));
       takes = takes-more places visits n v count inside old.takes takes;
       looked = look.seat_is ∙ ap (λ l. clerk_with l n (with_taking (view_at l n) word)) old.looked ∙ looked-more places visits [] n v refl count inside;
+      notes = map-append (λ (t : Taken). t.note.word) taken others ∙ ap (λ l. l ++ noted_in others) old.notes ∙ ap (λ l. words_of visits ++ l) noted ∙ sym (words-more visits v);
       commands = map-append (λ (t : Taken). t.command) taken others ∙ ap (λ l. l ++ commands_in others) old.commands ∙ ap (λ l. commands_of 0 visits ++ l) same ∙ sym (commands-more 0 n visits v (omega arith));
       run = subst (λ (p : List Command × List Reply). Run plan choice before p.0 p.1 after) (λ i. (sym (map-append (λ (t : Taken). t.command) taken others) i, sym (map-append (λ (t : Taken). t.reply) taken others) i))
           (join plan before mid after (commands_in taken) (commands_in others) (replies_in taken) (replies_in others) old.run decides);

@@ -31,7 +31,7 @@ use Rattle.lift_relay.specs.Allocator.{AllocatorState}
 use Rattle.lift_relay.specs.Flusher.{FlusherState, IsFlusher}
 use Rattle.lift_relay.specs.Relay.{AreParts, IsRejoined}
 use Rattle.lift_relay.specs.Laws.{RelayLaws}
-use Rattle.lift_relay.specs.Tie.{command_of, entries_of, queued_in, on_way, AreQueued, AreDecided, ShowsBoth, RunsWhole, RunsBroken, IsRelayOf, SplitsAreNoEvents, RejoiningsAreNoEvents, FullTurnsAreNoEvents, EmptyTurnsAreNoEvents, SendingsAreNoEvents}
+use Rattle.lift_relay.specs.Tie.{command_of, entries_of, queued_in, on_way, AreQueued, AreDecided, ShowsBoth, RunsWhole, RunsBroken, IsRelayOf, SplitsAreNoEvents, RejoiningsAreNoEvents, FullTurnsAreNoEvents, EmptyTurnsAreNoEvents, SendingsAreNoEvents, TellingsAreNoEvents}
 
 -- what holds at each point of a run
 module _ (laws : RelayLaws) (w : World) (reached : IsReached w) where
@@ -51,10 +51,10 @@ module _ (laws : RelayLaws) (w : World) (reached : IsReached w) where
   )
 
 -- nothing on its way
-none_queued : (w : World) (t : ℕ) → w.queue ≡ [] → on_way w t ≡ []
+pub none_queued : (w : World) (t : ℕ) → w.queue ≡ [] → on_way w t ≡ []
 none_queued w t none = ap (λ (q : List Batch). filter (asks t) (queued_in q)) none
 
-view_ahead : (clerk : List ClerkPlace) (t : ℕ) → (view_at (ahead_from clerk) t).taken ≡ (view_at clerk t).taken
+pub view_ahead : (clerk : List ClerkPlace) (t : ℕ) → (view_at (ahead_from clerk) t).taken ≡ (view_at clerk t).taken
 view_ahead [] t = refl
 view_ahead (p ∷ clerk) zero = refl
 view_ahead (p ∷ clerk) (suc t) = view_ahead clerk t
@@ -215,13 +215,43 @@ sendings {D} {P} w a b f s m =
     (ap (λ (hand : List BatchState). b.end.sent ++ hand) (ap (λ (x : AllocatorState P). x.hand) s.same) ∙ append-nil b.end.sent ∙ s.sent)
     (λ t. ap (λ (x : AllocatorState P). (view_at x.seat t).taken) s.same) m
 
+-- told where the other stands, each part shows the same
+told : {D P : Type 0} (w : World) (a : AllocatorState P) (f : FlusherState D) (gone known : List BatchState) → IsRelayOf w a f
+    → IsRelayOf w (record a { end = record a.end { gone = gone } }) (record f { end = record f.end { known = known } })
+told w a f gone known m = record {
+  building = m.building;
+  same_plan = m.same_plan;
+  reached = m.reached;
+  between = m.between;
+  nothing_due = m.nothing_due;
+  safe = m.safe;
+  seats = m.seats;
+  waiting = m.waiting;
+  line = m.line;
+  queue = m.queue;
+  words = m.words;
+  whole = λ e. let k = m.whole e in record {
+    between = k.between;
+    state = k.state;
+    accepted = k.accepted;
+    decided = k.decided;
+    register = k.register;
+    no_doubt = k.no_doubt;
+  };
+  broken = λ e. let k = m.broken e in record { between = k.between; doubt = k.doubt; may_be_kept = k.may_be_kept };
+}
+
+pub tellings : {D P : Type 0} → TellingsAreNoEvents D P
+tellings {D} {P} w a b f g t m =
+    subst (λ (x : AllocatorState P × FlusherState D). IsRelayOf w x.0 x.1) (λ i. (sym t.allocator i, sym t.flusher i)) (told w a f f.end.received a.end.sent m)
+
 -- what was sent was received
-none_waits : (sent hand received waiting : List BatchState) → sent ++ hand ≡ received ++ waiting → hand ≡ [] → length sent ≡ length received → waiting ≡ []
+pub none_waits : (sent hand received waiting : List BatchState) → sent ++ hand ≡ received ++ waiting → hand ≡ [] → length sent ≡ length received → waiting ≡ []
 none_waits sent hand received [] e none same = refl
 none_waits sent hand received (b ∷ waiting) e none same =
     absurd (omega (arith, ap length e, ap length none, length-append sent hand, length-append received (b ∷ waiting)))
 
-queue_none : (count : ℕ) (waiting : List BatchState) (queue : List Batch) → waiting ≡ [] → AreQueued count waiting queue → queue ≡ []
+pub queue_none : (count : ℕ) (waiting : List BatchState) (queue : List Batch) → waiting ≡ [] → AreQueued count waiting queue → queue ≡ []
 queue_none count [] [] e k = refl
 queue_none count [] (q ∷ queue) e k = absurd k
 queue_none count (b ∷ waiting) queue e k = absurd (cc)

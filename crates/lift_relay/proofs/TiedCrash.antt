@@ -40,7 +40,7 @@ shows_kept laws w entries plan register left kept sound reached b may is r reads
 }
 
 -- the register with these entries behind what is safe
-register_with : RelayLaws → (w : World) (batch : List Entry) (register : RegisterState) → register_after (safe_list w) ≡ register → register_after (safe_list w ++ batch) ≡ register_of register batch
+pub register_with : RelayLaws → (w : World) (batch : List Entry) (register : RegisterState) → register_after (safe_list w) ≡ register → register_after (safe_list w ++ batch) ≡ register_of register batch
 register_with laws w batch register e = sym (laws.registers empty (safe_list w) batch) ∙ ap (λ (r : RegisterState). register_of r batch) e
 
 module _ (laws : RelayLaws) (w : World) (plan : Plan) (old : RegisterState) (left : Image) (sound : IsBuilding w.building) (reached : IsReached w) (b : w.building ≡ plan) (safe : register_after (safe_list w) ≡ old) where
@@ -88,30 +88,34 @@ module _ (laws : RelayLaws) (v : World) (on : v.power ≡ Running) where
 
 module _ {D P : Type 0} (laws : RelayLaws) (w : World) (a : AllocatorState P) (f g : FlusherState D) (batch : BatchState) (left : Image) (sound : IsBuilding w.building) (receives : ReceivesOne f.end batch g.end)
     (sent : ReceivesSent a g) (m : IsRelayOf w a f) (k : RunsWhole w a f m.waiting) where
-  abbrev one : First (length f.seat) batch sent.0 w.queue
+  abbrev pub one : First (length f.seat) batch sent.0 w.queue
   one = first laws w a f g batch receives sent m
 
-  abbrev w1 : World
+  abbrev pub w1 : World
   w1 = record w { queue = one.qs; flight = one.q; phase = Writing 0 }
 
-  abbrev there : World
+  abbrev pub there : World
   there = in_phase w1 GateWritten
 
-  register_is : g.end.register ≡ register_of f.writer.register batch.entries
+  pub register_is : g.end.register ≡ register_of f.writer.register batch.entries
   register_is = receives.register ∙ ap (λ (r : RegisterState). register_of r batch.entries) (receives.next.on_register ∙ sym k.register)
 
-  batch_is : batch_of there ≡ batch.entries
+  pub batch_is : batch_of there ≡ batch.entries
   batch_is = in_doubt laws w a f g batch receives sent m k
 
-  at_gate : 0 < length batch.entries → IsImageOf f.writer.plan (register_of f.writer.register batch.entries) left → Shows w (safe_list w ++ batch.entries) left
-  at_gate some reads =
+  pub gate_reached : 0 < length batch.entries → IsReached there
+  gate_reached some =
       let count = count_is laws w a f g batch receives sent m k in
       let calls : List Event = replicate (writes_of w1) BodyWrite ++ FirstSync ∷ Gate ∷ [] in
       let pulled : next w Pull ≡ Some w1 = (laws.pulls w).flies one.q one.qs k.between.running k.between.idle one.at (omega arith) in
       let possible : goes (Pull ∷ calls) w ≡ Some there = once w w1 Pull calls pulled ∙ to_gate laws w1 k.between.running in
+      reaches laws w m.reached (Pull ∷ calls) there possible refl
+
+  at_gate : 0 < length batch.entries → IsImageOf f.writer.plan (register_of f.writer.register batch.entries) left → Shows w (safe_list w ++ batch.entries) left
+  at_gate some reads =
       let shown : Shows there (safe_list w ++ batch.entries) left =
       shows_kept laws there (safe_list w ++ batch.entries) f.writer.plan (register_of f.writer.register batch.entries) left WithBatch sound
-      (reaches laws w m.reached (Pull ∷ calls) there possible refl) m.same_plan refl (ap (λ (xs : List Entry). safe_list w ++ xs) batch_is)
+      (gate_reached some) m.same_plan refl (ap (λ (xs : List Entry). safe_list w ++ xs) batch_is)
       (register_with laws w batch.entries f.writer.register m.safe) reads in
       record { reads = shown.reads; holds = shown.holds; letters = shown.letters }
 

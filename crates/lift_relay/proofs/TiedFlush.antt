@@ -110,7 +110,7 @@ module _ (is_safe : Bool) (places next : List ClerkPlace) (taken : Taken) where
         answered = ap (λ (v : ClerkView). v.answered) now ∙ ap (λ (n : ℕ). old.answered ++ reply_word n taken.command.number (told is_safe taken.reply) ∷ []) count;
       }
 
-  other : (visit : Visit) (j : ℕ) → j ≢ t → AnswersOne is_safe places taken visit next → view_at next j ≡ view_at places j
+  pub other : (visit : Visit) (j : ℕ) → j ≢ t → AnswersOne is_safe places taken visit next → view_at next j ≡ view_at places j
   other visit j apart k =
       let mid : List ClerkPlace = looked_at places t visit.word in
       ap (λ (s : List ClerkPlace). view_at s j) k.answered

@@ -28,12 +28,12 @@ use Rattle.lift_relay.specs.Allocator.{AllocatorState, IsScanTurn}
 use Rattle.lift_relay.specs.Flusher.{FlusherState}
 use Rattle.lift_relay.specs.Relay.{IsRejoined}
 use Rattle.lift_relay.specs.Laws.{RelayLaws}
-use Rattle.lift_relay.specs.Tie.{held_as, IsRelayOf, LeadsOn, AllTakesAsked, HasRoom, ReceivesSent, Flushes, FlushFails, FlushesBroken}
-use Rattle.lift_relay.specs.History.{Words, words_in, with_ask, with_hearing, with_answers, RelayHistory, ClerkSplit, TerminalAsked, TerminalHeard, FoundFull, SentHand, TookNothing, Allocated, FoundEmpty, Flushed, FlushFailed, FlushedWhileBroken}
+use Rattle.lift_relay.specs.Tie.{held_as, IsRelayOf, LeadsOn, AllTakesAsked, Reads, AllAskNext, HasRoom, ReceivesSent, Flushes, FlushFails, FlushesBroken}
+use Rattle.lift_relay.specs.History.{Words, words_in, with_ask, with_hearing, with_answers, RelayHistory, ClerkSplit, TerminalAsked, TerminalHeard, FoundFull, SentHand, TookNothing, Allocated, AllocatedNext, PartsTold, JoinedAndSplit, FoundEmpty, Flushed, FlushFailed, FlushedWhileBroken}
 use Rattle.lift_relay.specs.History.{IsRunOfParts, RelayHistoriesAreRuns, RejoiningsGoOn, RelayCrashesShowGiven, RelayCrashesInTurnsShowGiven, RelayCrashesInFailuresShowGiven}
-use Rattle.lift_relay.proofs.Tied.{splits_are_no_events, rejoinings, full_turns, empty_turns, sendings}
+use Rattle.lift_relay.proofs.Tied.{splits_are_no_events, rejoinings, full_turns, empty_turns, sendings, tellings}
 use Rattle.lift_relay.proofs.TiedScan.{is_queued, nothing_taken}
-use Rattle.lift_relay.proofs.TiedTake.{scans_are_allocations}
+use Rattle.lift_relay.proofs.TiedTake.{scans_are_allocations, nexts_are_allocations}
 use Rattle.lift_relay.proofs.TiedFlush.{flushes_are_flushes, failed_flushes, broken_flushes_are_broken}
 use Rattle.lift_relay.proofs.TiedTerminals.{terminals_keep_parts}
 use Rattle.lift_relay.proofs.TiedCrash.{crashes_of_parts, crashes_in_flushes, crashes_in_failures}
@@ -116,6 +116,13 @@ module _ {D P : Type 0} (laws : RelayLaws) where
       let l = scans_are_allocations laws choice any k.world a b f counts t some (subst (λ (x : Words). AllTakesAsked x.asked b.seat) (sym k.words_are) takes) room k.shows in
       with_nothing b f v safe given (led_on a b f f v safe given [] (λ (xs : List Entry). xs) _ k l.1)
 
+  next_then : (choice : Choice) → RunsAreAny choice → (a b : AllocatorState P) (f : FlusherState D) (v : Words) (safe : List Entry) (given : List Held) (counts : Counts) → IsRunOfParts a f v safe given
+      → (t : IsScanTurn choice a b counts) → commands_of 0 t.visits ≢ [] → Reads a.seat t.visits → AllAskNext v.asked a.seat (commands_of 0 t.visits) → HasRoom a f → IsRunOfParts b f v safe given
+  next_then choice any a b f v safe given counts k t some reads asked room =
+      let l = nexts_are_allocations laws choice any k.world a b f counts t some reads
+      (subst (λ (x : Words). AllAskNext x.asked a.seat (commands_of 0 t.visits)) (sym k.words_are) asked) room k.shows in
+      with_nothing b f v safe given (led_on a b f f v safe given [] (λ (xs : List Entry). xs) _ k l.1)
+
   flushed_then : (a : AllocatorState P) (f g : FlusherState D) (v : Words) (safe : List Entry) (given : List Held) (batch : BatchState) (counts : FlushCounts) → IsRunOfParts a f v safe given
       → Flushes f g batch counts → ReceivesSent a g → IsRunOfParts a g (with_answers v (map held_as batch.commands)) (safe ++ batch.entries) (given ++ map held_as batch.commands)
   flushed_then a f g v safe given batch counts k t sent =
@@ -135,7 +142,7 @@ module _ {D P : Type 0} (laws : RelayLaws) where
       led_on a a f g v safe given (map unknown_to (map held_as batch.commands)) (λ (xs : List Entry). xs) _ k l.1
 
   module _ (chooses : P → Choice) (any : (policy : P) → RunsAreAny (chooses policy)) where
-    run_of : (a : AllocatorState P) (f : FlusherState D) (v : Words) (safe : List Entry) (given : List Held) → RelayHistory chooses a f v safe given → IsRunOfParts a f v safe given
+    pub run_of : (a : AllocatorState P) (f : FlusherState D) (v : Words) (safe : List Entry) (given : List Held) → RelayHistory chooses a f v safe given → IsRunOfParts a f v safe given
     run_of a f v safe given (ClerkSplit {clerk = clerk} w sound m p is) =
         record { world = w; building = sound; shows = splits_are_no_events laws w clerk a f p is m; words_are = refl; safe_is = refl; given_is = refl }
     run_of a f v safe given (TerminalAsked {v = u} h c e) = asked a f u safe given c (run_of a f u safe given h) e
@@ -145,6 +152,11 @@ module _ {D P : Type 0} (laws : RelayLaws) where
     run_of b f v safe given (TookNothing {a = a} {counts = counts} h t none) =
         let k = run_of a f v safe given h in same_world a b f f v safe given k (nothing_taken (chooses a.policy) k.world a b f counts t none k.shows)
     run_of b f v safe given (Allocated {a = a} {counts = counts} h t some takes room) = allocated_then (chooses a.policy) (any a.policy) a b f v safe given counts (run_of a f v safe given h) t some takes room
+    run_of b f v safe given (AllocatedNext {a = a} {counts = counts} h t some reads asked room) =
+        next_then (chooses a.policy) (any a.policy) a b f v safe given counts (run_of a f v safe given h) t some reads asked room
+    run_of b g v safe given (PartsTold {a = a} {f = f} h t) = let k = run_of a f v safe given h in same_world a b f g v safe given k (tellings k.world a b f g t k.shows)
+    run_of b g v safe given (JoinedAndSplit {clerk = clerk} {a = a} {f = f} h r p is) =
+        let k = run_of a f v safe given h in same_world a b f g v safe given k (splits_are_no_events laws k.world clerk b g p is (rejoinings laws k.world a f clerk r k.shows))
     run_of a g v safe given (FoundEmpty {f = f} {result = result} h t) = let k = run_of a f v safe given h in same_world a a f g v safe given k (empty_turns k.world a f g result t k.shows)
     run_of a g v safe given (Flushed {f = f} {v = u} {safe = old} {given = before} {batch = batch} {counts = counts} h t sent) = flushed_then a f g u old before batch counts (run_of a f u old before h) t sent
     run_of a g v safe given (FlushFailed {f = f} {v = u} {given = before} {batch = batch} h t sent) = failed_then a f g u safe before batch (run_of a f u safe before h) t sent

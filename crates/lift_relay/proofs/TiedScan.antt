@@ -20,7 +20,7 @@ use Rattle.lift_desk.specs.declared.words.Ask.{Ask}
 use Rattle.lift_desk.specs.Words.{turn_of, body_bits, ask_word, IsBody}
 use Rattle.lift_desk.specs.Spelled.{ask_words, IsAsk}
 use Rattle.lift_desk.specs.Steps.{is_new, with_taking}
-use Rattle.lift_desk.specs.Seats.{ClerkPlace, view_at, TakesOf, TakesAheadOf}
+use Rattle.lift_desk.specs.Seats.{ClerkPlace, no_table, placed_at, view_at, TakesOf, TakesAheadOf}
 use Rattle.lift_policy.specs.Eligible.{Choice, any_eligible}
 use Rattle.lift_policy.specs.Step.{State}
 use Rattle.lift_policy.specs.Run.{Run}
@@ -52,7 +52,7 @@ use Rattle.lift_relay.specs.Scan.{TakesAt, TakesEach}
 use Rattle.lift_relay.specs.Allocator.{AllocatorState, IsScanTurn}
 use Rattle.lift_relay.specs.Flusher.{FlusherState}
 use Rattle.lift_relay.specs.Laws.{RelayLaws}
-use Rattle.lift_relay.specs.Tie.{held_as, command_of, entries_of, queued_in, on_way, AreQueued, AreDecided, ShowsBoth, RunsWhole, RunsBroken, IsRelayOf, LeadsOn, TakesAsked, AllTakesAsked, HasRoom, NothingTakenIsNoEvent, ScansAreAllocations}
+use Rattle.lift_relay.specs.Tie.{held_as, command_of, entries_of, queued_in, on_way, AreQueued, AreDecided, ShowsBoth, RunsWhole, RunsBroken, IsRelayOf, LeadsOn, TakesAsked, AllTakesAsked, Reads, AsksNext, AllAskNext, HasRoom, NothingTakenIsNoEvent, ScansAreAllocations}
 use Rattle.lift_relay.proofs.OneAsk.{one_ask}
 use Rattle.lift_relay.proofs.Tied.{order, hears, one_by_one, reaches, shown_same, nothing_gathered}
 
@@ -109,7 +109,7 @@ is_queued w a f m = by_state f.writer.is_broken refl
 
 -- ---- one look
 -- one of some has what all have
-last_has : {A : Type 0} (Q : A → Type 0) (xs : List A) (x : A) (ys : List A) → All Q (xs ++ x ∷ ys) → Q x
+pub last_has : {A : Type 0} (Q : A → Type 0) (xs : List A) (x : A) (ys : List A) → All Q (xs ++ x ∷ ys) → Q x
 last_has Q [] x ys h = h 0 x (omega arith)
 last_has Q (y ∷ xs) x ys h = last_has Q xs x ys (λ k d below. h (suc k) d (omega arith))
 
@@ -152,6 +152,36 @@ module _ (laws : RelayLaws) (w : World) (reached : IsReached w) (only : OnlyQueu
         length-filter (is_answer_to t) w.answered,
       )
 
+  -- the one that waits stands
+  pub stands_where : (command : Command) → s.waiting ≡ command ∷ [] → Stands w t s.waiting command
+  stands_where command is =
+      let lw : length s.waiting ≡ 1 = ap length is in
+      let le = few in
+      let none : length (on_way w t) ≡ 0 = omega arith in
+      let empty : on_way w t ≡ [] = no_length (on_way w t) none in
+      let split : filter (asks t) w.asked ≡ fa ++ command ∷ [] = s.asked ∙ ap (λ (cs : List Command). fa ++ cs) is in
+      let even = s.even in
+      record {
+        stands = record {
+          powered = only.on;
+          asks_more = omega (
+            arith,
+            ap length s.asked,
+            length-append (s.first ++ on_way w t) s.waiting,
+            length-append s.first (on_way w t),
+            length-filter (asks t) w.asked,
+          );
+          not_taken = subst (λ (xs : List Held). AllByRecursion (λ (x : Held). x.terminal ≢ t) xs) (sym only.all)
+              (none_of t (flat w.queue) (ap (filter (asks t)) (sym (queued_is w.queue)) ∙ empty));
+          asked_last = finds_last (asks t) w.asked fa command split;
+        };
+        only = is;
+      }
+    where
+      no_length : (xs : List Command) → length xs ≡ 0 → xs ≡ []
+      no_length [] e = refl
+      no_length (x ∷ xs) e = absurd (omega arith)
+
   module _ (word : ℕ) (ask : Ask) (at : TakesAt p (record { word = word; found = Some ask })) (asked : TakesAsked w.asked t (with_taking p.view word)) where
     abbrev command : Command
     command = record { terminal = t; number = ask.number; body = ask.body }
@@ -184,35 +214,7 @@ module _ (laws : RelayLaws) (w : World) (reached : IsReached w) (only : OnlyQueu
 
     one : (d : Command) → s.waiting ≡ d ∷ [] → Next d → Stands w t s.waiting command × (word ≡ ask_word (suc (length p.view.taken)) ask.number ask.body)
     one d e n =
-        let is : s.waiting ≡ command ∷ [] = e ∙ ap (λ (x : Command). x ∷ []) n.is in
-        let lw : length s.waiting ≡ 1 = ap length is in
-        let le = few in
-        let none : length (on_way w t) ≡ 0 = omega arith in
-        let empty : on_way w t ≡ [] = no_length (on_way w t) none in
-        let split : filter (asks t) w.asked ≡ fa ++ command ∷ [] = s.asked ∙ ap (λ (cs : List Command). fa ++ cs) is in
-        let even = s.even in (
-          record {
-            stands = record {
-              powered = only.on;
-              asks_more = omega (
-                arith,
-                ap length s.asked,
-                length-append (s.first ++ on_way w t) s.waiting,
-                length-append s.first (on_way w t),
-                length-filter (asks t) w.asked,
-              );
-              not_taken = subst (λ (xs : List Held). AllByRecursion (λ (x : Held). x.terminal ≢ t) xs) (sym only.all)
-                  (none_of t (flat w.queue) (ap (filter (asks t)) (sym (queued_is w.queue)) ∙ empty));
-              asked_last = finds_last (asks t) w.asked fa command split;
-            };
-            only = is;
-          },
-          n.turn,
-        )
-      where
-        no_length : (xs : List Command) → length xs ≡ 0 → xs ≡ []
-        no_length [] e = refl
-        no_length (x ∷ xs) e = absurd (omega arith)
+        (stands_where command (e ∙ ap (λ (x : Command). x ∷ []) n.is), n.turn)
 
     by_waiting : (waiting : List Command) → s.waiting ≡ waiting → Stands w t s.waiting command × (word ≡ ask_word (suc (length p.view.taken)) ask.number ask.body)
     by_waiting [] e = let wrong : word ∷ asked.front.0 ≡ [] = begins ∙ ap (λ (cs : List Command). ask_words (1 + length (map ask_of fa)) (map ask_of cs)) e in absurd (cc)
@@ -223,11 +225,12 @@ module _ (laws : RelayLaws) (w : World) (reached : IsReached w) (only : OnlyQueu
     stands = by_waiting s.waiting refl
 
 -- ---- all looks
--- each look takes the next ask, or nothing
-abbrev pub Reads : List ClerkPlace → List Visit → Type 0
-Reads places [] = Unit {0}
-Reads [] (visit ∷ visits) = ⊥
-Reads (place ∷ places) (visit ∷ visits) = TakesOf place.view visit.word visit.found × Reads places visits
+-- lists as long in front have the same behind
+pub same_behind : {A : Type 0} (xs ys us vs : List A) → length xs ≡ length ys → xs ++ us ≡ ys ++ vs → us ≡ vs
+same_behind [] [] us vs l e = e
+same_behind [] (y ∷ ys) us vs l e = absurd (omega arith)
+same_behind (x ∷ xs) [] us vs l e = absurd (omega arith)
+same_behind (x ∷ xs) (y ∷ ys) us vs l e = same_behind xs ys us vs (omega arith) (cc)
 
 served_first : (place : ClerkPlace) (places : List ClerkPlace) (word : ℕ) (found : Option Ask) (visits : List Visit)
     → (view_at (served (place ∷ places) (record { word = word; found = found } ∷ visits) []) 0).taken ≡ (with_taking place.view word).taken
@@ -279,6 +282,19 @@ module _ (laws : RelayLaws) (w : World) (reached : IsReached w) (only : OnlyQueu
       let rest = looks_from (suc first) places visits (λ k t e. same (suc k) t (omega arith)) takes.1
       (λ k t e. subst (TakesAsked w.asked t) (served_behind p places u.word u.found visits k) (asked (suc k) t (omega arith))) in
       ((here.0, rest.0), all_both (command_at first u.found) (commands_of (suc first) visits) here.1 rest.1)
+
+  -- so do those that were asked next
+  stands_next : (c : Command) → AsksNext w.asked (ahead c.terminal) c → Stands w c.terminal (s c.terminal).waiting c
+  stands_next c k =
+      let x = s c.terminal in
+      let front : List Command = x.first ++ on_way w c.terminal in
+      let long : length front ≡ length k.before = omega (arith, ap length x.taken, asks_count 1 (map ask_of front), length-map front ask_of, k.as_many) in
+      let last : x.waiting ≡ c ∷ [] = same_behind front k.before x.waiting (c ∷ []) long (sym x.asked ∙ k.asked_is) in
+      stands_where laws w reached only c.terminal (placed_at no_table (ahead c.terminal)) (later c.terminal) x c last
+
+  pub all_next : (places : List ClerkPlace) → ((t : ℕ) → view_at places t ≡ ahead t) → (cs : List Command) → AllAskNext w.asked places cs → AllStand cs
+  all_next places same [] k = tt
+  all_next places same (c ∷ cs) k = (stands_next c (subst (λ (v : ClerkView). AsksNext w.asked v c) (same c.terminal) k.0), all_next places same cs k.1)
 
   -- so they are found
   pub found : (cs : List Command) → length w.queue ≤ 4 → AllStand cs → AreApart cs → AreFound w cs
@@ -361,6 +377,12 @@ empty_run plan choice state next [] [] e r = r
 empty_run plan choice state next [] (reply ∷ rs) e r = absurd r
 empty_run plan choice state next (c ∷ cs) rs e r = absurd (cc)
 
+-- of each terminal as much is taken as before
+pub nothing_seen : {P : Type 0} (choice : Choice) (a b : AllocatorState P) (counts : Counts) (t : IsScanTurn choice a b counts) → commands_of 0 t.visits ≡ [] → (k : ℕ) → (view_at b.seat k).taken ≡ (view_at a.seat k).taken
+nothing_seen choice a b counts t none k =
+    ap (λ (x : List ClerkPlace). (view_at x k).taken) t.looked ∙ left a.seat t.visits 0 (nothing_read a.seat t.visits 0 t.takes none) k k (omega arith)
+    ∙ ap (λ (cs : List Command). (view_at a.seat k).taken ++ ask_words (suc (length (view_at a.seat k).taken)) (map ask_of (filter (asks k) cs))) none ∙ append-nil (view_at a.seat k).taken
+
 pub nothing_taken : {D P : Type 0} (choice : Choice) → NothingTakenIsNoEvent D P choice
 nothing_taken {D} {P} choice w a b f counts t none m =
     shown_same w a b f t.same_place.1
@@ -370,6 +392,5 @@ nothing_taken {D} {P} choice w a b f counts t none m =
     t.after ∙ ap settled same ∙ ap (λ (xs : List Entry). record a.state { batch = xs }) (sym empty))
     (ap (λ (x : List ClerkPlace). length x) t.looked ∙ length-served a.seat t.visits)
     (t.nothing none).0
-    (λ k. ap (λ (x : List ClerkPlace). (view_at x k).taken) t.looked ∙ left a.seat t.visits 0 (nothing_read a.seat t.visits 0 t.takes none) k k (omega arith)
-    ∙ ap (λ (cs : List Command). (view_at a.seat k).taken ++ ask_words (suc (length (view_at a.seat k).taken)) (map ask_of (filter (asks k) cs))) none ∙ append-nil (view_at a.seat k).taken)
+    (λ k. nothing_seen choice a b counts t none k)
     m

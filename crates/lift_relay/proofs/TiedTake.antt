@@ -40,9 +40,9 @@ use Rattle.lift_relay.specs.Batch.{BatchState, AreBelow, commands_in, replies_in
 use Rattle.lift_relay.specs.Allocator.{AllocatorState, IsScanTurn}
 use Rattle.lift_relay.specs.Flusher.{FlusherState}
 use Rattle.lift_relay.specs.Laws.{RelayLaws}
-use Rattle.lift_relay.specs.Tie.{held_as, command_of, entries_of, queued_in, on_way, AreQueued, AreDecided, ShowsBoth, RunsWhole, RunsBroken, IsRelayOf, LeadsOn, TakesAsked, AllTakesAsked, HasRoom, ScansAreAllocations}
+use Rattle.lift_relay.specs.Tie.{held_as, command_of, entries_of, queued_in, on_way, AreQueued, AreDecided, ShowsBoth, RunsWhole, RunsBroken, IsRelayOf, LeadsOn, TakesAsked, AllTakesAsked, Reads, HasRoom, ScansAreAllocations, NextsAreAllocations}
 use Rattle.lift_relay.proofs.Tied.{order, reaches}
-use Rattle.lift_relay.proofs.TiedScan.{OnlyQueued, is_queued, Reads, AllStand, looks_from, found, waits, left, below}
+use Rattle.lift_relay.proofs.TiedScan.{OnlyQueued, is_queued, AllStand, looks_from, all_next, found, waits, left, below}
 
 -- ---- how far the accepted entries are safe, or in doubt
 module _ (laws : RelayLaws) (w : World) (reached : IsReached w) where
@@ -125,7 +125,8 @@ allocates laws w (c ∷ cs) [] state some k are r = absurd r
 allocates laws w (c ∷ cs) (reply ∷ rs) state some k are r = laws.allocations w c cs reply rs state k are r
 
 module _ {D P : Type 0} (laws : RelayLaws) (choice : Choice) (any : RunsAreAny choice) (w : World) (a b : AllocatorState P) (f : FlusherState D) (counts : Counts) (t : IsScanTurn choice a b counts)
-    (some : commands_of 0 t.visits ≢ []) (asked : AllTakesAsked w.asked b.seat) (room : HasRoom a f) (m : IsRelayOf w a f) where
+    (some : commands_of 0 t.visits ≢ []) (room : HasRoom a f) (m : IsRelayOf w a f)
+    (looks : Reads a.seat t.visits × AllStand laws w m.reached (is_queued w a f m) (λ (n : ℕ). view_at a.seat n) (λ (n : ℕ). view_at f.seat n) m.words (commands_of 0 t.visits)) where
   abbrev cs : List Command
   cs = commands_of 0 t.visits
 
@@ -134,12 +135,6 @@ module _ {D P : Type 0} (laws : RelayLaws) (choice : Choice) (any : RunsAreAny c
 
   abbrev later : ℕ → ClerkView
   later n = view_at f.seat n
-
-  looks : Reads a.seat t.visits × AllStand laws w m.reached (is_queued w a f m) ahead later m.words cs
-  looks =
-      looks_from laws w m.reached (is_queued w a f m) ahead later m.words 0 a.seat t.visits
-      (λ k n e. let same : k ≡ n = omega arith in ap (view_at a.seat) same) t.takes
-      (λ k n e. let same : n ≡ k = omega arith in subst (TakesAsked w.asked n) (ap (λ (s : List ClerkPlace). view_at s n) t.looked ∙ ap (view_at (served a.seat t.visits [])) same) (asked n))
 
   few : length w.queue ≤ 4
   few =
@@ -261,4 +256,13 @@ module _ {D P : Type 0} (laws : RelayLaws) (choice : Choice) (any : RunsAreAny c
   allocation = by_state f.writer.is_broken refl
 
 pub scans_are_allocations : {D P : Type 0} → RelayLaws → (choice : Choice) → RunsAreAny choice → ScansAreAllocations D P choice
-scans_are_allocations laws choice any w a b f counts t some asked room m = allocation laws choice any w a b f counts t some asked room m
+scans_are_allocations laws choice any w a b f counts t some asked room m =
+    allocation laws choice any w a b f counts t some room m
+    (looks_from laws w m.reached (is_queued w a f m) (λ (n : ℕ). view_at a.seat n) (λ (n : ℕ). view_at f.seat n) m.words 0 a.seat t.visits
+    (λ k n e. let same : k ≡ n = omega arith in ap (view_at a.seat) same) t.takes
+    (λ k n e. let same : n ≡ k = omega arith in subst (TakesAsked w.asked n) (ap (λ (s : List ClerkPlace). view_at s n) t.looked ∙ ap (view_at (served a.seat t.visits [])) same) (asked n)))
+
+pub nexts_are_allocations : {D P : Type 0} → RelayLaws → (choice : Choice) → RunsAreAny choice → NextsAreAllocations D P choice
+nexts_are_allocations laws choice any w a b f counts t some reads asked room m =
+    allocation laws choice any w a b f counts t some room m
+    (reads, all_next laws w m.reached (is_queued w a f m) (λ (n : ℕ). view_at a.seat n) (λ (n : ℕ). view_at f.seat n) m.words a.seat (λ n. refl) (commands_of 0 t.visits) asked)

@@ -10,9 +10,9 @@ use Rattle.lift_policy.specs.Run.{Run}
 use Rattle.lift_clerk.specs.declared.counts.Counts.{Counts}
 use Rattle.lift_clerk.specs.Turn.{settled}
 use Rattle.lift_clerk.specs.Visits.{Visit, commands_of, served}
-use Rattle.lift_relay.specs.Batch.{BatchState, after, turns_behind, turns_of, commands_in, replies_in}
+use Rattle.lift_relay.specs.Batch.{BatchState, after, turns_behind, turns_of, commands_in, replies_in, noted_in}
 use Rattle.lift_relay.specs.Line.{SendState, Begins, IsNext, WasFull}
-use Rattle.lift_relay.specs.Scan.{TakesEach, turns_in}
+use Rattle.lift_relay.specs.Scan.{TakesEach, turns_in, words_of}
 
 pub record AllocatorState (P : Type 0) : Type 0 where
   pub desk : List TableId
@@ -62,7 +62,7 @@ pub record IsFullTurn {P : Type 0} (old new : AllocatorState P) (counts : Counts
   pub accepted : counts.accepted ≡ 0
 
 -- The batch in hand was sent, if there was one. Then each terminal was looked at once, in rising order, and what was asked there
--- was decided. Where something was taken it is one batch more, sent or in hand.
+-- was decided, each command with a note of the word that its look took. Where something was taken it is one batch more, sent or in hand.
 pub record IsScanTurn {P : Type 0} (choice : Choice) (old new : AllocatorState P) (counts : Counts) : Type 0 where
   pub visits : List Visit
   pub batch : BatchState
@@ -71,6 +71,7 @@ pub record IsScanTurn {P : Type 0} (choice : Choice) (old new : AllocatorState P
   pub takes : TakesEach old.seat visits
   pub looked : new.seat ≡ served old.seat visits []
   pub commands : commands_in batch.commands ≡ commands_of 0 visits
+  pub notes : noted_in batch.commands ≡ words_of visits
   pub run : Run old.plan choice old.state (commands_of 0 visits) (replies_in batch.commands) decided
   pub entries : batch.entries ≡ decided.batch
   pub after : new.state ≡ settled decided

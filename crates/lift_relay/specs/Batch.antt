@@ -34,6 +34,10 @@ commands_in taken = map (λ (t : Taken). t.command) taken
 abbrev pub replies_in : List Taken → List Reply
 replies_in taken = map (λ (t : Taken). t.reply) taken
 
+-- the words that their notes say
+abbrev pub noted_in : List Taken → List ℕ
+noted_in taken = map (λ (t : Taken). t.note.word) taken
+
 -- these commands are of the first so many terminals
 abbrev pub AreBelow : ℕ → List Command → Type 0
 AreBelow count commands = AllByRecursion (λ (c : Command). c.terminal < count) commands

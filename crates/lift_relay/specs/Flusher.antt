@@ -51,10 +51,11 @@ abbrev pub answered_at : List ClerkPlace → Taken → Reply → List ClerkPlace
 answered_at places taken reply =
     clerk_with places taken.command.terminal (with_answer (view_at places taken.command.terminal) (reply_word (length (view_at places taken.command.terminal).taken) taken.command.number reply))
 
--- One command: its terminal was looked at once, the look gave the command, and its answer was stored: its reply where that is safe, else Unknown; and nothing else.
+-- One command: its terminal was looked at once, the look read the word that its note says and gave the command, and its answer was stored: its reply where that is safe, else Unknown; and nothing else.
 pub record AnswersOne (is_safe : Bool) (places : List ClerkPlace) (taken : Taken) (visit : Visit) (next : List ClerkPlace) : Type 0 where
   pub finds : FindsAt (slice_index_or places taken.command.terminal no_place) visit
   pub gives : GivesIt visit.found taken
+  pub word : visit.word ≡ taken.note.word
   pub answered : next ≡ answered_at (looked_at places taken.command.terminal visit.word) taken (told is_safe taken.reply)
 
 -- all of them, one after another

@@ -21,9 +21,9 @@ use Rattle.lift_relay.specs.declared.flusher.FlushCounts.{FlushCounts}
 use Rattle.lift_relay.specs.Batch.{BatchState}
 use Rattle.lift_relay.specs.Allocator.{AllocatorState, IsFullTurn, IsScanTurn}
 use Rattle.lift_relay.specs.Flusher.{FlusherState, IsFlusher, IsEmptyTurn}
-use Rattle.lift_relay.specs.Pair.{IsSending}
+use Rattle.lift_relay.specs.Pair.{IsSending, IsTelling}
 use Rattle.lift_relay.specs.Relay.{AreParts, IsRejoined}
-use Rattle.lift_relay.specs.Tie.{held_as, IsRelayOf, AllTakesAsked, HasRoom, ReceivesSent, Flushes, FlushFails, FlushesBroken}
+use Rattle.lift_relay.specs.Tie.{held_as, IsRelayOf, AllTakesAsked, Reads, AllAskNext, HasRoom, ReceivesSent, Flushes, FlushFails, FlushesBroken}
 
 -- what terminals asked and heard, and what was answered them
 pub record Words : Type 0 where
@@ -66,6 +66,16 @@ pub data RelayHistory {D P : Type 0} (chooses : P → Choice) : AllocatorState P
   -- It takes what by the desk's rule was asked, while by the line's rule at most four batches wait.
   Allocated : {a b : AllocatorState P} {f : FlusherState D} {v : Words} {safe : List Entry} {given : List Held} {counts : Counts} → RelayHistory chooses a f v safe given
       → (t : IsScanTurn (chooses a.policy) a b counts) → commands_of 0 t.visits ≢ [] → AllTakesAsked v.asked b.seat → HasRoom a f → RelayHistory chooses b f v safe given
+  -- It takes the next turn of each terminal that it takes of, which asked that behind all that was taken there.
+  AllocatedNext : {a b : AllocatorState P} {f : FlusherState D} {v : Words} {safe : List Entry} {given : List Held} {counts : Counts} → RelayHistory chooses a f v safe given
+      → (t : IsScanTurn (chooses a.policy) a b counts) → commands_of 0 t.visits ≢ [] → Reads a.seat t.visits → AllAskNext v.asked a.seat (commands_of 0 t.visits) → HasRoom a f
+      → RelayHistory chooses b f v safe given
+  -- Each part is told where the other stands.
+  PartsTold : {a b : AllocatorState P} {f g : FlusherState D} {v : Words} {safe : List Entry} {given : List Held} → RelayHistory chooses a f v safe given
+      → IsTelling a b f g → RelayHistory chooses b g v safe given
+  -- They are joined again, and that clerk is split.
+  JoinedAndSplit : {clerk : ClerkState D P} {a b : AllocatorState P} {f g : FlusherState D} {v : Words} {safe : List Entry} {given : List Held} → RelayHistory chooses a f v safe given
+      → IsRejoined a f clerk → AreParts clerk b g → IsFlusher g → RelayHistory chooses b g v safe given
   -- The flusher finds the line empty.
   FoundEmpty : {a : AllocatorState P} {f g : FlusherState D} {v : Words} {safe : List Entry} {given : List Held} {result : Result FlushCounts KeeperFault} → RelayHistory chooses a f v safe given
       → IsEmptyTurn f g result → RelayHistory chooses a g v safe given

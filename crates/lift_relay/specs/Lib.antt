@@ -12,3 +12,4 @@ pub mod Pair
 pub mod Laws
 pub mod Tie
 pub mod History
+pub mod Runs

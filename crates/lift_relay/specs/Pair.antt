@@ -29,6 +29,11 @@ pub record IsSending {P : Type 0} (old new : AllocatorState P) : Type 0 where
   pub line : new.end.line ≡ old.end.line
   pub same : new ≡ record old { end = new.end; hand = [] }
 
+-- Each part was told where the other stands, and nothing else changes.
+pub record IsTelling {D P : Type 0} (a b : AllocatorState P) (f g : FlusherState D) : Type 0 where
+  pub allocator : b ≡ record a { end = record a.end { gone = f.end.received } }
+  pub flusher : g ≡ record f { end = record f.end { known = a.end.sent } }
+
 -- any number of an allocator's turns, and then of sendings of what was in hand
 pub data AllocatorTurns {P : Type 0} (choice : Choice) : AllocatorState P → AllocatorState P → Type 0 where
   NoMore : {a : AllocatorState P} → AllocatorTurns choice a a

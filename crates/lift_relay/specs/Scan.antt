@@ -1,5 +1,5 @@
 -- One scan ahead of the answers: what each look found, and what was decided.
-use Rattle.std.specs.Prelude.{ℕ, ◌≡◌, ◌<◌, ◌≤◌, ◌+◌, ◌^◌, nat_lt, if◌then◌else◌, List, [], ◌∷◌, length, IsSome, IfSome, Some}
+use Rattle.std.specs.Prelude.{ℕ, Option, None, ◌≡◌, ◌<◌, ◌≤◌, ◌+◌, ◌^◌, nat_lt, if◌then◌else◌, List, [], ◌∷◌, ◌++◌, length, IsSome, IfSome, Some}
 use Rattle.lift_building.specs.Plan.{Plan}
 use Rattle.lift_desk.specs.declared.words.Ask.{Ask}
 use Rattle.lift_desk.specs.Words.{turn_of, last_of}
@@ -11,7 +11,7 @@ use Rattle.lift_policy.specs.Step.{State}
 use Rattle.lift_policy.specs.Run.{Run}
 use Rattle.lift_clerk.specs.Visits.{Visit, commands_of, served}
 use Rattle.lift_relay.specs.declared.batch.Taken.{Taken}
-use Rattle.lift_relay.specs.Batch.{commands_in, replies_in}
+use Rattle.lift_relay.specs.Batch.{commands_in, replies_in, noted_in}
 
 -- The look takes what its word says where that is later than all that was taken there before. A look takes the last ask that
 -- the seat was told of, or a later one.
@@ -41,6 +41,15 @@ TakesEach places [] = Unit {0}
 TakesEach [] (visit ∷ visits) = ⊥
 TakesEach (place ∷ places) (visit ∷ visits) = TakesAt place visit × TakesEach places visits
 
+-- the words that these looks took
+abbrev pub word_at : ℕ → Option Ask → List ℕ
+word_at word None = []
+word_at word (Some ask) = word ∷ []
+
+abbrev pub words_of : List Visit → List ℕ
+words_of [] = []
+words_of (visit ∷ visits) = word_at visit.word visit.found ++ words_of visits
+
 -- The first n places were looked at once each and nothing else was, and what was found was decided, each command on the state
 -- that the earlier ones left.
 pub record ScansAhead (choice : Choice) (plan : Plan) (places seat : List ClerkPlace) (before after : State) (taken : List Taken) (n : ℕ) : Type 0 where
@@ -49,4 +58,5 @@ pub record ScansAhead (choice : Choice) (plan : Plan) (places seat : List ClerkP
   pub takes : TakesEach places visits
   pub looked : seat ≡ served places visits []
   pub commands : commands_in taken ≡ commands_of 0 visits
+  pub notes : noted_in taken ≡ words_of visits
   pub run : Run plan choice before (commands_in taken) (replies_in taken) after

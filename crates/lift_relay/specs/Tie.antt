@@ -10,7 +10,7 @@ use Rattle.lift_keeper.specs.Images.{IsInDoubt}
 use Rattle.lift_journal.specs.declared.fault.JournalFault.TheVariants.{Disk, Broken}
 use Rattle.lift_desk.specs.declared.view.ClerkView.{ClerkView}
 use Rattle.lift_desk.specs.Spelled.{ask_words, IsAsk}
-use Rattle.lift_desk.specs.Seats.{ClerkPlace, view_at}
+use Rattle.lift_desk.specs.Seats.{ClerkPlace, TakesOf, view_at}
 use Rattle.lift_policy.specs.Eligible.{Choice}
 use Rattle.lift_policy.specs.declared.command.Command.{Command}
 use Rattle.lift_keeper.specs.declared.fault.KeeperFault.{KeeperFault}
@@ -25,7 +25,7 @@ use Rattle.lift_world.specs.Beside.{is_of_terminals}
 use Rattle.lift_world.specs.Relay.{IsBetweenScans, IsBetweenFlushes, IsBrokenBetween, allocator_events, flusher_events, failing_flush, broken_flush}
 use Rattle.lift_clerk.specs.declared.counts.Counts.{Counts}
 use Rattle.lift_clerk.specs.Clerk.{ClerkState}
-use Rattle.lift_clerk.specs.Visits.{commands_of}
+use Rattle.lift_clerk.specs.Visits.{Visit, commands_of}
 use Rattle.lift_clerk.specs.Machine.{IsReached, IsMachineOf, Shows, kept_of, ask_of, answer_words}
 use Rattle.lift_clerk.specs.Turn.{IsEither}
 use Rattle.lift_relay.specs.declared.batch.Taken.{Taken}
@@ -34,7 +34,7 @@ use Rattle.lift_relay.specs.Batch.{BatchState, AreBelow, commands_in}
 use Rattle.lift_relay.specs.Line.{Begins}
 use Rattle.lift_relay.specs.Allocator.{AllocatorState, IsFullTurn, IsScanTurn}
 use Rattle.lift_relay.specs.Flusher.{FlusherState, IsFlusher, IsEmptyTurn, IsBatchTurn}
-use Rattle.lift_relay.specs.Pair.{IsSending}
+use Rattle.lift_relay.specs.Pair.{IsSending, IsTelling}
 use Rattle.lift_relay.specs.Relay.{AreParts, IsRejoined}
 
 -- a command that was taken, with the reply decided to it, as the machine holds it
@@ -146,6 +146,10 @@ EmptyTurnsAreNoEvents D P = (w : World) (a : AllocatorState P) (f g : FlusherSta
 abbrev pub SendingsAreNoEvents : (D P : Type 0) → Type 0
 SendingsAreNoEvents D P = (w : World) (a b : AllocatorState P) (f : FlusherState D) → IsSending a b → IsRelayOf w a f → IsRelayOf w b f
 
+-- Nor is a telling of both parts.
+abbrev pub TellingsAreNoEvents : (D P : Type 0) → Type 0
+TellingsAreNoEvents D P = (w : World) (a b : AllocatorState P) (f g : FlusherState D) → IsTelling a b f g → IsRelayOf w a f → IsRelayOf w b g
+
 -- Nor is a scan that took nothing.
 abbrev pub NothingTakenIsNoEvent : (D P : Type 0) → Choice → Type 0
 NothingTakenIsNoEvent D P choice = (w : World) (a b : AllocatorState P) (f : FlusherState D) (counts : Counts) (t : IsScanTurn choice a b counts) → commands_of 0 t.visits ≡ []
@@ -172,6 +176,27 @@ HasRoom a f = length (a.end.sent ++ a.hand) ≤ length f.end.received + 4
 abbrev pub ScansAreAllocations : (D P : Type 0) → Choice → Type 0
 ScansAreAllocations D P choice = (w : World) (a b : AllocatorState P) (f : FlusherState D) (counts : Counts) (t : IsScanTurn choice a b counts) → commands_of 0 t.visits ≢ []
     → AllTakesAsked w.asked b.seat → HasRoom a f → IsRelayOf w a f
+    → (letters : List (Option ℕ)) × LeadsOn w (allocator_events (commands_of 0 t.visits) letters) [] (safe_list w) b f
+
+-- each look takes the word of its place's next turn, or nothing
+abbrev pub Reads : List ClerkPlace → List Visit → Type 0
+Reads places [] = Unit {0}
+Reads [] (visit ∷ visits) = ⊥
+Reads (place ∷ places) (visit ∷ visits) = TakesOf place.view visit.word visit.found × Reads places visits
+
+-- The command is what its terminal asked behind all that was taken there.
+pub record AsksNext (asked : List Command) (view : ClerkView) (command : Command) : Type 0 where
+  pub before : List Command
+  pub asked_is : filter (asks command.terminal) asked ≡ before ++ command ∷ []
+  pub as_many : length before ≡ length view.taken
+
+abbrev pub AllAskNext : List Command → List ClerkPlace → List Command → Type 0
+AllAskNext asked places commands = AllByRecursion (λ (c : Command). AsksNext asked (view_at places c.terminal) c) commands
+
+-- So it is where each look took the word of the next turn, and what that says was asked next.
+abbrev pub NextsAreAllocations : (D P : Type 0) → Choice → Type 0
+NextsAreAllocations D P choice = (w : World) (a b : AllocatorState P) (f : FlusherState D) (counts : Counts) (t : IsScanTurn choice a b counts) → commands_of 0 t.visits ≢ []
+    → Reads a.seat t.visits → AllAskNext w.asked a.seat (commands_of 0 t.visits) → HasRoom a f → IsRelayOf w a f
     → (letters : List (Option ℕ)) × LeadsOn w (allocator_events (commands_of 0 t.visits) letters) [] (safe_list w) b f
 
 -- By the line's rule what the flusher has received begins what was sent.

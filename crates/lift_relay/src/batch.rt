@@ -60,7 +60,7 @@ impl Batch {
     ghost use Rattle.lift_register.specs.Register.{RegisterState};
 
     /// A batch that was decided in this building and on this register, of commands that these seats of this desk took next.
-    pub fn new(
+    pub(crate) fn new(
         commands: ArrayVec<Taken, 63>,
         entries: ArrayVec<Entry, 63>,
         building: &Building,

@@ -17,4 +17,4 @@ pub use batch::{Batch, Taken};
 pub use flusher::{FlushCounts, Flusher};
 pub use pair::{Gate, RunFault, run};
 pub use relay::{rejoin, split, tell};
-pub use tie::{relays_are_the_machines, turn_flusher_once};
+pub use tie::{relays_are_the_machines, runs_are_histories, turn_flusher_once};

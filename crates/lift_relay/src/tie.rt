@@ -4,13 +4,16 @@ ghost use Rattle.std.specs.Prelude.{◌≡◌, ◌⊎◌, Ok, Err, IfOk};
 ghost use Rattle.lift_relay.specs.Batch.{BatchState};
 ghost use Rattle.lift_relay.specs.Flusher.{IsEmptyTurn};
 ghost use Rattle.lift_relay.specs.Tie.{Flushes, FlushFails, FlushesBroken};
+ghost use Rattle.lift_relay.specs.Pair.{IsFlush};
 ghost use Rattle.lift_relay.specs.Laws.{RelayLaws};
-ghost use Rattle.lift_relay.specs.Tie.{SplitsAreNoEvents, RejoiningsAreNoEvents, FullTurnsAreNoEvents, EmptyTurnsAreNoEvents, SendingsAreNoEvents, NothingTakenIsNoEvent, TerminalsKeepParts};
-ghost use Rattle.lift_relay.specs.Tie.{ScansAreAllocations, FlushesAreFlushes, FailedFlushesAreFailures, BrokenFlushesAreBroken};
+ghost use Rattle.lift_relay.specs.Tie.{SplitsAreNoEvents, RejoiningsAreNoEvents, FullTurnsAreNoEvents, EmptyTurnsAreNoEvents, SendingsAreNoEvents, TellingsAreNoEvents, NothingTakenIsNoEvent, TerminalsKeepParts};
+ghost use Rattle.lift_relay.specs.Tie.{ScansAreAllocations, NextsAreAllocations, FlushesAreFlushes, FailedFlushesAreFailures, BrokenFlushesAreBroken};
 ghost use Rattle.lift_relay.specs.Tie.{CrashesOfPartsShow, CrashesInFlushesShow, CrashesInFailuresShow};
+ghost use Rattle.lift_relay.specs.Runs.{RunsAreHistories, TurnsStand, SplitsHavePasts, JoinedGoOn, CutsGoOn, CutsInTurnsGoOn, CutsInFailuresGoOn};
 ghost use Rattle.lift_relay.specs.History.{RelayHistoriesAreRuns, RejoiningsGoOn, RelayCrashesShowGiven, RelayCrashesInTurnsShowGiven, RelayCrashesInFailuresShowGiven};
 
 use crate::flusher::{FlushCounts, Flusher};
+use lift_clerk::crashes_are_the_machines;
 use lift_disk::Disk;
 use lift_journal::JournalFault;
 use lift_keeper::KeeperFault;
@@ -48,9 +51,11 @@ pub fn relays_are_the_machines<D: Disk, P: Policy>()
     ensures full { FullTurnsAreNoEvents D P }
     ensures empty { EmptyTurnsAreNoEvents D P }
     ensures sent { SendingsAreNoEvents D P }
+    ensures told { TellingsAreNoEvents D P }
     ensures nothing { (policy : P) → NothingTakenIsNoEvent D P (P.chooses policy) }
     ensures terminals { TerminalsKeepParts D P }
     ensures scans { (policy : P) → ScansAreAllocations D P (P.chooses policy) }
+    ensures nexts { (policy : P) → NextsAreAllocations D P (P.chooses policy) }
     ensures flushes { FlushesAreFlushes D P }
     ensures failures { FailedFlushesAreFailures D P }
     ensures broken { BrokenFlushesAreBroken D P }
@@ -67,11 +72,30 @@ pub fn relays_are_the_machines<D: Disk, P: Policy>()
     relay_laws();
 }
 
+/// A run of both parts is a history, where nothing was asked before it that wasn't taken: `run` tells only which turns each part
+/// had, and these read one behind another, each scan behind the answers to what was taken before it, and each batch made safe
+/// behind its scan. Terminals ask just what is taken. So all that is shown of a history holds behind a run.
+pub fn runs_are_histories<D: Disk, P: Policy>()
+    ensures runs { RunsAreHistories D P P.chooses D.state }
+    ensures turns { TurnsStand D P P.chooses D.state }
+    ensures split { SplitsHavePasts D P P.chooses }
+    ensures joined { JoinedGoOn D P P.chooses }
+    ensures cuts { CutsGoOn D P P.chooses }
+    ensures cuts_within { CutsInTurnsGoOn D P P.chooses }
+    ensures cuts_within_failed { CutsInFailuresGoOn D P P.chooses }
+{
+    crashes_are_the_machines::<D, P>();
+    policies_are_covered::<P>();
+    relay_laws();
+}
+
 /// One turn of the flusher, with what it gives for the machine's turns.
 pub fn turn_flusher_once<R: Wait, D: Disk>(
     rt: &R,
     flusher: &mut Flusher<'_, '_, D>,
 ) -> Result<FlushCounts, KeeperFault>
+    // The turn of which a run tells.
+    ensures turns { IsFlush D.state flusher.old flusher.new result }
     ensures flushes { IfOk result (λ counts. IsEmptyTurn flusher.old flusher.new (Ok counts) ⊎ ((batch : BatchState) × Flushes flusher.old flusher.new batch counts)) }
     ensures fails { result ≡ Err (KeeperFault.Journal JournalFault.Disk) → (batch : BatchState) × FlushFails flusher.old flusher.new batch }
     ensures rests { result ≡ Err (KeeperFault.Journal JournalFault.Broken)

@@ -34,8 +34,11 @@ returns-clause-answers c =
     let ask : Ask = record { number = taken.command.number; body = taken.command.body } in
     let gives : GivesIt found taken = subst (λ (o : Option Ask). GivesIt o taken) (sym (l.noted ask c.requires.says).0) (refl, refl) in
     let said : c.if-is_safe.reply ≡ told c.args.is_safe taken.reply =
-    elim c.if-is_safe.branch [ then-is_safe w ↦ w.reply-is ∙ ap (λ b. told b taken.reply) (sym w.if-is_safe.true) | else-is_safe w ↦ w.reply-is ∙ ap (λ b. told b taken.reply) (sym w.if-is_safe.false) ] in
-    (record { word = l.looked.0; found = found }, gives_one c.args.is_safe seat c.look_for-found.new.clerk c.answer.new.clerk taken l.looked.0 found c.if-is_safe.reply look gives here c.answer.ensures.answered said)
+    elim c.if-is_safe.branch [ then-is_safe w ↦ w.reply-is ∙ ap (λ b. told b taken.reply) (sym w.if-is_safe.true) | else-is_safe w ↦ w.reply-is ∙ ap (λ b. told b taken.reply) (sym w.if-is_safe.false) ] in (
+      record { word = l.looked.0; found = found },
+      gives_one c.args.is_safe seat c.look_for-found.new.clerk c.answer.new.clerk taken l.looked.0 found c.if-is_safe.reply look gives here c.answer.ensures.answered said
+          (ap (λ v. v.taken) (sym here) ∙ (l.noted ask c.requires.says).1),
+    )
 
 pub returns-clause-settled : goal.returns-clause-settled
 returns-clause-settled c turns settled counted =

@@ -1,7 +1,7 @@
-use Rattle.lift_relay.proofs.Tied.{splits_are_no_events, rejoinings, full_turns, empty_turns, sendings}
+use Rattle.lift_relay.proofs.Tied.{splits_are_no_events, rejoinings, full_turns, empty_turns, sendings, tellings}
 use Rattle.lift_relay.proofs.TiedScan.{nothing_taken}
 use Rattle.lift_relay.proofs.TiedTerminals.{terminals_keep_parts}
-use Rattle.lift_relay.proofs.TiedTake.{scans_are_allocations}
+use Rattle.lift_relay.proofs.TiedTake.{scans_are_allocations, nexts_are_allocations}
 use Rattle.lift_relay.proofs.TiedFlush.{flushes_are_flushes, failed_flushes, broken_flushes_are_broken}
 use Rattle.lift_relay.proofs.TiedCrash.{crashes_of_parts, crashes_in_flushes, crashes_in_failures}
 use Rattle.lift_relay.proofs.TiedHistory.{histories_are_runs, rejoinings_go_on, crashes_show, crashes_in_turns, crashes_in_failing_turns}
@@ -22,6 +22,9 @@ returns-clause-empty g c = empty_turns
 pub returns-clause-sent : goal.returns-clause-sent
 returns-clause-sent g c = sendings
 
+pub returns-clause-told : goal.returns-clause-told
+returns-clause-told g c = tellings
+
 pub returns-clause-nothing : goal.returns-clause-nothing
 returns-clause-nothing g c policy = nothing_taken (g.P.Policy.chooses policy)
 
@@ -30,6 +33,9 @@ returns-clause-terminals g c = terminals_keep_parts c.relay_laws.ensures
 
 pub returns-clause-scans : goal.returns-clause-scans
 returns-clause-scans g c policy = scans_are_allocations c.relay_laws.ensures (g.P.Policy.chooses policy) (c.policies_are_covered.ensures.runs policy)
+
+pub returns-clause-nexts : goal.returns-clause-nexts
+returns-clause-nexts g c policy = nexts_are_allocations c.relay_laws.ensures (g.P.Policy.chooses policy) (c.policies_are_covered.ensures.runs policy)
 
 pub returns-clause-flushes : goal.returns-clause-flushes
 returns-clause-flushes g c = flushes_are_flushes c.relay_laws.ensures

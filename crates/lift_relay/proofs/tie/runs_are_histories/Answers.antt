@@ -1,0 +1,26 @@
+use Rattle.lift_relay.proofs.RunTurns.{runs_are_histories}
+use Rattle.lift_relay.proofs.RunMoments.{turns_stand}
+use Rattle.lift_relay.proofs.RunJoins.{splits_have_pasts, joined_go_on}
+use Rattle.lift_relay.proofs.RunCuts.{cuts_go_on, cuts_in_turns_go_on, cuts_in_failures_go_on}
+use Rattle.lift_relay.proofs.tie.runs_are_histories.Goals as goal
+
+pub returns-clause-runs : goal.returns-clause-runs
+returns-clause-runs g c = runs_are_histories g.row.D.Denot c.relay_laws.ensures g.P.Policy.chooses c.policies_are_covered.ensures.runs g.D.Disk.state
+
+pub returns-clause-turns : goal.returns-clause-turns
+returns-clause-turns g c = turns_stand c.relay_laws.ensures g.P.Policy.chooses c.policies_are_covered.ensures.runs g.D.Disk.state
+
+pub returns-clause-split : goal.returns-clause-split
+returns-clause-split g c = splits_have_pasts g.P.Policy.chooses
+
+pub returns-clause-joined : goal.returns-clause-joined
+returns-clause-joined g c = joined_go_on c.relay_laws.ensures g.P.Policy.chooses c.policies_are_covered.ensures.runs
+
+pub returns-clause-cuts : goal.returns-clause-cuts
+returns-clause-cuts g c = cuts_go_on c.relay_laws.ensures c.crashes_are_the_machines.ensures.recovery g.P.Policy.chooses c.policies_are_covered.ensures.runs
+
+pub returns-clause-cuts_within : goal.returns-clause-cuts_within
+returns-clause-cuts_within g c = cuts_in_turns_go_on c.relay_laws.ensures c.crashes_are_the_machines.ensures.recovery g.P.Policy.chooses c.policies_are_covered.ensures.runs
+
+pub returns-clause-cuts_within_failed : goal.returns-clause-cuts_within_failed
+returns-clause-cuts_within_failed g c = cuts_in_failures_go_on c.relay_laws.ensures c.crashes_are_the_machines.ensures.recovery g.P.Policy.chooses c.policies_are_covered.ensures.runs

@@ -1,0 +1,101 @@
+-- A run of both parts is a history: their turns, which each thread had on its own, read one behind another.
+use Rattle.std.specs.Prelude.{ℕ, ◌≡◌, ◌≤◌, false, List, [], ◌++◌, length, map, count_by, Option, None, Result}
+use Rattle.std.specs.List.{flat_map}
+use mathlib.Core.List.{IsPrefix}
+use Rattle.lift_base.specs.declared.history.Entry.{Entry}
+use Rattle.lift_disk.specs.Disk.{DiskState, Image, LeavesOnly}
+use Rattle.lift_desk.specs.Seats.{ClerkPlace, view_at}
+use Rattle.lift_policy.specs.Eligible.{Choice}
+use Rattle.lift_policy.specs.declared.command.Command.{Command}
+use Rattle.lift_world.specs.declared.event.Taken.{Taken as Held}
+use Rattle.lift_world.specs.World.{asks}
+use Rattle.lift_keeper.specs.Images.{IsInDoubt}
+use Rattle.lift_keeper.specs.declared.fault.KeeperFault.{KeeperFault}
+use Rattle.lift_clerk.specs.Clerk.{ClerkState}
+use Rattle.lift_clerk.specs.Turn.{IsEither}
+use Rattle.lift_clerk.specs.Machine.{kept_of}
+use Rattle.lift_clerk.specs.History.{BeginsOver, IsRunOf, ShowsEither}
+use Rattle.lift_relay.specs.declared.flusher.FlushCounts.{FlushCounts}
+use Rattle.lift_relay.specs.declared.pair.RunFault.{RunFault}
+use Rattle.lift_relay.specs.Batch.{BatchState, commands_in}
+use Rattle.lift_relay.specs.Allocator.{AllocatorState}
+use Rattle.lift_relay.specs.Flusher.{FlusherState, IsFlusher}
+use Rattle.lift_relay.specs.Relay.{AreParts, IsRejoined}
+use Rattle.lift_relay.specs.Pair.{AllocatorTurns, FlusherTurns, IsFlush, HaveRun}
+use Rattle.lift_relay.specs.Tie.{held_as, command_of, entries_of, ReceivesSent, Flushes, FlushFails}
+use Rattle.lift_relay.specs.History.{Words, RelayHistory}
+
+-- each ask of a terminal was taken
+abbrev pub AllTaken : List Command → List ClerkPlace → Type 0
+AllTaken asked places = (terminal : ℕ) → count_by (asks terminal) asked ≡ length (view_at places terminal).taken
+
+-- What can have happened to both parts by now, where terminals have asked just what was taken.
+pub record HasPast {D P : Type 0} (chooses : P → Choice) (a : AllocatorState P) (f : FlusherState D) (safe : List Entry) (given : List Held) : Type 0 where
+  pub words : Words
+  pub history : RelayHistory chooses a f words safe given
+  pub all_taken : AllTaken words.asked a.seat
+
+-- What a flusher's turns add: the batches that it received, the entries that are safe of these, which begin theirs, and the
+-- answers to their commands. While nothing has failed it is all of these entries, and each reply.
+pub record Adds {D : Type 0} (old new : FlusherState D) (batches : List BatchState) (more : List Entry) (told : List Held) : Type 0 where
+  pub received : new.end.received ≡ old.end.received ++ batches
+  pub begins : IsPrefix more (entries_of batches)
+  pub commands : map command_of told ≡ flat_map (λ (b : BatchState). commands_in b.commands) batches
+  pub whole : new.writer.is_broken ≡ false → (more ≡ entries_of batches) × (told ≡ flat_map (λ (b : BatchState). map held_as b.commands) batches)
+
+-- the history goes on by that
+pub record Advances {D P : Type 0} (chooses : P → Choice) (b : AllocatorState P) (f g : FlusherState D) (safe : List Entry) (given : List Held) : Type 0 where
+  pub batches : List BatchState
+  pub more : List Entry
+  pub told : List Held
+  pub adds : Adds f g batches more told
+  pub past : HasPast chooses b g (safe ++ more) (given ++ told)
+
+-- A run that received all that was sent is a history: each scan behind the answers to what was taken before it, each batch made
+-- safe behind the scan that took it, and terminals hear and ask between.
+abbrev pub RunsAreHistories : (D P : Type 0) → (P → Choice) → (D → DiskState) → Type 0
+RunsAreHistories D P chooses state = (a b : AllocatorState P) (f g : FlusherState D) (fault : Option RunFault) (safe : List Entry) (given : List Held) → HasPast chooses a f safe given
+    → HaveRun (chooses a.policy) state a b f g fault → b.end.sent ≡ g.end.received → Advances chooses b f g safe given
+
+-- A clerk whose group is in such a world may be split: what has happened to it has happened to its parts.
+abbrev pub SplitsHavePasts : (D P : Type 0) → (P → Choice) → Type 0
+SplitsHavePasts D P chooses = (clerk : ClerkState D P) (a : AllocatorState P) (f : FlusherState D) (safe : List Entry) (given : List Held) → IsRunOf clerk safe given
+    → AreParts clerk a f → IsFlusher f → HasPast chooses a f safe given
+
+-- And so it is of a clerk that is joined of them: from there its own history goes on.
+abbrev pub JoinedGoOn : (D P : Type 0) → (P → Choice) → Type 0
+JoinedGoOn D P chooses = (a : AllocatorState P) (f : FlusherState D) (clerk : ClerkState D P) (safe : List Entry) (given : List Held) → HasPast chooses a f safe given
+    → IsRejoined a f clerk → IsRunOf clerk safe given
+
+-- One turn of the flusher in a run. The history goes on to it, with the allocator as it is then; and each image that a crash at
+-- any moment of the turn may leave shows all that was given until then: it is of what was safe, or of that with the turn's batch.
+pub record TurnStands {D P : Type 0} (chooses : P → Choice) (f g h : FlusherState D) (safe : List Entry) (given : List Held) (old new : DiskState) : Type 0 where
+  pub now : AllocatorState P
+  pub before : Advances chooses now f g safe given
+  pub batches : List BatchState
+  pub receives : h.end.received ≡ g.end.received ++ batches
+  pub moments : LeavesOnly old new (ShowsEither g.writer.plan (safe ++ before.more) (entries_of batches) (given ++ before.told))
+
+-- So it is of each turn of a run until something fails, and of the one that fails.
+abbrev pub TurnsStand : (D P : Type 0) → (P → Choice) → (D → DiskState) → Type 0
+TurnsStand D P chooses state = (a b : AllocatorState P) (f g h i : FlusherState D) (first next last : Option KeeperFault) (answer : Result FlushCounts KeeperFault) (safe : List Entry) (given : List Held)
+    → HasPast chooses a f safe given → AllocatorTurns (chooses a.policy) a b → FlusherTurns state f None g first → IsFlush state g h answer → FlusherTurns state h next i last
+    → b.hand ≡ [] → b.end.sent ≡ i.end.received → g.writer.is_broken ≡ false → TurnStands chooses f g h safe given (state g.writer.device) (state h.writer.device)
+
+-- A clerk that begins over what a crash of the parts left goes on with what had happened to them, in the world which that power cut and
+-- its recovery leave. The power is cut between two turns of the flusher, whatever the allocator has taken or sent,
+abbrev pub CutsGoOn : (D P : Type 0) → (P → Choice) → Type 0
+CutsGoOn D P chooses = (a : AllocatorState P) (f : FlusherState D) (clerk : ClerkState D P) (v : Words) (safe : List Entry) (given : List Held) (image : Image) → RelayHistory chooses a f v safe given
+    → (doubt : IsInDoubt f.writer.plan f.writer.register f.writer.doubt image) → BeginsOver f.writer.plan image clerk → IsRunOf clerk (kept_of safe f.writer.doubt doubt) given
+
+-- or at any moment of one,
+abbrev pub CutsInTurnsGoOn : (D P : Type 0) → (P → Choice) → Type 0
+CutsInTurnsGoOn D P chooses = (a : AllocatorState P) (f g : FlusherState D) (clerk : ClerkState D P) (v : Words) (safe : List Entry) (given : List Held) (batch : BatchState) (counts : FlushCounts) (image : Image)
+    → RelayHistory chooses a f v safe given → Flushes f g batch counts → ReceivesSent a g → (either : IsEither f.writer.plan f.writer.register g.end.register image) → BeginsOver f.writer.plan image clerk
+    → IsRunOf clerk (kept_of safe batch.entries either) given
+
+-- or of one that the device would fail.
+abbrev pub CutsInFailuresGoOn : (D P : Type 0) → (P → Choice) → Type 0
+CutsInFailuresGoOn D P chooses = (a : AllocatorState P) (f g : FlusherState D) (clerk : ClerkState D P) (v : Words) (safe : List Entry) (given : List Held) (batch : BatchState) (image : Image)
+    → RelayHistory chooses a f v safe given → FlushFails f g batch → ReceivesSent a g → (either : IsEither f.writer.plan f.writer.register g.end.register image) → BeginsOver f.writer.plan image clerk
+    → IsRunOf clerk (kept_of safe batch.entries either) given
