@@ -12,16 +12,8 @@ use lift_record::is_lawful;
 use std::alloc::Global;
 use std::test::Fail;
 
-/// Floors 0 to 3, kiosks on floors 0 and 2; the cars follow.
-pub(crate) const FLOORS: &str = "\
-floors = 4
-door_ms = 6000
-kiosks = [0, 2]
-flight = [[0, 3000, 4000, 5000], [3000, 0, 3000, 4000], [4000, 3000, 0, 3000], [5000, 4000, 3000, 0]]
-";
-
 /// Ten floors, kiosks on floors 0 and 5; a flight takes 2,000 ms and 1,000 ms for each floor. The cars follow.
-pub(crate) const DEMO_FLOORS: &str = "\
+const FLOORS: &str = "\
 floors = 10
 door_ms = 6000
 kiosks = [0, 5]
@@ -40,16 +32,7 @@ flight = [
 
 /// The ten floors with so many cars for 8 persons.
 pub(crate) fn demo(alloc: Global, cars: u32) -> Result<Building, Fail> {
-    with_cars(alloc, DEMO_FLOORS, cars)
-}
-
-/// The four floors with so many cars for 8 persons.
-pub(crate) fn building(alloc: Global, cars: u32) -> Result<Building, Fail> {
-    with_cars(alloc, FLOORS, cars)
-}
-
-fn with_cars(alloc: Global, floors: &str, cars: u32) -> Result<Building, Fail> {
-    let mut text = String::from_str(alloc, floors)?;
+    let mut text = String::from_str(alloc, FLOORS)?;
     for _car in 0..cars {
         text.push_str("[[cars]]\nplaces = 8\n")?;
     }
