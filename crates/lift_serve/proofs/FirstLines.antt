@@ -110,8 +110,12 @@ pub without_line : {L : Type 0} (result : Result L NoLine) (before after : Sourc
     → (result ≡ Err NoCalls → (part : List ℕ) × GivesPart part before after × (left' ≡ 0))
     → after.calls + left' ≡ before.calls + left → IfErr result (λ reason. EndsWithoutLine first_reads reason before after)
 without_line (Ok line) before after left left' all closed fault limit calls = tt
-without_line (Err AtEnd) before after left left' all closed fault limit calls = closed refl
-without_line (Err Fault) before after left left' all closed fault limit calls = fault refl
+without_line (Err AtEnd) before after left left' all closed fault limit calls =
+    let used = closed refl in
+    (used.0, used.1, used.2, used.3, omega (arith, calls, all))
+without_line (Err Fault) before after left left' all closed fault limit calls =
+    let used = fault refl in
+    (used.0, used.1, used.2, used.3, omega (arith, calls, all))
 without_line (Err NoCalls) before after left left' all closed fault limit calls =
     let used = limit refl in
     (used.0, used.1, omega (arith, used.2, calls, all))

@@ -1,9 +1,12 @@
 -- Places of which nobody's seat is taken.
-use Rattle.std.proofs.Common.{◌≡◌, ℕ, suc, zero, List, [], ◌∷◌, ◌++◌, ap, sym, refl, ◌∙◌, inl, inr, length, length-set, set, subst, take, drop, arith}
-use Rattle.std.specs.Prelude.{Option, Some, None, slice_get, slice_set, ◌⊎◌}
+use Rattle.std.proofs.Common.{◌≡◌, ℕ, suc, zero, List, [], ◌∷◌, ◌++◌, ap, ap₂, sym, refl, ◌∙◌, inl, inr, length, length-set, set, subst, take, drop, arith}
+use Rattle.std.specs.Prelude.{Option, Some, None, slice_get, slice_set, ◌⊎◌, ◌+◌}
 use Rattle.std.specs.List.{refill}
 use Rattle.atomic_table.specs.Seated.{TableId}
+use Rattle.lift_desk.specs.Rule.{no_asks}
+use Rattle.lift_desk.specs.Seats.{TerminalSeat, seats_from}
 use Rattle.lift_register.specs.Register.{RegisterState, last_of}
+use Rattle.lift_serve.specs.Lobby.{all_found, found_at}
 use Rattle.lift_serve.specs.Visits.{AreAsFound, AreAtTheirPlaces, AreEmpty, HeldState, known_of}
 
 -- a list that is written back whole
@@ -18,14 +21,32 @@ refill_set xs ys i a e =
     subst (λ zs. refill (length xs) xs (set zs i a) ≡ set xs i a) (sym e)
     (subst (λ n. take n (set xs i a ++ drop (length (set xs i a)) xs) ≡ set xs i a) same (refill_all xs (set xs i a) same))
 
-found_before : (places : List (Option HeldState)) (place : ℕ) (held : HeldState) → slice_get (places ++ None ∷ []) place ≡ Some (Some held) → slice_get places place ≡ Some (Some held)
-found_before [] zero held is = absurd (cc)
-found_before [] (suc place) held is = absurd (cc)
-found_before (first ∷ places) zero held is = is
-found_before (first ∷ places) (suc place) held is = found_before places place held is
+pub nobody_is_there : AreAtTheirPlaces []
+nobody_is_there zero held is = absurd (cc)
+nobody_is_there (suc place) held is = absurd (cc)
 
-pub one_empty_more : (places : List (Option HeldState)) → AreAtTheirPlaces places → AreAtTheirPlaces (places ++ None ∷ [])
-one_empty_more places are place held is = are place held (found_before places place held is)
+pub nothing_is_empty : AreEmpty []
+nothing_is_empty zero held is = absurd (cc)
+nothing_is_empty (suc place) held is = absurd (cc)
+
+-- what is found behind one place more was there before, or is the last one
+found_behind : (places : List (Option HeldState)) (last : HeldState) (place : ℕ) (held : HeldState) → slice_get (places ++ Some last ∷ []) place ≡ Some (Some held)
+    → (slice_get places place ≡ Some (Some held)) ⊎ ((place ≡ length places) × (last ≡ held))
+found_behind [] last zero held is = inr (refl, cc)
+found_behind [] last (suc place) held is = absurd (cc)
+found_behind (first ∷ places) last zero held is = inl is
+found_behind (first ∷ places) last (suc place) held is = behind (found_behind places last place held is)
+  where
+    behind : (slice_get places place ≡ Some (Some held)) ⊎ ((place ≡ length places) × (last ≡ held)) → (slice_get places place ≡ Some (Some held)) ⊎ ((suc place ≡ suc (length places)) × (last ≡ held))
+    behind (inl before) = inl before
+    behind (inr at) = inr (ap suc at.0, at.1)
+
+pub one_place_more : (places : List (Option HeldState)) (last : HeldState) → AreAtTheirPlaces places → last.seat.terminal ≡ length places → AreAtTheirPlaces (places ++ Some last ∷ [])
+one_place_more places last are next place held is = go (found_behind places last place held is)
+  where
+    go : (slice_get places place ≡ Some (Some held)) ⊎ ((place ≡ length places) × (last ≡ held)) → held.seat.terminal ≡ place
+    go (inl before) = are place held before
+    go (inr at) = sym (ap (λ (h : HeldState). h.seat.terminal) at.1) ∙ (next ∙ sym at.0)
 
 -- what is found behind a place's setting was there before, or is what was set
 found_in : (places : List (Option HeldState)) (at place : ℕ) (seat : Option HeldState) (held : HeldState) → slice_get (slice_set places at seat) place ≡ Some (Some held)
@@ -48,27 +69,97 @@ own_place places at held are own place other is = go (found_in places at place (
     go (inl before) = are place other before
     go (inr set) = let same : held ≡ other = (let e = set.1 in cc) in sym (ap (λ (h : HeldState). h.seat.terminal) same) ∙ (own ∙ sym set.0)
 
-pub none_more : (places : List (Option HeldState)) → AreEmpty places → AreEmpty (places ++ None ∷ [])
-none_more places are place held is = are place held (found_before places place held is)
-
-pub none_found : (register : RegisterState) (desk : List TableId) (places : List (Option HeldState)) → AreEmpty places → AreAsFound register desk places
-none_found register desk places are place held is = absurd (are place held is)
-
--- a seat that was put in, with what the register knows of its terminal
-pub one_found_more : (register : RegisterState) (desk : List TableId) (places places' : List (Option HeldState)) (held : HeldState) → AreAsFound register desk places
-    → places' ≡ slice_set places held.seat.terminal (Some held) → held.desk ≡ desk → held.found ≡ known_of (last_of register held.seat.terminal) → held.last ≡ held.found
-    → AreAsFound register desk places'
-one_found_more register desk places places' held are is at found last place other there =
-    go (found_in places held.seat.terminal place (Some held) other (subst (λ (l : List (Option HeldState)). slice_get l place ≡ Some (Some other)) is there))
+pub vacant_place : (places : List (Option HeldState)) (at : ℕ) → AreAtTheirPlaces places → AreAtTheirPlaces (slice_set places at None)
+vacant_place places at are place held is = go (found_in places at place None held is)
   where
-    go : (slice_get places place ≡ Some (Some other)) ⊎ ((place ≡ held.seat.terminal) × (Some held ≡ Some other))
-        → (other.desk ≡ desk) × (other.found ≡ known_of (last_of register place)) × (other.last ≡ other.found)
-    go (inl before) = are place other before
-    go (inr set) =
-        let same : held ≡ other = (let e = set.1 in cc) in
-        subst (λ (h : HeldState). (h.desk ≡ desk) × (h.found ≡ known_of (last_of register place)) × (h.last ≡ h.found)) same
-        (at, found ∙ ap (λ (t : ℕ). known_of (last_of register t)) (sym set.0), last)
+    go : (slice_get places place ≡ Some (Some held)) ⊎ ((place ≡ at) × (None ≡ Some held)) → held.seat.terminal ≡ place
+    go (inl before) = are place held before
+    go (inr set) = absurd (let e = set.1 in cc)
 
-pub nothing_is_empty : AreEmpty []
-nothing_is_empty zero held is = absurd (cc)
-nothing_is_empty (suc place) held is = absurd (cc)
+pub is_at_its_place : (places : List (Option HeldState)) (at : ℕ) (held : HeldState) → AreAtTheirPlaces places → slice_get places at ≡ Some (Some held) → held.seat.terminal ≡ at
+is_at_its_place places at held are is = are at held is
+
+pub nothing_taken : (places : List (Option HeldState)) (at : ℕ) → slice_get places at ≡ Some None → slice_set places at None ≡ places
+nothing_taken [] zero is = refl
+nothing_taken [] (suc at) is = refl
+nothing_taken (first ∷ places) zero is = let same : first ≡ None = cc in ap (λ (p : Option HeldState). p ∷ places) (sym same)
+nothing_taken (first ∷ places) (suc at) is = ap (λ (l : List (Option HeldState)). first ∷ l) (nothing_taken places at is)
+
+-- the seats of a desk stand by terminal
+pub next_terminal : (first : ℕ) (desk : List TableId) (before : List TerminalSeat) (seat : TerminalSeat) (rest : List TerminalSeat)
+    → before ++ seat ∷ rest ≡ seats_from first desk → seat.terminal ≡ first + length before
+next_terminal first [] [] seat rest is = absurd (cc)
+next_terminal first [] (one ∷ before) seat rest is = absurd (cc)
+next_terminal first (table ∷ desk) [] seat rest is =
+    let same : seat ≡ record { table = table; terminal = first; view = no_asks } = cc in
+    ap (λ (s : TerminalSeat). s.terminal) same ∙ omega arith
+next_terminal first (table ∷ desk) (one ∷ before) seat rest is =
+    let behind : before ++ seat ∷ rest ≡ seats_from (suc first) desk = cc in
+    next_terminal (suc first) desk before seat rest behind ∙ omega arith
+
+all_found_more : (register : RegisterState) (desk : List TableId) (before : List TerminalSeat) (seat : TerminalSeat)
+    → all_found register desk before ++ Some (found_at register desk seat) ∷ [] ≡ all_found register desk (before ++ seat ∷ [])
+all_found_more register desk [] seat = refl
+all_found_more register desk (one ∷ before) seat = ap (λ (l : List (Option HeldState)). Some (found_at register desk one) ∷ l) (all_found_more register desk before seat)
+
+-- one seat more was received
+pub one_found_more : (register : RegisterState) (desk : List TableId) (before : List TerminalSeat) (seat : TerminalSeat) (held : HeldState) (places places' : List (Option HeldState))
+    → places ≡ all_found register desk before → held ≡ found_at register desk seat → places' ≡ places ++ Some held ∷ [] → places' ≡ all_found register desk (before ++ seat ∷ [])
+one_found_more register desk before seat held places places' are is more =
+    more ∙ (ap₂ (λ (l : List (Option HeldState)) (h : HeldState). l ++ Some h ∷ []) are is ∙ all_found_more register desk before seat)
+
+so_many : (register : RegisterState) (desk : List TableId) (seats : List TerminalSeat) → length (all_found register desk seats) ≡ length seats
+so_many register desk [] = refl
+so_many register desk (seat ∷ seats) = ap suc (so_many register desk seats)
+
+one_behind : (before : List TerminalSeat) (seat : TerminalSeat) (rest : List TerminalSeat) → (before ++ seat ∷ []) ++ rest ≡ before ++ seat ∷ rest
+one_behind [] seat rest = refl
+one_behind (one ∷ before) seat rest = ap (λ (l : List TerminalSeat). one ∷ l) (one_behind before seat rest)
+
+-- a seat goes from those that are left to those that came
+pub one_taken_more : (desk : List TableId) (before : List TerminalSeat) (seat : TerminalSeat) (left rest : List TerminalSeat) → before ++ left ≡ seats_from 0 desk → left ≡ seat ∷ rest
+    → (before ++ seat ∷ []) ++ rest ≡ seats_from 0 desk
+one_taken_more desk before seat left rest split first =
+    one_behind before seat rest ∙ (ap (λ (l : List TerminalSeat). before ++ l) (sym first) ∙ split)
+
+-- the next seat's place is behind those that were received
+pub next_place : (register : RegisterState) (desk : List TableId) (before : List TerminalSeat) (seat : TerminalSeat) (left rest : List TerminalSeat) (held : HeldState) (places : List (Option HeldState))
+    → before ++ left ≡ seats_from 0 desk → left ≡ seat ∷ rest → held ≡ found_at register desk seat → places ≡ all_found register desk before
+    → held.seat.terminal ≡ length places
+next_place register desk before seat left rest held places split first is are =
+    let many : length places ≡ length before = ap length are ∙ so_many register desk before in
+    let at : seat.terminal ≡ 0 + length before = next_terminal 0 desk before seat rest (ap (λ (l : List TerminalSeat). before ++ l) (sym first) ∙ split) in
+    let own : held.seat.terminal ≡ seat.terminal = ap (λ (h : HeldState). h.seat.terminal) is in
+    own ∙ (at ∙ (omega arith ∙ sym many))
+
+found_each : (register : RegisterState) (desk tables : List TableId) (first : ℕ) (place : ℕ) (held : HeldState)
+    → slice_get (all_found register desk (seats_from first tables)) place ≡ Some (Some held)
+    → (held.desk ≡ desk) × (held.found ≡ known_of (last_of register (first + place))) × (held.last ≡ held.found)
+found_each register desk [] first zero held is = absurd (cc)
+found_each register desk [] first (suc place) held is = absurd (cc)
+found_each register desk (table ∷ tables) first zero held is =
+    let same : record { desk = desk; seat = record { table = table; terminal = first; view = no_asks }; last = known_of (last_of register first); found = known_of (last_of register first) } ≡ held = cc in
+    let at : first ≡ first + 0 = omega arith in
+    subst (λ (h : HeldState). (h.desk ≡ desk) × (h.found ≡ known_of (last_of register (first + 0))) × (h.last ≡ h.found)) same
+    (refl, ap (λ (t : ℕ). known_of (last_of register t)) at, refl)
+found_each register desk (table ∷ tables) first (suc place) held is =
+    let there = found_each register desk tables (suc first) place held is in
+    let at : suc first + place ≡ first + suc place = omega arith in
+    (there.0, there.1 ∙ ap (λ (t : ℕ). known_of (last_of register t)) at, there.2)
+
+front_found : (register : RegisterState) (desk : List TableId) (before rest : List TerminalSeat) (place : ℕ) (held : HeldState)
+    → slice_get (all_found register desk before) place ≡ Some (Some held) → slice_get (all_found register desk (before ++ rest)) place ≡ Some (Some held)
+front_found register desk [] rest zero held is = absurd (cc)
+front_found register desk [] rest (suc place) held is = absurd (cc)
+front_found register desk (one ∷ before) rest zero held is = is
+front_found register desk (one ∷ before) rest (suc place) held is = front_found register desk before rest place held is
+
+-- seats of a desk, from the first one on, with what a register knows of their terminals
+pub all_as_found : (register : RegisterState) (desk : List TableId) (before rest : List TerminalSeat) (places : List (Option HeldState)) → before ++ rest ≡ seats_from 0 desk
+    → places ≡ all_found register desk before → AreAsFound register desk places
+all_as_found register desk before rest places split are place held is =
+    let here : slice_get (all_found register desk before) place ≡ Some (Some held) = subst (λ (l : List (Option HeldState)). slice_get l place ≡ Some (Some held)) are is in
+    let whole = front_found register desk before rest place held here in
+    let there = found_each register desk desk 0 place held (subst (λ (seats : List TerminalSeat). slice_get (all_found register desk seats) place ≡ Some (Some held)) split whole) in
+    let at : 0 + place ≡ place = omega arith in
+    (there.0, there.1 ∙ ap (λ (t : ℕ). known_of (last_of register t)) at, there.2)

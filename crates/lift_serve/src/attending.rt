@@ -1,13 +1,14 @@
 //! One connection, from its first line to its end.
 
-ghost use Rattle.std.specs.Prelude.{◌≡◌, ◌≤◌, ℕ, List, IfOk, IfErr};
+ghost use Rattle.std.specs.Prelude.{◌≡◌, ◌≤◌, ℕ, List, Err, IfOk, IfErr};
 ghost use Rattle.lift_base.specs.Output.{sink_of};
 ghost use Rattle.lift_kiosk.specs.Lines.{GivesLine, Keeps65, source_of};
-ghost use Rattle.lift_serve.specs.Connections.{Attends, EndsWithoutLine, IsSaid, first_reads};
+ghost use Rattle.lift_serve.specs.Connections.{Attends, CallsUpTo, EndsWithoutLine, IsSaid, first_reads};
+ghost use Rattle.lift_serve.specs.Lobby.{AskedState, IsSamePlace};
 
 use crate::first_line::terminal_of;
 use crate::held::Held;
-use crate::lobby::{Absent, Lobby, Returned};
+use crate::lobby::{Absent, Lobby, Missing, NoSeat, Returned, Vacancy};
 use lift_base::Terminal;
 use lift_base::text::{Counted, Watched};
 use lift_kiosk::{End, Line, NoLine, read_line};
@@ -26,8 +27,10 @@ pub enum Outcome<'d> {
     NoLine(NoLine),
     /// Its first line names no terminal of the building.
     Bad,
-    /// Another session has the seat of the terminal that it names: the lobby did not.
-    Busy(Absent),
+    /// Another session has the seat of the terminal that it names: it was taken out of the lobby.
+    Busy(Absent<'d>),
+    /// The lobby never had the seat of the terminal that it names.
+    Unseated(Missing<'d>),
     /// There was a session of the terminal that it names, which ended so, and whose seat is back in the lobby.
     Visited(Returned<'d>, End),
 }
@@ -37,6 +40,7 @@ pub enum Outcome<'d> {
 fn read_first<I: Read + Drop>(reader: &mut Counted<I>) -> Result<Line, NoLine>
     ensures line { IfOk result (λ found. (line : List ℕ) × Keeps65 line found.bytes.items found.is_longer
         × GivesLine line (source_of I.remaining reader.old) (source_of I.remaining reader.new)) }
+    ensures few { CallsUpTo first_reads (source_of I.remaining reader.old) (source_of I.remaining reader.new) }
     ensures none { IfErr result (λ reason. EndsWithoutLine first_reads reason (source_of I.remaining reader.old) (source_of I.remaining reader.new)) }
 {
     let mut left = FIRST_READS;
@@ -47,17 +51,25 @@ fn take<'d>(
     rt: &impl Wait,
     lobby: &Mutex<Lobby<'d>>,
     terminal: Terminal,
-) -> Result<Held<'d>, Absent>
-    ensures own { IfOk result (λ held. held.seat.terminal ≡ terminal) }
-    ensures absent { IfErr result (λ absent. absent ≡ terminal) }
+) -> Result<(Held<'d>, Vacancy<'d>), NoSeat<'d>>
+    ensures own { IfOk result (λ taken. taken.0.seat.terminal ≡ terminal) }
+    ensures vacant { IfOk result (λ taken. taken.1 ≡ taken.0) }
+    ensures out { (absent : AskedState) → result ≡ Err (NoSeat.Taken absent) → absent.terminal ≡ terminal }
+    ensures unknown { (missing : AskedState) → result ≡ Err (NoSeat.Unknown missing) → missing.terminal ≡ terminal }
 {
     lobby.lock(rt).take(terminal)
 }
 
-fn put_back<'d>(rt: &impl Wait, lobby: &Mutex<Lobby<'d>>, held: Held<'d>) -> Returned<'d>
+fn put_back<'d>(
+    rt: &impl Wait,
+    lobby: &Mutex<Lobby<'d>>,
+    held: Held<'d>,
+    vacancy: Vacancy<'d>,
+) -> Returned<'d>
+    requires same { IsSamePlace vacancy held }
     ensures { result ≡ held.entry }
 {
-    lobby.lock(rt).put_back(held)
+    lobby.lock(rt).put_back(held, vacancy)
 }
 
 /// Writes all of the bytes, or those before which the writer fails.
@@ -70,8 +82,8 @@ fn say<O: Write + Drop>(writer: &mut Watched<O>, bytes: &[u8])
     }
 }
 
-/// Reads the first line, and serves the terminal that it names. Where the line names none of the building `BAD` is
-/// answered, and where its seat is in use `BUSY`.
+/// Reads the first line, and serves the terminal that it names. Where the line names none of the building, or one whose seat
+/// the lobby never had, `BAD` is answered, and where its seat is in use `BUSY`.
 pub fn attend<'d, R: Wait + Clock, I: Read + Drop, O: Write + Drop>(
     rt: &R,
     lobby: &Mutex<Lobby<'d>>,
@@ -94,13 +106,17 @@ pub fn attend<'d, R: Wait + Clock, I: Read + Drop, O: Write + Drop>(
         say(writer, b"BAD\n");
         return Outcome::Bad;
     };
-    let held = match take(rt, lobby, terminal) {
-        Ok(held) => held,
-        Err(absent) => {
+    let (held, vacancy) = match take(rt, lobby, terminal) {
+        Ok(taken) => taken,
+        Err(NoSeat::Taken(absent)) => {
             say(writer, b"BUSY\n");
             return Outcome::Busy(absent);
         }
+        Err(NoSeat::Unknown(missing)) => {
+            say(writer, b"BAD\n");
+            return Outcome::Unseated(missing);
+        }
     };
     let (held, end) = held.visit(rt, bell, reader, writer);
-    Outcome::Visited(put_back(rt, lobby, held), end)
+    Outcome::Visited(put_back(rt, lobby, held, vacancy), end)
 }

@@ -14,7 +14,7 @@ mod turning;
 pub use attending::{Outcome, attend};
 pub use first_line::terminal_of;
 pub use held::Held;
-pub use lobby::{Absent, Lobby, Returned};
+pub use lobby::{Absent, Lobby, Missing, NoSeat, Returned, Vacancy};
 pub use pager::Pager;
 pub use port::RestingPort;
 pub use serving::{ServeFault, Served, serve};

@@ -1,43 +1,85 @@
 //! Where the terminals' seats wait for their next sessions.
 
-ghost use Rattle.std.specs.Prelude.{◌≡◌, IfOk, IfErr, IfSome, IfNone, None, Some, Ok, length, slice_get, slice_set};
-ghost use Rattle.lift_serve.specs.Visits.{AreEmpty, HeldState};
+ghost use Rattle.std.specs.Prelude.{◌≡◌, ◌∷◌, ◌++◌, [], IfOk, IfErr, IfSome, IfNone, None, Some, Err, length, slice_get, slice_set};
+ghost use Rattle.lift_serve.specs.Lobby.{AskedState, IsSamePlace, IsTakenOut, IsUnknown};
+ghost use Rattle.lift_serve.specs.Visits.{AreEmpty};
 
 use crate::held::Held;
 use arrayvec::ArrayVec;
 use lift_base::Terminal;
+use lift_desk::Desk;
 use std::marker::Model;
 use std::snapshot::Snapshot;
 
-/// The seats that no session has, each at its terminal's place.
+/// The seats of a desk that no session has, each at its terminal's place. Who has no desk can make none.
 #[derive(Drop)]
 pub struct Lobby<'d> {
+    desk: &'d Desk,
     places: ArrayVec<Option<Held<'d>>, 63>,
 }
 
 impl<'d> Model for Lobby<'d> {
-    ghost use Rattle.std.specs.Prelude.{List, Option};
-    ghost use Rattle.lift_serve.specs.Visits.{AreAtTheirPlaces, HeldState};
+    ghost use Rattle.lift_serve.specs.Lobby.{LobbyState};
+    ghost use Rattle.lift_serve.specs.Visits.{AreAtTheirPlaces};
 
-    ghost Value = { List (Option HeldState) };
+    ghost Value = { LobbyState };
 
-    ghost view = { λ l. l.places.items };
+    ghost view = { λ l. record { desk = l.desk.now; places = l.places.items } };
 
     ghost invariant = { λ l. AreAtTheirPlaces l.places.items };
 }
 
-/// That a lobby was asked for a terminal's seat, and did not have it. Only `take` makes one.
+/// That the seat of this place was taken out of a lobby. It can't be let go: only `put_back` ends it, so a seat that was taken
+/// out is put back. Only `take` makes one.
+pub struct Vacancy<'d> {
+    held: Snapshot<Held<'d>>,
+}
+
+impl<'d> Model for Vacancy<'d> {
+    ghost use Rattle.lift_serve.specs.Visits.{HeldState};
+
+    ghost Value = { HeldState };
+
+    ghost view = { λ v. v.held.value };
+}
+
+/// That a lobby was asked for a terminal's seat, which it had received, and which was taken out. Only `take` makes one.
 #[derive(Drop)]
-pub struct Absent {
+pub struct Absent<'d> {
+    desk: &'d Desk,
     terminal: Terminal,
 }
 
-impl Model for Absent {
-    ghost use Rattle.std.specs.Prelude.{ℕ};
+impl<'d> Model for Absent<'d> {
+    ghost use Rattle.lift_serve.specs.Lobby.{AskedState};
 
-    ghost Value = { ℕ };
+    ghost Value = { AskedState };
 
-    ghost view = { λ a. a.terminal };
+    ghost view = { λ a. record { desk = a.desk.now; terminal = a.terminal } };
+}
+
+/// That a lobby was asked for the seat of a terminal that it never received. Only `take` makes one.
+#[derive(Drop)]
+pub struct Missing<'d> {
+    desk: &'d Desk,
+    terminal: Terminal,
+}
+
+impl<'d> Model for Missing<'d> {
+    ghost use Rattle.lift_serve.specs.Lobby.{AskedState};
+
+    ghost Value = { AskedState };
+
+    ghost view = { λ m. record { desk = m.desk.now; terminal = m.terminal } };
+}
+
+/// Why a lobby gives no seat of a terminal.
+#[derive(Drop)]
+pub enum NoSeat<'d> {
+    /// A session has it.
+    Taken(Absent<'d>),
+    /// The lobby never had it.
+    Unknown(Missing<'d>),
 }
 
 /// That this place of a terminal, with its seat and what is known of it, was put back into a lobby. Only `put_back` makes one.
@@ -55,51 +97,74 @@ impl<'d> Model for Returned<'d> {
 }
 
 impl<'d> Lobby<'d> {
-    /// With nobody in it.
-    #[tactic(auto, using(crate::proofs::Places::one_empty_more, crate::proofs::Places::none_more, crate::proofs::Places::nothing_is_empty))]
-    pub fn new() -> Self
-        ensures places { length result ≡ 63 }
-        ensures empty { AreEmpty result }
+    /// With nobody in it, for the seats of this desk.
+    #[tactic(auto, using(crate::proofs::Places::nobody_is_there, crate::proofs::Places::nothing_is_empty))]
+    pub fn new(desk: &'d Desk) -> Self
+        ensures new { result ≡ record { desk = desk.now; places = [] } }
+        ensures empty { AreEmpty result.places }
     {
-        let mut places = ArrayVec::new();
-        for _ in 0..63usize {
-            places.push(None);
+        Lobby {
+            desk,
+            places: ArrayVec::new(),
         }
-        Lobby { places }
     }
 
-    /// What is at a terminal's place, which is empty then.
-    fn empty(&mut self, terminal: Terminal) -> Option<Held<'d>>
-        ensures own { IfSome result (λ held. held.seat.terminal ≡ terminal) }
-        ensures found { (held : HeldState) → slice_get self.old terminal ≡ Some (Some held) → result ≡ Some held }
-        ensures taken { IfSome result (λ held. self.new ≡ slice_set self.old terminal None) }
+    /// The seat of the next terminal is there from now on.
+    #[tactic(auto, using(crate::proofs::Places::one_place_more))]
+    pub fn receive(&mut self, held: Held<'d>)
+        requires next { held.seat.terminal ≡ length self.old.places }
+        ensures { self.new ≡ record self.old { places = self.old.places ++ Some held.entry ∷ [] } }
+    {
+        let _terminal = held.terminal().get();
+        self.places.push(Some(held));
+    }
+
+    /// What is at a terminal's place, which is vacant then; none where the lobby has no place of it.
+    #[tactic(auto, using(crate::proofs::Places::vacant_place))]
+    fn vacate(&mut self, terminal: Terminal) -> Option<Option<Held<'d>>>
+        ensures found { result ≡ slice_get self.old.places terminal }
+        ensures vacant { IfSome result (λ _. self.new ≡ record self.old { places = slice_set self.old.places terminal None }) }
         ensures none { IfNone result (self.new ≡ self.old) }
     {
         match self.places.get_mut(usize::from(terminal.get())) {
-            Some(place) => place.take(),
+            Some(place) => Some(place.take()),
             None => None,
         }
     }
 
-    /// The seat of a terminal. It is refused only where a session has it.
-    pub fn take(&mut self, terminal: Terminal) -> Result<Held<'d>, Absent>
-        ensures own { IfOk result (λ held. held.seat.terminal ≡ terminal) }
-        ensures found { (held : HeldState) → slice_get self.old terminal ≡ Some (Some held) → result ≡ Ok held }
-        ensures taken { IfOk result (λ held. self.new ≡ slice_set self.old terminal None) }
-        ensures absent { IfErr result (λ absent. (absent ≡ terminal) × (self.new ≡ self.old)) }
+    /// The seat of a terminal, and its place, which is vacant then. It is refused only where the seat was taken out before, or
+    /// was never received.
+    #[tactic(auto, using(crate::proofs::Places::is_at_its_place, crate::proofs::Places::nothing_taken))]
+    pub fn take(&mut self, terminal: Terminal) -> Result<(Held<'d>, Vacancy<'d>), NoSeat<'d>>
+        ensures own { IfOk result (λ taken. taken.0.seat.terminal ≡ terminal) }
+        ensures there { IfOk result (λ taken. slice_get self.old.places terminal ≡ Some (Some taken.0)) }
+        ensures vacant { IfOk result (λ taken. taken.1 ≡ taken.0) }
+        ensures taken { IfOk result (λ taken. self.new ≡ record self.old { places = slice_set self.old.places terminal None }) }
+        ensures out { (absent : AskedState) → result ≡ Err (NoSeat.Taken absent) → IsTakenOut self.old terminal absent }
+        ensures unknown { (missing : AskedState) → result ≡ Err (NoSeat.Unknown missing) → IsUnknown self.old terminal missing }
+        ensures unchanged { IfErr result (λ _. self.new ≡ self.old) }
     {
-        match self.empty(terminal) {
-            Some(held) => Ok(held),
-            None => Err(Absent { terminal }),
+        let desk = self.desk;
+        match self.vacate(terminal) {
+            Some(Some(held)) => {
+                let vacancy = Vacancy {
+                    held: Snapshot::of(&held),
+                };
+                Ok((held, vacancy))
+            }
+            Some(None) => Err(NoSeat::Taken(Absent { desk, terminal })),
+            None => Err(NoSeat::Unknown(Missing { desk, terminal })),
         }
     }
 
-    /// Its next session may have the seat.
+    /// Its next session may have the seat that was taken out.
     #[tactic(auto, using(crate::proofs::Places::own_place))]
-    pub fn put_back(&mut self, held: Held<'d>) -> Returned<'d>
-        ensures put { self.new ≡ slice_set self.old held.entry.seat.terminal (Some held.entry) }
+    pub fn put_back(&mut self, held: Held<'d>, vacancy: Vacancy<'d>) -> Returned<'d>
+        requires same { IsSamePlace vacancy held }
+        ensures put { self.new ≡ record self.old { places = slice_set self.old.places held.entry.seat.terminal (Some held.entry) } }
         ensures returned { result ≡ held.entry }
     {
+        let Vacancy { held: _ } = vacancy;
         let terminal = held.terminal();
         let at = usize::from(terminal.get());
         let returned = Returned {

@@ -2,7 +2,8 @@
 
 ghost use Rattle.std.specs.Prelude.{◌≡◌, ◌≤◌, [], All, IfOk, length, vec_len};
 ghost use Rattle.std.specs.Thread.{IsSync};
-ghost use Rattle.lift_desk.specs.Seats.{AreSeatsOf, IsSeatOf};
+ghost use Rattle.lift_desk.specs.Seats.{AreSeatsOf, IsSeatOf, seats_from};
+ghost use Rattle.lift_serve.specs.Lobby.{all_found, found_at};
 ghost use Rattle.lift_serve.specs.Turning.{IsTurnedKeeper, Turned};
 ghost use Rattle.lift_register.specs.Register.{last_of as last_in};
 ghost use Rattle.lift_serve.specs.Visits.{AreAsFound, IsNewSeat, known_of, letter_in as letter_of};
@@ -121,9 +122,7 @@ fn held_of<'d>(desk: &'d Desk, pagers: &'d [Pager], seat: Seat, register: &Regis
     requires pagers { 63 ≤ length pagers.now }
     requires new { IsNewSeat seat }
     requires seated { IsSeatOf desk.now seat }
-    ensures desk { result.desk ≡ desk.now }
-    ensures found { result.found ≡ known_of (last_in register.now result.seat.terminal) }
-    ensures last { result.last ≡ result.found }
+    ensures { result ≡ found_at register.now desk.now seat }
 {
     let terminal = seat.terminal();
     let pager = &pagers[usize::from(terminal.get())];
@@ -131,8 +130,8 @@ fn held_of<'d>(desk: &'d Desk, pagers: &'d [Pager], seat: Seat, register: &Regis
     Held::new(desk, pager, seat, found)
 }
 
-/// The lobby with seats of a desk, and what a register knows of their terminals.
-#[tactic(auto, using(crate::proofs::Places::one_found_more, crate::proofs::Places::none_found))]
+/// The lobby with all seats of a desk, each at its place, and what a register knows of their terminals.
+#[tactic(auto, using(crate::proofs::Places::one_taken_more))]
 fn lobby_of<'d>(
     desk: &'d Desk,
     pagers: &'d [Pager],
@@ -142,11 +141,14 @@ fn lobby_of<'d>(
     requires pagers { 63 ≤ length pagers.now }
     requires new { All IsNewSeat seats.items }
     requires seats { AreSeatsOf desk.now seats.items }
-    ensures { AreAsFound register.now desk.now result }
+    requires all { seats.items ≡ seats_from 0 desk.now }
+    ensures desk { result.desk ≡ desk.now }
+    ensures all { result.places ≡ all_found register.now desk.now seats.items }
+    ensures found { AreAsFound register.now desk.now result.places }
 {
-    let mut lobby = Lobby::new();
+    let mut lobby = Lobby::new(desk);
     for seat in seats {
-        let _returned = lobby.put_back(held_of(desk, pagers, seat, register));
+        lobby.receive(held_of(desk, pagers, seat, register));
     }
     lobby
 }
@@ -354,6 +356,7 @@ fn serve_at<'b, R: Threads + Wait + Clock + Sync, D: Disk + Drop, P: Policy + Dr
     requires pagers { 63 ≤ length pagers.now }
     requires new { All IsNewSeat seats.items }
     requires seats { AreSeatsOf clerk.desk seats.items }
+    requires all { seats.items ≡ seats_from 0 clerk.desk }
     ensures { IfOk result (λ served. IsTurnedKeeper (P.chooses clerk.entry.policy) clerk.entry.policy clerk.entry.keeper served.keeper) }
 {
     let register = clerk.keeper().register();

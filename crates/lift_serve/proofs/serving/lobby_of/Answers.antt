@@ -1,7 +1,12 @@
-use Rattle.lift_serve.proofs.Places.{one_found_more}
+use Rattle.lift_serve.proofs.Places.{all_as_found, next_place}
 use Rattle.lift_serve.proofs.serving.lobby_of.Goals as goal
 
-pub loop-seat-preserved : goal.loop-seat-preserved
-loop-seat-preserved c = record {
-  found = one_found_more c.args.register.now c.args.desk.now _ _ _ c.loop-seat.invariant.found c.put_back-returned.ensures.put c.held_of.ensures.desk c.held_of.ensures.found c.held_of.ensures.last;
+pub receive-requires : goal.receive-requires
+receive-requires c = record {
+  next = next_place c.args.register.now c.args.desk.now c.loop-seat.yielded c.in-Some.seat _ _ c.held_of.result c.loop-seat.lobby.places
+      c.loop-seat.invariant.split c.in-Some.ensures.steps.0 c.held_of.ensures c.loop-seat.invariant.all;
 }
+
+pub returns-clause-found : goal.returns-clause-found
+returns-clause-found c =
+    all_as_found c.args.register.now c.args.desk.now c.loop-seat.yielded _ c.loop-seat.lobby.places c.loop-seat.invariant.split c.loop-seat.invariant.all

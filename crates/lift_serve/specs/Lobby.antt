@@ -1,0 +1,39 @@
+-- Where seats wait, and what is known of one that doesn't.
+use Rattle.std.specs.Prelude.{ℕ, ◌≡◌, List, map, Option, Some, None, slice_get}
+use Rattle.atomic_table.specs.Seated.{TableId}
+use Rattle.lift_desk.specs.Seats.{TerminalSeat}
+use Rattle.lift_register.specs.Register.{RegisterState, last_of}
+use Rattle.lift_serve.specs.Visits.{HeldState, known_of}
+
+-- a lobby: its desk's tables, and the places of the terminals whose seats it received, by terminal; the seat of a place may be out
+pub record LobbyState : Type 0 where
+  pub desk : List TableId
+  pub places : List (Option HeldState)
+
+-- the terminal whose seat was asked for, and the desk of the lobby that was asked
+pub record AskedState : Type 0 where
+  pub desk : List TableId
+  pub terminal : ℕ
+
+-- The terminal has its place in the lobby that was asked, and its seat is out.
+abbrev pub IsTakenOut : LobbyState → ℕ → AskedState → Type 0
+IsTakenOut lobby terminal asked = (asked ≡ record { desk = lobby.desk; terminal = terminal }) × (slice_get lobby.places terminal ≡ Some None)
+
+-- The lobby that was asked received no seat of the terminal.
+abbrev pub IsUnknown : LobbyState → ℕ → AskedState → Type 0
+IsUnknown lobby terminal asked = (asked ≡ record { desk = lobby.desk; terminal = terminal }) × (slice_get lobby.places terminal ≡ None)
+
+-- The place that was taken out, whatever was said at its seat meanwhile: the same seat of the same desk, and the same that the recovery found.
+pub record IsSamePlace (taken held : HeldState) : Type 0 where
+  pub desk : held.desk ≡ taken.desk
+  pub table : held.seat.table ≡ taken.seat.table
+  pub terminal : held.seat.terminal ≡ taken.seat.terminal
+  pub found : held.found ≡ taken.found
+
+-- a new seat's place, with what a register has of its terminal's last command
+abbrev pub found_at : RegisterState → List TableId → TerminalSeat → HeldState
+found_at register desk seat = record { desk = desk; seat = seat; last = known_of (last_of register seat.terminal); found = known_of (last_of register seat.terminal) }
+
+-- each of these seats, at its place
+abbrev pub all_found : RegisterState → List TableId → List TerminalSeat → List (Option HeldState)
+all_found register desk seats = map (λ (seat : TerminalSeat). Some (found_at register desk seat)) seats
