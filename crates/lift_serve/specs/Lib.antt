@@ -1,5 +1,5 @@
 pub mod Connections
 pub mod FirstLine
 pub mod Open
-pub mod Turning
+pub mod Relaying
 pub mod Visits
