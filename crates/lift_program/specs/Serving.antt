@@ -8,12 +8,12 @@ use Rattle.lift_keeper.specs.Keeper.{KeeperView}
 use Rattle.lift_keeper.specs.Reopening.{Reopens}
 use Rattle.lift_policy.specs.Choices.{IsShipped}
 use Rattle.lift_policy.specs.declared.shipped.Shipped.{Shipped}
-use Rattle.lift_serve.specs.Turning.{IsTurnedKeeper}
+use Rattle.lift_serve.specs.Relaying.{IsRelayedKeeper}
 use Rattle.lift_serve.specs.declared.serving.ServeFault.{ServeFault}
 use Rattle.lift_program.specs.Faults.{served_fault}
 use Rattle.lift_program.specs.declared.fault.Fault.{Fault}
 
--- The recovery opened a journal on a file, of a building that a text describes, and a clerk with this policy turned over it.
+-- The recovery opened a journal on a file, of a building that a text describes, and both parts of a clerk with this policy ran over it.
 -- What is told is that the device failed, exactly where it did, and else the first fault of the rest.
 pub record TurnedOver (policy : Shipped) (fault : Option Fault) : Type 0 where
   pub text : List ℕ
@@ -26,7 +26,7 @@ pub record TurnedOver (policy : Shipped) (fault : Option Fault) : Type 0 where
   pub recovers : Reopens plan (file_state_of opened) (file_state_of keeper.writer.device) keeper.writer.register keeper.writer.half keeper.writer.is_second keeper.writer.used
   pub whole : keeper.writer.is_broken ≡ false
   pub last : KeeperView FileDisk
-  pub turned : IsTurnedKeeper (IsShipped policy) policy keeper last
+  pub relayed : IsRelayedKeeper (IsShipped policy) file_state_of policy keeper last
   pub other : Option ServeFault
   pub told : fault ≡ served_fault last.writer.is_broken other
 

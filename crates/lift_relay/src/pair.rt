@@ -19,9 +19,28 @@ use std::sync::atomic::{AtomicBool, Ordering};
 use std::thread;
 use std::thread::{Promise, SpawnError, Threads};
 
-/// Says whether both parts go on. It is asked between turns, by both threads.
+/// Says whether both parts go on, and is told how far they are, so that their threads may wait here in place of turning
+/// for nothing. What a run sends and receives behind the last turn of both is not told.
 pub trait Gate {
+    /// It is asked between turns, by both threads.
     fn go_on(&self) -> bool;
+
+    /// The allocator's turn sent nothing, and has nothing in hand. The next one looks at what was asked before this returns.
+    fn allocator_idles<R: Wait>(&self, _rt: &R) {
+        thread::yield_now();
+    }
+
+    /// The allocator has sent so many batches, the last ones in its last turn. The next turn looks at what was asked before
+    /// this returns.
+    fn has_sent<R: Wait>(&self, _rt: &R, _count: u64) {}
+
+    /// The flusher's turn received nothing.
+    fn flusher_idles<R: Wait>(&self, _rt: &R) {
+        thread::yield_now();
+    }
+
+    /// The flusher has received so many batches, the last one in its last turn, and all of their commands are answered.
+    fn has_flushed<R: Wait>(&self, _rt: &R, _count: u64) {}
 }
 
 /// Why a run of both parts was not all it should be.
@@ -31,6 +50,23 @@ pub enum RunFault {
     Keeper(KeeperFault),
     /// The thread couldn't be started.
     Spawn,
+}
+
+/// Tells the gate what a turn of the allocator did, before which so many batches had been sent.
+fn tell_of_allocator<R: Wait, G: Gate, P: Policy + Drop>(
+    rt: &R,
+    allocator: &Allocator<'_, '_, P>,
+    sent_before: u64,
+    gate: &G,
+) {
+    let sent = allocator.sent();
+    if sent > sent_before {
+        gate.has_sent(rt, sent);
+    } else if allocator.has_batch_in_hand() {
+        thread::yield_now();
+    } else {
+        gate.allocator_idles(rt);
+    }
 }
 
 /// Turns while the gate goes on.
@@ -45,28 +81,40 @@ fn allocate<R: Wait, G: Gate, P: Policy + Drop>(
         if !gate.go_on() {
             break;
         }
-        let counts = allocator.turn(rt);
-        if counts.taken == 0 {
-            thread::yield_now();
-        }
+        let sent = allocator.sent();
+        let _counts = allocator.turn(rt);
+        tell_of_allocator(rt, allocator, sent, gate);
     }
 }
 
-/// One turn. Keeps the first fault of all, and says whether a batch was received.
+/// Tells the gate what a turn of the flusher did, before which so many batches had been received.
+fn tell_of_flusher<R: Wait, G: Gate, D: Disk>(
+    rt: &R,
+    flusher: &Flusher<'_, '_, D>,
+    received_before: u64,
+    gate: &G,
+) {
+    let received = flusher.received();
+    if received > received_before {
+        gate.has_flushed(rt, received);
+    } else {
+        gate.flusher_idles(rt);
+    }
+}
+
+/// One turn. Keeps the first fault of all.
 fn flush_once<R: Wait, D: Disk>(
     rt: &R,
     flusher: &mut Flusher<'_, '_, D>,
     first: &mut Option<KeeperFault>,
-) -> bool
+)
     ensures { (answer : Result FlushCounts KeeperFault) × IsFlush D.state flusher.old flusher.new answer × (first.new ≡ first_of first.old answer) }
 {
-    let received = flusher.received();
     if let Err(fault) = flusher.turn(rt) {
         if first.is_none() {
             *first = Some(fault);
         }
     }
-    received < flusher.received()
 }
 
 /// Turns while the gate goes on. The first fault, if there was one.
@@ -82,9 +130,9 @@ fn flush<R: Wait, G: Gate, D: Disk>(
         if !gate.go_on() {
             break;
         }
-        if !flush_once(rt, flusher, &mut first) {
-            thread::yield_now();
-        }
+        let received = flusher.received();
+        flush_once(rt, flusher, &mut first);
+        tell_of_flusher(rt, flusher, received, gate);
     }
     first
 }
@@ -229,7 +277,7 @@ where
 }
 
 /// Runs both parts of one `split` while the gate goes on: the allocator's turns on a thread of its own, the flusher's on this
-/// one. Once both have stopped, what is in hand is sent, and all that was sent is received and made safe.
+/// one. Each tells the gate behind its turns how far it is, and waits there. Once both have stopped, what is in hand is sent, and all that was sent is received and made safe.
 ///
 /// A device fault doesn't end it: the flusher's first is the answer, and what it received from then on was answered Unknown.
 /// `Spawn` where the thread couldn't be started; then it returns at once.

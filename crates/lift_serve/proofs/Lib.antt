@@ -1,5 +1,5 @@
 pub mod FirstLines
 pub mod Numbers
 pub mod Places
+pub mod Relayings
 pub mod Sessions
-pub mod Turnings

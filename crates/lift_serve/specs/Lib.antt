@@ -2,5 +2,5 @@ pub mod Connections
 pub mod FirstLine
 pub mod Lobby
 pub mod Open
-pub mod Turning
+pub mod Relaying
 pub mod Visits

@@ -95,9 +95,24 @@ impl Connections {
         }
         self.left -= 1;
         if self.left == 0 {
-            self.shut(Shutdown::Read);
-            let _closed = self.listening.shutdown(Shutdown::Both);
+            self.turn_away();
         }
+    }
+
+    /// No more are to end: as behind the last one that was to.
+    pub fn give_up(&mut self)
+        ensures { self.new ≡ record self.old { left = 0 } }
+    {
+        if self.left > 0 {
+            self.left = 0;
+            self.turn_away();
+        }
+    }
+
+    /// No more are accepted, and nothing more is read from those that are open.
+    fn turn_away(&self) {
+        self.shut(Shutdown::Read);
+        let _closed = self.listening.shutdown(Shutdown::Both);
     }
 
     /// Shuts down all that are open, that way.

@@ -1,4 +1,5 @@
-//! The lift group on sockets: connections that speak for a terminal, each on a thread of its own, beside the clerk's thread.
+//! The lift group on sockets: connections that speak for a terminal, each on a thread of its own, beside the
+//! allocator's and the flusher's.
 #![tactic(auto)]
 
 mod attending;
@@ -6,16 +7,18 @@ mod connections;
 mod first_line;
 mod held;
 mod lobby;
+mod pace;
 mod pager;
 mod port;
+mod relaying;
 mod serving;
-mod turning;
 
 pub use attending::{Outcome, attend};
 pub use first_line::terminal_of;
 pub use held::Held;
 pub use lobby::{Absent, Lobby, Missing, NoSeat, Returned, Vacancy};
+pub use pace::{Bells, Pace};
 pub use pager::Pager;
 pub use port::RestingPort;
+pub use relaying::{Parts, run_parts, turn_rejoined};
 pub use serving::{ServeFault, Served, serve};
-pub use turning::turn_on;

@@ -1,4 +1,4 @@
-//! What tells a resting session that the clerk has stored its terminal's answer.
+//! What tells a resting session that its terminal's answer is stored.
 
 use std::sync::Wait;
 use std::sync::atomic::{AtomicU64, Ordering};
@@ -15,14 +15,14 @@ const IDLE: u64 = 0;
 /// An ask was stored.
 const ASKED: u64 = 1;
 
-/// An ask was stored before the turn that runs began, so that this turn answers it.
-const TAKEN: u64 = 2;
+/// The answer is stored, and no rest was ended for it.
+const ANSWERED: u64 = 2;
 
-/// The answer is stored, and was not heard.
-const ANSWERED: u64 = 3;
+/// From here on the ask is in a batch, at the latest in the one whose number, from 1, is so much less.
+const IN_BATCH: u64 = 2;
 
-/// How far a terminal's ask is, and where its session rests. The session says that it asked and heard, the clerk's thread
-/// that a turn begins and that it is over. Neither waits for the other.
+/// How far a terminal's ask is, and where its session rests. The session says that it asked and heard, the allocator's thread
+/// that a scan begins, and the flusher's which batches are answered. None waits for another.
 #[derive(Drop)]
 pub struct Pager {
     stage: AtomicU64,
@@ -48,19 +48,23 @@ impl Pager {
         self.stage.store(IDLE, Ordering::SeqCst);
     }
 
-    /// A turn begins: it finds what was asked before.
-    pub fn turn_begins(&self) {
-        self.goes_on(ASKED, TAKEN);
+    /// A scan begins, which finds what was asked before, and sends it in this batch.
+    pub fn scan_begins(&self, batch: u64) {
+        self.goes_on(ASKED, batch.saturating_add(IN_BATCH));
     }
 
-    /// The turn is over: all that it found is answered. A session that rests for its answer wakes.
-    pub fn turn_ends(&self) {
-        if self.goes_on(TAKEN, ANSWERED) {
+    /// So many batches are flushed: all that was in them is answered. A session that rests for its answer wakes.
+    pub fn is_flushed(&self, batches: u64) {
+        let stage = self.stage.load(Ordering::SeqCst);
+        if stage > IN_BATCH
+            && stage <= batches.saturating_add(IN_BATCH)
+            && self.goes_on(stage, ANSWERED)
+        {
             self.parker.unpark();
         }
     }
 
-    /// Rests for a millisecond. Nothing ends that earlier but the terminal's own answer: the next look finds it.
+    /// Rests for a millisecond. Nothing ends that earlier but the terminal's own answer, once: the next look finds it.
     pub fn rest<R: Wait + Clock>(&self, rt: &R) {
         let whole = Duration::from_millis(REST_MS);
         let Ok(start) = Instant::now(rt) else {
@@ -68,7 +72,7 @@ impl Pager {
             return;
         };
         for _ in rt.forever() {
-            if self.stage.load(Ordering::SeqCst) == ANSWERED {
+            if self.goes_on(ANSWERED, IDLE) {
                 return;
             }
             match left_of(rt, start, whole) {
@@ -80,6 +84,9 @@ impl Pager {
 
     fn goes_on(&self, from: u64, to: u64) -> bool {
         let stage = &self.stage;
+        if stage.load(Ordering::SeqCst) != from {
+            return false;
+        }
         stage
             .compare_exchange(from, to, Ordering::SeqCst, Ordering::SeqCst)
             .is_ok()

@@ -1,10 +1,11 @@
 //! The serving of a building on a socket.
 
 ghost use Rattle.std.specs.Prelude.{◌≡◌, ◌≤◌, [], All, IfOk, length, vec_len};
-ghost use Rattle.std.specs.Thread.{IsSync};
+ghost use Rattle.std.specs.Thread.{IsSend, IsSync};
 ghost use Rattle.lift_desk.specs.Seats.{AreSeatsOf, IsSeatOf, seats_from};
+ghost use Rattle.lift_relay.specs.Relay.{AreOfOne};
 ghost use Rattle.lift_serve.specs.Lobby.{all_found, found_at};
-ghost use Rattle.lift_serve.specs.Turning.{IsTurnedKeeper, Turned};
+ghost use Rattle.lift_serve.specs.Relaying.{HaveRunOn, IsRelayedKeeper, Relayed};
 ghost use Rattle.lift_register.specs.Register.{last_of as last_in};
 ghost use Rattle.lift_serve.specs.Visits.{AreAsFound, IsNewSeat, known_of, letter_in as letter_of};
 
@@ -12,8 +13,9 @@ use crate::attending::attend;
 use crate::connections::Connections;
 use crate::held::Held;
 use crate::lobby::Lobby;
+use crate::pace::{Bells, Pace};
 use crate::pager::Pager;
-use crate::turning::turn_on;
+use crate::relaying::{Parts, run_parts, turn_rejoined};
 use lift_base::text::{Counted, Watched};
 use lift_base::{Content, Letter, Number, Terminal};
 use lift_building::Building;
@@ -24,6 +26,7 @@ use lift_keeper::Keeper;
 use lift_kiosk::LastLetter;
 use lift_policy::Policy;
 use lift_register::Register;
+use lift_relay::{Gate, RunFault, split};
 use std::alloc::{AllocError, Global};
 use std::io::BufReader;
 use std::net::{Shutdown, TcpListener, TcpStream};
@@ -31,7 +34,7 @@ use std::os::fd::OwnedFd;
 use std::sync::atomic::{AtomicU64, Ordering};
 use std::sync::{Arc, Mutex, Wait};
 use std::thread;
-use std::thread::{Parker, Threads};
+use std::thread::Threads;
 use std::time::{Clock, Duration};
 
 /// Why a connection was not served, or none could be.
@@ -72,7 +75,7 @@ struct Shared<'a, 'd> {
     cars: u8,
     kiosks: u8,
     lobby: &'a Mutex<Lobby<'d>>,
-    bell: &'a Parker,
+    bells: &'a Bells,
     closing: &'a AtomicU64,
     connections: &'a Mutex<Connections>,
     fault: &'a Mutex<Option<ServeFault>>,
@@ -180,6 +183,12 @@ impl<'a, 'd> Shared<'a, 'd> {
         self.connections.lock(rt).ended();
     }
 
+    /// No connection is served any more.
+    fn give_up<R: Wait>(self, rt: &R, fault: ServeFault) {
+        self.note(rt, fault);
+        self.connections.lock(rt).give_up();
+    }
+
     fn leave<R: Wait>(self, rt: &R, number: u64) {
         self.connections.lock(rt).leave(number);
     }
@@ -215,7 +224,7 @@ fn speak<R: Wait + Clock>(
     let _outcome = attend(
         rt,
         shared.lobby,
-        shared.bell,
+        shared.bells.asks(),
         shared.cars,
         shared.kiosks,
         &mut reader,
@@ -301,7 +310,7 @@ fn welcome<R: Threads + Wait + Clock + Sync>(
     )
 }
 
-/// Accepts connections, and then has the clerk end.
+/// Accepts connections, and then has both parts end.
 fn welcome_all<R: Threads + Wait + Clock + Sync>(
     rt: &R,
     alloc: Global,
@@ -310,26 +319,33 @@ fn welcome_all<R: Threads + Wait + Clock + Sync>(
 ) {
     welcome(rt, alloc, listener, shared);
     shared.closing.store(1, Ordering::SeqCst);
-    shared.bell.unpark();
+    shared.bells.ring_all();
 }
 
-/// The clerk turns on this thread while connections are accepted on another.
-fn run<'d, 'b, R: Threads + Wait + Clock + Sync, D: Disk + Drop, P: Policy + Drop>(
+/// Both parts run, the flusher on this thread, while connections are accepted on another. Where the allocator's thread
+/// couldn't be started, all connections are given up.
+fn run_beside<'d, 'b, R, G, D, P>(
     rt: &R,
     alloc: Global,
     listener: &TcpListener,
     shared: Shared<'_, '_>,
-    pagers: &[Pager],
-    clerk: Clerk<'d, 'b, D, P>,
-) -> Result<Clerk<'d, 'b, D, P>, ServeFault>
-    ensures { IfOk result (Turned (P.chooses clerk.entry.policy) clerk.entry) }
+    gate: &G,
+    parts: Parts<'d, 'b, D, P>,
+) -> Result<Parts<'d, 'b, D, P>, ServeFault>
+where
+    R: Threads + Wait + Clock + Sync,
+    G: Gate + Sync,
+    D: Disk + Drop,
+    P: Policy + Drop + Send,
+    requires of_one { AreOfOne parts.allocator parts.flusher }
+    ensures { IfOk result (λ ran. HaveRunOn (P.chooses parts.entry.allocator.policy) D.state parts.entry.allocator ran.allocator parts.entry.flusher ran.flusher ran.fault) }
 {
     thread::scope(
         thread::scope_env(),
         rt,
-        move |scope| -> Result<Clerk<D, P>, ServeFault>
-            requires { IsSync R.row }
-            ensures { IfOk result (Turned (P.chooses clerk.entry.policy) clerk.entry) }
+        move |scope| -> Result<Parts<D, P>, ServeFault>
+            requires { IsSync R.row × IsSync G.row × IsSend P.row × AreOfOne parts.allocator parts.flusher }
+            ensures { IfOk result (λ ran. HaveRunOn (P.chooses parts.entry.allocator.policy) D.state parts.entry.allocator ran.allocator parts.entry.flusher ran.flusher ran.fault) }
         {
             if scope
                 .spawn(move || welcome_all(rt, alloc, listener, shared))
@@ -337,13 +353,42 @@ fn run<'d, 'b, R: Threads + Wait + Clock + Sync, D: Disk + Drop, P: Policy + Dro
             {
                 return Err(ServeFault::Thread);
             }
-            Ok(turn_on(rt, clerk, pagers, shared.bell, shared.closing))
+            let ran = run_parts(rt, gate, parts);
+            if ran.fault == Some(RunFault::Spawn) {
+                shared.give_up(rt, ServeFault::Thread);
+            }
+            Ok(ran)
         },
     )
 }
 
+/// The clerk's work is done in two parts while connections are accepted. It turns once more behind them.
+#[tactic(auto, using(crate::proofs::Relayings::relayed_on, crate::proofs::Relayings::none_in_hand, crate::proofs::Relayings::all_received))]
+fn run<'d, 'b, R: Threads + Wait + Clock + Sync, D: Disk + Drop, P: Policy + Drop + Send>(
+    rt: &R,
+    alloc: Global,
+    listener: &TcpListener,
+    shared: Shared<'_, '_>,
+    pagers: &[Pager],
+    clerk: Clerk<'d, 'b, D, P>,
+) -> Result<Clerk<'d, 'b, D, P>, ServeFault>
+    ensures { IfOk result (Relayed (P.chooses clerk.entry.policy) D.state clerk.entry) }
+{
+    let Ok((allocator, flusher)) = split(alloc, clerk) else {
+        return Err(ServeFault::Memory);
+    };
+    let parts = Parts {
+        allocator,
+        flusher,
+        fault: None,
+    };
+    let pace = Pace::new(shared.bells, pagers, shared.closing);
+    let ran = run_beside(rt, alloc, listener, shared, &pace, parts)?;
+    Ok(turn_rejoined(ran.allocator, ran.flusher))
+}
+
 /// Serves at the clerk's desk, whose seats these are.
-fn serve_at<'b, R: Threads + Wait + Clock + Sync, D: Disk + Drop, P: Policy + Drop>(
+fn serve_at<'b, R: Threads + Wait + Clock + Sync, D: Disk + Drop, P: Policy + Drop + Send>(
     rt: &R,
     alloc: Global,
     listener: &TcpListener,
@@ -357,7 +402,7 @@ fn serve_at<'b, R: Threads + Wait + Clock + Sync, D: Disk + Drop, P: Policy + Dr
     requires new { All IsNewSeat seats.items }
     requires seats { AreSeatsOf clerk.desk seats.items }
     requires all { seats.items ≡ seats_from 0 clerk.desk }
-    ensures { IfOk result (λ served. IsTurnedKeeper (P.chooses clerk.entry.policy) clerk.entry.policy clerk.entry.keeper served.keeper) }
+    ensures { IfOk result (λ served. IsRelayedKeeper (P.chooses clerk.entry.policy) D.state clerk.entry.policy clerk.entry.keeper served.keeper) }
 {
     let register = clerk.keeper().register();
     let lobby = Mutex::new(lobby_of(clerk.desk(), pagers, seats, register));
@@ -367,13 +412,13 @@ fn serve_at<'b, R: Threads + Wait + Clock + Sync, D: Disk + Drop, P: Policy + Dr
     let listening = TcpStream::from(OwnedFd::from(again));
     let connections = Mutex::new(Connections::new(alloc, listening, sessions));
     let fault = Mutex::new(None);
-    let bell = Parker::new();
+    let bells = Bells::new();
     let closing = AtomicU64::new(0);
     let shared = Shared {
         cars: building.cars(),
         kiosks: building.kiosks(),
         lobby: &lobby,
-        bell: &bell,
+        bells: &bells,
         closing: &closing,
         connections: &connections,
         fault: &fault,
@@ -387,9 +432,9 @@ fn serve_at<'b, R: Threads + Wait + Clock + Sync, D: Disk + Drop, P: Policy + Dr
 }
 
 /// Serves the building on a listening socket until so many connections have ended, those that were refused included: each
-/// has a thread of its own, beside the clerk's. A fault of the device ends nothing: what is asked from then on is answered
+/// has a thread of its own, beside the allocator's and the flusher's. A fault of the device ends nothing: what is asked from then on is answered
 /// Unknown.
-pub fn serve<'b, R: Threads + Wait + Clock + Sync, D: Disk + Drop, P: Policy + Drop>(
+pub fn serve<'b, R: Threads + Wait + Clock + Sync, D: Disk + Drop, P: Policy + Drop + Send>(
     rt: &R,
     alloc: Global,
     listener: &TcpListener,
@@ -399,8 +444,8 @@ pub fn serve<'b, R: Threads + Wait + Clock + Sync, D: Disk + Drop, P: Policy + D
     policy: P,
 ) -> Result<Served<'b, D>, ServeFault>
     requires settled { keeper.state.batch ≡ [] }
-    // What the keeper has at the end came to it by turns of a clerk with this policy.
-    ensures { IfOk result (λ served. IsTurnedKeeper (P.chooses policy) policy keeper.entry served.keeper) }
+    // What the keeper has at the end came to it by the turns of the two parts of a clerk with this policy, and by its last one.
+    ensures { IfOk result (λ served. IsRelayedKeeper (P.chooses policy) D.state policy keeper.entry served.keeper) }
 {
     let terminals = 16 + usize::from(building.kiosks());
     let Ok(DeskParts { desk, seats, clerk }) = Desk::open(alloc, terminals) else {

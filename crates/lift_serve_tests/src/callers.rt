@@ -19,7 +19,7 @@ pub(crate) fn address(port: u16) -> SocketAddr {
     SocketAddr::V4(SocketAddrV4::new(Ipv4Addr::new(127, 0, 0, 1), port))
 }
 
-fn connected<R: Net<Listener = TcpListener, Stream = TcpStream>>(
+pub(crate) fn connected<R: Net<Listener = TcpListener, Stream = TcpStream>>(
     rt: &R,
     port: u16,
 ) -> Option<TcpStream> {
@@ -51,7 +51,7 @@ fn says(stream: &TcpStream, text: &str) -> bool {
 }
 
 /// Carries out one step of a connection.
-fn follows_step(stream: &TcpStream, step: &str) -> bool {
+pub(crate) fn follows_step(stream: &TcpStream, step: &str) -> bool {
     if let Some(text) = step.strip_prefix(">") {
         says(stream, text) && says(stream, "\n")
     } else if let Some(text) = step.strip_prefix("~") {
@@ -106,6 +106,13 @@ fn follows_lines<R: Net<Listener = TcpListener, Stream = TcpStream>>(
     Some(())
 }
 
+/// Makes connections and closes them until a server has ended.
+pub(crate) fn end_server<R: Net<Listener = TcpListener, Stream = TcpStream>>(rt: &R, port: u16) {
+    for _ in 0..LAST_ONES {
+        let _closed = connected(rt, port);
+    }
+}
+
 /// Whether all goes as the script has it. Its lines: `1+` connection 1 is made; `1>TEXT` it says this line, `1~TEXT` these
 /// bytes; `1<TEXT` it hears just this line; `1.` it hears that the other end is closed; `1-` the same, behind closing its
 /// own. Where it doesn't go so, connections are made and closed until the server has ended.
@@ -118,8 +125,6 @@ pub(crate) fn follows<R: Net<Listener = TcpListener, Stream = TcpStream>>(
     if follows_lines(rt, alloc, port, script).is_some() {
         return true;
     }
-    for _ in 0..LAST_ONES {
-        let _closed = connected(rt, port);
-    }
+    end_server(rt, port);
     false
 }

@@ -2,7 +2,7 @@
 ghost use Rattle.std.specs.Prelude.{◌≡◌, [], IfOk};
 
 use lift_building::Building;
-use lift_disk::{FuseDisk, MemDisk};
+use lift_disk::{Disk, FuseDisk, MemDisk};
 use lift_journal::format;
 use lift_keeper::Keeper;
 use std::alloc::Global;
@@ -42,10 +42,10 @@ pub(crate) fn formatted(alloc: Global, building: &Building) -> Result<FuseDisk, 
 }
 
 /// The keeper that a device's journal begins with.
-pub(crate) fn opened<'b>(
-    disk: FuseDisk,
+pub(crate) fn opened<'b, D: Disk + Drop>(
+    disk: D,
     building: &'b Building,
-) -> Result<Keeper<'b, FuseDisk>, Fail>
+) -> Result<Keeper<'b, D>, Fail>
     ensures { IfOk result (λ keeper. keeper.state.batch ≡ []) }
 {
     Ok(Keeper::open(disk, building).ok().ok_or("refused")?)

@@ -14,7 +14,7 @@ returns-in-Ok-serve-clause-served g c = inl (record {
   recovers = c.in-Ok.ensures.opens;
   whole = c.in-Ok.ensures.whole.0;
   last = c.in-Ok-serve.served.keeper;
-  turned = c.in-Ok-serve.ensures;
+  relayed = c.in-Ok-serve.ensures;
   other = c.in-Ok-serve.served.fault;
   told = c.fault_of.ensures ∙ ap (λ (b : Bool). served_fault b c.in-Ok-serve.served.fault) c.is_broken.ensures.value;
 })

@@ -6,15 +6,6 @@ use Rattle.lift_relay.proofs.pair.allocate.Goals as goal
 pub loop-init : goal.loop-init
 loop-init g c = record { turns = NoMore; policy = refl }
 
-pub loop-preserved-then-counts-eq0 : goal.loop-preserved-then-counts-eq0
-loop-preserved-then-counts-eq0 g c =
-    let i = c.loop.invariant in
-    let chooses = g.P.Policy.chooses in
-    record {
-      turns = turns_more chooses c.args.allocator.now c.loop.allocator c.turn-counts.new.self c.turn-counts.result i.policy i.turns c.turn-counts.ensures.turns;
-      policy = same_policy (chooses c.loop.allocator.policy) c.loop.allocator c.turn-counts.new.self c.turn-counts.result c.turn-counts.ensures.turns ∙ i.policy;
-    }
-
 pub loop-preserved : goal.loop-preserved
 loop-preserved g c =
     let i = c.loop.invariant in

@@ -4,8 +4,5 @@ use Rattle.lift_relay.proofs.pair.flush.Goals as goal
 pub loop-init : goal.loop-init
 loop-init g c = NoFlush
 
-pub loop-preserved-then-not-flush_once : goal.loop-preserved-then-not-flush_once
-loop-preserved-then-not-flush_once g c = OneFlush c.loop.invariant c.flush_once.ensures.1 c.flush_once.ensures.2
-
 pub loop-preserved : goal.loop-preserved
 loop-preserved g c = OneFlush c.loop.invariant c.flush_once.ensures.1 c.flush_once.ensures.2

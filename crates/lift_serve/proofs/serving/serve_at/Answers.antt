@@ -7,6 +7,6 @@ returns g c = record {
   after = c.in_ok-clerk.clerk;
   begins = refl;
   policy_is = refl;
-  turned = c.in_ok-clerk.ensures;
+  relayed = c.in_ok-clerk.ensures;
   ends = sym c.into_parts-seat.ensures.keeper;
 }

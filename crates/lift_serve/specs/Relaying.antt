@@ -1,0 +1,73 @@
+-- What becomes of a clerk whose work two threads do.
+use Rattle.std.specs.Prelude.{ℕ, ◌≡◌, ◌≢◌, Bool, true, false, ◌||◌, is_err, Option, Some, None, Result, Err, IfOk}
+use Rattle.lift_disk.specs.Disk.{DiskState}
+use Rattle.lift_policy.specs.Eligible.{Choice}
+use Rattle.lift_journal.specs.declared.fault.JournalFault.TheVariants.{Disk}
+use Rattle.lift_keeper.specs.Keeper.{KeeperView}
+use Rattle.lift_keeper.specs.declared.fault.KeeperFault.{KeeperFault}
+use Rattle.lift_keeper.specs.declared.fault.KeeperFault.TheVariants.{Journal}
+use Rattle.lift_clerk.specs.declared.counts.Counts.{Counts}
+use Rattle.lift_clerk.specs.Clerk.{ClerkState}
+use Rattle.lift_clerk.specs.Turn.{IsTurn, IsFailedTurn, IsBrokenTurn}
+use Rattle.lift_relay.specs.declared.pair.RunFault.{RunFault}
+use Rattle.lift_relay.specs.declared.pair.RunFault.TheVariants.{Keeper, Spawn}
+use Rattle.lift_relay.specs.Allocator.{AllocatorState}
+use Rattle.lift_relay.specs.Flusher.{FlusherState}
+use Rattle.lift_relay.specs.Pair.{HaveRun, IsSameAllocator}
+use Rattle.lift_relay.specs.Relay.{AreOfOne, AreParts, IsRejoined}
+
+-- What a turn of the clerk did, by its result. Behind one that failed the keeper is broken, behind another it is whole.
+pub record TurnsTo {D P : Type 0} (choice : Choice) (before after : ClerkState D P) (result : Result Counts KeeperFault) : Type 0 where
+  pub turns : IfOk result (IsTurn choice before after)
+  pub fails : result ≡ Err (Journal Disk) → IsFailedTurn choice before after
+  pub rests : before.keeper.writer.is_broken ≡ true → IsBrokenTurn before after
+  pub stays_broken : before.keeper.writer.is_broken ≡ true → is_err result ≡ true
+  pub broken : after.keeper.writer.is_broken ≡ is_err result
+  pub desk : after.desk ≡ before.desk
+  pub policy : after.policy ≡ before.policy
+
+-- Both parts ran, and all that was sent is received and answered; or no thread could be made, and they are as they were.
+pub record HaveRunOn {D P : Type 0} (choice : Choice) (state : D → DiskState) (a b : AllocatorState P) (f g : FlusherState D) (fault : Option RunFault) : Type 0 where
+  pub refused : fault ≡ Some Spawn → (b ≡ a) × (g ≡ f)
+  pub ran : fault ≢ Some Spawn → HaveRun choice state a b f g fault
+  pub received : fault ≢ Some Spawn → b.end.sent ≡ g.end.received
+  pub broken : (of : KeeperFault) → fault ≡ Some (Keeper of) → g.writer.is_broken ≡ true
+  pub same : IsSameAllocator a b
+  pub of_one : AreOfOne b g
+
+-- the clerk of both parts, behind one turn more
+pub record IsLastTurn {D P : Type 0} (choice : Choice) (a : AllocatorState P) (f : FlusherState D) (after : ClerkState D P) : Type 0 where
+  pub joined : ClerkState D P
+  pub rejoined : IsRejoined a f joined
+  pub result : Result Counts KeeperFault
+  pub turn : TurnsTo choice joined after result
+
+-- whether a turn of the flusher failed
+abbrev pub has_failed : Option RunFault → Bool
+has_failed None = false
+has_failed (Some Spawn) = false
+has_failed (Some (Keeper fault)) = true
+
+-- The clerk was split, its parts ran, each on a thread of its own, and the clerk of both turned once more. The keeper is broken
+-- at the end exactly where a turn of the flusher failed or this last one. Desk and policy stay.
+pub record Relayed {D P : Type 0} (choice : Choice) (state : D → DiskState) (before after : ClerkState D P) : Type 0 where
+  pub allocator : AllocatorState P
+  pub flusher : FlusherState D
+  pub parts : AreParts before allocator flusher
+  pub allocator' : AllocatorState P
+  pub flusher' : FlusherState D
+  pub fault : Option RunFault
+  pub ran : HaveRunOn choice state allocator allocator' flusher flusher' fault
+  pub last : IsLastTurn choice allocator' flusher' after
+  pub broken : after.keeper.writer.is_broken ≡ (has_failed fault || is_err last.result)
+  pub desk : after.desk ≡ before.desk
+  pub policy : after.policy ≡ before.policy
+
+-- The keeper came to this by the turns of the two parts of a clerk with this policy, and by the clerk's last one.
+pub record IsRelayedKeeper {D P : Type 0} (choice : Choice) (state : D → DiskState) (policy : P) (keeper keeper' : KeeperView D) : Type 0 where
+  pub before : ClerkState D P
+  pub after : ClerkState D P
+  pub begins : before.keeper ≡ keeper
+  pub policy_is : before.policy ≡ policy
+  pub relayed : Relayed choice state before after
+  pub ends : after.keeper ≡ keeper'
