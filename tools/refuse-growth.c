@@ -4,7 +4,8 @@
  *     LD_PRELOAD=$PWD/refuse-growth.so REFUSE_AT=7 liftd replay <a.script
  *
  * REFUSE_AT is the number of the request that is refused, counted from 1; with REFUSE_ON set each later one is too. With
- * REFUSE_COUNT, a path, the number of requests is written there at the end.
+ * REFUSE_ABOVE, a number of bytes, each request of more is refused. With REFUSE_COUNT, a path, the number of requests is written
+ * there at the end.
  */
 #include <errno.h>
 #include <fcntl.h>
@@ -19,13 +20,15 @@ void *__libc_calloc(size_t, size_t);
 void *__libc_realloc(void *, size_t);
 void *__libc_memalign(size_t, size_t);
 
-static unsigned long requests, refused;
+static unsigned long requests, refused, most;
 static int is_begun, goes_on;
 
 __attribute__((constructor)) static void begin(void) {
     const char *at = getenv("REFUSE_AT");
     refused = at ? strtoul(at, NULL, 10) : 0;
     goes_on = getenv("REFUSE_ON") != NULL;
+    const char *above = getenv("REFUSE_ABOVE");
+    most = above ? strtoul(above, NULL, 10) : 0;
     is_begun = 1;
 }
 
@@ -40,26 +43,27 @@ void _exit(int status) {
     for (;;) syscall(SYS_exit_group, status);
 }
 
-static int is_refused(void) {
+static int is_refused(size_t size) {
     if (!is_begun) return 0;
     unsigned long request = __atomic_add_fetch(&requests, 1, __ATOMIC_RELAXED);
-    if (!refused || request < refused || (request > refused && !goes_on)) return 0;
+    int is_large = most && size > most;
+    if (!is_large && (!refused || request < refused || (request > refused && !goes_on))) return 0;
     errno = ENOMEM;
     return 1;
 }
 
-void *malloc(size_t size) { return is_refused() ? NULL : __libc_malloc(size); }
+void *malloc(size_t size) { return is_refused(size) ? NULL : __libc_malloc(size); }
 
-void *calloc(size_t count, size_t size) { return is_refused() ? NULL : __libc_calloc(count, size); }
+void *calloc(size_t count, size_t size) { return is_refused(count * size) ? NULL : __libc_calloc(count, size); }
 
-void *realloc(void *old, size_t size) { return is_refused() ? NULL : __libc_realloc(old, size); }
+void *realloc(void *old, size_t size) { return is_refused(size) ? NULL : __libc_realloc(old, size); }
 
-void *memalign(size_t align, size_t size) { return is_refused() ? NULL : __libc_memalign(align, size); }
+void *memalign(size_t align, size_t size) { return is_refused(size) ? NULL : __libc_memalign(align, size); }
 
-void *aligned_alloc(size_t align, size_t size) { return is_refused() ? NULL : __libc_memalign(align, size); }
+void *aligned_alloc(size_t align, size_t size) { return is_refused(size) ? NULL : __libc_memalign(align, size); }
 
 int posix_memalign(void **told, size_t align, size_t size) {
-    if (is_refused()) return ENOMEM;
+    if (is_refused(size)) return ENOMEM;
     *told = __libc_memalign(align, size);
     return *told ? 0 : ENOMEM;
 }
