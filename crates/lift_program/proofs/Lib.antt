@@ -1,3 +1,4 @@
 mod Commands
 mod Rows
+mod Stages
 mod Writing

@@ -5,23 +5,24 @@ use Rattle.std.specs.Io.KnownBytes.{Appends}
 use Rattle.clap.specs.Words.{Text}
 use Rattle.lift_base.specs.Input.{InputState}
 use Rattle.lift_base.specs.Output.{OutputState}
-use Rattle.lift_building.specs.Gives.{IsFirstFault}
 use Rattle.lift_disk.specs.Files.{file_state_of}
 use Rattle.lift_disk.specs.declared.file.FileDisk.{FileDisk}
 use Rattle.lift_journal.specs.declared.fault.JournalFault.TheVariants.{Disk}
 use Rattle.lift_keeper.specs.declared.fault.KeeperFault.TheVariants.{Journal as OfJournal}
 use Rattle.lift_replay.specs.declared.lines.Verdict.{Verdict}
 use Rattle.lift_replay.specs.declared.lines.Verdict.TheVariants.{Good, Bad}
-use Rattle.lift_replay.specs.Reading.{IsRead}
 use Rattle.lift_replay.specs.Replaying.{Writes}
 use Rattle.lift_replay.specs.Replaying.{IsReport as IsScriptReport}
 use Rattle.lift_program.specs.Faults.{fault_text, usage_text}
 use Rattle.lift_program.specs.Output.{IsTold}
 use Rattle.lift_program.specs.Serving.{IsServing}
 use Rattle.lift_program.specs.Showing.{IsShown, IsOpeningFault}
+use Rattle.lift_program.specs.Stages.{HasNoBuilding, OpensJournal, OpensNoJournal, ReadsBuilding, ReadsJournal}
 use Rattle.lift_program.specs.Words.{Asks}
 use Rattle.lift_program.specs.declared.fault.Fault.{Fault}
 use Rattle.lift_program.specs.declared.fault.Fault.TheVariants.{Building, Journal, File, Memory, Network, Thread}
+use Rattle.lift_program.specs.declared.fault.Role.{Role}
+use Rattle.lift_program.specs.declared.fault.Role.TheVariants.{Building as OfBuilding, Image as OfImage, Input, Output}
 use Rattle.lift_program.specs.declared.end.End.{End}
 use Rattle.lift_program.specs.declared.end.End.TheVariants.{Replayed, Formatted, Shown, Served, Failed, OtherWords}
 use Rattle.lift_program.specs.declared.words.Request.{Request}
@@ -62,63 +63,89 @@ IsMadeFor (Format image building half) disk = IsMadeWith half disk
 IsMadeFor (Show image building) disk = ⊥
 IsMadeFor (Serve image building port sessions policy) disk = ⊥
 
--- a file, or want of memory
-abbrev pub IsFileFault : Fault → Type 0
-IsFileFault fault = (fault ≡ File) ⊎ (fault ≡ Memory)
+-- a file in this role, or want of memory
+abbrev pub IsFileFault : Role → Fault → Type 0
+IsFileFault role fault = (fault ≡ File role) ⊎ (fault ≡ Memory)
 
--- these, the first fault of a building's text, or a failed call of the device
+-- the standard input, the standard output, or want of memory
+abbrev pub IsReplayFault : Fault → Type 0
+IsReplayFault (Building fault) = ⊥
+IsReplayFault (Journal fault) = ⊥
+IsReplayFault (File OfBuilding) = ⊥
+IsReplayFault (File OfImage) = ⊥
+IsReplayFault (File Input) = Unit {0}
+IsReplayFault (File Output) = Unit {0}
+IsReplayFault Memory = Unit {0}
+IsReplayFault Network = ⊥
+IsReplayFault Thread = ⊥
+
+-- The first of these that stands: the building's file; the first fault of its text; the image's file; a failed call of the
+-- device. Or want of memory.
 abbrev pub IsFormatFault : Fault → Type 0
-IsFormatFault (Building fault) = (text : List ℕ) × IsFirstFault text fault
-IsFormatFault (Journal fault) = fault ≡ OfJournal Disk
-IsFormatFault File = Unit {0}
+IsFormatFault (Building fault) = HasNoBuilding fault
+IsFormatFault (Journal fault) = (fault ≡ OfJournal Disk) × ReadsBuilding
+IsFormatFault (File OfBuilding) = Unit {0}
+IsFormatFault (File OfImage) = ReadsBuilding
+IsFormatFault (File Input) = ⊥
+IsFormatFault (File Output) = ⊥
 IsFormatFault Memory = Unit {0}
 IsFormatFault Network = ⊥
 IsFormatFault Thread = ⊥
 
--- a file, want of memory, or what an opening may be refused for
+-- what an opening may be refused for, want of memory, or the standard output
 abbrev pub IsShowingFault : Fault → Type 0
 IsShowingFault (Building fault) = ⊥
 IsShowingFault (Journal fault) = IsOpeningFault fault
-IsShowingFault File = Unit {0}
+IsShowingFault (File OfBuilding) = ⊥
+IsShowingFault (File OfImage) = ⊥
+IsShowingFault (File Input) = ⊥
+IsShowingFault (File Output) = Unit {0}
 IsShowingFault Memory = Unit {0}
 IsShowingFault Network = ⊥
 IsShowingFault Thread = ⊥
 
--- these, or the first fault of a building's text
+-- The first of these that stands: the building's file; the first fault of its text; the image's file; the recovery's refusal; the
+-- standard output. Or want of memory.
 abbrev pub IsShowFault : Fault → Type 0
-IsShowFault (Building fault) = (text : List ℕ) × IsFirstFault text fault
-IsShowFault (Journal fault) = IsShowingFault (Journal fault)
-IsShowFault File = IsShowingFault File
-IsShowFault Memory = IsShowingFault Memory
+IsShowFault (Building fault) = HasNoBuilding fault
+IsShowFault (Journal fault) = IsOpeningFault fault × OpensNoJournal fault
+IsShowFault (File OfBuilding) = Unit {0}
+IsShowFault (File OfImage) = ReadsBuilding
+IsShowFault (File Input) = ⊥
+IsShowFault (File Output) = ReadsJournal
+IsShowFault Memory = Unit {0}
 IsShowFault Network = ⊥
 IsShowFault Thread = ⊥
 
--- these, or the port
+-- The first of these that stands: the building's file; the first fault of its text; the image's file; the recovery's refusal; the
+-- port, and then the standard output. Or want of memory.
 abbrev pub IsServeFault : Fault → Type 0
-IsServeFault (Building fault) = IsShowFault (Building fault)
-IsServeFault (Journal fault) = IsShowFault (Journal fault)
-IsServeFault File = Unit {0}
+IsServeFault (Building fault) = HasNoBuilding fault
+IsServeFault (Journal fault) = IsOpeningFault fault × OpensNoJournal fault
+IsServeFault (File OfBuilding) = Unit {0}
+IsServeFault (File OfImage) = ReadsBuilding
+IsServeFault (File Input) = ⊥
+IsServeFault (File Output) = OpensJournal
 IsServeFault Memory = Unit {0}
-IsServeFault Network = Unit {0}
+IsServeFault Network = OpensJournal
 IsServeFault Thread = ⊥
 
 -- what the serving itself may be undone for: a failed call of the device, and what it takes
 abbrev pub IsServingFault : Fault → Type 0
 IsServingFault (Building fault) = ⊥
 IsServingFault (Journal fault) = fault ≡ OfJournal Disk
-IsServingFault File = ⊥
+IsServingFault (File role) = ⊥
 IsServingFault Memory = Unit {0}
 IsServingFault Network = Unit {0}
 IsServingFault Thread = Unit {0}
 
--- A script was read, or couldn't be: a call of its reader failed, or all were used and its end was not found.
-abbrev pub IsReadOrFailed : {R : Type 0} → (R → Option (List ℕ)) → (old new : InputState R) → Type 0
-IsReadOrFailed remaining old new =
-    IsRead remaining old new ⊎ ((new.failed ≡ true) ⊎ ((new.calls ≡ 2097152) × (new.ended ≡ false)))
+-- A script couldn't be read: a call of its reader failed, or all were used and its end was not found.
+abbrev pub IsUnread : {R : Type 0} → InputState R → Type 0
+IsUnread new = (new.failed ≡ true) ⊎ ((new.calls ≡ 2097152) × (new.ended ≡ false))
 
 -- what a request may fail by
 abbrev pub IsFaultOf : Request → Fault → Type 0
-IsFaultOf Replay fault = IsFileFault fault
+IsFaultOf Replay fault = IsReplayFault fault
 IsFaultOf (Format image building half) fault = IsFormatFault fault
 IsFaultOf (Show image building) fault = IsShowFault fault
 IsFaultOf (Serve image building port sessions policy) fault = IsServeFault fault
@@ -158,11 +185,14 @@ abbrev pub IsEndOf : List Text → End → Type 0
 IsEndOf words OtherWords = (request : Request) → Asks words request → ⊥
 IsEndOf words end = (end ≡ Failed Memory) ⊎ ((request : Request) × Asks words request × IsEndFor request end)
 
--- What was written of a fault: nothing of a building's, and nothing of a journal's.
+-- What was written of a fault: nothing of a building's, an image's, a journal's, or the port's.
 abbrev pub IsReportOfFault : Fault → (before after : Option (List ℕ)) → Type 0
 IsReportOfFault (Building fault) before after = after ≡ before
 IsReportOfFault (Journal fault) before after = after ≡ before
-IsReportOfFault File before after = Unit {0}
+IsReportOfFault (File OfBuilding) before after = after ≡ before
+IsReportOfFault (File OfImage) before after = after ≡ before
+IsReportOfFault (File Input) before after = after ≡ before
+IsReportOfFault (File Output) before after = Unit {0}
 IsReportOfFault Memory before after = Unit {0}
 IsReportOfFault Network before after = after ≡ before
 IsReportOfFault Thread before after = Unit {0}

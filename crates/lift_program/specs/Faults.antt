@@ -12,6 +12,7 @@ use Rattle.lift_replay.specs.declared.script.ReplayFault.{ReplayFault}
 use Rattle.lift_replay.specs.declared.script.ReplayFault.TheVariants.{Memory as NoMemory, Read, Write}
 use Rattle.lift_serve.specs.declared.serving.ServeFault.{ServeFault}
 use Rattle.lift_serve.specs.declared.serving.ServeFault.TheVariants.{Network as NoNetwork, Thread as NoThread, Memory as NoGrowth}
+use Rattle.lift_program.specs.declared.fault.Role.TheVariants.{Input, Output}
 use Rattle.lift_program.specs.declared.fault.Fault.{Fault}
 use Rattle.lift_program.specs.declared.fault.Fault.TheVariants.{Building, Journal, File, Memory, Network, Thread}
 
@@ -38,7 +39,7 @@ journal_text fault = codes "liftd: journal " ++ decimal (journal_number fault) +
 abbrev pub fault_text : Fault → List ℕ
 fault_text (Building fault) = building_text fault
 fault_text (Journal fault) = journal_text fault
-fault_text File = codes "liftd: file"
+fault_text (File role) = codes "liftd: file"
 fault_text Memory = codes "liftd: memory"
 fault_text Network = codes "liftd: network"
 fault_text Thread = codes "liftd: thread"
@@ -52,11 +53,11 @@ abbrev pub of_building : BuildingFault → Fault
 of_building NoRoom = Memory
 of_building fault = Building fault
 
--- a script whose reading, or whose writing, failed is undone for a file
+-- a script whose reading failed is undone for the standard input, one whose report could not be written for the standard output
 abbrev pub of_replay : ReplayFault → Fault
 of_replay NoMemory = Memory
-of_replay Read = File
-of_replay Write = File
+of_replay Read = File Input
+of_replay Write = File Output
 
 -- what a serving is undone for: a device that failed, whatever else there was, and else the first fault of the rest
 abbrev pub served_fault : (is_broken : Bool) → Option ServeFault → Option Fault

@@ -3,4 +3,5 @@ pub mod Faults
 pub mod Output
 pub mod Serving
 pub mod Showing
+pub mod Stages
 pub mod Words

@@ -21,6 +21,19 @@ use std::io::{ErrorKind, Write};
 use std::{fmt, io};
 use thiserror::Error;
 
+/// What a file is to the program.
+#[derive(Clone, Copy)]
+pub enum Role {
+    /// It holds the building's text.
+    Building,
+    /// It holds the journal.
+    Image,
+    /// The standard input.
+    Input,
+    /// The standard output.
+    Output,
+}
+
 /// Why the program ends with its work undone.
 #[derive(Clone, Copy, Error)]
 pub enum Fault {
@@ -29,7 +42,7 @@ pub enum Fault {
     /// The journal, or the recovery from it, refused.
     Journal(KeeperFault),
     /// A file, the standard input or the standard output.
-    File,
+    File(Role),
     /// A growth was refused.
     Memory,
     /// The port couldn't be had, or failed.
@@ -64,8 +77,8 @@ impl From<ReplayFault> for Fault {
     fn from(fault: ReplayFault) -> Fault {
         match fault {
             ReplayFault::Memory => Fault::Memory,
-            ReplayFault::Read => Fault::File,
-            ReplayFault::Write => Fault::File,
+            ReplayFault::Read => Fault::File(Role::Input),
+            ReplayFault::Write => Fault::File(Role::Output),
         }
     }
 }
@@ -143,15 +156,15 @@ fn journal_line(fault: KeeperFault) -> Line
 }
 
 impl Fault {
-    /// What a refused call on a file comes to.
-    pub fn of_file(error: io::Error) -> Fault
+    /// What a refused call on a file in this role comes to.
+    pub fn of_file(role: Role, error: io::Error) -> Fault
         ensures memory { error_kind error ≡ ErrorKind.OutOfMemory → result ≡ Fault.Memory }
-        ensures file { error_kind error ≢ ErrorKind.OutOfMemory → result ≡ Fault.File }
+        ensures file { error_kind error ≢ ErrorKind.OutOfMemory → result ≡ Fault.File role }
     {
         if error.kind() == ErrorKind::OutOfMemory {
             Fault::Memory
         } else {
-            Fault::File
+            Fault::File(role)
         }
     }
 
@@ -163,7 +176,7 @@ impl Fault {
         match *self {
             Fault::Building(fault) => building_line(fault),
             Fault::Journal(fault) => journal_line(fault),
-            Fault::File => plain_line("liftd: file"),
+            Fault::File(_) => plain_line("liftd: file"),
             Fault::Memory => plain_line("liftd: memory"),
             Fault::Network => plain_line("liftd: network"),
             Fault::Thread => plain_line("liftd: thread"),

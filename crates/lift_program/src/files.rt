@@ -1,42 +1,118 @@
 //! The files that the commands name: buildings, and the images of journals.
 
-ghost use Rattle.std.specs.Prelude.{◌≡◌, IfOk, IfErr};
+ghost use Rattle.std.specs.Prelude.{◌≡◌, ◌≤◌, ◌+◌, [], IfOk, IfErr, IfSome, false, length, vec_len};
 ghost use Rattle.lift_disk.specs.Files.{file_state_of};
+ghost use Rattle.lift_replay.specs.Reading.{TakesUpTo};
 ghost use Rattle.lift_program.specs.Ends.{IsFileFault};
+ghost use Rattle.lift_program.specs.Stages.{HasBuilding, HasKeeperOf, IsBuildingFault, IsKeeperFault, most_text};
+ghost use Rattle.lift_program.specs.declared.fault.Role.TheVariants.{Building as OfBuilding, Image as OfImage};
 
-use crate::fault::Fault;
+use crate::fault::{Fault, Role};
+use lift_base::text::Counted;
+use lift_building::Building;
 use lift_disk::{FileDisk, FileFault};
+use lift_keeper::Keeper;
+use lift_replay::{InputFault, read_all};
 use std::alloc::Global;
 use std::fs::{File, Files};
+use std::io::Read;
 use std::os::fd::AsRawFd;
-use std::{fs, io};
+use std::{fs, str};
 
 /// The last descriptor of the standard streams.
 const STANDARD_ERROR: i32 = 2;
 
-/// The text that a file holds. What isn't a file, as a pipe or a terminal, isn't opened, so that nothing waits for its
+/// A building's text has so many bytes at most, as many as a script.
+const MOST_BYTES: usize = 1_048_576;
+
+/// The file is read in so many calls at most.
+const MOST_CALLS: u32 = 2_097_152;
+
+/// The bytes of a building's file. Reading stops behind one byte more than there may be, and the file is refused then.
+fn bytes_of<R: Read + Drop>(alloc: Global, reader: &mut Counted<R>) -> Result<Vec<u8>, Fault>
+    requires fresh { reader.old.calls ≡ 0 }
+    requires unhurt { reader.old.failed ≡ false }
+    requires before_end { reader.old.ended ≡ false }
+    ensures whole { IfOk result (λ bytes. IfSome (R.remaining reader.old.reader) (λ all. bytes.items ≡ all)) }
+    ensures bound { IfOk result (λ bytes. vec_len bytes ≤ most_text) }
+    ensures taken { TakesUpTo (most_text + 1) R.remaining reader.old.reader reader.new.reader }
+    ensures few_calls { reader.new.calls ≤ 2097152 }
+    ensures fault { IfErr result (IsFileFault OfBuilding) }
+{
+    match read_all(alloc, reader, MOST_BYTES, MOST_CALLS) {
+        Ok(bytes) => {
+            if bytes.len() > MOST_BYTES {
+                Err(Fault::File(Role::Building))
+            } else {
+                Ok(bytes)
+            }
+        }
+        Err(InputFault::Read) => Err(Fault::File(Role::Building)),
+        Err(InputFault::Memory) => Err(Fault::Memory),
+    }
+}
+
+/// A building's file, to be read. What isn't a file, as a pipe or a terminal, isn't opened, so that nothing waits for its
 /// other end. A file that got the descriptor of a standard stream, which the program began without, is refused: what is
 /// printed would be written into it, or into the next file that is opened.
-pub fn text_in<F: Files<File = File>>(rt: &F, alloc: Global, path: &str) -> Result<String, Fault>
-    ensures { IfErr result IsFileFault }
+fn building_file<F: Files<File = File>>(rt: &F, path: &str) -> Result<File, Fault>
+    ensures { IfErr result (IsFileFault OfBuilding) }
 {
-    if !fs::metadata(rt, path).map_err(Fault::of_file)?.is_file() {
-        return Err(Fault::File);
+    let metadata = match fs::metadata(rt, path) {
+        Ok(metadata) => metadata,
+        Err(error) => return Err(Fault::of_file(Role::Building, error)),
+    };
+    if !metadata.is_file() {
+        return Err(Fault::File(Role::Building));
     }
-    let file = File::open(rt, path).map_err(Fault::of_file)?;
+    let file = match File::open(rt, path) {
+        Ok(file) => file,
+        Err(error) => return Err(Fault::of_file(Role::Building, error)),
+    };
     if file.as_raw_fd() <= STANDARD_ERROR {
-        return Err(Fault::File);
+        return Err(Fault::File(Role::Building));
     }
-    io::read_to_string(alloc, file).map_err(Fault::of_file)
+    Ok(file)
+}
+
+/// The building that the bytes of its file spell.
+#[tactic(auto, using(crate::proofs::Stages::first_fault, crate::proofs::Stages::has_building))]
+fn building_of(alloc: Global, bytes: &[u8]) -> Result<Building, Fault>
+    requires bound { length bytes.now ≤ most_text }
+    ensures found { IfOk result HasBuilding }
+    ensures fault { IfErr result IsBuildingFault }
+{
+    match str::from_utf8(bytes) {
+        Ok(text) => match Building::read(alloc, text) {
+            Ok(building) => Ok(building),
+            Err(fault) => Err(Fault::from(fault)),
+        },
+        Err(_) => Err(Fault::File(Role::Building)),
+    }
+}
+
+/// The building that a file describes. A file of more than 1,048,576 bytes is refused as one that can't be read.
+#[tactic(auto, using(crate::proofs::Stages::file_refuses))]
+pub fn building_in<F: Files<File = File>>(
+    rt: &F,
+    alloc: Global,
+    path: &str,
+) -> Result<Building, Fault>
+    ensures found { IfOk result HasBuilding }
+    ensures fault { IfErr result IsBuildingFault }
+{
+    let file = building_file(rt, path)?;
+    let bytes = bytes_of(alloc, &mut Counted::new(file))?;
+    building_of(alloc, &bytes)
 }
 
 /// What a refused image comes to.
 fn refused(fault: FileFault) -> Fault
-    ensures { IsFileFault result }
+    ensures { IsFileFault OfImage result }
 {
     match fault {
-        FileFault::System(error) => Fault::of_file(error),
-        FileFault::NotAFile => Fault::File,
+        FileFault::System(error) => Fault::of_file(Role::Image, error),
+        FileFault::NotAFile => Fault::File(Role::Image),
     }
 }
 
@@ -46,7 +122,7 @@ pub fn image_at<F: Files<File = File>>(rt: &F, path: &str, sectors: u32) -> Resu
     ensures failures { IfOk result (λ disk. (file_state_of disk).failures ≡ 0) }
     ensures calls { IfOk result (λ disk. (file_state_of disk).calls ≡ 0) }
     ensures writes { IfOk result (λ disk. (file_state_of disk).writes ≡ 0) }
-    ensures fault { IfErr result IsFileFault }
+    ensures fault { IfErr result (IsFileFault OfImage) }
 {
     FileDisk::create(rt, path, sectors).map_err(refused)
 }
@@ -55,7 +131,25 @@ pub fn image_at<F: Files<File = File>>(rt: &F, path: &str, sectors: u32) -> Resu
 pub fn image_in<F: Files<File = File>>(rt: &F, path: &str) -> Result<FileDisk, Fault>
     ensures failures { IfOk result (λ disk. (file_state_of disk).failures ≡ 0) }
     ensures calls { IfOk result (λ disk. (file_state_of disk).calls ≡ 0) }
-    ensures fault { IfErr result IsFileFault }
+    ensures fault { IfErr result (IsFileFault OfImage) }
 {
     FileDisk::open(rt, path).map_err(refused)
+}
+
+/// The keeper that the recovery gives, over the journal in a file.
+#[tactic(auto, using(crate::proofs::Stages::has_keeper, crate::proofs::Stages::has_no_keeper, crate::proofs::Stages::image_keeps))]
+pub fn keeper_in<'b, F: Files<File = File>>(
+    rt: &F,
+    path: &str,
+    building: &'b Building,
+) -> Result<Keeper<'b, FileDisk>, Fault>
+    ensures opened { IfOk result (HasKeeperOf building.now) }
+    ensures settled { IfOk result (λ keeper. keeper.state.batch ≡ []) }
+    ensures fault { IfErr result (IsKeeperFault building.now) }
+{
+    let disk = image_in(rt, path)?;
+    match Keeper::open(disk, building) {
+        Ok(keeper) => Ok(keeper),
+        Err((_, fault)) => Err(Fault::Journal(fault)),
+    }
 }

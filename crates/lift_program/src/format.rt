@@ -4,8 +4,7 @@ ghost use Rattle.std.specs.Prelude.{◌≤◌, IfOk, IfErr};
 ghost use Rattle.lift_program.specs.Ends.{IsMadeWith, IsFormatFault};
 
 use crate::fault::Fault;
-use crate::files::{image_at, text_in};
-use lift_building::Building;
+use crate::files::{building_in, image_at};
 use lift_disk::FileDisk;
 use lift_journal::JournalFault;
 use lift_keeper::KeeperFault;
@@ -14,6 +13,7 @@ use std::fs::{File, Files};
 
 /// Makes an empty journal in the file `image`, for the building in the file `building`, with so many sectors in a half.
 /// Nothing is made for a building that is refused.
+#[tactic(auto, using(crate::proofs::Stages::building_formats, crate::proofs::Stages::image_formats, crate::proofs::Stages::reads_building))]
 pub fn format<F: Files<File = File>>(
     rt: &F,
     alloc: Global,
@@ -26,8 +26,7 @@ pub fn format<F: Files<File = File>>(
     ensures made { IfOk result (IsMadeWith half) }
     ensures fault { IfErr result IsFormatFault }
 {
-    let text = text_in(rt, alloc, building)?;
-    let shape = Building::read(alloc, text.as_str())?.shape(half);
+    let shape = building_in(rt, alloc, building)?.shape(half);
     let mut disk = image_at(rt, image, 2 + 2 * half)?;
     match lift_journal::format(&mut disk, shape) {
         Ok(()) => Ok(disk),

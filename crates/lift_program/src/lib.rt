@@ -14,5 +14,5 @@ mod starting;
 mod words;
 
 pub use end::End;
-pub use fault::Fault;
+pub use fault::{Fault, Role};
 pub use starting::{not_given, start};

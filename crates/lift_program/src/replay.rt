@@ -1,10 +1,12 @@
 //! The carrying out of a script.
 
 ghost use Rattle.std.specs.Prelude.{◌≡◌, true, false, IfOk, IfErr};
+ghost use Rattle.lift_replay.specs.Reading.{IsRead};
 ghost use Rattle.lift_replay.specs.Replaying.{ReportsInput};
-ghost use Rattle.lift_program.specs.Ends.{IsFileFault, IsReadOrFailed, IsReplayed};
+ghost use Rattle.lift_program.specs.declared.fault.Role.TheVariants.{Input, Output};
+ghost use Rattle.lift_program.specs.Ends.{IsReplayFault, IsReplayed, IsUnread};
 
-use crate::fault::Fault;
+use crate::fault::{Fault, Role};
 use lift_base::text::Counted;
 use lift_replay::Verdict;
 use std::alloc::Global;
@@ -23,10 +25,14 @@ pub fn replay<R: Read + Drop, W: Write>(
     // What was written is the report of the script, and the verdict is that of it: of the reader's input, where that is known.
     ensures report { IfOk result (λ verdict. ReportsInput (R.remaining input.old.reader) (W.contents writer.old) (W.contents writer.new) verdict) }
     ensures told { IfOk result (λ verdict. IsReplayed verdict (W.contents writer.old) (W.contents writer.new)) }
-    ensures fault { IfErr result IsFileFault }
-    ensures cause { result ≡ Err Fault.File → IsReadOrFailed R.remaining input.old input.new }
+    ensures fault { IfErr result IsReplayFault }
+    ensures unread { result ≡ Err (Fault.File Input) → IsUnread input.new }
+    ensures unwritten { result ≡ Err (Fault.File Input) → W.contents writer.new ≡ W.contents writer.old }
+    ensures read { result ≡ Err (Fault.File Output) → IsRead R.remaining input.old input.new }
 {
     let verdict = lift_replay::run(alloc, input, writer)?;
-    writer.flush().map_err(Fault::of_file)?;
-    Ok(verdict)
+    match writer.flush() {
+        Ok(()) => Ok(verdict),
+        Err(error) => Err(Fault::of_file(Role::Output, error)),
+    }
 }

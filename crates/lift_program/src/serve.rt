@@ -5,15 +5,15 @@ ghost use Rattle.std.specs.Io.KnownBytes.{Appends};
 ghost use Rattle.lift_program.specs.Ends.{IsFileFault, IsReportOfFault, IsServeFault, IsServingFault, serving_text};
 ghost use Rattle.lift_program.specs.Faults.{served_fault};
 ghost use Rattle.lift_program.specs.Serving.{IsServing};
+ghost use Rattle.lift_program.specs.declared.fault.Role.TheVariants.{Output};
 
-use crate::fault::Fault;
-use crate::files::{image_in, text_in};
+use crate::fault::{Fault, Role};
+use crate::files::{building_in, keeper_in};
 use arrayvec::ArrayString;
 use itoa::Buffer;
 use lift_base::text::put_all;
-use lift_building::Building;
 use lift_journal::JournalFault;
-use lift_keeper::{Keeper, KeeperFault};
+use lift_keeper::KeeperFault;
 use lift_policy::Shipped;
 use lift_serve::ServeFault;
 use std::alloc::Global;
@@ -42,7 +42,7 @@ fn fault_of(is_broken: bool, fault: Option<ServeFault>) -> Option<Fault>
 /// Says which port is served.
 fn say<W: Write>(port: u16, writer: &mut W) -> Result<(), Fault>
     ensures said { OnOk result (Appends (W.contents writer.old) (W.contents writer.new) (serving_text port)) }
-    ensures fault { IfErr result IsFileFault }
+    ensures fault { IfErr result (IsFileFault Output) }
 {
     let mut digits = Buffer::new();
     let mut line: ArrayString<64> = ArrayString::new();
@@ -50,13 +50,17 @@ fn say<W: Write>(port: u16, writer: &mut W) -> Result<(), Fault>
     line.push_str(digits.format(port));
     line.push_str("\n");
     if put_all(writer, line.as_str().as_bytes()).is_err() {
-        return Err(Fault::File);
+        return Err(Fault::File(Role::Output));
     }
-    writer.flush().map_err(Fault::of_file)
+    match writer.flush() {
+        Ok(()) => Ok(()),
+        Err(error) => Err(Fault::of_file(Role::Output, error)),
+    }
 }
 
 /// Serves the building in the file `building` on a port of this machine, with the journal in the file `image`, until so many
 /// connections have ended. The answer is the fault that did not end it, if there was one.
+#[tactic(auto, using(crate::proofs::Stages::building_serves, crate::proofs::Stages::keeper_serves, crate::proofs::Stages::nothing_written, crate::proofs::Stages::opens_journal, crate::proofs::Stages::output_serves))]
 pub fn serve<
     R: Files<File = File>
         + Threads
@@ -81,13 +85,8 @@ pub fn serve<
     ensures fault { IfErr result IsServeFault }
     ensures report { IfErr result (λ fault. IsReportOfFault fault (W.contents writer.old) (W.contents writer.new)) }
 {
-    let text = text_in(rt, alloc, building)?;
-    let building = Building::read(alloc, text.as_str())?;
-    let disk = image_in(rt, image)?;
-    let keeper = match Keeper::open(disk, &building) {
-        Ok(keeper) => keeper,
-        Err((_, fault)) => return Err(Fault::Journal(fault)),
-    };
+    let building = building_in(rt, alloc, building)?;
+    let keeper = keeper_in(rt, image, &building)?;
     let address = SocketAddr::V4(SocketAddrV4::new(Ipv4Addr::new(127, 0, 0, 1), port));
     let Ok(listener) = rt.bind(address) else {
         return Err(Fault::Network);

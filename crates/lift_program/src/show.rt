@@ -8,9 +8,10 @@ ghost use Rattle.lift_replay.specs.Report.{register_text};
 ghost use Rattle.lift_program.specs.Ends.{IsFileFault, IsReportOfFault, IsShowFault, IsShowingFault};
 ghost use Rattle.lift_program.specs.Showing.{IsShown, Shows, ShowsFront};
 ghost use Rattle.lift_program.specs.declared.fault.Fault.TheVariants.{Journal as OfJournal};
+ghost use Rattle.lift_program.specs.declared.fault.Role.TheVariants.{Output};
 
-use crate::fault::Fault;
-use crate::files::{image_in, text_in};
+use crate::fault::{Fault, Role};
+use crate::files::{building_in, image_in};
 use lift_base::text::put_all;
 use lift_building::Building;
 use lift_disk::{Disk, FileDisk};
@@ -25,14 +26,17 @@ use std::io::Write;
 fn write_rows<W: Write>(alloc: Global, register: &Register, writer: &mut W) -> Result<(), Fault>
     ensures written { OnOk result (Appends (W.contents writer.old) (W.contents writer.new) (register_text register.now)) }
     ensures front { OnErr result ((n : ℕ) × Appends (W.contents writer.old) (W.contents writer.new) (take n (register_text register.now))) }
-    ensures fault { IfErr result IsFileFault }
+    ensures fault { IfErr result (IsFileFault Output) }
 {
     let mut report = String::new(alloc);
     push_rows(&mut report, register)?;
     if put_all(writer, report.as_bytes()).is_err() {
-        return Err(Fault::File);
+        return Err(Fault::File(Role::Output));
     }
-    writer.flush().map_err(Fault::of_file)
+    match writer.flush() {
+        Ok(()) => Ok(()),
+        Err(error) => Err(Fault::of_file(Role::Output, error)),
+    }
 }
 
 /// Opens the keeper of a building on a device, and writes the open calls that it shows: the recovery's. Hands the device
@@ -46,7 +50,7 @@ fn show_on<D: Disk + Drop, W: Write>(
     // What is written is exactly the lines of the register that the recovery gave,
     ensures shown { OnOk result.1 (Shows building.now (D.state disk) (D.state result.0) (W.contents writer.old) (W.contents writer.new)) }
     // or a front of them, where they can't be written.
-    ensures front { IfErr result.1 (λ fault. IsFileFault fault
+    ensures front { IfErr result.1 (λ fault. IsFileFault Output fault
         → ShowsFront building.now (D.state disk) (D.state result.0) (W.contents writer.old) (W.contents writer.new)) }
     // Where the recovery is refused its cause is told, and nothing is written.
     ensures refused { (fault : Refusal) → result.1 ≡ Err (OfJournal fault)
@@ -65,6 +69,7 @@ fn show_on<D: Disk + Drop, W: Write>(
 }
 
 /// Shows the open calls of the journal in the file `image`, which is of the building in the file `building`.
+#[tactic(auto, using(crate::proofs::Stages::building_shows, crate::proofs::Stages::image_shows, crate::proofs::Stages::nothing_written))]
 pub fn show<F: Files<File = File>, W: Write>(
     rt: &F,
     alloc: Global,
@@ -76,10 +81,11 @@ pub fn show<F: Files<File = File>, W: Write>(
     ensures fault { IfErr result IsShowFault }
     ensures report { IfErr result (λ fault. IsReportOfFault fault (W.contents writer.old) (W.contents writer.new)) }
 {
-    let text = text_in(rt, alloc, building)?;
-    let building = Building::read(alloc, text.as_str())?;
+    let building = building_in(rt, alloc, building)?;
     let disk = image_in(rt, image)?;
     let (disk, outcome) = show_on(alloc, disk, &building, writer);
-    outcome?;
-    Ok(disk)
+    match outcome {
+        Ok(()) => Ok(disk),
+        Err(fault) => Err(fault),
+    }
 }

@@ -2,8 +2,10 @@
 
 ghost use Rattle.std.specs.Prelude.{◌≡◌, ◌≢◌, None, false, true, map, IfSome};
 ghost use Rattle.std.specs.IoError.{error_kind};
+ghost use Rattle.lift_replay.specs.Reading.{IsRead};
 ghost use Rattle.lift_replay.specs.declared.lines.Verdict.TheVariants.{Good};
-ghost use Rattle.lift_program.specs.Ends.{IsEndFor, IsEndOf, IsReadOrFailed, IsReport, IsStatusFor, IsUnwritten, line_of};
+ghost use Rattle.lift_program.specs.declared.fault.Role.TheVariants.{Input, Output};
+ghost use Rattle.lift_program.specs.Ends.{IsEndFor, IsEndOf, IsReport, IsStatusFor, IsUnread, IsUnwritten, line_of};
 ghost use Rattle.lift_program.specs.Output.{IsTold};
 ghost use Rattle.lift_program.specs.Words.{Asks, IsInRange};
 ghost use Rattle.lift_program.specs.declared.words.Request.{Request as Wanted};
@@ -46,8 +48,9 @@ fn done<
     ensures report { IsReport result (W.contents writer.old) (W.contents writer.new) }
     ensures unwritten { IsUnwritten request.entry → W.contents writer.new ≡ W.contents writer.old }
     ensures good { result ≡ End.Replayed Good → input.new.ended ≡ true }
-    ensures cause { request.entry ≡ Replay → result ≡ End.Failed Fault.File
-        → IsReadOrFailed R.remaining input.old input.new }
+    ensures unread { result ≡ End.Failed (Fault.File Input) → IsUnread input.new }
+    ensures read { request.entry ≡ Replay → result ≡ End.Failed (Fault.File Output)
+        → IsRead R.remaining input.old input.new }
 {
     match request {
         Request::Replay => match replay(alloc, input, writer) {
@@ -131,9 +134,11 @@ fn carry_out<
         → W.contents writer.new ≡ W.contents writer.old }
     // A good script was read to its end,
     ensures good { result ≡ End.Replayed Good → input.new.ended ≡ true }
-    // and one that is undone for a file was read, or could not be.
-    ensures cause { Asks (map S.text words.now) Replay → result ≡ End.Failed Fault.File
-        → IsReadOrFailed R.remaining input.old input.new }
+    // one that is undone for the standard input could not be read,
+    ensures unread { result ≡ End.Failed (Fault.File Input) → IsUnread input.new }
+    // and one that is undone for the standard output was.
+    ensures read { Asks (map S.text words.now) Replay → result ≡ End.Failed (Fault.File Output)
+        → IsRead R.remaining input.old input.new }
 {
     let end = match request_of(alloc, words) {
         Ok(Some(request)) => done(rt, alloc, request, input, writer),

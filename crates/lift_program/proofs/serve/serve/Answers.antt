@@ -4,15 +4,15 @@ use Rattle.lift_program.proofs.serve.serve.Goals as goal
 
 pub returns-in-Ok-serve-clause-served : goal.returns-in-Ok-serve-clause-served
 returns-in-Ok-serve-clause-served g c = inl (record {
-  text = c.as_str.result.now;
+  text = c.in_ok-building.ensures.found.text;
   plan = c.in_ok-building.building;
-  described = c.in_ok-building.ensures.found.0;
-  opened = c.in_ok-disk.disk;
-  uncalled = c.in_ok-disk.ensures.calls;
-  unhurt = c.in_ok-disk.ensures.failures;
-  keeper = c.in-Ok.keeper;
-  recovers = c.in-Ok.ensures.opens;
-  whole = c.in-Ok.ensures.whole.0;
+  described = c.in_ok-building.ensures.found.described;
+  opened = c.in_ok-keeper.ensures.opened.opened;
+  uncalled = c.in_ok-keeper.ensures.opened.uncalled;
+  unhurt = c.in_ok-keeper.ensures.opened.unhurt;
+  keeper = c.in_ok-keeper.keeper;
+  recovers = c.in_ok-keeper.ensures.opened.recovers;
+  whole = c.in_ok-keeper.ensures.opened.whole;
   last = c.in-Ok-serve.served.keeper;
   relayed = c.in-Ok-serve.ensures;
   other = c.in-Ok-serve.served.fault;

@@ -1,13 +1,29 @@
-use Rattle.std.proofs.Common.{rules}
+use Rattle.std.proofs.Common.{rules, subst, ap, ◌∙◌, Err}
+use Rattle.std.specs.Prelude.{IfErr}
+use Rattle.lift_disk.specs.Files.{file_state_of}
+use Rattle.lift_program.specs.Ends.{IsFileFault, IsShowingFault}
+use Rattle.lift_program.specs.Showing.{ShowsFront}
+use Rattle.lift_program.specs.declared.fault.Role.TheVariants.{Output}
+use Rattle.lift_program.proofs.Stages.{showing_shows}
 use Rattle.lift_program.proofs.show.show.Goals as goal
 
-pub returns-clause-shown : goal.returns-clause-shown
-returns-clause-shown g c = record {
-  text = c.as_str.result.now;
+pub returns-in-Ok-clause-shown : goal.returns-in-Ok-clause-shown
+returns-in-Ok-clause-shown g c = record {
+  text = c.in_ok-building.ensures.found.text;
   plan = c.in_ok-building.building;
-  described = c.in_ok-building.ensures.found.0;
+  described = c.in_ok-building.ensures.found.described;
   opened = c.in_ok-disk.disk;
   uncalled = c.in_ok-disk.ensures.calls;
   unhurt = c.in_ok-disk.ensures.failures;
   shows = search rules;
 }
+
+pub returns-in-Err-clause-fault : goal.returns-in-Err-clause-fault
+returns-in-Err-clause-fault g c =
+    let before = g.W.Write.contents c.args.writer.now in
+    let after = g.W.Write.contents c.show_on-disk.new.writer in
+    showing_shows c.in_ok-building.building c.in_ok-disk.disk c.show_on-disk.result.0 before after c.in-Err.fault c.in_ok-building.ensures.found
+    c.in_ok-disk.ensures.calls c.in_ok-disk.ensures.failures (subst (λ r. IfErr r IsShowingFault) c.in-Err.is c.show_on-disk.ensures.fault)
+    (λ refusal same. c.show_on-disk.ensures.refused refusal (c.in-Err.is ∙ ap Err same))
+    (subst (λ r. IfErr r (λ fault. IsFileFault Output fault → ShowsFront c.in_ok-building.building (file_state_of c.in_ok-disk.disk) (file_state_of c.show_on-disk.result.0) before after))
+    c.in-Err.is c.show_on-disk.ensures.front)

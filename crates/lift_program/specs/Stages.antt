@@ -1,0 +1,96 @@
+-- How far a command came that is over a building and an image: its faults are looked for in this order, the building's file, its
+-- text, the image's file, the journal, the port.
+use Rattle.std.specs.Prelude.{ℕ, ◌≡◌, ◌≤◌, false, List, length}
+use Rattle.lift_building.specs.Describes.{IsTextOf}
+use Rattle.lift_building.specs.Gives.{IsFirstFault}
+use Rattle.lift_building.specs.Plan.{Plan}
+use Rattle.lift_building.specs.declared.fault.BuildingFault.{BuildingFault}
+use Rattle.lift_disk.specs.Files.{file_state_of}
+use Rattle.lift_disk.specs.declared.file.FileDisk.{FileDisk}
+use Rattle.lift_keeper.specs.Keeper.{KeeperView}
+use Rattle.lift_keeper.specs.Reopening.{RefusesReopening, Reopens}
+use Rattle.lift_keeper.specs.declared.fault.KeeperFault.{KeeperFault}
+use Rattle.lift_register.specs.Register.{RegisterState}
+use Rattle.lift_program.specs.Showing.{Recovers}
+use Rattle.lift_program.specs.declared.fault.Fault.{Fault}
+use Rattle.lift_program.specs.declared.fault.Fault.TheVariants.{Building, Journal, File, Memory, Network, Thread}
+use Rattle.lift_program.specs.declared.fault.Role.TheVariants.{Building as OfBuilding, Image as OfImage, Input, Output}
+
+-- a building's text has so many bytes at most
+abbrev pub most_text : ℕ
+most_text = 1048576
+
+-- a text within the bound was read, and it describes this building
+pub record HasBuilding (plan : Plan) : Type 0 where
+  pub text : List ℕ
+  pub short : length text ≤ most_text
+  pub described : IsTextOf text plan
+
+-- a text within the bound was read, and this is its first fault
+pub record HasNoBuilding (fault : BuildingFault) : Type 0 where
+  pub text : List ℕ
+  pub short : length text ≤ most_text
+  pub first : IsFirstFault text fault
+
+-- an image was opened, and the recovery from it, of this building, gave this keeper
+pub record HasKeeperOf (plan : Plan) (keeper : KeeperView FileDisk) : Type 0 where
+  pub opened : FileDisk
+  pub uncalled : (file_state_of opened).calls ≡ 0
+  pub unhurt : (file_state_of opened).failures ≡ 0
+  pub recovers : Reopens plan (file_state_of opened) (file_state_of keeper.writer.device) keeper.writer.register keeper.writer.half keeper.writer.is_second keeper.writer.used
+  pub whole : keeper.writer.is_broken ≡ false
+
+-- an image was opened, and the recovery from it, of this building, was refused for this
+pub record HasNoKeeperOf (plan : Plan) (fault : KeeperFault) : Type 0 where
+  pub opened : FileDisk
+  pub uncalled : (file_state_of opened).calls ≡ 0
+  pub unhurt : (file_state_of opened).failures ≡ 0
+  pub left : FileDisk
+  pub refused : RefusesReopening plan (file_state_of opened) (file_state_of left) fault
+
+-- the building was read
+abbrev pub ReadsBuilding : Type 0
+ReadsBuilding = (plan : Plan) × HasBuilding plan
+
+-- the building was read, and the recovery opened a journal of it
+abbrev pub OpensJournal : Type 0
+OpensJournal = (plan : Plan) × (keeper : KeeperView FileDisk) × HasBuilding plan × HasKeeperOf plan keeper
+
+-- the building was read, and the recovery, from an image that was opened, gave a register
+pub record ReadsJournal : Type 0 where
+  pub plan : Plan
+  pub building : HasBuilding plan
+  pub opened : FileDisk
+  pub uncalled : (file_state_of opened).calls ≡ 0
+  pub unhurt : (file_state_of opened).failures ≡ 0
+  pub left : FileDisk
+  pub register : RegisterState
+  pub recovers : Recovers plan (file_state_of opened) (file_state_of left) register
+
+-- the building was read, and the recovery was refused for this
+abbrev pub OpensNoJournal : KeeperFault → Type 0
+OpensNoJournal fault = (plan : Plan) × HasBuilding plan × HasNoKeeperOf plan fault
+
+-- what no building is had for: its file, want of memory, or its text's first fault
+abbrev pub IsBuildingFault : Fault → Type 0
+IsBuildingFault (Building fault) = HasNoBuilding fault
+IsBuildingFault (Journal fault) = ⊥
+IsBuildingFault (File OfBuilding) = Unit {0}
+IsBuildingFault (File OfImage) = ⊥
+IsBuildingFault (File Input) = ⊥
+IsBuildingFault (File Output) = ⊥
+IsBuildingFault Memory = Unit {0}
+IsBuildingFault Network = ⊥
+IsBuildingFault Thread = ⊥
+
+-- what no keeper of this building is had for: the image's file, want of memory, or the recovery's refusal
+abbrev pub IsKeeperFault : Plan → Fault → Type 0
+IsKeeperFault plan (Building fault) = ⊥
+IsKeeperFault plan (Journal fault) = HasNoKeeperOf plan fault
+IsKeeperFault plan (File OfBuilding) = ⊥
+IsKeeperFault plan (File OfImage) = Unit {0}
+IsKeeperFault plan (File Input) = ⊥
+IsKeeperFault plan (File Output) = ⊥
+IsKeeperFault plan Memory = Unit {0}
+IsKeeperFault plan Network = ⊥
+IsKeeperFault plan Thread = ⊥
