@@ -1,13 +1,12 @@
 //! Turns whose batch fails on the device, and what reopening gives after them.
-use crate::groups::{Terminals, Who, call, clerk_of, demo, floor, formatted, letter, open};
-use lift_base::{Body, Dir, Reason, Reply};
+use crate::groups::{Terminals, Who, call, clerk_of, demo, formatted, letter, open};
+use lift_base::{Dir, Reason, Reply};
 use lift_clerk::{Clerk, Counts};
 use lift_desk::DeskParts;
 use lift_disk::{Arm, FlakyDisk, FuseDisk};
 use lift_journal::JournalFault;
 use lift_keeper::KeeperFault;
 use lift_policy::Etd;
-use std::alloc::Global;
 use std::process::Abort;
 use std::test::Fail;
 
@@ -107,41 +106,5 @@ fn reopening_fails(rt: HostRuntime) -> Result<(), Fail> {
     clerk.arm(1_000);
     assert!(rt; clerk.reopen() == Ok(()) && clerk.turn() == NOTHING);
     assert!(rt; !clerk.short());
-    Ok(())
-}
-
-/// So many stops of car A at floor 0, a turn each.
-fn stops_until<D: Arm>(
-    rt: &impl Abort,
-    group: &mut Terminals,
-    clerk: &mut Clerk<D, Etd>,
-    count: u32,
-) {
-    for told in 1..=count {
-        assert!(rt; group.ask(Who::CarA, told, Body::Stop(floor(0), Dir::Up)));
-        assert!(rt; clerk.turn().is_ok());
-        assert!(rt; group.hear(Who::CarA) == Some(Reply::Stopped(None)));
-    }
-}
-
-/// What car A's stop behind 31 others is answered, where all device calls of its turn fail behind so many.
-fn last_answer(alloc: Global, rt: &impl Abort, calls: u32) -> Result<Option<Reply>, Fail> {
-    let building = demo(alloc)?;
-    let DeskParts { desk, seats, clerk } = open(alloc, 18)?;
-    let mut group = Terminals::of(&desk, seats);
-    let disk = FuseDisk::new(formatted(alloc, &building)?);
-    let mut clerk = clerk_of(&desk, clerk, disk, &building)?;
-    stops_until(rt, &mut group, &mut clerk, 31);
-    clerk.arm(calls);
-    assert!(rt; group.ask(Who::CarA, 32, Body::Stop(floor(0), Dir::Up)));
-    let _turned = clerk.turn();
-    Ok(group.hear(Who::CarA))
-}
-
-/// The turn behind 31 batches makes 11 device calls: a checkpoint's and an append's.
-#[test]
-fn checkpoints_take_eleven_calls(rt: HostRuntime) -> Result<(), Fail> {
-    assert!(rt; last_answer(rt.alloc(), &rt, 10)? == Some(Reply::Unknown));
-    assert!(rt; last_answer(rt.alloc(), &rt, 11)? == Some(Reply::Stopped(None)));
     Ok(())
 }

@@ -2,7 +2,7 @@
 ghost use Rattle.std.specs.Prelude.{◌≡◌, ◌<◌, ◌≤◌, ◌+◌, length, vec_len, IfOk};
 ghost use Rattle.lift_desk.specs.Seats.{IsSeatOf, IsClerkOf, AreSeatsOf, OwesNothing, clerk_of as new_seats};
 
-use lift_base::{Body, Dir, Floor, Letter, Memory, Number, Party, Reply, Stop};
+use lift_base::{Body, Dir, Floor, Letter, Memory, Number, Party, Reply};
 use lift_building::Building;
 use lift_clerk::Clerk;
 use lift_desk::{ClerkSeat, Desk, DeskParts, Seat};
@@ -54,13 +54,6 @@ pub(crate) fn letter(index: u8) -> Letter {
 /// One person's call.
 pub(crate) fn call(to: u8) -> Body {
     Body::Call(floor(to), Party::default())
-}
-
-pub(crate) fn stop(at: u8, dir: Dir) -> Stop {
-    Stop {
-        floor: floor(at),
-        dir,
-    }
 }
 
 /// A device with an empty journal for a building.

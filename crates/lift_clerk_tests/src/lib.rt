@@ -1,9 +1,7 @@
-//! Tests of `lift_clerk`: whole turns at a desk, with devices that fail, and with sessions and drives of terminals
-//! over them.
+//! Tests of `lift_clerk`: turns whose device fails, reopenings, histories behind cuts, and a late session and a drive over a
+//! clerk. Turns of scripts and sessions are data, tried by `tools/try-cases`.
 #![tactic(auto)]
 
-#[cfg(test)]
-mod crowds;
 #[cfg(test)]
 mod faults;
 #[cfg(test)]
@@ -12,5 +10,3 @@ mod groups;
 mod histories;
 #[cfg(test)]
 mod sessions;
-#[cfg(test)]
-mod turns;

@@ -1,11 +1,11 @@
 //! Sessions and drives of terminals whose clerk turns while their port rests.
 use crate::groups::{Terminals, Who, call, clerk_of, demo, floor, formatted, letter, number, open};
 use lift_base::text::{Counted, Watched};
-use lift_base::{Body, Content, Dir, Letter, Number, Position, Reply, Stop, Terminal};
+use lift_base::{Body, Dir, Letter, Number, Position, Reply, Stop};
 use lift_car::{Car, Ending, ModelCar, drive};
 use lift_clerk::Clerk;
 use lift_desk::{AskRefusal, DeskParts};
-use lift_disk::{Disk, MemDisk};
+use lift_disk::MemDisk;
 use lift_kiosk::{DeskPort, End, LastLetter, Limits, Port, SessionEnd, session};
 use lift_policy::Etd;
 use std::alloc::Global;
@@ -77,27 +77,6 @@ fn no_call() -> LastLetter {
     }
 }
 
-/// A letter, a floor in no building, a line that is none, a refusal, and a line that is cut off.
-#[test]
-fn a_kiosk_talks(rt: HostRuntime) -> Result<(), Fail> {
-    let building = demo(rt.alloc())?;
-    let DeskParts { desk, seats, clerk } = open(rt.alloc(), 18)?;
-    let mut group = Terminals::of(&desk, seats);
-    let disk = formatted(rt.alloc(), &building)?;
-    let mut clerk = clerk_of(&desk, clerk, disk, &building)?;
-    assert!(rt; group.place(0, Dir::Up) && clerk.turn().is_ok());
-    let (_car, kiosk, _other) = group.into_seats();
-    let mut port = Turned {
-        port: DeskPort::new(&desk, kiosk),
-        clerk,
-    };
-    let input = b"CALL 1 5\nCALL 2 64\nHELLO\nCALL 2 0\nCALL 2 8".as_slice();
-    let (output, end) = talk(rt.alloc(), &mut port, input, no_call(), 3);
-    assert!(rt; output.as_slice() == b"READY 0\nCAR A\nNO 1\nBAD\nNO 2\n".as_slice());
-    assert!(rt; end.end == End::Closed && end.last.number == number(1));
-    Ok(())
-}
-
 /// No answer within the looks; after a turn the next session greets with it.
 #[test]
 fn a_late_answer_greets(rt: HostRuntime) -> Result<(), Fail> {
@@ -115,64 +94,6 @@ fn a_late_answer_greets(rt: HostRuntime) -> Result<(), Fail> {
     let (output, end) = talk(rt.alloc(), &mut port, b"", end.last, 1);
     assert!(rt; output.as_slice() == b"READY 1 A\n".as_slice());
     assert!(rt; end.last.letter == Some(letter(0)));
-    Ok(())
-}
-
-/// Writes a sector that begins with these bytes.
-fn put(disk: &mut MemDisk, sector: u32, front: &[u8]) -> bool {
-    let mut bytes = [0; 512];
-    if front.len() > 512 || sector >= disk.sectors() {
-        return false;
-    }
-    bytes[..front.len()].copy_from_slice(front);
-    disk.write(sector, &bytes).is_ok()
-}
-
-/// A batch of the first version, with two records: the last command of kiosk 0, of the highest number, and so many calls done.
-const LAST_NUMBERS: [u8; 48] = [
-    0x4C, 0x42, 1, 0, 0, 2, 0, 0, 0, 0, 0, 1, 0, 0, 0, 0, //
-    5, 0x10, 0, 5, 0, 0, 0, 0, 0, 0xFF, 0xFF, 0xFF, 0, 0, 0, 0, //
-    6, 0, 0, 0, 0, 0, 0, 0, 0, 0xFF, 0xFF, 0xFF, 0, 0, 0, 0,
-];
-
-fn letter_in(content: &Content) -> Option<Letter> {
-    match content {
-        Content::Letter { car, .. } => Some(*car),
-        Content::Stopped { .. } => None,
-    }
-}
-
-/// The last call that a register knows of a kiosk.
-fn last_of(clerk: &Clerk<MemDisk, Etd>, kiosk: Terminal) -> LastLetter {
-    match clerk.keeper().register().last(kiosk) {
-        Some(last) => LastLetter {
-            number: last.number,
-            letter: letter_in(&last.content),
-        },
-        None => no_call(),
-    }
-}
-
-/// The numbers of a kiosk are used up: its last call is repeated, an older one refused, and no line spells a higher one.
-#[test]
-fn numbers_run_out(rt: HostRuntime) -> Result<(), Fail> {
-    let building = demo(rt.alloc())?;
-    let DeskParts { desk, seats, clerk } = open(rt.alloc(), 18)?;
-    let group = Terminals::of(&desk, seats);
-    let mut disk = formatted(rt.alloc(), &building)?;
-    assert!(rt; put(&mut disk, 2, &[0xA5]) && put(&mut disk, 3, &LAST_NUMBERS));
-    assert!(rt; put(&mut disk, 4, &[0]));
-    let clerk = clerk_of(&desk, clerk, disk, &building)?;
-    let last = last_of(&clerk, Terminal::of_kiosk(0).unwrap_or_default());
-    let (_car, kiosk, _other) = group.into_seats();
-    let mut port = Turned {
-        port: DeskPort::new(&desk, kiosk),
-        clerk,
-    };
-    let input = b"CALL 16777215 5\nCALL 1 5\nCALL 16777216 5\n".as_slice();
-    let (output, end) = talk(rt.alloc(), &mut port, input, last, 3);
-    assert!(rt; output.as_slice() == b"READY 16777215 A\nCAR A\nNO 4\nBAD\n".as_slice());
-    assert!(rt; end.end == End::Closed);
     Ok(())
 }
 
