@@ -1,6 +1,6 @@
 //! A run of the machine of events.
+use crate::cases::{Trouble, body_of, car_of, number_of, push_reply, terminal_of};
 use lift_building::Building;
-use lift_cases::{Trouble, body_of, car_of, number_of, push_reply, terminal_of};
 use lift_world::{Event, Kept, Phase, Power, World};
 use std::alloc::Global;
 use std::fmt::Write;

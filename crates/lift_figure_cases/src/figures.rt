@@ -1,11 +1,11 @@
 //! What the lines of a case are put to: a car's trip, the calls of a group, its decisions, and a run of events.
+use crate::cases::{Subject, Trouble, count_of, yes_or_no};
 use crate::changes::are_changes_as_from_nothing;
 use crate::events::Run;
 use crate::group::Calls;
 use crate::registers::Registers;
 use crate::trip::Trip;
 use lift_building::Building;
-use lift_cases::{Subject, Trouble, count_of, yes_or_no};
 use std::alloc::Global;
 
 #[derive(Drop)]

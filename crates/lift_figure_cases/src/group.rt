@@ -2,15 +2,15 @@
 ghost use Rattle.std.specs.Prelude.{◌<◌};
 ghost use Rattle.lift_policy.specs.View.{IsViewIn};
 
+use crate::cases::{
+    Trouble, body_of, car_of, count_of, number_of, push_letter, push_reply, push_space, push_stop,
+    terminal_of, yes_or_no,
+};
 use crate::highest::{Highest, InTurn};
 use crate::trip::call_of;
 use crate::{crowd, registers};
 use lift_base::{Body, Halt, Letter, Number, Reply, Terminal};
 use lift_building::Building;
-use lift_cases::{
-    Trouble, body_of, car_of, count_of, number_of, push_letter, push_reply, push_space, push_stop,
-    terminal_of,
-};
 use lift_cost::{NewCall, arrival_at, waiting_row};
 use lift_keeper::Decider;
 use lift_policy::{Eligible, Etd, FewestOpen, Policy, Shipped, ShortestWait, View};
@@ -225,7 +225,7 @@ impl<'b> Calls<'b> {
                 let _possible = self.decider.register();
                 let view = self.decider.view();
                 let is_so = crowd::are_as_from_nothing(self.decider.building(), &view, count);
-                Ok(came.push_str(lift_cases::yes_or_no(is_so))?)
+                Ok(came.push_str(yes_or_no(is_so))?)
             }
             _ => Err(Trouble::Words),
         }
@@ -238,7 +238,7 @@ impl<'b> Calls<'b> {
             [count, _from, seed] => {
                 let (count, seed) = (count_of(count, 10_000)?, count_of(seed, u32::MAX)?);
                 let is_so = crowd::are_commands_as_from_nothing(&mut self.decider, count, seed);
-                Ok(came.push_str(lift_cases::yes_or_no(is_so))?)
+                Ok(came.push_str(yes_or_no(is_so))?)
             }
             _ => Err(Trouble::Words),
         }

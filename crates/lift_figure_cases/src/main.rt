@@ -2,6 +2,7 @@
 //! and runs of events.
 #![tactic(auto)]
 
+mod cases;
 mod changes;
 mod crowd;
 mod events;
@@ -11,9 +12,9 @@ mod highest;
 mod registers;
 mod trip;
 
+use crate::cases::{Report, Trouble};
 use crate::figures::Figures;
 use lift_building::Building;
-use lift_cases::{Report, Trouble};
 use std::process::ExitCode;
 use std::{env, fs};
 

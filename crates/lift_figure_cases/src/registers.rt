@@ -1,11 +1,11 @@
 //! Registers: one that grows by entries, and one that is read from a checkpoint's records.
 ghost use Rattle.lift_register.specs.Balanced.{IsBalanced};
 
-use lift_base::{Record, Row};
-use lift_building::Building;
-use lift_cases::{
+use crate::cases::{
     Trouble, car_of, count_of, entry_of, push_record, push_row, record_of, terminal_of, yes_or_no,
 };
+use lift_base::{Record, Row};
+use lift_building::Building;
 use lift_register::Register;
 use std::alloc::AllocError;
 use std::fmt::Write;

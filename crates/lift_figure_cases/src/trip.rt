@@ -2,13 +2,13 @@
 ghost use Rattle.std.specs.Prelude.{◌≡◌, ◌<◌, ◌≤◌, length, true};
 ghost use Rattle.lift_cost.specs.Calls.{AreWithin};
 
+use crate::cases::{
+    Trouble, count_of, floor_of, party_of, position_of, push_halt, push_space, push_stop, stop_of,
+};
 use crate::changes::rows_after;
 use arrayvec::ArrayVec;
 use lift_base::{Halt, Pass, Position, Row};
 use lift_building::Building;
-use lift_cases::{
-    Trouble, count_of, floor_of, party_of, position_of, push_halt, push_space, push_stop, stop_of,
-};
 use lift_cost::{NewCall, cost_of, degradation, degradation_of, etd, etd_of, total_cost};
 use lift_stops::{Schedule, next_stop, pass_of, stop_list};
 use std::alloc::AllocError;

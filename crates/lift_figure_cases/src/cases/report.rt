@@ -1,10 +1,10 @@
 //! Cases, tried one after another.
-use crate::trouble::Trouble;
+use crate::cases::trouble::Trouble;
 use std::alloc::{AllocError, Global};
 use std::fmt::Write;
 
 /// What the lines of cases are put to.
-pub trait Subject {
+pub(crate) trait Subject {
     /// Forgets the case before.
     fn begin(&mut self) -> Result<(), Trouble>;
 
@@ -14,7 +14,7 @@ pub trait Subject {
 
 /// What is told of the cases: a line for each, and the counts.
 #[derive(Drop)]
-pub struct Report {
+pub(crate) struct Report {
     text: String,
     cases: u32,
     answers: u32,
@@ -22,7 +22,7 @@ pub struct Report {
 }
 
 impl Report {
-    pub fn new(alloc: Global) -> Report {
+    pub(crate) fn new(alloc: Global) -> Report {
         Report {
             text: String::new(alloc),
             cases: 0,
@@ -32,7 +32,7 @@ impl Report {
     }
 
     /// Tries the cases of a text, each of which begins with a line `case NAME`.
-    pub fn try_cases<S: Subject>(
+    pub(crate) fn try_cases<S: Subject>(
         &mut self,
         alloc: Global,
         text: &str,
@@ -98,13 +98,13 @@ impl Report {
     }
 
     /// Ends the report with its counts. Whether all cases came out.
-    pub fn end(&mut self) -> Result<bool, AllocError> {
+    pub(crate) fn end(&mut self) -> Result<bool, AllocError> {
         let (cases, answers, wrong) = (self.cases, self.answers, self.wrong);
         writeln!(self.text, "{cases} cases, {answers} answers, {wrong} wrong")?;
         Ok(wrong == 0)
     }
 
-    pub fn text(&self) -> &str {
+    pub(crate) fn text(&self) -> &str {
         &self.text
     }
 }

@@ -3,11 +3,11 @@ use lift_base::{Dir, Halt, Letter, Party, Reply, Row, Stop, Terminal};
 use std::alloc::AllocError;
 use std::fmt::Write;
 
-pub fn yes_or_no(is_so: bool) -> &'static str {
+pub(crate) fn yes_or_no(is_so: bool) -> &'static str {
     if is_so { "yes" } else { "no" }
 }
 
-pub fn dir_word(dir: Dir) -> &'static str {
+pub(crate) fn dir_word(dir: Dir) -> &'static str {
     match dir {
         Dir::Up => "up",
         Dir::Down => "down",
@@ -15,19 +15,19 @@ pub fn dir_word(dir: Dir) -> &'static str {
 }
 
 /// A space, where something stands before it.
-pub fn push_space(text: &mut String) -> Result<(), AllocError> {
+pub(crate) fn push_space(text: &mut String) -> Result<(), AllocError> {
     if text.is_empty() {
         return Ok(());
     }
     text.push(' ')
 }
 
-pub fn push_letter(text: &mut String, car: Letter) -> Result<(), AllocError> {
+pub(crate) fn push_letter(text: &mut String, car: Letter) -> Result<(), AllocError> {
     text.push(char::from(b'A' + car.get()))
 }
 
 /// `A` to `P`, or `K0` to `K46`.
-pub fn push_terminal(text: &mut String, terminal: Terminal) -> Result<(), AllocError> {
+pub(crate) fn push_terminal(text: &mut String, terminal: Terminal) -> Result<(), AllocError> {
     match terminal.kiosk() {
         Some(index) => write!(text, "K{index}"),
         None => push_letter(text, terminal.car().unwrap_or_default()),
@@ -35,13 +35,13 @@ pub fn push_terminal(text: &mut String, terminal: Terminal) -> Result<(), AllocE
 }
 
 /// A pass and a floor, as `1:0`.
-pub fn push_halt(text: &mut String, halt: &Halt) -> Result<(), AllocError> {
+pub(crate) fn push_halt(text: &mut String, halt: &Halt) -> Result<(), AllocError> {
     let (pass, floor) = (halt.pass.number(), halt.floor.get());
     write!(text, "{pass}:{floor}")
 }
 
 /// A floor and a direction, as `0 up`, and `none`.
-pub fn push_stop(text: &mut String, stop: Option<Stop>) -> Result<(), AllocError> {
+pub(crate) fn push_stop(text: &mut String, stop: Option<Stop>) -> Result<(), AllocError> {
     match stop {
         Some(stop) => {
             let (floor, dir) = (stop.floor.get(), dir_word(stop.dir));
@@ -52,7 +52,7 @@ pub fn push_stop(text: &mut String, stop: Option<Stop>) -> Result<(), AllocError
 }
 
 /// ` x2` for two persons, and nothing for one.
-pub fn push_party(text: &mut String, party: Party) -> Result<(), AllocError> {
+pub(crate) fn push_party(text: &mut String, party: Party) -> Result<(), AllocError> {
     let persons = party.get();
     if persons == 1 {
         return Ok(());
@@ -61,7 +61,7 @@ pub fn push_party(text: &mut String, party: Party) -> Result<(), AllocError> {
 }
 
 /// An open call, as `K0 1 0 5 A waiting x2`: its kiosk, number, floors, car and status, and its party.
-pub fn push_row(text: &mut String, row: &Row) -> Result<(), AllocError> {
+pub(crate) fn push_row(text: &mut String, row: &Row) -> Result<(), AllocError> {
     push_terminal(text, row.kiosk)?;
     let (number, from, to) = (row.number.get(), row.from.get(), row.to.get());
     write!(text, " {number} {from} {to} ")?;
@@ -81,7 +81,7 @@ fn push_next(text: &mut String, stop: Option<Stop>) -> Result<(), AllocError> {
 }
 
 /// `CAR A`, `NEXT 5 up`, `IDLE`, `NO 3` or `UNKNOWN`.
-pub fn push_reply(text: &mut String, reply: &Reply) -> Result<(), AllocError> {
+pub(crate) fn push_reply(text: &mut String, reply: &Reply) -> Result<(), AllocError> {
     match reply {
         Reply::Car(car) => {
             text.push_str("CAR ")?;

@@ -3,7 +3,7 @@ use std::alloc::AllocError;
 use std::io;
 
 #[derive(Clone, Copy, PartialEq, Eq)]
-pub enum Trouble {
+pub(crate) enum Trouble {
     /// The words are none that the cases know, or ask for what a call's condition rules out.
     Words,
     /// A file can't be read, or the report can't be written.
@@ -13,7 +13,7 @@ pub enum Trouble {
 }
 
 impl Trouble {
-    pub fn name(self) -> &'static str {
+    pub(crate) fn name(self) -> &'static str {
         match self {
             Trouble::Words => "a case file's words",
             Trouble::File => "a file",

@@ -1,12 +1,12 @@
 //! Words of a case's line: floors, cars, terminals, numbers, parties, and what terminals ask.
 ghost use Rattle.std.specs.Prelude.{◌≤◌, IfOk};
 
-use crate::trouble::Trouble;
+use crate::cases::trouble::Trouble;
 use lift_base::text::{dir_of_word, letter_of_word, number_of_word, number_up_to};
 use lift_base::{Body, Dir, Floor, Letter, Number, Party, Position, Stop, Terminal};
 
 /// A number up to this one.
-pub fn count_of(word: &str, most: u32) -> Result<u32, Trouble>
+pub(crate) fn count_of(word: &str, most: u32) -> Result<u32, Trouble>
     ensures { IfOk result (λ number. number ≤ most) }
 {
     match number_up_to(word, most) {
@@ -16,28 +16,28 @@ pub fn count_of(word: &str, most: u32) -> Result<u32, Trouble>
 }
 
 /// A floor, 0 to 63.
-pub fn floor_of(word: &str) -> Result<Floor, Trouble> {
+pub(crate) fn floor_of(word: &str) -> Result<Floor, Trouble> {
     let number = count_of(word, 63)?;
     Floor::new(number as u8).ok_or(Trouble::Words)
 }
 
 /// `up` or `down`.
-pub fn dir_of(word: &str) -> Result<Dir, Trouble> {
+pub(crate) fn dir_of(word: &str) -> Result<Dir, Trouble> {
     dir_of_word(word).ok_or(Trouble::Words)
 }
 
 /// A car, `A` to `P`.
-pub fn car_of(word: &str) -> Result<Letter, Trouble> {
+pub(crate) fn car_of(word: &str) -> Result<Letter, Trouble> {
     letter_of_word(word).ok_or(Trouble::Words)
 }
 
 /// The number of a command.
-pub fn number_of(word: &str) -> Result<Number, Trouble> {
+pub(crate) fn number_of(word: &str) -> Result<Number, Trouble> {
     number_of_word(word).ok_or(Trouble::Words)
 }
 
 /// A car, `A` to `P`, or a kiosk, `K0` to `K46`.
-pub fn terminal_of(word: &str) -> Result<Terminal, Trouble> {
+pub(crate) fn terminal_of(word: &str) -> Result<Terminal, Trouble> {
     match word.strip_prefix('K') {
         Some("") | None => Ok(Terminal::of_car(car_of(word)?)),
         Some(index) => {
@@ -48,7 +48,7 @@ pub fn terminal_of(word: &str) -> Result<Terminal, Trouble> {
 }
 
 /// The party that the last words name, as `x2`; without any it is one person.
-pub fn party_of(words: &[&str]) -> Result<Party, Trouble> {
+pub(crate) fn party_of(words: &[&str]) -> Result<Party, Trouble> {
     match words {
         [] => Ok(Party::default()),
         [word] => {
@@ -61,7 +61,7 @@ pub fn party_of(words: &[&str]) -> Result<Party, Trouble> {
 }
 
 /// A floor and a direction, as where a car is.
-pub fn position_of(words: &[&str]) -> Result<Position, Trouble> {
+pub(crate) fn position_of(words: &[&str]) -> Result<Position, Trouble> {
     match words {
         [floor, dir] => Ok(Position {
             floor: floor_of(floor)?,
@@ -72,7 +72,7 @@ pub fn position_of(words: &[&str]) -> Result<Position, Trouble> {
 }
 
 /// A floor and a direction, as a car's stop.
-pub fn stop_of(words: &[&str]) -> Result<Stop, Trouble> {
+pub(crate) fn stop_of(words: &[&str]) -> Result<Stop, Trouble> {
     let at = position_of(words)?;
     Ok(Stop {
         floor: at.floor,
@@ -81,7 +81,7 @@ pub fn stop_of(words: &[&str]) -> Result<Stop, Trouble> {
 }
 
 /// What a terminal asks: `call 5 x2`, `stop 0 up` or `place 0 up`.
-pub fn body_of(words: &[&str]) -> Result<Body, Trouble> {
+pub(crate) fn body_of(words: &[&str]) -> Result<Body, Trouble> {
     let (verb, behind) = words.split_first().ok_or(Trouble::Words)?;
     if *verb == "call" {
         let (floor, party) = behind.split_first().ok_or(Trouble::Words)?;

@@ -1,8 +1,10 @@
 //! Records as words: `allot K0 1 0 5 A x2`, `stop A 1 0 up`, `row K0 1 0 5 A aboard x2`, `last K0 1 0 5 A x2`,
 //! `last A 1 0 up` and `done 3`.
-use crate::showing::{dir_word, push_letter, push_party, push_row, push_terminal};
-use crate::trouble::Trouble;
-use crate::words::{car_of, count_of, floor_of, number_of, party_of, position_of, terminal_of};
+use crate::cases::showing::{dir_word, push_letter, push_party, push_row, push_terminal};
+use crate::cases::trouble::Trouble;
+use crate::cases::words::{
+    car_of, count_of, floor_of, number_of, party_of, position_of, terminal_of,
+};
 use lift_base::{Content, Entry, Last, Letter, Number, Party, Record, Row, Stop, Terminal};
 use std::alloc::AllocError;
 use std::fmt::Write;
@@ -119,7 +121,7 @@ fn last_call_of(words: &[&str]) -> Result<Record, Trouble> {
 }
 
 /// The record that these words name.
-pub fn record_of(words: &[&str]) -> Result<Record, Trouble> {
+pub(crate) fn record_of(words: &[&str]) -> Result<Record, Trouble> {
     let (kind, behind) = words.split_first().ok_or(Trouble::Words)?;
     if *kind == "allot" {
         allot_of(behind)
@@ -141,7 +143,7 @@ pub fn record_of(words: &[&str]) -> Result<Record, Trouble> {
 }
 
 /// The entry that these words name.
-pub fn entry_of(words: &[&str]) -> Result<Entry, Trouble> {
+pub(crate) fn entry_of(words: &[&str]) -> Result<Entry, Trouble> {
     let (kind, behind) = words.split_first().ok_or(Trouble::Words)?;
     if *kind == "allot" {
         let row = row_of(behind)?;
@@ -194,7 +196,7 @@ fn push_call(
 }
 
 /// The record as the words that name it.
-pub fn push_record(text: &mut String, record: &Record) -> Result<(), AllocError> {
+pub(crate) fn push_record(text: &mut String, record: &Record) -> Result<(), AllocError> {
     match *record {
         Record::Allot {
             kiosk,
