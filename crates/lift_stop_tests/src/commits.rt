@@ -255,5 +255,6 @@ fn commits_stop(rt: HostRuntime) -> Result<(), Fail> {
     stop_all::<FuseDisk>(rt.alloc(), &mut tally, &CHECKPOINTED)?;
     stop_all::<FlakyDisk>(rt.alloc(), &mut tally, &CHECKPOINTED)?;
     assert_eq!(rt; tally.wrong, 0);
+    assert_eq!(rt; tally.looked_at, 718_268);
     Ok(())
 }
