@@ -1,5 +1,8 @@
 -- What a run leaves, of both parts.
-use Rattle.std.proofs.Common.{◌≡◌, true, [], length, Option, Some, None, ap, subst, inl, inr, sym, ◌∙◌}
+use Rattle.std.proofs.Common.{◌≡◌, true, List, [], ◌++◌, length, Option, Some, None, refl, ap, subst, inl, inr, sym, ◌∙◌}
+use Rattle.std.proofs.lemmas.List.{append-nil}
+use Rattle.lift_base.specs.declared.history.Entry.{Entry}
+use Rattle.lift_world.specs.declared.event.Taken.{Taken as Held}
 use Rattle.lift_disk.specs.Disk.{DiskState}
 use Rattle.lift_policy.specs.Eligible.{Choice}
 use Rattle.lift_keeper.specs.declared.fault.KeeperFault.{KeeperFault}
@@ -8,6 +11,7 @@ use Rattle.lift_relay.specs.declared.pair.RunFault.TheVariants.{Keeper, Spawn}
 use Rattle.lift_relay.specs.Allocator.{AllocatorState}
 use Rattle.lift_relay.specs.Flusher.{FlusherState}
 use Rattle.lift_relay.specs.Pair.{AllocatorTurns, FlusherTurns, fault_of, HaveRun, IsRun, IsSameAllocator, IsSameFlusher}
+use Rattle.lift_relay.specs.Runs.{HasPast, Advances, RunsAreHistories}
 use Rattle.lift_relay.proofs.Paired.{turns_joined, flushes_joined, same_allocator, same_flusher, faults_broken}
 
 abbrev fault_in : Option RunFault → Option KeeperFault
@@ -60,6 +64,26 @@ module _ {D P : Type 0} (choice : Choice) (state : D → DiskState) (a b : Alloc
     opened = ap (λ (s : FlusherState D). s.writer.opened) same;
   }
   flusher_of (inr run) = same_flusher state f g None run.first run.flusher
+
+-- What a run adds to what has happened, where as much was received as was sent: nothing, if no thread could be made.
+pub advances_of : {D P : Type 0} (chooses : P → Choice) (state : D → DiskState) (a b : AllocatorState P) (f g : FlusherState D) (fault : Option RunFault) (safe : List Entry) (given : List Held)
+    → RunsAreHistories D P chooses state → IsRun (chooses a.policy) state a b f g fault → ((fault ≡ Some Spawn → ⊥) → b.end.sent ≡ g.end.received) → HasPast chooses a f safe given
+    → Advances chooses b f g safe given
+advances_of {D} {P} chooses state a b f g fault safe given law (inl refused) same start = record {
+  batches = [];
+  more = [];
+  told = [];
+  adds = record {
+    received = ap (λ (x : FlusherState D). x.end.received) refused.1.1 ∙ sym (append-nil f.end.received);
+    begins = ([], refl);
+    commands = refl;
+    whole = λ e. (refl, refl);
+  };
+  past = subst (λ (x : AllocatorState P × FlusherState D × List Entry × List Held). HasPast chooses x.0 x.1 x.2 x.3)
+      (λ i. (sym refused.1.0 i, sym refused.1.1 i, sym (append-nil safe) i, sym (append-nil given) i)) start;
+}
+advances_of chooses state a b f g fault safe given law (inr run) same start =
+    law a b f g fault safe given start run (same (λ spawn. not_spawn run.first (subst is_spawn (sym spawn ∙ run.is_first) tt)))
 
 -- a drain behind the turns of both parts
 pub have_run : {D P : Type 0} (chooses : P → Choice) (state : D → DiskState) (a b c : AllocatorState P) (f g h : FlusherState D) (first last : Option KeeperFault) (fault : Option RunFault)

@@ -17,9 +17,10 @@ use Rattle.lift_clerk.specs.History.{IsRunOf}
 use Rattle.lift_clerk.proofs.Words.{asks_count}
 use Rattle.lift_relay.specs.Allocator.{AllocatorState}
 use Rattle.lift_relay.specs.Flusher.{FlusherState, IsFlusher}
+use Rattle.lift_relay.specs.Pair.{IsTelling}
 use Rattle.lift_relay.specs.Relay.{AreParts, IsRejoined}
 use Rattle.lift_relay.specs.Laws.{RelayLaws}
-use Rattle.lift_relay.specs.History.{Words, words_in, RelayHistory, ClerkSplit}
+use Rattle.lift_relay.specs.History.{Words, words_in, RelayHistory, ClerkSplit, PartsTold}
 use Rattle.lift_relay.specs.Runs.{AllTaken, HasPast, SplitsHavePasts, JoinedGoOn}
 use Rattle.lift_relay.proofs.Tied.{view_ahead}
 use Rattle.lift_relay.proofs.TiedHistory.{rejoinings_go_on}
@@ -52,6 +53,14 @@ splits_have_pasts {D} {P} chooses clerk a f safe given r p is =
             length-map k.first ask_of,
           );
     }
+
+pub tellings_go_on : {D P : Type 0} (chooses : P → Choice) (a b : AllocatorState P) (f g : FlusherState D) (safe : List Entry) (given : List Held) → IsTelling a b f g → HasPast chooses a f safe given
+    → HasPast chooses b g safe given
+tellings_go_on {D} {P} chooses a b f g safe given t p = record {
+  words = p.words;
+  history = PartsTold p.history t;
+  all_taken = λ n. p.all_taken n ∙ ap (λ (x : AllocatorState P). length (view_at x.seat n).taken) (sym t.allocator);
+}
 
 no_length : (l : List Command) → length l ≡ 0 → l ≡ []
 no_length [] e = refl

@@ -13,7 +13,7 @@ ghost use Rattle.lift_clerk.specs.Visits.{Visit};
 ghost use Rattle.lift_relay.specs.Batch.{BatchState, turns_behind, turns_with};
 ghost use Rattle.lift_relay.specs.Queued.{Queued};
 ghost use Rattle.lift_relay.specs.Relay.{AreOfOne};
-ghost use Rattle.lift_relay.specs.Flusher.{AnswersOne, Answered, IsSettled, IsEmptyTurn, IsBatchTurn, entries_between};
+ghost use Rattle.lift_relay.specs.Flusher.{IsFlusher, AnswersOne, Answered, IsSettled, IsEmptyTurn, IsBatchTurn, entries_between};
 
 use crate::allocator::Allocator;
 use crate::batch::{Batch, Taken};
@@ -128,7 +128,8 @@ impl<'d, 'b, D: Disk> Flusher<'d, 'b, D> {
         requires at_desk { end.desk ≡ desk.now }
         requires safe { writer.is_broken ≡ false → writer.register ≡ end.register }
         requires settled { IsSettled seat end.turns }
-        ensures { result ≡ record { desk = desk.now; seat = seat; writer = writer.entry; end = end } }
+        ensures value { result ≡ record { desk = desk.now; seat = seat; writer = writer.entry; end = end } }
+        ensures flusher { IsFlusher result }
     {
         Flusher {
             desk,

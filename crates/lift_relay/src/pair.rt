@@ -1,15 +1,19 @@
 //! Both parts on two threads.
 
-ghost use Rattle.std.specs.Prelude.{◌≡◌, ◌≢◌, [], length, true, Some, None, Result};
+ghost use Rattle.std.specs.Prelude.{◌≡◌, ◌≢◌, List, [], length, true, Some, None, Result};
+ghost use Rattle.lift_base.specs.declared.history.Entry.{Entry};
 ghost use Rattle.lift_keeper.specs.declared.fault.KeeperFault.{KeeperFault};
+ghost use Rattle.lift_world.specs.declared.event.Taken.{Taken};
 ghost use Rattle.lift_relay.specs.declared.flusher.FlushCounts.{FlushCounts};
 ghost use Rattle.lift_relay.specs.Queued.{Queued};
 ghost use Rattle.lift_relay.specs.Relay.{AreOfOne};
 ghost use Rattle.lift_relay.specs.Pair.{AllocatorTurns, FlusherTurns, IsFlush, first_of, ComesFrom, HaveTurned, IsRun, HaveRun, IsSameAllocator, IsSameFlusher};
+ghost use Rattle.lift_relay.specs.Runs.{HasPast, Advances};
 
 use crate::allocator::Allocator;
 use crate::flusher::Flusher;
 use crate::places::with_both;
+use crate::tie::runs_are_histories;
 use lift_disk::Disk;
 use lift_keeper::KeeperFault;
 use lift_policy::Policy;
@@ -302,7 +306,11 @@ where
     // What was received, and then what the line holds, is what was sent; after a run it holds nothing.
     ensures queued { Queued allocator.new.end flusher.new.end }
     ensures received { result ≢ Some RunFault.Spawn → allocator.new.end.sent ≡ flusher.new.end.received }
+    // Whatever has happened to both parts before, the history goes on by just the batches that the run received.
+    ensures history { (safe : List Entry) (given : List Taken) → HasPast P.chooses allocator.old flusher.old safe given
+        → Advances P.chooses allocator.new flusher.old flusher.new safe given }
 {
+    runs_are_histories::<D, P>();
     let fault = with_both(
         allocator,
         flusher,

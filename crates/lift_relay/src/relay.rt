@@ -1,13 +1,19 @@
 //! A clerk in two parts, and the parts together again.
 
-ghost use Rattle.std.specs.Prelude.{◌≡◌, ◌≢◌, ◌⊎◌, [], length, IfOk, IfErr, OnErr};
+ghost use Rattle.std.specs.Prelude.{◌≡◌, ◌≢◌, ◌⊎◌, List, [], length, IfOk, IfErr, OnErr};
+ghost use Rattle.lift_base.specs.declared.history.Entry.{Entry};
+ghost use Rattle.lift_world.specs.declared.event.Taken.{Taken};
+ghost use Rattle.lift_clerk.specs.History.{IsRunOf};
+ghost use Rattle.lift_relay.specs.Flusher.{IsFlusher};
 ghost use Rattle.lift_relay.specs.Queued.{Queued};
 ghost use Rattle.lift_relay.specs.Relay.{AreParts, AreOfOne, IsRejoined, CannotJoin};
+ghost use Rattle.lift_relay.specs.Runs.{HasPast};
 
 use crate::allocator::Allocator;
 use crate::batch::Batch;
 use crate::flusher::Flusher;
 use crate::line::new_line;
+use crate::tie::runs_are_histories;
 use arrayvec::ArrayVec;
 use lift_base::Memory;
 use lift_clerk::Clerk;
@@ -26,7 +32,11 @@ pub fn split<'d, 'b, D: Disk, P: Policy + Drop>(
     ensures parts { IfOk result (λ parts. AreParts clerk.entry parts.0 parts.1) }
     ensures of_one { IfOk result (λ parts. AreOfOne parts.0 parts.1) }
     ensures refused { IfErr result (λ back. back.0 ≡ clerk.entry) }
+    ensures flusher { IfOk result (λ parts. IsFlusher parts.1) }
+    // Where a run of the machine leads to the clerk, what has happened to it has happened to its parts.
+    ensures history { IfOk result (λ parts. (safe : List Entry) (given : List Taken) → IsRunOf clerk.entry safe given → HasPast P.chooses parts.0 parts.1 safe given) }
 {
+    runs_are_histories::<D, P>();
     let desk = clerk.desk();
     let (seat, keeper, policy) = clerk.into_parts();
     let (ahead, seat) = desk.split(seat);
@@ -64,6 +74,8 @@ pub fn tell<'d, 'b, D: Disk, P: Policy + Drop>(
     // What was received, and then what the line holds, is what was sent.
     ensures queued { Queued allocator.new.end flusher.new.end }
     ensures of_one { AreOfOne allocator.new flusher.new }
+    // Nothing happens by it.
+    ensures history { (safe : List Entry) (given : List Taken) → HasPast P.chooses allocator.old flusher.old safe given → HasPast P.chooses allocator.new flusher.new safe given }
 {
     flusher.tell(allocator);
 }
@@ -82,7 +94,10 @@ pub fn rejoin<'d, 'b, D: Disk, P: Policy + Drop>(
     ensures waits { OnErr result ((length allocator.entry.end.sent ≢ length flusher.entry.end.received) ⊎ (allocator.entry.hand ≢ [])) }
     // What was received, and then what the line holds, is what was sent.
     ensures queued { Queued allocator.entry.end flusher.entry.end }
+    // What has happened to the parts has happened to the clerk: a run of the machine leads to it.
+    ensures history { IfOk result (λ clerk. (safe : List Entry) (given : List Taken) → HasPast P.chooses allocator.entry flusher.entry safe given → IsRunOf clerk safe given) }
 {
+    runs_are_histories::<D, P>();
     flusher.compare(&mut allocator);
     if allocator.sent() != flusher.received()
         || allocator.has_batch_in_hand()

@@ -1,11 +1,12 @@
-use Rattle.std.proofs.Common.{sym, ap, ◌∙◌, subst}
+use Rattle.std.proofs.Common.{◌≡◌, sym, ap, ◌∙◌, subst}
 use Rattle.lift_relay.specs.Allocator.{AllocatorState}
 use Rattle.lift_relay.specs.Flusher.{FlusherState}
 use Rattle.lift_relay.specs.Pair.{HaveRun, IsSameAllocator, IsSameFlusher}
 use Rattle.lift_relay.specs.Relay.{AreOfOne}
 use Rattle.lift_relay.proofs.Queues.{all_received}
 use Rattle.lift_relay.proofs.Paired.{still_of_one}
-use Rattle.lift_relay.proofs.Ran.{refused_of, ran_of, broken_of, allocator_of, flusher_of}
+use Rattle.lift_relay.specs.Runs.{Advances}
+use Rattle.lift_relay.proofs.Ran.{refused_of, ran_of, broken_of, allocator_of, flusher_of, advances_of}
 use Rattle.lift_relay.proofs.pair.run.Goals as goal
 
 pub compare-requires : goal.compare-requires
@@ -60,3 +61,12 @@ returns-clause-of_one g c =
     (flusher_of choice state c.args.allocator.now c.with_both-fault.new.a c.args.flusher.now c.with_both-fault.new.b c.with_both-fault.result ran)
     c.requires.of_one in
     subst (λ (p : AllocatorState g.row.P.Denot × FlusherState g.row.D.Denot). AreOfOne p.0 p.1) (λ i. (sym c.compare.ensures.allocator i, sym c.compare.ensures.flusher i)) before
+
+pub returns-clause-history : goal.returns-clause-history
+returns-clause-history g c = λ safe given start.
+    let ran = c.with_both-fault in
+    subst (λ (p : AllocatorState g.row.P.Denot × FlusherState g.row.D.Denot). Advances g.P.Policy.chooses p.0 c.args.flusher.now p.1 safe given)
+    (λ i. (sym c.compare.ensures.allocator i, sym c.compare.ensures.flusher i))
+    (advances_of g.P.Policy.chooses g.D.Disk.state c.args.allocator.now ran.new.a c.args.flusher.now ran.new.b ran.result safe given c.runs_are_histories.ensures.runs ran.ensures
+    (λ goes. subst (λ (p : AllocatorState g.row.P.Denot × FlusherState g.row.D.Denot). p.0.end.sent ≡ p.1.end.received)
+    (λ i. (c.compare.ensures.allocator i, c.compare.ensures.flusher i)) (returns-clause-received g c goes)) start)

@@ -24,3 +24,6 @@ returns-clause-joined g c =
     } in
     subst (λ (p : AllocatorState g.row.P.Denot × FlusherState g.row.D.Denot). IsRejoined p.0 p.1 c.new.result)
     (λ i. (c.compare.ensures.allocator i, c.compare.ensures.flusher i)) joined
+
+pub returns-clause-history : goal.returns-clause-history
+returns-clause-history g c = λ safe given start. c.runs_are_histories.ensures.joined c.args.allocator c.args.flusher c.new.result safe given start (returns-clause-joined g c)
