@@ -7,7 +7,7 @@ use Rattle.lift_building.specs.Plan.{Plan}
 use Rattle.lift_disk.specs.Disk.{DiskState, Image, LeavesOnly}
 use Rattle.lift_disk.proofs.Moments.{leaves_weaker}
 use Rattle.lift_register.specs.Register.{RegisterState}
-use Rattle.lift_keeper.specs.Images.{IsImageOf}
+use Rattle.lift_keeper.specs.Images.{IsImageOf, IsInDoubt}
 use Rattle.lift_keeper.specs.declared.fault.KeeperFault.{KeeperFault}
 use Rattle.lift_policy.specs.Eligible.{Choice}
 use Rattle.lift_world.specs.declared.event.Taken.{Taken as Held}
@@ -25,7 +25,7 @@ use Rattle.lift_relay.specs.Flusher.{FlusherState, Answered}
 use Rattle.lift_relay.specs.Pair.{AllocatorTurns, NoMore, OneMore, HandSent, FlusherTurns, NoFlush, OneFlush, IsFlush}
 use Rattle.lift_relay.specs.Laws.{RelayLaws}
 use Rattle.lift_relay.specs.Tie.{entries_of, ReceivesSent}
-use Rattle.lift_relay.specs.Runs.{HasPast, Advances, TurnStands, TurnsStand}
+use Rattle.lift_relay.specs.Runs.{HasPast, Advances, TurnStands, TurnsStand, TurnRests, TurnsRest}
 use Rattle.lift_relay.proofs.TiedHistory.{run_of, crashes_show, crashes_in_turns, crashes_in_failing_turns}
 use Rattle.lift_relay.proofs.RunTurns.{all_of, begins_again, begins_long, begins_less, Step, NoBatch, MadeSafe, NotMade, WhileBroken, step_of, Turn, TakesNone, TakesSome, quiet_sending, turn_at, turn_grows, FromFirst, before, both}
 
@@ -152,10 +152,56 @@ module _ {D P : Type 0} (laws : RelayLaws) (chooses : P → Choice) (any : (poli
         (λ c p sent left either. crashes_in_failing_turns laws chooses any c g h p.past.words (safe ++ p.more) (given ++ p.told) batch left p.past.history t sent either)
     by_step (WhileBroken t) m = not_both g.writer.is_broken was t.was_broken
 
+  -- one that finds the writer broken
+  module _ (g h : FlusherState D) (first : Option KeeperFault) (answer : Result FlushCounts KeeperFault) (more : FlusherTurns state f None g first) (flush : IsFlush state g h answer)
+      (was : g.writer.is_broken ≡ true) (begins : Begins h.end.received whole) where
+    abbrev Rests : Type 0
+    Rests = TurnRests chooses f g h safe given (state g.writer.device) (state h.writer.device)
+
+    rests_at : (c : AllocatorState P) → Advances chooses c f g safe given → (batches : List BatchState) → h.end.received ≡ g.end.received ++ batches → Rests
+    rests_at c p batches receives = record {
+      now = c;
+      before = p;
+      batches = batches;
+      receives = receives;
+      moments = leaves_weaker (state g.writer.device) (state h.writer.device) (IsInDoubt g.writer.plan g.writer.register g.writer.doubt)
+          (ShowsEither g.writer.plan (safe ++ p.more) g.writer.doubt (given ++ p.told))
+          (λ honest left doubt.
+          shows_either g.writer.plan (safe ++ p.more) g.writer.doubt (given ++ p.told) left doubt
+          (crashes_show laws chooses any c g p.past.words (safe ++ p.more) (given ++ p.told) left p.past.history doubt))
+          (flush.while_broken was);
+    }
+
+    up_to : Begins g.end.received whole → (y c : AllocatorState P) → From y c → length g.end.received ≤ long c → Near c (length g.end.received) → Begins (all_of c) whole → Advances chooses c f g safe given
+    up_to front y c k le near here = both D laws chooses any state choice a f is_choice safe given start whole y c k f g None first refl more le near here front
+
+    broken_step : Step g h → Meets (length h.end.received) → Rests
+    broken_step (NoBatch e) m =
+        let same : h.end.received ≡ g.end.received = ap (λ (x : FlusherState D). x.end.received) e.same in
+        rests_at m.now
+        (up_to (subst (λ (l : List BatchState). Begins l whole) same begins) m.first m.now m.turns (subst (λ (l : List BatchState). length l ≤ long m.now) same m.le)
+        (subst (λ (l : List BatchState). Near m.now (length l)) same m.near) m.front)
+        [] (same ∙ sym (append-nil g.end.received))
+    broken_step (WhileBroken {batch = batch} t) m =
+        let front : Begins g.end.received whole = begins_again g.end.received h.end.received whole (batch ∷ [], t.turn.receives.receives) begins in
+        rests_at m.now
+        (before D laws chooses any state choice a f is_choice safe given start whole g h batch false t.turn.receives t.turn.answered begins (up_to front) m.first m.now m.turns.0 m.turns.1 m.le m.near m.front)
+        (batch ∷ []) t.turn.receives.receives
+    broken_step (MadeSafe t) m = not_both g.writer.is_broken t.was_whole was
+    broken_step (NotMade t) m = not_both g.writer.is_broken t.was_whole was
+
 pub turns_stand : {D P : Type 0} → RelayLaws → (chooses : P → Choice) → ((policy : P) → RunsAreAny (chooses policy)) → (state : D → DiskState) → TurnsStand D P chooses state
 turns_stand {D} {P} laws chooses any state a b f g h i first next last answer safe given start turns more flush later none same was =
     let whole : List BatchState = all_of b in
     let is : i.end.received ≡ whole = sym same ∙ sym (append-nil b.end.sent) ∙ ap (λ (l : List BatchState). b.end.sent ++ l) (sym none) in
     let begins : Begins h.end.received whole = subst (λ (l : List BatchState). Begins h.end.received l) is (flushes_grow state h i next last later) in
     by_step laws chooses any state (chooses a.policy) a f refl safe given start whole g h first answer more flush was begins (step_of state g h answer flush)
+    (meets laws chooses any state (chooses a.policy) a f refl safe given start whole (length h.end.received) a b refl turns (begins_long h.end.received whole begins) ([], sym (append-nil whole)))
+
+pub turns_rest : {D P : Type 0} → RelayLaws → (chooses : P → Choice) → ((policy : P) → RunsAreAny (chooses policy)) → (state : D → DiskState) → TurnsRest D P chooses state
+turns_rest {D} {P} laws chooses any state a b f g h i first next last answer safe given start turns more flush later none same was =
+    let whole : List BatchState = all_of b in
+    let is : i.end.received ≡ whole = sym same ∙ sym (append-nil b.end.sent) ∙ ap (λ (l : List BatchState). b.end.sent ++ l) (sym none) in
+    let begins : Begins h.end.received whole = subst (λ (l : List BatchState). Begins h.end.received l) is (flushes_grow state h i next last later) in
+    broken_step laws chooses any state (chooses a.policy) a f refl safe given start whole g h first answer more flush was begins (step_of state g h answer flush)
     (meets laws chooses any state (chooses a.policy) a f refl safe given start whole (length h.end.received) a b refl turns (begins_long h.end.received whole begins) ([], sym (append-nil whole)))

@@ -46,6 +46,8 @@ pub record IsFlush {D : Type 0} (state : D → DiskState) (old new : FlusherStat
   pub turns : IsEmptyTurn old new answer ⊎ ((batch : BatchState) × IsBatchTurn old new batch answer)
   pub any_moment : old.writer.is_broken ≡ false
       → LeavesOnly (state old.writer.device) (state new.writer.device) (IsEither old.writer.plan old.writer.register new.end.register)
+  pub while_broken : old.writer.is_broken ≡ true
+      → LeavesOnly (state old.writer.device) (state new.writer.device) (IsInDoubt old.writer.plan old.writer.register old.writer.doubt)
   pub acknowledged : OnOk answer (LeavesNow (state new.writer.device) (IsImageOf old.writer.plan new.end.register))
   pub in_doubt : answer ≡ Err (Journal Disk)
       → LeavesNow (state new.writer.device) (IsInDoubt old.writer.plan old.writer.register new.writer.doubt)

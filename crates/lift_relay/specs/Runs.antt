@@ -1,5 +1,5 @@
 -- A run of both parts is a history: their turns, which each thread had on its own, read one behind another.
-use Rattle.std.specs.Prelude.{ℕ, ◌≡◌, ◌≤◌, false, List, [], ◌++◌, length, map, count_by, Option, None, Result}
+use Rattle.std.specs.Prelude.{ℕ, ◌≡◌, ◌≤◌, true, false, List, [], ◌++◌, length, map, count_by, Option, None, Result}
 use Rattle.std.specs.List.{flat_map}
 use mathlib.Core.List.{IsPrefix}
 use Rattle.lift_base.specs.declared.history.Entry.{Entry}
@@ -81,6 +81,21 @@ abbrev pub TurnsStand : (D P : Type 0) → (P → Choice) → (D → DiskState) 
 TurnsStand D P chooses state = (a b : AllocatorState P) (f g h i : FlusherState D) (first next last : Option KeeperFault) (answer : Result FlushCounts KeeperFault) (safe : List Entry) (given : List Held)
     → HasPast chooses a f safe given → AllocatorTurns (chooses a.policy) a b → FlusherTurns state f None g first → IsFlush state g h answer → FlusherTurns state h next i last
     → b.hand ≡ [] → b.end.sent ≡ i.end.received → g.writer.is_broken ≡ false → TurnStands chooses f g h safe given (state g.writer.device) (state h.writer.device)
+
+-- One turn of the flusher in a run behind a fault. The history goes on to it likewise. It makes no call of the device: each image
+-- that a crash may leave shows all that was given until then, of what was safe, or of that with the batch in doubt.
+pub record TurnRests {D P : Type 0} (chooses : P → Choice) (f g h : FlusherState D) (safe : List Entry) (given : List Held) (old new : DiskState) : Type 0 where
+  pub now : AllocatorState P
+  pub before : Advances chooses now f g safe given
+  pub batches : List BatchState
+  pub receives : h.end.received ≡ g.end.received ++ batches
+  pub moments : LeavesOnly old new (ShowsEither g.writer.plan (safe ++ before.more) g.writer.doubt (given ++ before.told))
+
+-- So it is of each turn of a run that finds the writer broken.
+abbrev pub TurnsRest : (D P : Type 0) → (P → Choice) → (D → DiskState) → Type 0
+TurnsRest D P chooses state = (a b : AllocatorState P) (f g h i : FlusherState D) (first next last : Option KeeperFault) (answer : Result FlushCounts KeeperFault) (safe : List Entry) (given : List Held)
+    → HasPast chooses a f safe given → AllocatorTurns (chooses a.policy) a b → FlusherTurns state f None g first → IsFlush state g h answer → FlusherTurns state h next i last
+    → b.hand ≡ [] → b.end.sent ≡ i.end.received → g.writer.is_broken ≡ true → TurnRests chooses f g h safe given (state g.writer.device) (state h.writer.device)
 
 -- A clerk that begins over what a crash of the parts left goes on with what had happened to them, in the world which that power cut and
 -- its recovery leave. The power is cut between two turns of the flusher, whatever the allocator has taken or sent,

@@ -115,6 +115,14 @@ fn owes(desk: &Desk, seat: &ClerkSeat) -> bool
     false
 }
 
+// What a crash leaves while the writer is broken, which makes no call.
+fn resting<D: Disk>(writer: &Writer<'_, D>)
+    ensures { writer.now.is_broken ≡ true → LeavesOnly (D.state writer.now.device) (D.state writer.now.device)
+        (IsInDoubt writer.now.plan writer.now.register writer.now.doubt) }
+{
+    let _register = writer.register();
+}
+
 impl<'d, 'b, D: Disk> Flusher<'d, 'b, D> {
     /// The part that makes safe of a clerk that was just split, at the end of a line.
     pub(crate) fn new(
@@ -232,6 +240,9 @@ impl<'d, 'b, D: Disk> Flusher<'d, 'b, D> {
         // A crash at any moment of the call leaves the register that was safe before it, or that with the batch received.
         ensures any_moment { self.old.writer.is_broken ≡ false → LeavesOnly (D.state self.old.writer.device) (D.state self.new.writer.device)
             (IsEither self.old.writer.plan self.old.writer.register self.new.end.register) }
+        // A broken one makes no call: a crash leaves what was safe before the fault, or that with the batch in doubt.
+        ensures while_broken { self.old.writer.is_broken ≡ true → LeavesOnly (D.state self.old.writer.device) (D.state self.new.writer.device)
+            (IsInDoubt self.old.writer.plan self.old.writer.register self.old.writer.doubt) }
         // What was answered is safe: every crash from now on leaves it.
         ensures acknowledged { OnOk result (LeavesNow (D.state self.new.writer.device) (IsImageOf self.old.writer.plan self.new.end.register)) }
         ensures register { OnOk result (self.new.writer.register ≡ self.new.end.register) }
@@ -270,6 +281,7 @@ impl<'d, 'b, D: Disk> Flusher<'d, 'b, D> {
             → StopsCommit self.old.writer.plan self.old.writer.half self.old.writer.is_second self.old.writer.used
             self.old.writer.register self.new.writer.doubt (D.state self.old.writer.device) (D.state self.new.writer.device) }
     {
+        resting(&self.writer);
         let batch = match self.end.receive(rt) {
             Some(batch) => batch,
             None => {

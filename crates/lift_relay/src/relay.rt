@@ -56,10 +56,9 @@ pub fn split<'d, 'b, D: Disk, P: Policy + Drop>(
         }
     };
     let (decider, writer) = keeper.part();
-    Ok((
-        Allocator::new(desk, ahead, decider, policy, send),
-        Flusher::new(desk, seat, writer, receive),
-    ))
+    let allocator = Allocator::new(desk, ahead, decider, policy, send);
+    let flusher = Flusher::new(desk, seat, writer, receive);
+    Ok((allocator, flusher))
 }
 
 /// Tells each of two parts that come of one `split` how much was sent and how much was received. Behind it the allocator's

@@ -9,7 +9,7 @@ ghost use Rattle.lift_relay.specs.Laws.{RelayLaws};
 ghost use Rattle.lift_relay.specs.Tie.{SplitsAreNoEvents, RejoiningsAreNoEvents, FullTurnsAreNoEvents, EmptyTurnsAreNoEvents, SendingsAreNoEvents, TellingsAreNoEvents, NothingTakenIsNoEvent, TerminalsKeepParts};
 ghost use Rattle.lift_relay.specs.Tie.{ScansAreAllocations, NextsAreAllocations, FlushesAreFlushes, FailedFlushesAreFailures, BrokenFlushesAreBroken};
 ghost use Rattle.lift_relay.specs.Tie.{CrashesOfPartsShow, CrashesInFlushesShow, CrashesInFailuresShow};
-ghost use Rattle.lift_relay.specs.Runs.{RunsAreHistories, TurnsStand, SplitsHavePasts, JoinedGoOn, CutsGoOn, CutsInTurnsGoOn, CutsInFailuresGoOn};
+ghost use Rattle.lift_relay.specs.Runs.{RunsAreHistories, TurnsStand, TurnsRest, SplitsHavePasts, JoinedGoOn, CutsGoOn, CutsInTurnsGoOn, CutsInFailuresGoOn};
 ghost use Rattle.lift_relay.specs.History.{RelayHistoriesAreRuns, RejoiningsGoOn, RelayCrashesShowGiven, RelayCrashesInTurnsShowGiven, RelayCrashesInFailuresShowGiven};
 
 use crate::flusher::{FlushCounts, Flusher};
@@ -78,6 +78,7 @@ pub fn relays_are_the_machines<D: Disk, P: Policy>()
 pub fn runs_are_histories<D: Disk, P: Policy>()
     ensures runs { RunsAreHistories D P P.chooses D.state }
     ensures turns { TurnsStand D P P.chooses D.state }
+    ensures turns_broken { TurnsRest D P P.chooses D.state }
     ensures split { SplitsHavePasts D P P.chooses }
     ensures joined { JoinedGoOn D P P.chooses }
     ensures cuts { CutsGoOn D P P.chooses }

@@ -1,4 +1,4 @@
-use Rattle.std.proofs.Common.{◌≡◌, ℕ, List, [], refl, sym, ap, ◌∙◌, subst}
+use Rattle.std.proofs.Common.{rules, ◌≡◌, ℕ, List, [], refl, sym, ap, ◌∙◌, subst}
 use Rattle.lift_desk.specs.Seats.{ClerkPlace, ahead_from}
 use Rattle.lift_policy.specs.Eligible.{any_eligible}
 use Rattle.lift_policy.specs.Step.{State}
@@ -7,11 +7,12 @@ use Rattle.lift_relay.specs.declared.batch.Taken.{Taken}
 use Rattle.lift_relay.specs.Batch.{BatchState, turns_of, commands_in, replies_in}
 use Rattle.lift_relay.specs.Line.{ReceiveState}
 use Rattle.lift_relay.specs.Flusher.{IsSettled}
+use Rattle.lift_relay.specs.Relay.{AreParts}
 use Rattle.lift_relay.proofs.Flushed.{settled_first}
 use Rattle.lift_relay.proofs.relay.split.Goals as goal
 
-pub new-requires-4-clause-settled : goal.new-requires-4-clause-settled
-new-requires-4-clause-settled g c =
+pub new-flusher-requires-clause-settled : goal.new-flusher-requires-clause-settled
+new-flusher-requires-clause-settled g c =
     let seat = c.into_parts-seat.result.0 in
     let split = c.split-ahead.ensures in
     let turns : turns_of (ahead_from seat) ≡ c.in-Ok.ends.1.turns =
@@ -29,3 +30,19 @@ new-first-requires-clause-decided g c =
       run = subst (λ (l : List Taken). Run c.building.result.now any_eligible first (commands_in l) (replies_in l) first) (sym c.new.ensures) refl;
       entries = c.new-2.ensures;
     }
+
+pub returns-clause-history : goal.returns-clause-history
+returns-clause-history g c = λ safe given r.
+    let parts : AreParts c.args.clerk c.new-allocator.result c.new-flusher.result = record {
+      desks = search rules;
+      ahead = search rules;
+      seat = search rules;
+      plan = search rules;
+      state = search rules;
+      start = search rules;
+      policy = search rules;
+      writer = search rules;
+      line = search rules;
+      nothing_sent = search rules;
+    } in
+    c.runs_are_histories.ensures.split c.args.clerk c.new-allocator.result c.new-flusher.result safe given r parts c.new-flusher.ensures.flusher

@@ -1,5 +1,5 @@
 use Rattle.lift_relay.proofs.RunTurns.{runs_are_histories}
-use Rattle.lift_relay.proofs.RunMoments.{turns_stand}
+use Rattle.lift_relay.proofs.RunMoments.{turns_stand, turns_rest}
 use Rattle.lift_relay.proofs.RunJoins.{splits_have_pasts, joined_go_on}
 use Rattle.lift_relay.proofs.RunCuts.{cuts_go_on, cuts_in_turns_go_on, cuts_in_failures_go_on}
 use Rattle.lift_relay.proofs.tie.runs_are_histories.Goals as goal
@@ -9,6 +9,9 @@ returns-clause-runs g c = runs_are_histories g.row.D.Denot c.relay_laws.ensures 
 
 pub returns-clause-turns : goal.returns-clause-turns
 returns-clause-turns g c = turns_stand c.relay_laws.ensures g.P.Policy.chooses c.policies_are_covered.ensures.runs g.D.Disk.state
+
+pub returns-clause-turns_broken : goal.returns-clause-turns_broken
+returns-clause-turns_broken g c = turns_rest c.relay_laws.ensures g.P.Policy.chooses c.policies_are_covered.ensures.runs g.D.Disk.state
 
 pub returns-clause-split : goal.returns-clause-split
 returns-clause-split g c = splits_have_pasts g.P.Policy.chooses
