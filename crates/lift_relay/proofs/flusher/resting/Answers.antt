@@ -9,4 +9,4 @@ pub returns : goal.returns
 returns g c = λ was.
     let w = c.args.writer.now in
     leaves_none (g.D.Disk.state w.device) (IsInDoubt w.plan w.register w.doubt) (g.met.D.Disk.only_now w.device)
-    (subst (λ (r : RegisterState). LeavesNow (g.D.Disk.state w.device) (IsInDoubt w.plan r w.doubt)) c.register.ensures.value (c.register.ensures.in_doubt was))
+    (subst (λ (r : RegisterState). LeavesNow (g.D.Disk.state w.device) (IsInDoubt w.plan r w.doubt)) c.register-register.ensures.value (c.register-register.ensures.in_doubt was))
