@@ -19,6 +19,7 @@ pub mod TiedTerminals
 pub mod TiedCrash
 pub mod TiedHistory
 pub mod TiedTurns
+pub mod Amid
 pub mod RunPast
 pub mod RunTurns
 pub mod RunJoins

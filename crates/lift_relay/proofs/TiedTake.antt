@@ -136,13 +136,13 @@ module _ {D P : Type 0} (laws : RelayLaws) (choice : Choice) (any : RunsAreAny c
   abbrev later : ℕ → ClerkView
   later n = view_at f.seat n
 
-  few : length w.queue ≤ 4
+  pub few : length w.queue ≤ 4
   few =
       let long = queued_long (length f.seat) m.waiting w.queue m.queue in
       let much = room in
       omega (arith, ap length m.line, length-append f.end.received m.waiting)
 
-  are_found : AreFound w cs
+  pub are_found : AreFound w cs
   are_found = found laws w m.reached (is_queued w a f m) ahead later m.words cs few looks.1 (all_apart 0 t.visits)
 
   -- the words then
@@ -182,6 +182,25 @@ module _ {D P : Type 0} (laws : RelayLaws) (choice : Choice) (any : RunsAreAny c
     abbrev waiting : List BatchState
     waiting = m.waiting ++ t.batch ∷ []
 
+    shown : (letters : List (Option ℕ)) → goes (allocator_events cs letters) w ≡ Some end → (f.writer.is_broken ≡ false → RunsWhole end b f waiting) → (f.writer.is_broken ≡ true → RunsBroken end f)
+        → IsRelayOf end b f
+    shown letters possible whole broken = record {
+      building = m.building ∙ sym t.same_place.1;
+      same_plan = m.same_plan;
+      reached = reaches laws w m.reached (allocator_events cs letters) end possible refl;
+      between = record { nothing_taken = m.between.nothing_taken; all_sealed = refl };
+      nothing_due = m.nothing_due;
+      safe = ap register_after (safe_stays laws w m.reached state.batch) ∙ m.safe;
+      seats = ap (λ (s : List ClerkPlace). length s) t.looked ∙ Rattle.lift_clerk.proofs.Visiting.length-served a.seat t.visits [] ∙ m.seats;
+      waiting = waiting;
+      line = t.some some ∙ ap (λ (xs : List BatchState). xs ++ t.batch ∷ []) m.line ∙ append_assoc f.end.received m.waiting (t.batch ∷ []);
+      queue = queued_more (length f.seat) m.waiting w.queue t.batch (record { commands = with_replies cs rs; upto = length (w.accepted ++ state.batch) }) m.queue (same ∙ sym t.commands)
+          (subst (AreBelow (length f.seat)) (sym t.commands) (below (length f.seat) 0 a.seat t.visits (let s = m.seats in omega arith) t.takes));
+      words = words;
+      whole = whole;
+      broken = broken;
+    }
+
     leads : (letters : List (Option ℕ)) → goes (allocator_events cs letters) w ≡ Some end → (f.writer.is_broken ≡ false → RunsWhole end b f waiting) → (f.writer.is_broken ≡ true → RunsBroken end f)
         → LeadsOn w (allocator_events cs letters) [] (safe_list w) b f
     leads letters possible whole broken = record {
@@ -193,51 +212,49 @@ module _ {D P : Type 0} (laws : RelayLaws) (choice : Choice) (any : RunsAreAny c
       answered_is = sym (append-nil w.answered);
       same_asked = refl;
       same_heard = refl;
-      shows = record {
-        building = m.building ∙ sym t.same_place.1;
-        same_plan = m.same_plan;
-        reached = reaches laws w m.reached (allocator_events cs letters) end possible refl;
-        between = record { nothing_taken = m.between.nothing_taken; all_sealed = refl };
-        nothing_due = m.nothing_due;
-        safe = ap register_after (safe_stays laws w m.reached state.batch) ∙ m.safe;
-        seats = ap (λ (s : List ClerkPlace). length s) t.looked ∙ Rattle.lift_clerk.proofs.Visiting.length-served a.seat t.visits [] ∙ m.seats;
-        waiting = waiting;
-        line = t.some some ∙ ap (λ (xs : List BatchState). xs ++ t.batch ∷ []) m.line ∙ append_assoc f.end.received m.waiting (t.batch ∷ []);
-        queue = queued_more (length f.seat) m.waiting w.queue t.batch (record { commands = with_replies cs rs; upto = length (w.accepted ++ state.batch) }) m.queue (same ∙ sym t.commands)
-            (subst (AreBelow (length f.seat)) (sym t.commands) (below (length f.seat) 0 a.seat t.visits (let s = m.seats in omega arith) t.takes));
-        words = words;
-        whole = whole;
-        broken = broken;
-      };
+      shows = shown letters possible whole broken;
     }
 
-  by_state : (broken : Bool) → f.writer.is_broken ≡ broken → (letters : List (Option ℕ)) × LeadsOn w (allocator_events cs letters) [] (safe_list w) b f
-  by_state false e =
+  -- while nothing has failed it is decided by the policy
+  abbrev replies : List Reply
+  replies = replies_in t.batch.commands
+
+  run_here : f.writer.is_broken ≡ false → Run w.building any_eligible (state_of w) cs replies t.decided
+  run_here e = run_in choice any w a.plan a.state cs replies t.decided m.building (m.whole e).state t.run
+
+  made_here : f.writer.is_broken ≡ false → (letters : List (Option ℕ)) × (goes (allocator_events cs letters) w ≡ Some (allocated w cs replies t.decided))
+  made_here e = allocates laws w cs replies t.decided some m.between are_found (run_here e)
+
+  same_here : f.writer.is_broken ≡ false → map command_of (with_replies cs replies) ≡ cs
+  same_here e = run_commands w.building any_eligible (state_of w) t.decided cs replies (run_here e)
+
+  whole_here : f.writer.is_broken ≡ false → RunsWhole (allocated w cs replies t.decided) b f (m.waiting ++ t.batch ∷ [])
+  whole_here e =
       let k = m.whole e in
-      let rs : List Reply = replies_in t.batch.commands in
-      let run : Run w.building any_eligible (state_of w) cs rs t.decided = run_in choice any w a.plan a.state cs rs t.decided m.building k.state t.run in
-      let made = allocates laws w cs rs t.decided some m.between are_found run in
-      let registers = register_is w any_eligible cs rs t.decided m.between run in
+      let registers = register_is w any_eligible cs replies t.decided m.between (run_here e) in
       let now : List Entry = w.accepted ++ t.decided.batch in
       let entries : entries_of (m.waiting ++ t.batch ∷ []) ≡ entries_of m.waiting ++ t.decided.batch =
       flat_map-append (λ (x : BatchState). x.entries) m.waiting (t.batch ∷ []) ∙ ap (λ (xs : List Entry). entries_of m.waiting ++ xs) (append-nil t.batch.entries ∙ t.entries) in
-      let safe = safe_stays laws w m.reached t.decided.batch in (
-        made.0,
-        leads rs t.decided (run_commands w.building any_eligible (state_of w) t.decided cs rs run) made.0 made.1
-            (λ q. record {
-              between = record { running = k.between.running; idle = k.between.idle; nothing_flies = k.between.nothing_flies };
-              state = ap (λ (x : RegisterState × List Entry). record { register = x.0; positions = t.decided.positions; batch = x.1 }) (λ i. (registers i, drop-length now i)) ∙ sym t.after;
-              accepted = ap (λ (xs : List Entry). xs ++ t.decided.batch) k.accepted ∙ append_assoc (safe_list w) (entries_of m.waiting) t.decided.batch
-                  ∙ ap (λ (x : List Entry × List Entry). x.0 ++ x.1) (λ i. (sym safe i, sym entries i));
-              decided = subst (λ (n : ℕ). AreDecided n (m.waiting ++ t.batch ∷ []) (w.queue ++ record { commands = with_replies cs rs; upto = length now } ∷ [])) (ap length (sym safe))
-                  (decided_more (length (safe_list w)) m.waiting w.queue t.batch (record { commands = with_replies cs rs; upto = length now }) k.decided
-                  (ap (λ (xs : List Command). with_replies xs rs) (sym t.commands) ∙ held_all t.batch.commands)
-                  (omega (arith, length-append w.accepted t.decided.batch, ap length k.accepted, length-append (safe_list w) (entries_of m.waiting), ap length t.entries)));
-              register = k.register;
-              no_doubt = k.no_doubt;
-            })
-            (λ q. not_both f.writer.is_broken e q),
-      )
+      let safe = safe_stays laws w m.reached t.decided.batch in
+      record {
+        between = record { running = k.between.running; idle = k.between.idle; nothing_flies = k.between.nothing_flies };
+        state = ap (λ (x : RegisterState × List Entry). record { register = x.0; positions = t.decided.positions; batch = x.1 }) (λ i. (registers i, drop-length now i)) ∙ sym t.after;
+        accepted = ap (λ (xs : List Entry). xs ++ t.decided.batch) k.accepted ∙ append_assoc (safe_list w) (entries_of m.waiting) t.decided.batch
+            ∙ ap (λ (x : List Entry × List Entry). x.0 ++ x.1) (λ i. (sym safe i, sym entries i));
+        decided = subst (λ (n : ℕ). AreDecided n (m.waiting ++ t.batch ∷ []) (w.queue ++ record { commands = with_replies cs replies; upto = length now } ∷ [])) (ap length (sym safe))
+            (decided_more (length (safe_list w)) m.waiting w.queue t.batch (record { commands = with_replies cs replies; upto = length now }) k.decided
+            (ap (λ (xs : List Command). with_replies xs replies) (sym t.commands) ∙ held_all t.batch.commands)
+            (omega (arith, length-append w.accepted t.decided.batch, ap length k.accepted, length-append (safe_list w) (entries_of m.waiting), ap length t.entries)));
+        register = k.register;
+        no_doubt = k.no_doubt;
+      }
+
+  pub shown_here : f.writer.is_broken ≡ false → IsRelayOf (allocated w cs replies t.decided) b f
+  shown_here e = shown replies t.decided (same_here e) (made_here e).0 (made_here e).1 (λ q. whole_here e) (λ q. not_both f.writer.is_broken e q)
+
+  by_state : (broken : Bool) → f.writer.is_broken ≡ broken → (letters : List (Option ℕ)) × LeadsOn w (allocator_events cs letters) [] (safe_list w) b f
+  by_state false e =
+      ((made_here e).0, leads replies t.decided (same_here e) (made_here e).0 (made_here e).1 (λ q. whole_here e) (λ q. not_both f.writer.is_broken e q))
   by_state true e =
       let k = m.broken e in
       let h = laws.decided w.building (state_of w) cs in
@@ -255,12 +272,34 @@ module _ {D P : Type 0} (laws : RelayLaws) (choice : Choice) (any : RunsAreAny c
   pub allocation : (letters : List (Option ℕ)) × LeadsOn w (allocator_events cs letters) [] (safe_list w) b f
   allocation = by_state f.writer.is_broken refl
 
+-- by the desk's rule each look finds what was asked
+looks_asked : {D P : Type 0} (laws : RelayLaws) (choice : Choice) (w : World) (a b : AllocatorState P) (f : FlusherState D) (counts : Counts) (t : IsScanTurn choice a b counts)
+    (m : IsRelayOf w a f) → AllTakesAsked w.asked b.seat
+    → Reads a.seat t.visits × AllStand laws w m.reached (is_queued w a f m) (λ (n : ℕ). view_at a.seat n) (λ (n : ℕ). view_at f.seat n) m.words (commands_of 0 t.visits)
+looks_asked laws choice w a b f counts t m asked =
+    looks_from laws w m.reached (is_queued w a f m) (λ (n : ℕ). view_at a.seat n) (λ (n : ℕ). view_at f.seat n) m.words 0 a.seat t.visits
+    (λ k n e. let same : k ≡ n = omega arith in ap (view_at a.seat) same) t.takes
+    (λ k n e. let same : n ≡ k = omega arith in subst (TakesAsked w.asked n) (ap (λ (s : List ClerkPlace). view_at s n) t.looked ∙ ap (view_at (served a.seat t.visits [])) same) (asked n))
+
 pub scans_are_allocations : {D P : Type 0} → RelayLaws → (choice : Choice) → RunsAreAny choice → ScansAreAllocations D P choice
 scans_are_allocations laws choice any w a b f counts t some asked room m =
-    allocation laws choice any w a b f counts t some room m
-    (looks_from laws w m.reached (is_queued w a f m) (λ (n : ℕ). view_at a.seat n) (λ (n : ℕ). view_at f.seat n) m.words 0 a.seat t.visits
-    (λ k n e. let same : k ≡ n = omega arith in ap (view_at a.seat) same) t.takes
-    (λ k n e. let same : n ≡ k = omega arith in subst (TakesAsked w.asked n) (ap (λ (s : List ClerkPlace). view_at s n) t.looked ∙ ap (view_at (served a.seat t.visits [])) same) (asked n)))
+    allocation laws choice any w a b f counts t some room m (looks_asked laws choice w a b f counts t m asked)
+
+module _ {D P : Type 0} (laws : RelayLaws) (choice : Choice) (any : RunsAreAny choice) (w : World) (a b : AllocatorState P) (f : FlusherState D) (counts : Counts) (t : IsScanTurn choice a b counts)
+    (some : commands_of 0 t.visits ≢ []) (room : HasRoom a f) (m : IsRelayOf w a f) (asked : AllTakesAsked w.asked b.seat) where
+  pub found_at : (length w.queue ≤ 4) × AreFound w (commands_of 0 t.visits)
+  found_at = let looks = looks_asked laws choice w a b f counts t m asked in (
+    few laws choice any w a b f counts t some room m looks,
+    are_found laws choice any w a b f counts t some room m looks,
+  )
+
+  -- the world behind the scan, whoever was among it
+  pub stands_behind : f.writer.is_broken ≡ false
+      → (safe_list (allocated w (commands_of 0 t.visits) (replies_in t.batch.commands) t.decided) ≡ safe_list w) × IsRelayOf (allocated w (commands_of 0 t.visits) (replies_in t.batch.commands) t.decided) b f
+  stands_behind e = (
+    safe_stays laws w m.reached t.decided.batch,
+    shown_here laws choice any w a b f counts t some room m (looks_asked laws choice w a b f counts t m asked) e,
+  )
 
 pub nexts_are_allocations : {D P : Type 0} → RelayLaws → (choice : Choice) → RunsAreAny choice → NextsAreAllocations D P choice
 nexts_are_allocations laws choice any w a b f counts t some reads asked room m =

@@ -7,7 +7,7 @@ use Rattle.lift_policy.specs.declared.command.Command.{Command}
 use Rattle.lift_world.specs.declared.event.Event.{Event}
 use Rattle.lift_world.specs.World.{World, start}
 use Rattle.lift_world.specs.Next.{run}
-use Rattle.lift_world.specs.Among.{LooksFindAsks}
+use Rattle.lift_world.specs.Among.{LooksFindAsks, AsksStandOn, SealsAloneQueue, AllocationsGoAmong}
 use Rattle.lift_world.specs.Beside.{GoesAreRuns, RunsJoin}
 use Rattle.lift_world.specs.Headline.{HearsInOrder, AllAskOneByOne, RecoversAcknowledged, RecoversLetters}
 use Rattle.lift_world.specs.Possible.{AsksOnceHeard, HearsTheNext, PullsInTurn, CallsInOrder}
@@ -22,6 +22,9 @@ pub record RelayLaws : Type 0 where
   pub broken : (w : World) → BrokenFlushesAreEvents w
   pub parts : (w : World) → PartsMeet w
   pub looks : (w : World) (terminal : ℕ) (command : Command) → LooksFindAsks w terminal command
+  pub stands_on : (w : World) → AsksStandOn w
+  pub queued_by_seals : (w : World) → SealsAloneQueue w
+  pub scans_among : (w : World) → AllocationsGoAmong w
   pub decided : (building : Plan) (state : State) (commands : List Command) → HasRun building state commands
   pub in_order : (building : Plan) (events : List Event) → IsQueueInOrder (run events (start building))
   pub hears : (building : Plan) (events : List Event) → HearsInOrder (run events (start building))

@@ -11,5 +11,6 @@ pub mod Relay
 pub mod Pair
 pub mod Laws
 pub mod Tie
+pub mod Amid
 pub mod History
 pub mod Runs

@@ -8,6 +8,7 @@ ghost use Rattle.lift_relay.specs.Pair.{IsFlush};
 ghost use Rattle.lift_relay.specs.Laws.{RelayLaws};
 ghost use Rattle.lift_relay.specs.Tie.{SplitsAreNoEvents, RejoiningsAreNoEvents, FullTurnsAreNoEvents, EmptyTurnsAreNoEvents, SendingsAreNoEvents, TellingsAreNoEvents, NothingTakenIsNoEvent, TerminalsKeepParts};
 ghost use Rattle.lift_relay.specs.Tie.{ScansAreAllocations, NextsAreAllocations, FlushesAreFlushes, FailedFlushesAreFailures, BrokenFlushesAreBroken};
+ghost use Rattle.lift_relay.specs.Amid.{FlushesAmidScans};
 ghost use Rattle.lift_relay.specs.Tie.{CrashesOfPartsShow, CrashesInFlushesShow, CrashesInFailuresShow};
 ghost use Rattle.lift_relay.specs.Runs.{RunsAreHistories, TurnsStand, TurnsRest, SplitsHavePasts, JoinedGoOn, CutsGoOn, CutsInTurnsGoOn, CutsInFailuresGoOn};
 ghost use Rattle.lift_relay.specs.History.{RelayHistoriesAreRuns, RejoiningsGoOn, RelayCrashesShowGiven, RelayCrashesInTurnsShowGiven, RelayCrashesInFailuresShowGiven};
@@ -59,6 +60,7 @@ pub fn relays_are_the_machines<D: Disk, P: Policy>()
     ensures flushes { FlushesAreFlushes D P }
     ensures failures { FailedFlushesAreFailures D P }
     ensures broken { BrokenFlushesAreBroken D P }
+    ensures amid { (policy : P) → FlushesAmidScans D P (P.chooses policy) }
     ensures crashes { CrashesOfPartsShow D P }
     ensures within { CrashesInFlushesShow D P }
     ensures within_failed { CrashesInFailuresShow D P }
