@@ -10,3 +10,4 @@ pub mod Desk
 pub mod Single
 pub mod Determined
 pub mod Whole
+pub mod Streams

@@ -56,7 +56,7 @@ is_line (ReaderFailed part) = false
 is_line (CallsUsed part) = false
 is_line (LastLine line gave cut) = true
 
-abbrev first_came : Option ℕ → LastCame
+abbrev pub first_came : Option ℕ → LastCame
 first_came None = NoAnswer
 first_came (Some count) = FirstLineCut count
 
@@ -77,7 +77,7 @@ first_is_first : (cut : Option ℕ) → is_first (first_came cut) ≡ true
 first_is_first None = refl
 first_is_first (Some count) = refl
 
-same_opening : (looks : ℕ) (one greeted other welcomed : PortView) (x y : Opening) → PortOpened looks one x greeted → PortOpened looks other y welcomed
+pub same_opening : (looks : ℕ) (one greeted other welcomed : PortView) (x y : Opening) → PortOpened looks one x greeted → PortOpened looks other y welcomed
     → one.pending ≡ other.pending → brought_by x ≡ brought_by y → x ≡ y
 same_opening looks one greeted other welcomed Free Free a b waits same = refl
 same_opening looks one greeted other welcomed Free (BroughtIn number reply) a b waits same = absurd (cc same)
@@ -110,7 +110,7 @@ record Spoken (wants : List ℕ → Wanted → Type 0) (keeps : LastLetter → �
   pub wrote : text ≡ cut_to cut (answer_line outcome)
 
 -- it ended with its first line
-record AtOnce (keeps : LastLetter → ℕ → Reply → LastLetter) (looks : ℕ) (end : End) (came : Came) (text : List ℕ) (before after : Standing) : Type 0 where
+pub record AtOnce (keeps : LastLetter → ℕ → Reply → LastLetter) (looks : ℕ) (end : End) (came : Came) (text : List ℕ) (before after : Standing) : Type 0 where
   pub opening : Opening
   pub cut : Option ℕ
   pub opened : PortOpened looks before.port opening after.port
@@ -178,7 +178,7 @@ module _ (wants : List ℕ → Wanted → Type 0) (unique : (line : List ℕ) (o
       absurd (false≢true (sym b.lineless ∙ ap is_line (sym same ∙ a.came_so)))
   same_behind came more text words one one_after other other_after (inr a) (inr b) last same = same_spoken came more text words one one_after other other_after a b last same
 
-  first_seen : (end : End) (before after : Standing) (first : EndsAtOnce keeps limits end before after)
+  pub first_seen : (end : End) (before after : Standing) (first : EndsAtOnce keeps limits end before after)
       → AtOnce keeps limits.looks end (came_first keeps limits end before after first) (first_text keeps limits end before after first) before after
   first_seen Late before after first =
       record { opening = StillWaits; cut = None; opened = first.0.port; last = first.0.last; wrote = refl; came_so = refl; ended = refl }
@@ -189,7 +189,7 @@ module _ (wants : List ℕ → Wanted → Type 0) (unique : (line : List ℕ) (o
   first_seen Spent before after first = absurd first
   first_seen ReadFault before after first = absurd first
 
-  same_first : (one_end other_end : End) (came more : Came) (text words : List ℕ) (one one_after other other_after : Standing)
+  pub same_first : (one_end other_end : End) (came more : Came) (text words : List ℕ) (one one_after other other_after : Standing)
       → AtOnce keeps limits.looks one_end came text one one_after → AtOnce keeps limits.looks other_end more words other other_after
       → one.last ≡ other.last → one.port.pending ≡ other.port.pending → came ≡ more → (one_end ≡ other_end) × (one_after.last ≡ other_after.last) × (text ≡ words)
   same_first one_end other_end came more text words one one_after other other_after a b last waits same =

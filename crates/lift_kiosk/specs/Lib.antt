@@ -6,3 +6,4 @@ pub mod Kiosk
 pub mod Desk
 pub mod Determined
 pub mod Whole
+pub mod Streams

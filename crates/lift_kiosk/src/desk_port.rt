@@ -5,17 +5,17 @@ ghost use Rattle.lift_desk.specs.Seats.{IsSeatOf};
 ghost use Rattle.lift_desk.specs.Words.{IsBody, IsReply};
 
 use crate::port::Port;
-use lift_base::{Body, Number, ProofCount, Reply, Terminal};
+use crate::yields::Yields;
+use lift_base::{Body, Number, Reply, Terminal};
 use lift_desk::{AskRefusal, Desk, Seat};
 use std::marker::Model;
-use std::thread;
 
 /// A terminal's seat at the desk as a port. It rests by letting other threads run.
 #[derive(Drop)]
 pub struct DeskPort<'d> {
     desk: &'d Desk,
     seat: Seat,
-    rests: ProofCount,
+    rests: Yields,
 }
 
 impl<'d> Model for DeskPort<'d> {
@@ -24,7 +24,7 @@ impl<'d> Model for DeskPort<'d> {
 
     ghost Value = { DeskPortState };
 
-    ghost view = { λ p. record { desk = p.desk.now; seat = p.seat; rests = p.rests.count } };
+    ghost view = { λ p. record { desk = p.desk.now; seat = p.seat; rests = p.rests } };
 
     ghost invariant = { λ p. IsSeatOf p.desk.now p.seat };
 }
@@ -38,7 +38,7 @@ impl<'d> DeskPort<'d> {
         DeskPort {
             desk,
             seat,
-            rests: ProofCount::new(),
+            rests: Yields::new(),
         }
     }
 
@@ -119,7 +119,6 @@ impl<'d> Port for DeskPort<'d> {
     }
 
     fn rest(&mut self) {
-        self.rests = ProofCount::next(&self.rests);
-        thread::yield_now();
+        self.rests.let_others_run();
     }
 }

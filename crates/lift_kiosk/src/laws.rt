@@ -2,6 +2,7 @@
 
 ghost use Rattle.lift_kiosk.specs.Determined.{AsksForOneThing, LineDetermines, LinesDetermine, OutcomesAreWritten};
 ghost use Rattle.lift_kiosk.specs.Whole.{SessionsDetermine, SessionsAreWritten};
+ghost use Rattle.lift_kiosk.specs.Streams.{StreamsDetermine};
 ghost use Rattle.lift_kiosk.specs.Kiosk.{WantsCall, keeps_letter};
 
 use crate::dialect::Dialect;
@@ -10,12 +11,14 @@ use crate::kiosk::Kiosk;
 /// Sessions in which a line asks for one thing at most are determined: what comes of a line follows from it and from what the
 /// port gives for it, so that the same lines and answers of the port lead to the same outcomes and the same last command; what
 /// is written for the lines follows from these outcomes. And where the same comes from the port, the reader and the writer,
-/// from the first line to the last byte, a session ends alike, knows the same last command, and wrote the same.
+/// from the first line to the last byte, a session ends alike, knows the same last command, and wrote the same; also where of
+/// the reader only its bytes are known, and how its last call went, and not where a line or the session ended.
 pub fn dialects_determine<T: Dialect>()
     ensures line { AsksForOneThing T.wants → LineDetermines T.wants }
     ensures lines { AsksForOneThing T.wants → LinesDetermine T.wants T.keeps }
     ensures written { AsksForOneThing T.wants → OutcomesAreWritten T.wants T.keeps }
     ensures whole { AsksForOneThing T.wants → SessionsDetermine T.wants T.keeps }
+    ensures streams { AsksForOneThing T.wants → StreamsDetermine T.wants T.keeps }
     ensures text { AsksForOneThing T.wants → SessionsAreWritten T.wants T.keeps }
 {}
 
@@ -25,6 +28,7 @@ pub fn sessions_are_determined()
     ensures lines { LinesDetermine WantsCall keeps_letter }
     ensures written { OutcomesAreWritten WantsCall keeps_letter }
     ensures whole { SessionsDetermine WantsCall keeps_letter }
+    ensures streams { StreamsDetermine WantsCall keeps_letter }
     ensures text { SessionsAreWritten WantsCall keeps_letter }
 {
     dialects_determine::<Kiosk>();

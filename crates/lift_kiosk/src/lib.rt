@@ -14,6 +14,7 @@ mod port;
 mod reading;
 mod speaking;
 mod terms;
+mod yields;
 
 pub use conversation::converse;
 pub use desk_port::DeskPort;

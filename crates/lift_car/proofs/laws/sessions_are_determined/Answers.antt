@@ -13,5 +13,8 @@ returns-clause-written c = c.dialects_determine.ensures.written one_thing
 pub returns-clause-whole : goal.returns-clause-whole
 returns-clause-whole c = c.dialects_determine.ensures.whole one_thing
 
+pub returns-clause-streams : goal.returns-clause-streams
+returns-clause-streams c = c.dialects_determine.ensures.streams one_thing
+
 pub returns-clause-text : goal.returns-clause-text
 returns-clause-text c = c.dialects_determine.ensures.text one_thing

@@ -1,5 +1,6 @@
 use Rattle.lift_kiosk.proofs.Determined.{outcome_is, exchanges_are, written_is}
 use Rattle.lift_kiosk.proofs.Whole.{same_session, all_written}
+use Rattle.lift_kiosk.proofs.Streams.{same_streams}
 use Rattle.lift_kiosk.proofs.laws.dialects_determine.Goals as goal
 
 pub returns-clause-line : goal.returns-clause-line
@@ -13,6 +14,9 @@ returns-clause-written g c unique = written_is g.T.Dialect.wants unique g.T.Dial
 
 pub returns-clause-whole : goal.returns-clause-whole
 returns-clause-whole g c unique = same_session g.T.Dialect.wants unique g.T.Dialect.keeps
+
+pub returns-clause-streams : goal.returns-clause-streams
+returns-clause-streams g c unique = same_streams g.T.Dialect.wants unique g.T.Dialect.keeps
 
 pub returns-clause-text : goal.returns-clause-text
 returns-clause-text g c unique = all_written g.T.Dialect.wants unique g.T.Dialect.keeps

@@ -1,0 +1,88 @@
+-- A whole session follows from what its port, its reader and its writer gave, whatever the session made of it.
+use Rattle.std.specs.Prelude.{◌≡◌, ℕ, List, [], ◌∷◌, ◌++◌, Option, Some, None}
+use Rattle.lift_base.specs.declared.command.Reply.{Reply}
+use Rattle.lift_kiosk.specs.declared.dialect.Wanted.{Wanted}
+use Rattle.lift_kiosk.specs.declared.terms.End.{End}
+use Rattle.lift_kiosk.specs.declared.terms.LastLetter.{LastLetter}
+use Rattle.lift_kiosk.specs.declared.terms.Limits.{Limits}
+use Rattle.lift_kiosk.specs.Session.{Standing, IsSession}
+use Rattle.lift_kiosk.specs.Whole.{LastCame, NoAnswer, FirstLineCut, NothingMore, ReaderEnded, ReaderFailed, CallsUsed, LastLine, Came, came_to, text_of}
+
+-- how the last call of the reader went
+pub data LastRead : Type 0 where
+  -- it gave a byte, or there was no call
+  GaveByte : LastRead
+  -- it found the end
+  GaveEnd : LastRead
+  -- it failed
+  GaveFault : LastRead
+
+-- what a session's surroundings gave it, in the order in which each of them gave it
+pub record Streams : Type 0 where
+  pub brought : Option (Option Reply)  -- the port, for the ask of an earlier session, where one was pending
+  pub bytes : List ℕ  -- all bytes of the reader
+  pub read : LastRead
+  pub given : List (Option (Option Reply))  -- the port, for the session's own asks
+  pub cut : Option ℕ  -- how many bytes of the last line the writer took, where it did not take all
+
+-- lines with their line feeds, and what came behind the last of them
+abbrev pub lines_read : List (List ℕ) → (behind : List ℕ) → List ℕ
+lines_read [] behind = behind
+lines_read (line ∷ lines) behind = line ++ 10 ∷ lines_read lines behind
+
+abbrev pub last_bytes : LastCame → List ℕ
+last_bytes NoAnswer = []
+last_bytes (FirstLineCut count) = []
+last_bytes NothingMore = []
+last_bytes (ReaderEnded part) = part
+last_bytes (ReaderFailed part) = part
+last_bytes (CallsUsed part) = part
+last_bytes (LastLine line gave cut) = line ++ 10 ∷ []
+
+abbrev pub last_read : LastCame → LastRead
+last_read NoAnswer = GaveByte
+last_read (FirstLineCut count) = GaveByte
+last_read NothingMore = GaveByte
+last_read (ReaderEnded part) = GaveEnd
+last_read (ReaderFailed part) = GaveFault
+last_read (CallsUsed part) = GaveByte
+last_read (LastLine line gave cut) = GaveByte
+
+abbrev pub last_given : LastCame → List (Option (Option Reply))
+last_given NoAnswer = []
+last_given (FirstLineCut count) = []
+last_given NothingMore = []
+last_given (ReaderEnded part) = []
+last_given (ReaderFailed part) = []
+last_given (CallsUsed part) = []
+last_given (LastLine line gave cut) = gave
+
+abbrev pub last_cut : LastCame → Option ℕ
+last_cut NoAnswer = None
+last_cut (FirstLineCut count) = Some count
+last_cut NothingMore = None
+last_cut (ReaderEnded part) = None
+last_cut (ReaderFailed part) = None
+last_cut (CallsUsed part) = None
+last_cut (LastLine line gave cut) = cut
+
+-- where the lines end, and which of them came last, is no longer told
+abbrev pub streams_of : Came → Streams
+streams_of came = record {
+  brought = came.brought;
+  bytes = lines_read came.lines (last_bytes came.last);
+  read = last_read came.last;
+  given = came.given ++ last_given came.last;
+  cut = last_cut came.last;
+}
+
+-- Two sessions that know the same last command, whose ports await the answer to the same ask, and to which port, reader and
+-- writer give the same: they end alike, know the same last command then, and wrote the same.
+abbrev pub StreamsDetermine : (wants : List ℕ → Wanted → Type 0) → (keeps : LastLetter → ℕ → Reply → LastLetter) → Type 0
+StreamsDetermine wants keeps =
+    (limits : Limits) (one_end other_end : End) (one one_after other other_after : Standing)
+    (first : IsSession wants keeps limits one_end one one_after) (second : IsSession wants keeps limits other_end other other_after)
+    → one.last ≡ other.last → one.port.pending ≡ other.port.pending
+    → streams_of (came_to wants keeps limits one_end one one_after first) ≡ streams_of (came_to wants keeps limits other_end other other_after second)
+    → (one_end ≡ other_end) × (one_after.last ≡ other_after.last)
+    × (text_of wants keeps limits one_end one one_after first ≡ text_of wants keeps limits other_end other other_after second)
