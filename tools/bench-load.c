@@ -28,7 +28,7 @@ struct client {
     long number;          /* of the command that is asked */
     int floor, up;        /* where a car is */
     int is_stop;          /* whether a car asked a stop, and not its place */
-    double asked, wakes;  /* when it asked; when an idle car asks again, else 0 */
+    double asked, wakes;  /* when it asked; when an idle car or a refused kiosk asks again, else 0 */
     char line[256];
     size_t length;
 };
@@ -123,6 +123,8 @@ static void answered(struct client *client, const char *line) {
         client->number++;
     } else if (client->role == KIOSK && strcmp(line, "NO 3") == 0) {
         rows[KIOSK].refused++;
+        client->wakes = time + IDLE_US;
+        return;
     } else {
         fail("an answer:", line);
     }

@@ -6,9 +6,6 @@ use std::sync::Wait;
 use std::sync::atomic::{AtomicU64, Ordering};
 use std::thread::Parker;
 
-/// How many batches may be decided ahead of the one that the flusher has in hand. A batch that is decided later is fuller.
-const AHEAD: u64 = 1;
-
 /// What wakes the two threads: the allocator's waits for asks, or for the flusher to go on; the flusher's waits for batches.
 #[derive(Drop)]
 pub struct Bells {
@@ -70,10 +67,10 @@ impl<'s> Pace<'s> {
         }
     }
 
-    /// Whether no more than so many batches wait for the flusher.
+    /// Whether the flusher has nothing in hand. A batch that is decided later is fuller, and whoever is in it waits for one
+    /// batch less.
     fn has_room(&self, sent: u64) -> bool {
-        let flushed = self.flushed.load(Ordering::SeqCst);
-        sent <= flushed.saturating_add(AHEAD)
+        sent <= self.flushed.load(Ordering::SeqCst)
     }
 }
 
@@ -105,9 +102,10 @@ impl<'s> Gate for Pace<'s> {
 
     fn has_flushed<R: Wait>(&self, _rt: &R, count: u64) {
         self.flushed.store(count, Ordering::SeqCst);
+        // The next batch is decided while the terminals of this one are woken.
+        self.bells.room.unpark();
         for pager in self.pagers {
             pager.is_flushed(count);
         }
-        self.bells.room.unpark();
     }
 }
