@@ -11,10 +11,13 @@ use lift_register::Register;
 use std::alloc::AllocError;
 use std::fmt::Write;
 
-/// Adds a number. A turn tells several, so it is done without a formatter.
+/// Adds a number. A turn tells several, so it is done without a formatter, and most of them have one digit.
 fn push_number(report: &mut String, number: u64) -> Result<(), AllocError>
     ensures { OnOk result (string_bytes report.new ≡ string_bytes report.old ++ decimal number) }
 {
+    if number < 10 {
+        return report.push((b'0' + number as u8) as char);
+    }
     report.push_str(Buffer::new().format(number))
 }
 
