@@ -14,6 +14,7 @@ pub mod OneReport
 pub mod Telling
 pub mod Found
 pub mod Built
+pub mod Digits
 pub mod Spelled
 pub mod Total
 pub mod Fronts

@@ -250,6 +250,10 @@ pub fn parse(line: &str) -> Option<ScriptLine>
     ensures some { IfSome result (λ wanted. Spells line.now wanted) }
     ensures none { IfNone result ((wanted : Wanted) → Spells line.now wanted → ⊥) }
 {
+    // The most frequent line is not cut into words.
+    if line == "turn" {
+        return Some(ScriptLine::Turn);
+    }
     let words = words_of(line)?;
     match words.as_slice() {
         [first, others @ ..] => asked_by(first, others),

@@ -1,20 +1,24 @@
 //! The lines of a report.
 
 ghost use Rattle.std.specs.Prelude.{◌≡◌, ◌++◌, OnOk, decimal, string_bytes};
-ghost use Rattle.lift_base.specs.Text.{terminal_text, reply_text};
+ghost use Rattle.lift_base.specs.declared.command.Reply.TheVariants.{Car};
+ghost use Rattle.lift_base.specs.Text.{letter_text, terminal_text, next_text, reply_text};
 ghost use Rattle.lift_replay.specs.Report.{status_text, party_text, row_text, rows_text, car_text, register_text, halt_text, heard_text, waiting_text, spent_text, cut_text, turn_text, cost_text, bad_text, fault_text, refused_text, building_text, detour_text};
 
 use itoa::Buffer;
-use lift_base::{Floor, Halt, Letter, Number, Party, Reason, Reply, Row, Terminal};
+use lift_base::{Dir, Floor, Halt, Letter, Number, Party, Reason, Reply, Row, Stop, Terminal};
 use lift_building::BuildingFault;
 use lift_register::Register;
 use std::alloc::AllocError;
 use std::fmt::Write;
 
-/// Adds a number. A turn tells several, so it is done without a formatter.
+/// Adds a number. A turn tells several, so it is done without a formatter, and most of them have one digit.
 fn push_number(report: &mut String, number: u64) -> Result<(), AllocError>
     ensures { OnOk result (string_bytes report.new ≡ string_bytes report.old ++ decimal number) }
 {
+    if number < 10 {
+        return report.push((b'0' + number as u8) as char);
+    }
     report.push_str(Buffer::new().format(number))
 }
 
@@ -26,7 +30,40 @@ fn push_terminal(report: &mut String, terminal: Terminal) -> Result<(), AllocErr
     if index < 16 {
         report.push((b'A' + index) as char)
     } else {
-        write!(report, "{terminal}")
+        report.push('K')?;
+        push_number(report, u64::from(index - 16))
+    }
+}
+
+/// Adds the letter of a car.
+fn push_letter(report: &mut String, car: Letter) -> Result<(), AllocError>
+    ensures { OnOk result (string_bytes report.new ≡ string_bytes report.old ++ letter_text car) }
+{
+    report.push((b'A' + car.get()) as char)
+}
+
+/// Adds the car that a call was given, as it is answered.
+fn push_car(report: &mut String, car: Letter) -> Result<(), AllocError>
+    ensures { OnOk result (string_bytes report.new ≡ string_bytes report.old ++ reply_text (Car car)) }
+{
+    report.push_str("CAR ")?;
+    push_letter(report, car)
+}
+
+/// Adds the next stop of a car, as it is answered.
+fn push_next(report: &mut String, next: Option<Stop>) -> Result<(), AllocError>
+    ensures { OnOk result (string_bytes report.new ≡ string_bytes report.old ++ next_text next) }
+{
+    match next {
+        None => report.push_str("IDLE"),
+        Some(Stop { floor, dir }) => {
+            report.push_str("NEXT ")?;
+            push_number(report, u64::from(floor.get()))?;
+            match dir {
+                Dir::Up => report.push_str(" up"),
+                Dir::Down => report.push_str(" down"),
+            }
+        }
     }
 }
 
@@ -35,7 +72,9 @@ fn push_reply(report: &mut String, reply: Reply) -> Result<(), AllocError>
     ensures { OnOk result (string_bytes report.new ≡ string_bytes report.old ++ reply_text reply) }
 {
     match reply {
-        Reply::Stopped(None) => report.push_str("IDLE"),
+        Reply::Car(car) => push_car(report, car),
+        Reply::Stopped(next) => push_next(report, next),
+        Reply::Placed(next) => push_next(report, next),
         _ => write!(report, "{reply}"),
     }
 }
@@ -138,8 +177,10 @@ pub fn push_waiting(
 ) -> Result<(), AllocError>
     ensures { OnOk result (string_bytes report.new ≡ string_bytes report.old ++ waiting_text terminal number) }
 {
-    let number = number.get();
-    writeln!(report, "{terminal} {number} WAITING")
+    push_terminal(report, terminal)?;
+    report.push(' ')?;
+    push_number(report, u64::from(number.get()))?;
+    report.push_str(" WAITING\n")
 }
 
 /// Adds that a terminal has no turn left to ask with.
@@ -172,7 +213,10 @@ pub fn push_turn(report: &mut String, taken: usize, accepted: usize) -> Result<(
 pub fn push_cost(report: &mut String, car: Letter, cost: u64) -> Result<(), AllocError>
     ensures { OnOk result (string_bytes report.new ≡ string_bytes report.old ++ cost_text car cost) }
 {
-    write!(report, " {car}={cost}")
+    report.push(' ')?;
+    push_letter(report, car)?;
+    report.push('=')?;
+    push_number(report, cost)
 }
 
 /// Adds that a line is malformed.

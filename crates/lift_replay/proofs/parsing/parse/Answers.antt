@@ -1,7 +1,11 @@
 use Rattle.std.proofs.Common.{ap, sym, ◌∙◌}
 use Rattle.lift_base.proofs.Texts.{first_and_others, none_weaker, texts}
-use Rattle.lift_replay.proofs.Words.{one_line}
+use Rattle.lift_base.proofs.Words.{same_text}
+use Rattle.lift_replay.proofs.Words.{one_line, turn_line}
 use Rattle.lift_replay.proofs.parsing.parse.Goals as goal
+
+pub returns-then-eq-clause-some : goal.returns-then-eq-clause-some
+returns-then-eq-clause-some c = turn_line c.args.line.now (same_text _ _ (sym c.if-eq.ensures))
 
 pub returns-in-len1-up-clause-none : goal.returns-in-len1-up-clause-none
 returns-in-len1-up-clause-none c =
