@@ -11,8 +11,8 @@ use Rattle.lift_keeper.specs.Keeper.{KeeperView}
 use Rattle.lift_keeper.specs.Reopening.{RefusesReopening, Reopens}
 use Rattle.lift_keeper.specs.declared.fault.KeeperFault.{KeeperFault}
 use Rattle.lift_keeper.specs.declared.fault.KeeperFault.TheVariants.{Journal as OfJournal, OtherBuilding, BadEntry}
-use Rattle.lift_disk.specs.Files.{file_state_of}
-use Rattle.lift_disk.specs.declared.file.FileDisk.{FileDisk}
+use Rattle.lift_program.specs.Images.{image_state_of}
+use Rattle.lift_program.specs.declared.image.ImageDisk.{ImageDisk}
 use Rattle.lift_program.specs.Ends.{IsFileFault, IsFormatFault, IsReplayFault, IsReportOfFault, IsServeFault, IsShowFault, IsShowingFault}
 use Rattle.lift_program.specs.Faults.{of_building}
 use Rattle.lift_program.specs.Showing.{IsOpeningFault, ShowsFront}
@@ -34,19 +34,19 @@ first_fault text NoRoom short first = tt
 pub has_building : (plan : Plan) (text : List ℕ) → length text ≤ most_text → IsTextOf text plan → HasBuilding plan
 has_building plan text short described = record { text = text; short = short; described = described }
 
-pub has_keeper : (plan : Plan) (opened : FileDisk) (keeper : KeeperView FileDisk) → (file_state_of opened).calls ≡ 0 → (file_state_of opened).failures ≡ 0
-    → Reopens plan (file_state_of opened) (file_state_of keeper.writer.device) keeper.writer.register keeper.writer.half keeper.writer.is_second keeper.writer.used
+pub has_keeper : (plan : Plan) (opened : ImageDisk) (keeper : KeeperView ImageDisk) → (image_state_of opened).calls ≡ 0 → (image_state_of opened).failures ≡ 0
+    → Reopens plan (image_state_of opened) (image_state_of keeper.writer.device) keeper.writer.register keeper.writer.half keeper.writer.is_second keeper.writer.used
     → keeper.writer.is_broken ≡ false → HasKeeperOf plan keeper
 has_keeper plan opened keeper uncalled unhurt recovers whole = record { opened = opened; uncalled = uncalled; unhurt = unhurt; recovers = recovers; whole = whole }
 
-pub has_no_keeper : (plan : Plan) (opened left : FileDisk) (fault : KeeperFault) → (file_state_of opened).calls ≡ 0 → (file_state_of opened).failures ≡ 0
-    → RefusesReopening plan (file_state_of opened) (file_state_of left) fault → HasNoKeeperOf plan fault
+pub has_no_keeper : (plan : Plan) (opened left : ImageDisk) (fault : KeeperFault) → (image_state_of opened).calls ≡ 0 → (image_state_of opened).failures ≡ 0
+    → RefusesReopening plan (image_state_of opened) (image_state_of left) fault → HasNoKeeperOf plan fault
 has_no_keeper plan opened left fault uncalled unhurt refused = record { opened = opened; uncalled = uncalled; unhurt = unhurt; left = left; refused = refused }
 
 pub reads_building : (plan : Plan) → HasBuilding plan → ReadsBuilding
 reads_building plan has = (plan, has)
 
-pub opens_journal : (plan : Plan) (keeper : KeeperView FileDisk) → HasBuilding plan → HasKeeperOf plan keeper → OpensJournal
+pub opens_journal : (plan : Plan) (keeper : KeeperView ImageDisk) → HasBuilding plan → HasKeeperOf plan keeper → OpensJournal
 opens_journal plan keeper has opened = (plan, keeper, has, opened)
 
 -- the image's file, or want of memory
@@ -60,7 +60,7 @@ file_refuses fault (inl is) = subst IsBuildingFault (sym is) tt
 file_refuses fault (inr is) = subst IsBuildingFault (sym is) tt
 
 -- the standard output behind the recovery, or want of memory
-pub output_serves : (plan : Plan) (keeper : KeeperView FileDisk) (fault : Fault) → HasBuilding plan → HasKeeperOf plan keeper → IsFileFault Output fault → IsServeFault fault
+pub output_serves : (plan : Plan) (keeper : KeeperView ImageDisk) (fault : Fault) → HasBuilding plan → HasKeeperOf plan keeper → IsFileFault Output fault → IsServeFault fault
 output_serves plan keeper fault has opened (inl is) = subst IsServeFault (sym is) (plan, keeper, has, opened)
 output_serves plan keeper fault has opened (inr is) = subst IsServeFault (sym is) tt
 
@@ -126,10 +126,10 @@ image_shows plan fault has (inl is) = subst IsShowFault (sym is) (plan, has)
 image_shows plan fault has (inr is) = subst IsShowFault (sym is) tt
 
 -- what the showing of a journal on an image is undone for
-pub showing_shows : (plan : Plan) (opened left : FileDisk) (before after : Option (List ℕ)) (fault : Fault) → HasBuilding plan
-    → (file_state_of opened).calls ≡ 0 → (file_state_of opened).failures ≡ 0 → IsShowingFault fault
-    → ((refusal : KeeperFault) → fault ≡ Journal refusal → RefusesReopening plan (file_state_of opened) (file_state_of left) refusal)
-    → (IsFileFault Output fault → ShowsFront plan (file_state_of opened) (file_state_of left) before after) → IsShowFault fault
+pub showing_shows : (plan : Plan) (opened left : ImageDisk) (before after : Option (List ℕ)) (fault : Fault) → HasBuilding plan
+    → (image_state_of opened).calls ≡ 0 → (image_state_of opened).failures ≡ 0 → IsShowingFault fault
+    → ((refusal : KeeperFault) → fault ≡ Journal refusal → RefusesReopening plan (image_state_of opened) (image_state_of left) refusal)
+    → (IsFileFault Output fault → ShowsFront plan (image_state_of opened) (image_state_of left) before after) → IsShowFault fault
 showing_shows plan opened left before after (Building fault) has uncalled unhurt is refused front = absurd is
 showing_shows plan opened left before after (Journal fault) has uncalled unhurt is refused front =
     (is, (plan, has, record { opened = opened; uncalled = uncalled; unhurt = unhurt; left = left; refused = refused fault refl }))

@@ -4,10 +4,12 @@ ghost use Rattle.std.specs.Prelude.{◌≡◌, ◌≤◌, ◌+◌, [], IfOk, IfE
 ghost use Rattle.lift_disk.specs.Files.{file_state_of};
 ghost use Rattle.lift_replay.specs.Reading.{TakesUpTo};
 ghost use Rattle.lift_program.specs.Ends.{IsFileFault};
+ghost use Rattle.lift_program.specs.Images.{image_state_of};
 ghost use Rattle.lift_program.specs.Stages.{HasBuilding, HasKeeperOf, IsBuildingFault, IsKeeperFault, most_text};
 ghost use Rattle.lift_program.specs.declared.fault.Role.TheVariants.{Building as OfBuilding, Image as OfImage};
 
 use crate::fault::{Fault, Role};
+use crate::image::ImageDisk;
 use lift_base::text::Counted;
 use lift_building::Building;
 use lift_disk::{FileDisk, FileFault};
@@ -128,12 +130,15 @@ pub fn image_at<F: Files<File = File>>(rt: &F, path: &str, sectors: u32) -> Resu
 }
 
 /// The file of a journal that is there.
-pub fn image_in<F: Files<File = File>>(rt: &F, path: &str) -> Result<FileDisk, Fault>
-    ensures failures { IfOk result (λ disk. (file_state_of disk).failures ≡ 0) }
-    ensures calls { IfOk result (λ disk. (file_state_of disk).calls ≡ 0) }
+pub fn image_in<F: Files<File = File>>(rt: &F, path: &str) -> Result<ImageDisk, Fault>
+    ensures failures { IfOk result (λ disk. (image_state_of disk).failures ≡ 0) }
+    ensures calls { IfOk result (λ disk. (image_state_of disk).calls ≡ 0) }
     ensures fault { IfErr result (IsFileFault OfImage) }
 {
-    FileDisk::open(rt, path).map_err(refused)
+    match FileDisk::open(rt, path) {
+        Ok(file) => Ok(ImageDisk::over(file)),
+        Err(fault) => Err(refused(fault)),
+    }
 }
 
 /// The keeper that the recovery gives, over the journal in a file.
@@ -142,7 +147,7 @@ pub fn keeper_in<'b, F: Files<File = File>>(
     rt: &F,
     path: &str,
     building: &'b Building,
-) -> Result<Keeper<'b, FileDisk>, Fault>
+) -> Result<Keeper<'b, ImageDisk>, Fault>
     ensures opened { IfOk result (HasKeeperOf building.now) }
     ensures settled { IfOk result (λ keeper. keeper.state.batch ≡ []) }
     ensures fault { IfErr result (IsKeeperFault building.now) }
