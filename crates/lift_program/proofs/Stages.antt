@@ -1,11 +1,12 @@
 -- What the faults of each stage are to a whole command.
-use Rattle.std.proofs.Common.{◌≡◌, ◌≢◌, ◌≤◌, ℕ, List, Option, length, false, refl, sym, subst, inl, inr}
+use Rattle.std.proofs.Common.{◌≡◌, ◌≢◌, ◌≤◌, ◌+◌, ◌*◌, ℕ, List, Option, length, false, refl, sym, subst, inl, inr}
 use Rattle.lift_building.specs.Describes.{IsTextOf}
 use Rattle.lift_building.specs.Gives.{IsFirstFault}
-use Rattle.lift_building.specs.Plan.{Plan}
+use Rattle.lift_building.specs.Plan.{Plan, shape_of}
 use Rattle.lift_building.specs.declared.fault.BuildingFault.{BuildingFault}
 use Rattle.lift_building.specs.declared.fault.BuildingFault.TheVariants.{NotToml, Missing, WrongType, OutOfRange, TableShape, Detour, Memory as NoRoom}
 use Rattle.lift_disk.specs.Disk.{DiskState}
+use Rattle.lift_journal.specs.Calls.{format_calls}
 use Rattle.lift_journal.specs.declared.fault.JournalFault.TheVariants.{Disk, NotFormatted, Damaged, Full, Broken}
 use Rattle.lift_keeper.specs.Keeper.{KeeperView}
 use Rattle.lift_keeper.specs.Reopening.{RefusesReopening, Reopens}
@@ -13,7 +14,9 @@ use Rattle.lift_keeper.specs.declared.fault.KeeperFault.{KeeperFault}
 use Rattle.lift_keeper.specs.declared.fault.KeeperFault.TheVariants.{Journal as OfJournal, OtherBuilding, BadEntry}
 use Rattle.lift_program.specs.Images.{image_state_of}
 use Rattle.lift_program.specs.declared.image.ImageDisk.{ImageDisk}
-use Rattle.lift_program.specs.Ends.{IsFileFault, IsFormatFault, IsReplayFault, IsReportOfFault, IsServeFault, IsShowFault, IsShowingFault}
+use Rattle.lift_disk.specs.Files.{file_state_of}
+use Rattle.lift_disk.specs.declared.file.FileDisk.{FileDisk}
+use Rattle.lift_program.specs.Ends.{IsFileFault, IsFormatFault, IsMadeWith, IsReplayFault, IsReportOfFault, IsServeFault, IsShowFault, IsShowingFault}
 use Rattle.lift_program.specs.Faults.{of_building}
 use Rattle.lift_program.specs.Showing.{IsOpeningFault, ShowsFront}
 use Rattle.lift_program.specs.Stages.{HasBuilding, HasKeeperOf, HasNoKeeperOf, IsBuildingFault, IsKeeperFault, OpensJournal, ReadsBuilding, most_text}
@@ -42,6 +45,13 @@ has_keeper plan opened keeper uncalled unhurt recovers whole = record { opened =
 pub has_no_keeper : (plan : Plan) (opened left : ImageDisk) (fault : KeeperFault) → (image_state_of opened).calls ≡ 0 → (image_state_of opened).failures ≡ 0
     → RefusesReopening plan (image_state_of opened) (image_state_of left) fault → HasNoKeeperOf plan fault
 has_no_keeper plan opened left fault uncalled unhurt refused = record { opened = opened; uncalled = uncalled; unhurt = unhurt; left = left; refused = refused }
+
+-- what the making of a journal leaves
+pub is_made : (plan : Plan) (half : ℕ) (disk : FileDisk) → HasBuilding plan → (file_state_of disk).trace ≡ format_calls (shape_of plan half)
+    → (file_state_of disk).size ≡ 2 + 2 * half → (file_state_of disk).calls ≡ 5 → (file_state_of disk).writes ≡ 3 → (file_state_of disk).failures ≡ 0
+    → IsMadeWith half disk
+is_made plan half disk has made size calls writes failures =
+    record { plan = plan; building = has; made = made; size = size; calls = calls; writes = writes; failures = failures }
 
 pub reads_building : (plan : Plan) → HasBuilding plan → ReadsBuilding
 reads_building plan has = (plan, has)

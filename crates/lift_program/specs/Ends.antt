@@ -5,8 +5,10 @@ use Rattle.std.specs.Io.KnownBytes.{Appends}
 use Rattle.clap.specs.Words.{Text}
 use Rattle.lift_base.specs.Input.{InputState}
 use Rattle.lift_base.specs.Output.{OutputState}
+use Rattle.lift_building.specs.Plan.{Plan, shape_of}
 use Rattle.lift_disk.specs.Files.{file_state_of}
 use Rattle.lift_disk.specs.declared.file.FileDisk.{FileDisk}
+use Rattle.lift_journal.specs.Calls.{format_calls}
 use Rattle.lift_journal.specs.declared.fault.JournalFault.TheVariants.{Disk}
 use Rattle.lift_keeper.specs.declared.fault.KeeperFault.TheVariants.{Journal as OfJournal}
 use Rattle.lift_replay.specs.declared.lines.Verdict.{Verdict}
@@ -17,7 +19,7 @@ use Rattle.lift_program.specs.Faults.{fault_text, usage_text}
 use Rattle.lift_program.specs.Output.{IsTold}
 use Rattle.lift_program.specs.Serving.{IsServing}
 use Rattle.lift_program.specs.Showing.{IsShown, IsOpeningFault}
-use Rattle.lift_program.specs.Stages.{HasNoBuilding, OpensJournal, OpensNoJournal, ReadsBuilding, ReadsJournal}
+use Rattle.lift_program.specs.Stages.{HasBuilding, HasNoBuilding, OpensJournal, OpensNoJournal, ReadsBuilding, ReadsJournal}
 use Rattle.lift_program.specs.Words.{Asks}
 use Rattle.lift_program.specs.declared.fault.Fault.{Fault}
 use Rattle.lift_program.specs.declared.fault.Fault.TheVariants.{Building, Journal, File, Memory, Network, Thread}
@@ -49,8 +51,12 @@ line_of (Served port (Some fault)) = Some (fault_text fault ++ 10 ∷ [])
 line_of (Failed fault) = Some (fault_text fault ++ 10 ∷ [])
 line_of OtherWords = Some (usage_text ++ 10 ∷ [])
 
--- A journal with so many sectors in a half was made on the device: by five calls, three of them writes, of which none failed.
+-- An empty journal with so many sectors in a half was made on the device, of a building that was read: by five calls, three of
+-- them writes, of which none failed.
 pub record IsMadeWith (half : ℕ) (disk : FileDisk) : Type 0 where
+  pub plan : Plan
+  pub building : HasBuilding plan
+  pub made : (file_state_of disk).trace ≡ format_calls (shape_of plan half)
   pub size : (file_state_of disk).size ≡ 2 + 2 * half
   pub calls : (file_state_of disk).calls ≡ 5
   pub writes : (file_state_of disk).writes ≡ 3

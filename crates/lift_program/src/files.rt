@@ -124,6 +124,7 @@ pub fn image_at<F: Files<File = File>>(rt: &F, path: &str, sectors: u32) -> Resu
     ensures failures { IfOk result (λ disk. (file_state_of disk).failures ≡ 0) }
     ensures calls { IfOk result (λ disk. (file_state_of disk).calls ≡ 0) }
     ensures writes { IfOk result (λ disk. (file_state_of disk).writes ≡ 0) }
+    ensures trace { IfOk result (λ disk. (file_state_of disk).trace ≡ []) }
     ensures fault { IfErr result (IsFileFault OfImage) }
 {
     FileDisk::create(rt, path, sectors).map_err(refused)
