@@ -43,7 +43,7 @@ pub has_keeper : (plan : Plan) (opened : ImageDisk) (keeper : KeeperView ImageDi
 has_keeper plan opened keeper uncalled unhurt recovers whole = record { opened = opened; uncalled = uncalled; unhurt = unhurt; recovers = recovers; whole = whole }
 
 pub has_no_keeper : (plan : Plan) (opened left : ImageDisk) (fault : KeeperFault) → (image_state_of opened).calls ≡ 0 → (image_state_of opened).failures ≡ 0
-    → RefusesReopening plan (image_state_of opened) (image_state_of left) fault → HasNoKeeperOf plan fault
+    → RefusesReopening plan (image_state_of opened) (image_state_of left) fault → HasNoKeeperOf ImageDisk image_state_of plan fault
 has_no_keeper plan opened left fault uncalled unhurt refused = record { opened = opened; uncalled = uncalled; unhurt = unhurt; left = left; refused = refused }
 
 -- what the making of a journal leaves
@@ -136,10 +136,10 @@ image_shows plan fault has (inl is) = subst IsShowFault (sym is) (plan, has)
 image_shows plan fault has (inr is) = subst IsShowFault (sym is) tt
 
 -- what the showing of a journal on an image is undone for
-pub showing_shows : (plan : Plan) (opened left : ImageDisk) (before after : Option (List ℕ)) (fault : Fault) → HasBuilding plan
-    → (image_state_of opened).calls ≡ 0 → (image_state_of opened).failures ≡ 0 → IsShowingFault fault
-    → ((refusal : KeeperFault) → fault ≡ Journal refusal → RefusesReopening plan (image_state_of opened) (image_state_of left) refusal)
-    → (IsFileFault Output fault → ShowsFront plan (image_state_of opened) (image_state_of left) before after) → IsShowFault fault
+pub showing_shows : (plan : Plan) (opened left : FileDisk) (before after : Option (List ℕ)) (fault : Fault) → HasBuilding plan
+    → (file_state_of opened).calls ≡ 0 → (file_state_of opened).failures ≡ 0 → IsShowingFault fault
+    → ((refusal : KeeperFault) → fault ≡ Journal refusal → RefusesReopening plan (file_state_of opened) (file_state_of left) refusal)
+    → (IsFileFault Output fault → ShowsFront plan (file_state_of opened) (file_state_of left) before after) → IsShowFault fault
 showing_shows plan opened left before after (Building fault) has uncalled unhurt is refused front = absurd is
 showing_shows plan opened left before after (Journal fault) has uncalled unhurt is refused front =
     (is, (plan, has, record { opened = opened; uncalled = uncalled; unhurt = unhurt; left = left; refused = refused fault refl }))

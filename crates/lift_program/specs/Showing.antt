@@ -4,8 +4,8 @@ use Rattle.std.specs.Io.KnownBytes.{Appends}
 use Rattle.lift_building.specs.Describes.{IsTextOf}
 use Rattle.lift_building.specs.Plan.{Plan}
 use Rattle.lift_disk.specs.Disk.{DiskState}
-use Rattle.lift_program.specs.Images.{image_state_of}
-use Rattle.lift_program.specs.declared.image.ImageDisk.{ImageDisk}
+use Rattle.lift_disk.specs.Files.{file_state_of}
+use Rattle.lift_disk.specs.declared.file.FileDisk.{FileDisk}
 use Rattle.lift_journal.specs.declared.fault.JournalFault.TheVariants.{Disk, NotFormatted, Damaged, Full, Broken}
 use Rattle.lift_keeper.specs.Reopening.{Reopens}
 use Rattle.lift_keeper.specs.declared.fault.KeeperFault.{KeeperFault}
@@ -41,14 +41,14 @@ pub record ShowsFront (plan : Plan) (old new : DiskState) (before after : Option
 
 -- The open calls of the journal on the device were written, of a building that a text describes. From the opening of the
 -- file on no call failed, and none was a write.
-pub record IsShown (disk : ImageDisk) (before after : Option (List ℕ)) : Type 0 where
+pub record IsShown (disk : FileDisk) (before after : Option (List ℕ)) : Type 0 where
   pub text : List ℕ
   pub plan : Plan
   pub described : IsTextOf text plan
-  pub opened : ImageDisk
-  pub uncalled : (image_state_of opened).calls ≡ 0
-  pub unhurt : (image_state_of opened).failures ≡ 0
-  pub shows : Shows plan (image_state_of opened) (image_state_of disk) before after
+  pub opened : FileDisk
+  pub uncalled : (file_state_of opened).calls ≡ 0
+  pub unhurt : (file_state_of opened).failures ≡ 0
+  pub shows : Shows plan (file_state_of opened) (file_state_of disk) before after
 
 -- What an opening may be refused for: what the journal's opening is, a building of another shape, or a record that
 -- doesn't fit.

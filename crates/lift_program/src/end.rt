@@ -5,7 +5,6 @@ ghost use Rattle.lift_program.specs.Ends.{line_of, status_of};
 ghost use Rattle.lift_program.specs.Output.{IsTold};
 
 use crate::fault::Fault;
-use crate::image::ImageDisk;
 use crate::output::tell;
 use lift_base::text::Watched;
 use lift_disk::FileDisk;
@@ -20,7 +19,7 @@ pub enum End {
     /// An empty journal was made on this file.
     Formatted(FileDisk),
     /// The open calls of the journal on this file were written.
-    Shown(ImageDisk),
+    Shown(FileDisk),
     /// The building was served on this port; a fault that did not end that is told.
     Served(u16, Option<Fault>),
     /// The work is undone.

@@ -4,7 +4,6 @@ ghost use Rattle.std.specs.Prelude.{◌≡◌, ◌≤◌, ◌+◌, [], IfOk, IfE
 ghost use Rattle.lift_disk.specs.Files.{file_state_of};
 ghost use Rattle.lift_replay.specs.Reading.{TakesUpTo};
 ghost use Rattle.lift_program.specs.Ends.{IsFileFault};
-ghost use Rattle.lift_program.specs.Images.{image_state_of};
 ghost use Rattle.lift_program.specs.Stages.{HasBuilding, HasKeeperOf, IsBuildingFault, IsKeeperFault, most_text};
 ghost use Rattle.lift_program.specs.declared.fault.Role.TheVariants.{Building as OfBuilding, Image as OfImage};
 
@@ -131,15 +130,12 @@ pub fn image_at<F: Files<File = File>>(rt: &F, path: &str, sectors: u32) -> Resu
 }
 
 /// The file of a journal that is there.
-pub fn image_in<F: Files<File = File>>(rt: &F, path: &str) -> Result<ImageDisk, Fault>
-    ensures failures { IfOk result (λ disk. (image_state_of disk).failures ≡ 0) }
-    ensures calls { IfOk result (λ disk. (image_state_of disk).calls ≡ 0) }
+pub fn image_in<F: Files<File = File>>(rt: &F, path: &str) -> Result<FileDisk, Fault>
+    ensures failures { IfOk result (λ disk. (file_state_of disk).failures ≡ 0) }
+    ensures calls { IfOk result (λ disk. (file_state_of disk).calls ≡ 0) }
     ensures fault { IfErr result (IsFileFault OfImage) }
 {
-    match FileDisk::open(rt, path) {
-        Ok(file) => Ok(ImageDisk::over(file)),
-        Err(fault) => Err(refused(fault)),
-    }
+    FileDisk::open(rt, path).map_err(refused)
 }
 
 /// The keeper that the recovery gives, over the journal in a file.
@@ -153,8 +149,8 @@ pub fn keeper_in<'b, F: Files<File = File>>(
     ensures settled { IfOk result (λ keeper. keeper.state.batch ≡ []) }
     ensures fault { IfErr result (IsKeeperFault building.now) }
 {
-    let disk = image_in(rt, path)?;
-    match Keeper::open(disk, building) {
+    let file = image_in(rt, path)?;
+    match Keeper::open(ImageDisk::over(file), building) {
         Ok(keeper) => Ok(keeper),
         Err((_, fault)) => Err(Fault::Journal(fault)),
     }

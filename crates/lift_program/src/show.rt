@@ -12,10 +12,9 @@ ghost use Rattle.lift_program.specs.declared.fault.Role.TheVariants.{Output};
 
 use crate::fault::{Fault, Role};
 use crate::files::{building_in, image_in};
-use crate::image::ImageDisk;
 use lift_base::text::put_all;
 use lift_building::Building;
-use lift_disk::Disk;
+use lift_disk::{Disk, FileDisk};
 use lift_keeper::Keeper;
 use lift_register::Register;
 use lift_replay::report::push_rows;
@@ -77,7 +76,7 @@ pub fn show<F: Files<File = File>, W: Write>(
     image: &str,
     building: &str,
     writer: &mut W,
-) -> Result<ImageDisk, Fault>
+) -> Result<FileDisk, Fault>
     ensures shown { IfOk result (λ disk. IsShown disk (W.contents writer.old) (W.contents writer.new)) }
     ensures fault { IfErr result IsShowFault }
     ensures report { IfErr result (λ fault. IsReportOfFault fault (W.contents writer.old) (W.contents writer.new)) }

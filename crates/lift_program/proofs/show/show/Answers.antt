@@ -1,6 +1,6 @@
 use Rattle.std.proofs.Common.{rules, subst, ap, ◌∙◌, Err}
 use Rattle.std.specs.Prelude.{IfErr}
-use Rattle.lift_program.specs.Images.{image_state_of}
+use Rattle.lift_disk.specs.Files.{file_state_of}
 use Rattle.lift_program.specs.Ends.{IsFileFault, IsShowingFault}
 use Rattle.lift_program.specs.Showing.{ShowsFront}
 use Rattle.lift_program.specs.declared.fault.Role.TheVariants.{Output}
@@ -25,5 +25,5 @@ returns-in-Err-clause-fault g c =
     showing_shows c.in_ok-building.building c.in_ok-disk.disk c.show_on-disk.result.0 before after c.in-Err.fault c.in_ok-building.ensures.found
     c.in_ok-disk.ensures.calls c.in_ok-disk.ensures.failures (subst (λ r. IfErr r IsShowingFault) c.in-Err.is c.show_on-disk.ensures.fault)
     (λ refusal same. c.show_on-disk.ensures.refused refusal (c.in-Err.is ∙ ap Err same))
-    (subst (λ r. IfErr r (λ fault. IsFileFault Output fault → ShowsFront c.in_ok-building.building (image_state_of c.in_ok-disk.disk) (image_state_of c.show_on-disk.result.0) before after))
+    (subst (λ r. IfErr r (λ fault. IsFileFault Output fault → ShowsFront c.in_ok-building.building (file_state_of c.in_ok-disk.disk) (file_state_of c.show_on-disk.result.0) before after))
     c.in-Err.is c.show_on-disk.ensures.front)
