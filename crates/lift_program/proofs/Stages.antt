@@ -12,6 +12,8 @@ use Rattle.lift_keeper.specs.Keeper.{KeeperView}
 use Rattle.lift_keeper.specs.Reopening.{RefusesReopening, Reopens}
 use Rattle.lift_keeper.specs.declared.fault.KeeperFault.{KeeperFault}
 use Rattle.lift_keeper.specs.declared.fault.KeeperFault.TheVariants.{Journal as OfJournal, OtherBuilding, BadEntry}
+use Rattle.lift_program.specs.Images.{image_state_of}
+use Rattle.lift_program.specs.declared.image.ImageDisk.{ImageDisk}
 use Rattle.lift_disk.specs.Files.{file_state_of}
 use Rattle.lift_disk.specs.declared.file.FileDisk.{FileDisk}
 use Rattle.lift_program.specs.Ends.{IsFileFault, IsFormatFault, IsMadeWith, IsReplayFault, IsReportOfFault, IsServeFault, IsShowFault, IsShowingFault}
@@ -35,13 +37,13 @@ first_fault text NoRoom short first = tt
 pub has_building : (plan : Plan) (text : List ℕ) → length text ≤ most_text → IsTextOf text plan → HasBuilding plan
 has_building plan text short described = record { text = text; short = short; described = described }
 
-pub has_keeper : (plan : Plan) (opened : FileDisk) (keeper : KeeperView FileDisk) → (file_state_of opened).calls ≡ 0 → (file_state_of opened).failures ≡ 0
-    → Reopens plan (file_state_of opened) (file_state_of keeper.writer.device) keeper.writer.register keeper.writer.half keeper.writer.is_second keeper.writer.used
+pub has_keeper : (plan : Plan) (opened : ImageDisk) (keeper : KeeperView ImageDisk) → (image_state_of opened).calls ≡ 0 → (image_state_of opened).failures ≡ 0
+    → Reopens plan (image_state_of opened) (image_state_of keeper.writer.device) keeper.writer.register keeper.writer.half keeper.writer.is_second keeper.writer.used
     → keeper.writer.is_broken ≡ false → HasKeeperOf plan keeper
 has_keeper plan opened keeper uncalled unhurt recovers whole = record { opened = opened; uncalled = uncalled; unhurt = unhurt; recovers = recovers; whole = whole }
 
-pub has_no_keeper : (plan : Plan) (opened left : FileDisk) (fault : KeeperFault) → (file_state_of opened).calls ≡ 0 → (file_state_of opened).failures ≡ 0
-    → RefusesReopening plan (file_state_of opened) (file_state_of left) fault → HasNoKeeperOf plan fault
+pub has_no_keeper : (plan : Plan) (opened left : ImageDisk) (fault : KeeperFault) → (image_state_of opened).calls ≡ 0 → (image_state_of opened).failures ≡ 0
+    → RefusesReopening plan (image_state_of opened) (image_state_of left) fault → HasNoKeeperOf ImageDisk image_state_of plan fault
 has_no_keeper plan opened left fault uncalled unhurt refused = record { opened = opened; uncalled = uncalled; unhurt = unhurt; left = left; refused = refused }
 
 -- what the making of a journal leaves
@@ -54,7 +56,7 @@ is_made plan half disk has made size calls writes failures =
 pub reads_building : (plan : Plan) → HasBuilding plan → ReadsBuilding
 reads_building plan has = (plan, has)
 
-pub opens_journal : (plan : Plan) (keeper : KeeperView FileDisk) → HasBuilding plan → HasKeeperOf plan keeper → OpensJournal
+pub opens_journal : (plan : Plan) (keeper : KeeperView ImageDisk) → HasBuilding plan → HasKeeperOf plan keeper → OpensJournal
 opens_journal plan keeper has opened = (plan, keeper, has, opened)
 
 -- the image's file, or want of memory
@@ -68,7 +70,7 @@ file_refuses fault (inl is) = subst IsBuildingFault (sym is) tt
 file_refuses fault (inr is) = subst IsBuildingFault (sym is) tt
 
 -- the standard output behind the recovery, or want of memory
-pub output_serves : (plan : Plan) (keeper : KeeperView FileDisk) (fault : Fault) → HasBuilding plan → HasKeeperOf plan keeper → IsFileFault Output fault → IsServeFault fault
+pub output_serves : (plan : Plan) (keeper : KeeperView ImageDisk) (fault : Fault) → HasBuilding plan → HasKeeperOf plan keeper → IsFileFault Output fault → IsServeFault fault
 output_serves plan keeper fault has opened (inl is) = subst IsServeFault (sym is) (plan, keeper, has, opened)
 output_serves plan keeper fault has opened (inr is) = subst IsServeFault (sym is) tt
 

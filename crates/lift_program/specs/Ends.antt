@@ -18,6 +18,8 @@ use Rattle.lift_replay.specs.Replaying.{IsReport as IsScriptReport}
 use Rattle.lift_program.specs.Faults.{fault_text, usage_text}
 use Rattle.lift_program.specs.Output.{IsTold}
 use Rattle.lift_program.specs.Serving.{IsServing}
+use Rattle.lift_program.specs.Images.{image_state_of}
+use Rattle.lift_program.specs.declared.image.ImageDisk.{ImageDisk}
 use Rattle.lift_program.specs.Showing.{IsShown, IsOpeningFault}
 use Rattle.lift_program.specs.Stages.{HasBuilding, HasNoBuilding, OpensJournal, OpensNoJournal, ReadsBuilding, ReadsJournal}
 use Rattle.lift_program.specs.Words.{Asks}
@@ -114,7 +116,7 @@ IsShowingFault Thread = ⊥
 -- standard output. Or want of memory.
 abbrev pub IsShowFault : Fault → Type 0
 IsShowFault (Building fault) = HasNoBuilding fault
-IsShowFault (Journal fault) = IsOpeningFault fault × OpensNoJournal fault
+IsShowFault (Journal fault) = IsOpeningFault fault × OpensNoJournal FileDisk file_state_of fault
 IsShowFault (File OfBuilding) = Unit {0}
 IsShowFault (File OfImage) = ReadsBuilding
 IsShowFault (File Input) = ⊥
@@ -127,7 +129,7 @@ IsShowFault Thread = ⊥
 -- port, and then the standard output. Or want of memory.
 abbrev pub IsServeFault : Fault → Type 0
 IsServeFault (Building fault) = HasNoBuilding fault
-IsServeFault (Journal fault) = IsOpeningFault fault × OpensNoJournal fault
+IsServeFault (Journal fault) = IsOpeningFault fault × OpensNoJournal ImageDisk image_state_of fault
 IsServeFault (File OfBuilding) = Unit {0}
 IsServeFault (File OfImage) = ReadsBuilding
 IsServeFault (File Input) = ⊥

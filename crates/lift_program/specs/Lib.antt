@@ -1,5 +1,6 @@
 pub mod Ends
 pub mod Faults
+pub mod Images
 pub mod Output
 pub mod Serving
 pub mod Showing

@@ -2,8 +2,8 @@
 use Rattle.std.specs.Prelude.{ℕ, ◌≡◌, ◌⊎◌, false, List, Option, Some}
 use Rattle.lift_building.specs.Describes.{IsTextOf}
 use Rattle.lift_building.specs.Plan.{Plan}
-use Rattle.lift_disk.specs.Files.{file_state_of}
-use Rattle.lift_disk.specs.declared.file.FileDisk.{FileDisk}
+use Rattle.lift_program.specs.Images.{image_state_of}
+use Rattle.lift_program.specs.declared.image.ImageDisk.{ImageDisk}
 use Rattle.lift_keeper.specs.Keeper.{KeeperView}
 use Rattle.lift_keeper.specs.Reopening.{Reopens}
 use Rattle.lift_policy.specs.Choices.{IsShipped}
@@ -19,14 +19,14 @@ pub record TurnedOver (policy : Shipped) (fault : Option Fault) : Type 0 where
   pub text : List ℕ
   pub plan : Plan
   pub described : IsTextOf text plan
-  pub opened : FileDisk
-  pub uncalled : (file_state_of opened).calls ≡ 0
-  pub unhurt : (file_state_of opened).failures ≡ 0
-  pub keeper : KeeperView FileDisk
-  pub recovers : Reopens plan (file_state_of opened) (file_state_of keeper.writer.device) keeper.writer.register keeper.writer.half keeper.writer.is_second keeper.writer.used
+  pub opened : ImageDisk
+  pub uncalled : (image_state_of opened).calls ≡ 0
+  pub unhurt : (image_state_of opened).failures ≡ 0
+  pub keeper : KeeperView ImageDisk
+  pub recovers : Reopens plan (image_state_of opened) (image_state_of keeper.writer.device) keeper.writer.register keeper.writer.half keeper.writer.is_second keeper.writer.used
   pub whole : keeper.writer.is_broken ≡ false
-  pub last : KeeperView FileDisk
-  pub relayed : IsRelayedKeeper (IsShipped policy) file_state_of policy keeper last
+  pub last : KeeperView ImageDisk
+  pub relayed : IsRelayedKeeper (IsShipped policy) image_state_of policy keeper last
   pub other : Option ServeFault
   pub told : fault ≡ served_fault last.writer.is_broken other
 

@@ -5,8 +5,11 @@ use Rattle.lift_building.specs.Describes.{IsTextOf}
 use Rattle.lift_building.specs.Gives.{IsFirstFault}
 use Rattle.lift_building.specs.Plan.{Plan}
 use Rattle.lift_building.specs.declared.fault.BuildingFault.{BuildingFault}
+use Rattle.lift_disk.specs.Disk.{DiskState}
 use Rattle.lift_disk.specs.Files.{file_state_of}
 use Rattle.lift_disk.specs.declared.file.FileDisk.{FileDisk}
+use Rattle.lift_program.specs.Images.{image_state_of}
+use Rattle.lift_program.specs.declared.image.ImageDisk.{ImageDisk}
 use Rattle.lift_keeper.specs.Keeper.{KeeperView}
 use Rattle.lift_keeper.specs.Reopening.{RefusesReopening, Reopens}
 use Rattle.lift_keeper.specs.declared.fault.KeeperFault.{KeeperFault}
@@ -33,20 +36,20 @@ pub record HasNoBuilding (fault : BuildingFault) : Type 0 where
   pub first : IsFirstFault text fault
 
 -- an image was opened, and the recovery from it, of this building, gave this keeper
-pub record HasKeeperOf (plan : Plan) (keeper : KeeperView FileDisk) : Type 0 where
-  pub opened : FileDisk
-  pub uncalled : (file_state_of opened).calls ≡ 0
-  pub unhurt : (file_state_of opened).failures ≡ 0
-  pub recovers : Reopens plan (file_state_of opened) (file_state_of keeper.writer.device) keeper.writer.register keeper.writer.half keeper.writer.is_second keeper.writer.used
+pub record HasKeeperOf (plan : Plan) (keeper : KeeperView ImageDisk) : Type 0 where
+  pub opened : ImageDisk
+  pub uncalled : (image_state_of opened).calls ≡ 0
+  pub unhurt : (image_state_of opened).failures ≡ 0
+  pub recovers : Reopens plan (image_state_of opened) (image_state_of keeper.writer.device) keeper.writer.register keeper.writer.half keeper.writer.is_second keeper.writer.used
   pub whole : keeper.writer.is_broken ≡ false
 
--- an image was opened, and the recovery from it, of this building, was refused for this
-pub record HasNoKeeperOf (plan : Plan) (fault : KeeperFault) : Type 0 where
-  pub opened : FileDisk
-  pub uncalled : (file_state_of opened).calls ≡ 0
-  pub unhurt : (file_state_of opened).failures ≡ 0
-  pub left : FileDisk
-  pub refused : RefusesReopening plan (file_state_of opened) (file_state_of left) fault
+-- an image was opened as such a device, and the recovery from it, of this building, was refused for this
+pub record HasNoKeeperOf (D : Type 0) (state : D → DiskState) (plan : Plan) (fault : KeeperFault) : Type 0 where
+  pub opened : D
+  pub uncalled : (state opened).calls ≡ 0
+  pub unhurt : (state opened).failures ≡ 0
+  pub left : D
+  pub refused : RefusesReopening plan (state opened) (state left) fault
 
 -- the building was read
 abbrev pub ReadsBuilding : Type 0
@@ -54,7 +57,7 @@ ReadsBuilding = (plan : Plan) × HasBuilding plan
 
 -- the building was read, and the recovery opened a journal of it
 abbrev pub OpensJournal : Type 0
-OpensJournal = (plan : Plan) × (keeper : KeeperView FileDisk) × HasBuilding plan × HasKeeperOf plan keeper
+OpensJournal = (plan : Plan) × (keeper : KeeperView ImageDisk) × HasBuilding plan × HasKeeperOf plan keeper
 
 -- the building was read, and the recovery, from an image that was opened, gave a register
 pub record ReadsJournal : Type 0 where
@@ -68,8 +71,8 @@ pub record ReadsJournal : Type 0 where
   pub recovers : Recovers plan (file_state_of opened) (file_state_of left) register
 
 -- the building was read, and the recovery was refused for this
-abbrev pub OpensNoJournal : KeeperFault → Type 0
-OpensNoJournal fault = (plan : Plan) × HasBuilding plan × HasNoKeeperOf plan fault
+abbrev pub OpensNoJournal : (D : Type 0) → (D → DiskState) → KeeperFault → Type 0
+OpensNoJournal D state fault = (plan : Plan) × HasBuilding plan × HasNoKeeperOf D state plan fault
 
 -- what no building is had for: its file, want of memory, or its text's first fault
 abbrev pub IsBuildingFault : Fault → Type 0
@@ -86,7 +89,7 @@ IsBuildingFault Thread = ⊥
 -- what no keeper of this building is had for: the image's file, want of memory, or the recovery's refusal
 abbrev pub IsKeeperFault : Plan → Fault → Type 0
 IsKeeperFault plan (Building fault) = ⊥
-IsKeeperFault plan (Journal fault) = HasNoKeeperOf plan fault
+IsKeeperFault plan (Journal fault) = HasNoKeeperOf ImageDisk image_state_of plan fault
 IsKeeperFault plan (File OfBuilding) = ⊥
 IsKeeperFault plan (File OfImage) = Unit {0}
 IsKeeperFault plan (File Input) = ⊥

@@ -8,6 +8,7 @@ ghost use Rattle.lift_program.specs.Stages.{HasBuilding, HasKeeperOf, IsBuilding
 ghost use Rattle.lift_program.specs.declared.fault.Role.TheVariants.{Building as OfBuilding, Image as OfImage};
 
 use crate::fault::{Fault, Role};
+use crate::image::ImageDisk;
 use lift_base::text::Counted;
 use lift_building::Building;
 use lift_disk::{FileDisk, FileFault};
@@ -143,13 +144,13 @@ pub fn keeper_in<'b, F: Files<File = File>>(
     rt: &F,
     path: &str,
     building: &'b Building,
-) -> Result<Keeper<'b, FileDisk>, Fault>
+) -> Result<Keeper<'b, ImageDisk>, Fault>
     ensures opened { IfOk result (HasKeeperOf building.now) }
     ensures settled { IfOk result (λ keeper. keeper.state.batch ≡ []) }
     ensures fault { IfErr result (IsKeeperFault building.now) }
 {
-    let disk = image_in(rt, path)?;
-    match Keeper::open(disk, building) {
+    let file = image_in(rt, path)?;
+    match Keeper::open(ImageDisk::over(file), building) {
         Ok(keeper) => Ok(keeper),
         Err((_, fault)) => Err(Fault::Journal(fault)),
     }

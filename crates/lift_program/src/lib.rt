@@ -6,6 +6,7 @@ mod fault;
 mod files;
 mod format;
 mod grammar;
+mod image;
 mod output;
 mod replay;
 mod serve;
