@@ -67,6 +67,14 @@ impl<'s> Pace<'s> {
         }
     }
 
+    /// Wakes the sessions whose answers are stored.
+    fn page(&self) {
+        let flushed = self.flushed.load(Ordering::SeqCst);
+        for pager in self.pagers {
+            pager.is_flushed(flushed);
+        }
+    }
+
     /// Whether the flusher has nothing in hand. A batch that is decided later is fuller, and whoever is in it waits for one
     /// batch less.
     fn has_room(&self, sent: u64) -> bool {
@@ -87,6 +95,7 @@ impl<'s> Gate for Pace<'s> {
     fn has_sent<R: Wait>(&self, rt: &R, count: u64) {
         self.sent.store(count, Ordering::SeqCst);
         self.bells.batches.unpark();
+        self.page();
         for _ in rt.forever() {
             if self.has_room(count) || !self.go_on() {
                 break;
@@ -102,9 +111,13 @@ impl<'s> Gate for Pace<'s> {
 
     fn has_flushed<R: Wait>(&self, _rt: &R, count: u64) {
         self.flushed.store(count, Ordering::SeqCst);
-        // The next batch is decided while the terminals of this one are woken.
+        // The next batch is decided while the terminals of this one are woken. Once it is sent, it comes first: the
+        // allocator wakes the others.
         self.bells.room.unpark();
         for pager in self.pagers {
+            if self.sent.load(Ordering::SeqCst) > count {
+                return;
+            }
             pager.is_flushed(count);
         }
     }
