@@ -5,6 +5,10 @@ use lift_relay::Gate;
 use std::sync::Wait;
 use std::sync::atomic::{AtomicU64, Ordering};
 use std::thread::Parker;
+use std::time::Duration;
+
+/// So many ms after the flusher took a batch in hand the next one is decided, where it isn't done with it before.
+const AHEAD_MS: u64 = 1;
 
 /// What wakes the two threads: the allocator's waits for asks, or for the flusher to go on; the flusher's waits for batches.
 #[derive(Drop)]
@@ -75,10 +79,27 @@ impl<'s> Pace<'s> {
         }
     }
 
-    /// Whether the flusher has nothing in hand. A batch that is decided later is fuller, and whoever is in it waits for one
-    /// batch less.
-    fn has_room(&self, sent: u64) -> bool {
-        sent <= self.flushed.load(Ordering::SeqCst)
+    /// Whether no more than so many batches are still to be flushed.
+    fn is_behind(&self, sent: u64, batches: u64) -> bool {
+        sent <= self.flushed.load(Ordering::SeqCst).saturating_add(batches)
+    }
+
+    /// Waits until the flusher has nothing in hand, or has had one batch in hand for a while. A batch that is decided later is
+    /// fuller, and whoever is in it waits for one batch less.
+    fn wait_for_room<R: Wait>(&self, rt: &R, sent: u64) {
+        let room = &self.bells.room;
+        // A ring that was left over ends no wait.
+        room.park_timeout(rt, Duration::from_millis(0));
+        for _ in rt.forever() {
+            if self.is_behind(sent, 1) || !self.go_on() {
+                break;
+            }
+            room.park(rt);
+            self.page();
+        }
+        if !self.is_behind(sent, 0) && self.go_on() {
+            room.park_timeout(rt, Duration::from_millis(AHEAD_MS));
+        }
     }
 }
 
@@ -96,12 +117,7 @@ impl<'s> Gate for Pace<'s> {
         self.sent.store(count, Ordering::SeqCst);
         self.bells.batches.unpark();
         self.page();
-        for _ in rt.forever() {
-            if self.has_room(count) || !self.go_on() {
-                break;
-            }
-            self.bells.room.park(rt);
-        }
+        self.wait_for_room(rt, count);
         self.scan_begins();
     }
 
