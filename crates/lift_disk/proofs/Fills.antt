@@ -1,11 +1,10 @@
--- Filling or copying the loose sectors, one after another, and the zeros at the end of one.
-use Rattle.std.proofs.Common.{◌≡◌, ◌<◌, ◌≤◌, ◌+◌, ◌-◌, ℕ, zero, suc, Bool, true, false, List, [], ◌∷◌, ◌++◌, length, take, drop, replicate, get_or, slice_get, Some, refl, sym, ◌∙◌, ap, ⊎_elim, arith}
+-- Filling or copying the loose sectors, one after another.
+use Rattle.std.proofs.Common.{◌≡◌, ◌<◌, ◌≤◌, ℕ, zero, suc, Bool, true, false, List, [], ◌∷◌, length, replicate, get_or, slice_get, Some, refl, sym, ◌∙◌, ap, ⊎_elim, arith}
 use Rattle.std.specs.Option.{unwrap_or}
-use Rattle.std.proofs.lemmas.List.{same_lists, take-append-drop, length-replicate}
+use Rattle.std.proofs.lemmas.List.{same_lists, length-replicate}
 use Rattle.std.proofs.lemmas.Bool.{cases_lt}
 use Rattle.std.proofs.lemmas.Option.{unwrap_or-slice_get}
 use Rattle.lift_disk.specs.Disk.{Image}
-use Rattle.lift_disk.specs.Calls.{with_zeros}
 use Rattle.lift_disk.specs.Memory.{IsFlagged}
 
 -- those below this number are filled
@@ -26,19 +25,6 @@ all_copied at end flags from to last ends copied =
     let same : (k : ℕ) → slice_get to k ≡ slice_get from k = λ k. ⊎_elim (λ below. copied.below k (omega (arith, below, last))) (λ behind. copied.others k (λ is. omega (arith, behind, ends k is))) (cases_lt k end) in
     same_lists to from copied.size
     (λ k d within. sym (unwrap_or-slice_get to k d) ∙ ap (λ o. unwrap_or o d) (same k) ∙ unwrap_or-slice_get from k d)
-
--- a sector that ends in zeros, by what stands before them
-pub ends_blank : (bytes front : List ℕ) (n : ℕ) → length bytes ≡ 512 → length front + n ≡ length bytes → front ≡ take (length bytes - n) bytes → drop (length bytes - n) bytes ≡ replicate n 0 → with_zeros front ≡ bytes
-ends_blank bytes front n size sum is blank =
-    let e : 512 - length front ≡ n = omega (arith, size, sum) in
-    ap (λ k. front ++ replicate k 0) e ∙ ap (λ (l : List ℕ). front ++ l) (sym blank) ∙ ap (λ (l : List ℕ). l ++ drop (length bytes - n) bytes) is ∙ take-append-drop (length bytes - n) bytes
-
--- where each is zero
-pub all_zero : (bytes : List ℕ) (n : ℕ) → length bytes ≡ n → ((i : ℕ) → get_or bytes i 0 ≡ 0) → bytes ≡ replicate n 0
-all_zero [] zero long each = refl
-all_zero [] (suc n) long each = absurd (omega arith)
-all_zero (b ∷ bytes) zero long each = absurd (omega arith)
-all_zero (b ∷ bytes) (suc n) long each = ap (λ c. c ∷ bytes) (each 0) ∙ ap (λ (l : List ℕ). 0 ∷ l) (all_zero bytes n (omega arith) (λ i. each (suc i)))
 
 -- ---- flags
 

@@ -1,5 +1,4 @@
 pub mod Moments
-pub mod Calls
 pub mod History
 pub mod Fills
 pub mod Cuts

@@ -1,38 +1,31 @@
--- The calls that a device in memory has recorded.
-use Rattle.std.specs.Prelude.{◌++◌, ◌-◌, ℕ, Bool, List, [], ◌∷◌, length, replicate, suc}
-use Rattle.lift_disk.specs.declared.call.Note.{Note}
-use Rattle.lift_disk.specs.declared.call.Note.TheVariants.{Front as Short, Flags as Few, Long}
-use Rattle.lift_disk.specs.declared.call.Detail.{Detail}
-use Rattle.lift_disk.specs.declared.call.Detail.TheVariants.{Front, Sector, Flags as Many}
+-- The calls of a device in memory by which its sectors were changed or made safe.
+use Rattle.std.specs.Prelude.{◌≡◌, ◌⊎◌, ℕ, Bool, List, refl}
+use Rattle.std.specs.Coded.{Coded, code_by, coded×, coded⊎, coded_ℕ, coded_bool, coded_list}
+use mathlib.Core.Logic.{inl, inr}
+use Rattle.lift_disk.specs.Disk.{Image}
 
 -- a call that has succeeded
 pub data Call : Type 0 where
   -- the sector, and what was written to it
   Write : ℕ → List ℕ → Call
-  -- whether each sector was loose until then, from this one on
-  Sync : ℕ → List Bool → Call
+  -- whether each sector was loose until then
+  Sync : List Bool → Call
 
--- a sector that begins with these bytes, with zeros behind them
-abbrev pub with_zeros : List ℕ → List ℕ
-with_zeros front = front ++ replicate (512 - length front) 0
+-- how the logic stores a call
+abbrev pub to_parts : Call → (ℕ × List ℕ) ⊎ List Bool
+to_parts (Write sector bytes) = inl (sector, bytes)
+to_parts (Sync loose) = inr loose
 
--- a call of which more is recorded than a note
-abbrev pub call_of : ℕ → Detail → Call
-call_of sector (Front bytes) = Write sector (with_zeros bytes)
-call_of sector (Sector bytes) = Write sector bytes.items
-call_of sector (Many flags) = Sync sector flags.items
+abbrev pub of_parts : (ℕ × List ℕ) ⊎ List Bool → Call
+of_parts (inl written) = Write written.0 written.1
+of_parts (inr loose) = Sync loose
 
--- the calls of these notes, each long one with the next of the details
-abbrev pub calls_of : List Note → List Detail → List Call
-calls_of [] details = []
-calls_of (Short bytes sector ∷ notes) details = Write sector (with_zeros bytes) ∷ calls_of notes details
-calls_of (Few flags from ∷ notes) details = Sync from flags ∷ calls_of notes details
-calls_of (Long sector ∷ notes) [] = []
-calls_of (Long sector ∷ notes) (detail ∷ details) = call_of sector detail ∷ calls_of notes details
+abbrev pub there_and_back : (call : Call) → of_parts (to_parts call) ≡ call
+there_and_back (Write sector bytes) = refl
+there_and_back (Sync loose) = refl
 
--- how many of these notes are long
-abbrev pub long_count : List Note → ℕ
-long_count [] = 0
-long_count (Short bytes sector ∷ notes) = long_count notes
-long_count (Few flags from ∷ notes) = long_count notes
-long_count (Long sector ∷ notes) = suc (long_count notes)
+abbrev pub calls_code : Coded (List Call)
+calls_code = coded_list (code_by ((ℕ × List ℕ) ⊎ List Bool) (coded⊎ (coded× coded_ℕ (coded_list coded_ℕ)) (coded_list coded_bool)) to_parts of_parts there_and_back)
+
+abbrev pub image_code : Coded Image
+image_code = coded_list (coded_list coded_ℕ)

@@ -1,7 +1,7 @@
 pub mod Trace
-pub mod Noted
 pub mod Disk
 pub mod Calls
+pub mod Noted
 pub mod Memory
 pub mod Outcomes
 pub mod Faults

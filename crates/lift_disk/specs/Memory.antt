@@ -1,5 +1,5 @@
 -- A device in memory, by the calls that it has recorded.
-use Rattle.std.specs.Prelude.{◌≡◌, ◌⊎◌, ◌≤◌, ◌<◌, ◌-◌, ℕ, Bool, true, List, [], ◌∷◌, length, take, replicate, slice_get, slice_set, Some, zero, suc}
+use Rattle.std.specs.Prelude.{◌≡◌, ◌⊎◌, ◌≤◌, ◌<◌, ℕ, Bool, true, false, List, [], ◌∷◌, length, take, replicate, slice_get, slice_set, Some, zero, suc}
 use Rattle.std.proofs.Common.{arith}
 use mathlib.Core.Logic.{inl, inr}
 use Rattle.lift_disk.specs.Disk.{DiskState, Image, ChangesWithin}
@@ -13,14 +13,10 @@ use Rattle.lift_disk.specs.Calls.Call.{Write, Sync}
 abbrev pub image_after : List Call → Image → Image
 image_after [] image = image
 image_after (Write sector bytes ∷ calls) image = image_after calls (slice_set image sector bytes)
-image_after (Sync from loose ∷ calls) image = image_after calls image
+image_after (Sync loose ∷ calls) image = image_after calls image
 
 abbrev pub IsFlagged : List Bool → ℕ → Type 0
 IsFlagged flags i = slice_get flags i ≡ Some true
-
--- the flag of this sector is set, where the first flag is that of `from`
-abbrev pub IsFlaggedFrom : ℕ → List Bool → ℕ → Type 0
-IsFlaggedFrom from flags i = (from ≤ i) × IsFlagged flags (i - from)
 
 -- one of the sectors from that one on, below the end
 abbrev pub IsWithin : ℕ → ℕ → ℕ → Type 0
@@ -29,15 +25,14 @@ IsWithin from end i = (from ≤ i) × (i < end)
 -- A crash before the j-th call, a sync, might have left this: that sync has kept which sectors were loose.
 pub record WasLeft (first : Image) (calls : List Call) (since : ℕ) (left : Image) : Type 0 where
   pub at : ℕ
-  pub from : ℕ
   pub loose : List Bool
   pub late : since ≤ at
-  pub synced : slice_get calls at ≡ Some (Sync from loose)
-  pub within : ChangesWithin (IsFlaggedFrom from loose) (image_after (take at calls) first) left
+  pub synced : slice_get calls at ≡ Some (Sync loose)
+  pub within : ChangesWithin (IsFlagged loose) (image_after (take at calls) first) left
 
 -- What is said of a device in memory that was told nothing. Its calls by now are counted, and those that change what a crash leaves are recorded.
-abbrev pub memory_state : Image → List Call → Image → Image → List Bool → Bool → Bool → ℕ → ℕ → ℕ → List Access → DiskState
-memory_state first history now synced loose steady short failures calls writes trace = record {
+abbrev pub memory_state : Image → List Call → Image → Image → List Bool → Bool → ℕ → ℕ → ℕ → List Access → DiskState
+memory_state first history now synced loose steady failures calls writes trace = record {
   size = length now;
   failures = failures;
   calls = calls;
@@ -50,7 +45,7 @@ memory_state first history now synced loose steady short failures calls writes t
   is_loose = IsFlagged loose;
   is_steady = steady ≡ true;
   settles = λ i bytes. slice_get now i ≡ Some bytes;
-  is_short = short;
+  is_short = false;
   fails_at = λ _. ⊥;
   moment = length history;
   left_since = λ since left. ChangesWithin (IsFlagged loose) now left ⊎ WasLeft first history since left;
@@ -71,4 +66,4 @@ none_past (y ∷ xs) (suc i) x late is = none_past xs i x (omega arith) is
 pub no_other : (first : Image) (calls : List Call) (now : Image) (loose : List Bool) (left : Image)
     → ChangesWithin (IsFlagged loose) now left ⊎ WasLeft first calls (length calls) left → ChangesWithin (IsFlagged loose) now left
 no_other first calls now loose left (inl is) = is
-no_other first calls now loose left (inr was) = absurd (none_past calls was.at (Sync was.from was.loose) was.late was.synced)
+no_other first calls now loose left (inr was) = absurd (none_past calls was.at (Sync was.loose) was.late was.synced)

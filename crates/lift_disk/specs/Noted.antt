@@ -1,11 +1,27 @@
--- The call that a note stands for.
+-- What a note adds to a list that only proofs read.
+use Rattle.std.specs.Prelude.{◌++◌, [], ◌∷◌, List}
 use Rattle.lift_disk.specs.declared.trace.Made.{Made}
 use Rattle.lift_disk.specs.declared.trace.Made.TheVariants as made
+use Rattle.lift_disk.specs.declared.call.Change.{Change}
+use Rattle.lift_disk.specs.declared.call.Change.TheVariants as change
 use Rattle.lift_disk.specs.Trace.{Access}
 use Rattle.lift_disk.specs.Trace.Access.{Read, Write, Sync}
+use Rattle.lift_disk.specs.Disk.{Image}
+use Rattle.lift_disk.specs.Calls.{Call}
+use Rattle.lift_disk.specs.Calls.Call.{Write as Written, Sync as Synced}
 
 abbrev pub access_of : Made → Access
 access_of (made.Read place) = Read place
 access_of (made.Write place bytes) = Write place bytes.now
 access_of (made.WriteRun place bytes) = Write place bytes.now
 access_of made.Sync = Sync
+
+abbrev pub first_after : Change → Image → Image
+first_after (change.First image) first = image.now
+first_after (change.Write sector bytes) first = first
+first_after (change.Sync loose) first = first
+
+abbrev pub calls_after : Change → List Call → List Call
+calls_after (change.First image) calls = []
+calls_after (change.Write sector bytes) calls = calls ++ Written sector bytes.now ∷ []
+calls_after (change.Sync loose) calls = calls ++ Synced loose.now ∷ []

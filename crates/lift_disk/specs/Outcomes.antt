@@ -1,5 +1,5 @@
 -- What is said of the devices in memory.
-use Rattle.std.specs.Prelude.{◌≡◌, ◌+◌, ◌↔◌, ℕ, true, Option, Some, None}
+use Rattle.std.specs.Prelude.{◌≡◌, ◌+◌, ◌↔◌, ℕ, Option, Some, None}
 use Rattle.lift_disk.specs.Disk.{DiskState, Image, MayLeave, GoesOn, Touches, TouchesNothing, StaysLoose, IsFilled}
 use Rattle.lift_disk.specs.Memory.{memory_state}
 use Rattle.lift_disk.specs.declared.memory.MemDisk.{MemDisk}
@@ -7,7 +7,7 @@ use Rattle.lift_disk.specs.declared.outcome.Outcome.{Outcome}
 use Rattle.lift_disk.specs.declared.outcome.Outcome.TheVariants.{Keep, Lose, Fill}
 
 abbrev pub state_of : MemDisk → DiskState
-state_of m = memory_state m.first.items m.history m.image.items m.synced.items m.loose.items m.is_steady m.is_short m.failures.count m.calls.count m.writes.count m.trace.calls
+state_of m = memory_state m.history.first m.history.calls m.image.items m.synced.items m.loose.items m.is_steady m.failures.count m.calls.count m.writes.count m.trace.calls
 
 -- which sector a failed call makes loose
 abbrev pub SpoilsSector : Option ℕ → DiskState → DiskState → Type 0
@@ -24,17 +24,6 @@ pub record SpoilsAt (sector : Option ℕ) (old new : DiskState) : Type 0 where
   pub synced : new.synced ≡ old.synced
   pub trace : new.trace ≡ old.trace
   pub short : new.is_short ≡ old.is_short
-
--- the same, and from now on the device is short
-pub record RunsShortAt (sector : Option ℕ) (old new : DiskState) : Type 0 where
-  pub goes_on : GoesOn old new
-  pub counted : new.failures ≡ old.failures + 1
-  pub unsteady : ¬ new.is_steady
-  pub touched : SpoilsSector sector old new
-  pub image : new.image ≡ old.image
-  pub synced : new.synced ≡ old.synced
-  pub trace : new.trace ≡ old.trace
-  pub short : new.is_short ≡ true
 
 -- what a cut leaves by its word: the loose sectors keep their bytes, lose them or are filled
 abbrev pub IsLeftBy : Outcome → DiskState → Image → Type 0

@@ -48,7 +48,7 @@ impl Disk for FlakyDisk {
 
     ghost counts_now = { λ d _ t left le now. inl now };
 
-    ghost only_now = { λ d _ left since. no_other d.inner.first.items d.inner.history d.inner.image.items d.inner.loose.items left since };
+    ghost only_now = { λ d _ left since. no_other d.inner.history.first d.inner.history.calls d.inner.image.items d.inner.loose.items left since };
 
     ghost may_lose = { λ d _. d.inner.kept };
 
@@ -91,6 +91,7 @@ impl Arm for FlakyDisk {
     }
 
     fn short(&self) -> bool {
-        self.inner.is_short()
+        // it takes no memory for a call
+        false
     }
 }

@@ -1,11 +1,11 @@
-//! A device in memory. It records its calls, so what a crash at any past moment might have left is still known.
+//! A device in memory. Proofs know its calls, so they know what a crash at any past moment might have left.
 ghost use Rattle.std.specs.Prelude.{◌≡◌, ◌≤◌, ◌<◌, ◌+◌, ◌^◌, ◌++◌, [], ◌∷◌, ℕ, length, replicate, true, false, refl, OnOk, OnErr, IfOk, IfSome};
 ghost use Rattle.std.proofs.Common.{inl};
 ghost use Rattle.lift_disk.specs.Disk.{ChangesWithin, IsSynced, IsUnarmed};
 ghost use Rattle.lift_disk.specs.Memory.{IsFlagged, IsWithin, image_after, no_other};
 
-use crate::call::History;
-use crate::record::{clear, copy, copy_flagged, leave, no_flags, zeros};
+use crate::call::ProofHistory;
+use crate::record::{clear, copy_flagged, leave, no_flags, zeros};
 use crate::span::Span;
 use crate::trace::{Made, ProofTrace};
 use crate::{Disk, DiskFault, Outcome};
@@ -14,16 +14,13 @@ use std::alloc::Global;
 
 #[derive(Drop)]
 pub struct MemDisk {
-    alloc: Global,
-    first: Vec<[u8; 512]>,
-    history: History,
+    history: ProofHistory,
     image: Vec<[u8; 512]>,
     synced: Vec<[u8; 512]>,
     loose: Vec<bool>,
     /// No sector outside of it is loose, so that a sync need not look at them all.
     span: Span,
     is_steady: bool,
-    is_short: bool,
     failures: ProofCount,
     calls: ProofCount,
     writes: ProofCount,
@@ -33,12 +30,12 @@ pub struct MemDisk {
     ghost spanned: { (i : ℕ) → IsFlagged loose.items i → IsWithin span.from span.end i },
     ghost order: { span.from ≤ span.end },
     ghost bound: { span.end ≤ length image.items },
-    ghost recorded: { image_after history first.items ≡ image.items },
+    ghost recorded: { image_after history.calls history.first ≡ image.items },
     ghost kept: { ChangesWithin (IsFlagged loose.items) image.items synced.items },
 }
 
 impl MemDisk {
-    ghost use Rattle.lift_disk.specs.Outcomes.{state_of, SpoilsAt, RunsShortAt, IsLeftBy, IsCut};
+    ghost use Rattle.lift_disk.specs.Outcomes.{state_of, SpoilsAt, IsLeftBy, IsCut};
 
     /// So many sectors of zeros, all of them on the disk. Refused only for want of memory.
     pub fn new(alloc: Global, sectors: u32) -> Result<MemDisk, Memory>
@@ -54,28 +51,19 @@ impl MemDisk {
         ensures writes { IfOk result (λ disk. (state_of disk).writes ≡ 0) }
         ensures trace { IfOk result (λ disk. (state_of disk).trace ≡ []) }
     {
+        let image = zeros(alloc, sectors)?;
         Ok(MemDisk {
-            alloc,
-            first: zeros(alloc, sectors)?,
-            history: History::new(alloc),
-            image: zeros(alloc, sectors)?,
+            history: ProofHistory::begin(&image),
+            image,
             synced: zeros(alloc, sectors)?,
             loose: no_flags(alloc, sectors)?,
             span: Span::none(),
             is_steady: true,
-            is_short: false,
             failures: ProofCount::new(),
             calls: ProofCount::new(),
             writes: ProofCount::new(),
             trace: ProofTrace::new(),
         })
-    }
-
-    /// A growth inside the device was refused, now or earlier.
-    pub(crate) fn is_short(&self) -> bool
-        ensures { result ≡ (state_of self.now).is_short }
-    {
-        self.is_short
     }
 
     /// Stands for a failed call: a write of this sector, or a read or a sync.
@@ -93,48 +81,31 @@ impl MemDisk {
         }
     }
 
-    /// A call that fails because a growth was refused.
-    fn fail_short(&mut self, sector: Option<u32>)
-        requires { IfSome sector (λ i. i < (state_of self.old).size) }
-        ensures { RunsShortAt sector (state_of self.old) (state_of self.new) }
-    {
-        self.is_short = true;
-        self.spoil(sector);
-    }
-
     /// Cuts the power. It takes no memory; what a crash might have left before is no longer asked.
     pub fn cut(self, outcome: Outcome) -> MemDisk
         ensures image { IsLeftBy outcome (state_of self) (state_of result).image }
         ensures cut { IsCut (state_of self) (state_of result) }
     {
         let MemDisk {
-            alloc,
-            mut first,
-            mut history,
             mut image,
             synced,
             loose,
             span,
             is_steady,
-            is_short,
             failures,
             calls,
             writes,
             trace,
+            ..
         } = self;
         leave(outcome, &mut image, &synced, &loose);
-        copy(&image, &mut first);
-        history.clear();
         MemDisk {
-            alloc,
-            first,
-            history,
+            history: ProofHistory::begin(&image),
             image,
             synced,
             loose,
             span,
             is_steady,
-            is_short,
             failures,
             calls,
             writes,
@@ -152,7 +123,7 @@ impl Disk for MemDisk {
 
     ghost counts_now = { λ m _ t left le now. inl now };
 
-    ghost only_now = { λ m _ left since. no_other m.first.items m.history m.image.items m.loose.items left since };
+    ghost only_now = { λ m _ left since. no_other m.history.first m.history.calls m.image.items m.loose.items left since };
 
     ghost may_lose = { λ m _. m.kept };
 
@@ -168,10 +139,7 @@ impl Disk for MemDisk {
     }
 
     fn write(&mut self, sector: u32, bytes: &[u8; 512]) -> Result<(), DiskFault> {
-        if self.history.note_write(self.alloc, sector, bytes).is_err() {
-            self.fail_short(Some(sector));
-            return Err(DiskFault);
-        }
+        self.history.note_write(sector, bytes);
         self.calls = ProofCount::next(&self.calls);
         self.writes = ProofCount::next(&self.writes);
         self.trace = self.trace.then(&Made::Write(u64::from(sector), bytes));
@@ -182,14 +150,7 @@ impl Disk for MemDisk {
     }
 
     fn sync(&mut self) -> Result<(), DiskFault> {
-        if self
-            .history
-            .note_sync(self.alloc, &self.loose, self.span)
-            .is_err()
-        {
-            self.fail_short(None);
-            return Err(DiskFault);
-        }
+        self.history.note_sync(&self.loose);
         self.calls = ProofCount::next(&self.calls);
         self.trace = self.trace.then(&Made::Sync);
         copy_flagged(&self.image, &self.loose, self.span, &mut self.synced);

@@ -70,24 +70,17 @@ fn a_failed_write_spoils_its_sector(rt: HostRuntime) {
     assert!(rt; holds(&mut inner.cut(Outcome::Fill(4)), [4, 4, 8, 4]));
 }
 
-/// Run with each allocation refused in turn: a refused growth makes a call fail and the device short, and the next call may pass.
+/// Run with each allocation refused in turn: a device that was made takes no memory, so no call fails for want of it.
 #[test]
-fn a_refused_growth_is_told(rt: HostRuntime) {
+fn a_call_takes_no_memory(rt: HostRuntime) {
     let Ok(inner) = MemDisk::new(rt.alloc(), 4) else {
         return;
     };
     let mut disk = FuseDisk::new(inner);
-    let mut failed = false;
     for turn in 0..20 {
-        let before = get(&mut disk, turn % 4);
-        assert!(rt; before.is_some());
-        if !put(&mut disk, turn % 4, 200) {
-            failed = true;
-            assert!(rt; get(&mut disk, turn % 4) == before);
-        }
-        if disk.sync().is_err() {
-            failed = true;
-        }
-        assert!(rt; disk.short() == failed);
+        assert!(rt; put(&mut disk, turn % 4, 200));
+        assert!(rt; get(&mut disk, turn % 4) == Some(200));
+        assert!(rt; disk.sync().is_ok());
+        assert!(rt; !disk.short());
     }
 }

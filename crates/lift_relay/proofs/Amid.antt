@@ -1,39 +1,45 @@
 -- A flusher's turn in the midst of a scan leads where it leads before it.
-use Rattle.std.proofs.Common.{ℕ, zero, suc, ◌≡◌, ◌≢◌, ◌+◌, ◌≤◌, Bool, true, false, List, [], ◌∷◌, ◌++◌, length, Option, Some, refl, sym, ap, subst, ◌∙◌, arith, append_assoc}
+use Rattle.std.proofs.Common.{ℕ, zero, suc, ◌≡◌, ◌≢◌, ◌+◌, ◌≤◌, Bool, true, false, List, [], ◌∷◌, ◌++◌, length, map, Option, Some, refl, sym, ap, subst, ◌∙◌, arith, append_assoc}
 use Rattle.std.specs.Prelude.{IsTrue, ◌||◌, ◌==◌, if◌then◌else◌, unwrap_or, replicate}
 use Rattle.std.specs.List.{AllByRecursion, flat_map}
 use Rattle.std.proofs.lemmas.Bool.{false≢true}
 use Rattle.std.proofs.lemmas.List.{length-append}
 use Rattle.lift_base.specs.declared.command.Reply.{Reply}
-use Rattle.lift_desk.specs.Seats.{view_at}
+use Rattle.lift_base.specs.declared.history.Entry.{Entry}
+use Rattle.lift_desk.specs.Seats.{ClerkPlace, view_at}
+use Rattle.lift_keeper.specs.Writer.{WriterView}
 use Rattle.lift_policy.specs.Eligible.{Choice, any_eligible}
 use Rattle.lift_policy.specs.Step.{State}
 use Rattle.lift_policy.specs.Run.{Run}
 use Rattle.lift_policy.specs.declared.command.Command.{Command}
 use Rattle.lift_world.specs.declared.event.Event.{Event}
-use Rattle.lift_world.specs.declared.event.Event.TheVariants.{Take, Seal, Cut, Fold, Body as BodyWrite, FirstSync, Gate, SecondSync}
+use Rattle.lift_world.specs.declared.event.Event.TheVariants.{Take, Seal, Cut, Fold, Body as BodyWrite, FirstSync, Gate, SecondSync, Fault}
 use Rattle.lift_world.specs.declared.event.Phase.TheVariants.{GateWritten}
 use Rattle.lift_world.specs.declared.event.Taken.{Taken as Held}
-use Rattle.lift_world.specs.World.{World, Batch, state_of}
-use Rattle.lift_world.specs.Next.{next, goes, bodies}
+use Rattle.lift_world.specs.World.{World, Batch, state_of, safe_list}
+use Rattle.lift_world.specs.Next.{next, goes, bodies, unknown_to}
 use Rattle.lift_world.specs.Headline.{HearsInOrder}
 use Rattle.lift_world.specs.Policies.{RunsAreAny}
 use Rattle.lift_world.specs.Among.{Look, LooksStand, look_events, StandsAsk, AreBeside, commands_of as asks_found}
 use Rattle.lift_world.specs.Beside.{is_of_terminals}
-use Rattle.lift_world.specs.Relay.{IsQueueInOrder, IsBetweenScans, is_flushers, allocated, answers_to, answered_of, flusher_events}
+use Rattle.lift_world.specs.Relay.{IsQueueInOrder, IsBetweenScans, is_flushers, allocated, answers_to, answered_of, flusher_events, failing_flush, broken_flush}
 use Rattle.lift_world.specs.Turns.{AreFound, device_calls, calls_to}
 use Rattle.lift_world.proofs.Goes.{goes-append}
 use Rattle.lift_world.proofs.Heard.{hears}
 use Rattle.lift_world.proofs.Steps.{then_from}
+use Rattle.lift_clerk.specs.declared.counts.Counts.{Counts}
 use Rattle.lift_clerk.specs.Visits.{commands_of}
+use Rattle.lift_clerk.specs.Machine.{IsReached}
 use Rattle.lift_clerk.proofs.Asked.{run_in}
-use Rattle.lift_relay.specs.Batch.{replies_in}
+use Rattle.lift_relay.specs.Batch.{BatchState, replies_in}
+use Rattle.lift_relay.specs.Allocator.{AllocatorState, IsScanTurn}
+use Rattle.lift_relay.specs.Flusher.{FlusherState}
 use Rattle.lift_relay.specs.Laws.{RelayLaws}
-use Rattle.lift_relay.specs.Tie.{TakesAsked, HasRoom, all_found}
-use Rattle.lift_relay.specs.Amid.{events_amid, FlushesAmidScans}
-use Rattle.lift_relay.proofs.Tied.{order, hears as hears_at}
-use Rattle.lift_relay.proofs.TiedFlush.{flushes_are_flushes}
-use Rattle.lift_relay.proofs.TiedTake.{stands_behind, found_at}
+use Rattle.lift_relay.specs.Tie.{held_as, IsRelayOf, LeadsOn, TakesAsked, AllTakesAsked, HasRoom, all_found}
+use Rattle.lift_relay.specs.Amid.{Amid, events_amid, FlushesAmidScans, FailuresAmidScans, BrokenFlushesAmidScans}
+use Rattle.lift_relay.proofs.Tied.{order, hears as hears_at, reaches}
+use Rattle.lift_relay.proofs.TiedFlush.{flushes_are_flushes, failed_flushes, broken_flushes_are_broken}
+use Rattle.lift_relay.proofs.TiedTake.{run_commands, stands_behind, stands_broken, found_at}
 
 abbrev IsFlushers : Event → Type 0
 IsFlushers e = IsTrue (is_flushers e)
@@ -70,16 +76,28 @@ none_or : (b : Bool) (xs : List Event) → AllFlushers xs → AllFlushers (if b 
 none_or true xs h = tt
 none_or false xs h = h
 
+-- those before the second sync
+first_calls : (writes : ℕ) → AllFlushers (calls_to writes GateWritten)
+first_calls writes = both (replicate writes BodyWrite) (FirstSync ∷ Gate ∷ []) (again writes BodyWrite refl) (refl, (refl, tt))
+
 calls : (folds count : ℕ) → AllFlushers (device_calls folds count)
 calls folds count =
-    let writes : List Event = replicate (bodies count + 1) BodyWrite in
-    let to_gate : List Event = FirstSync ∷ Gate ∷ [] in
-    none_or (count == 0) (replicate folds Fold ++ (calls_to (bodies count + 1) GateWritten ++ SecondSync ∷ []))
-    (both (replicate folds Fold) ((writes ++ to_gate) ++ SecondSync ∷ []) (again folds Fold refl)
-    (both (writes ++ to_gate) (SecondSync ∷ []) (both writes to_gate (again (bodies count + 1) BodyWrite refl) (refl, (refl, tt))) (refl, tt)))
+    let firsts : List Event = calls_to (bodies count + 1) GateWritten in
+    none_or (count == 0) (replicate folds Fold ++ (firsts ++ SecondSync ∷ []))
+    (both (replicate folds Fold) (firsts ++ SecondSync ∷ []) (again folds Fold refl)
+    (both firsts (SecondSync ∷ []) (first_calls (bodies count + 1)) (refl, tt)))
 
 all_flushers : (q : Batch) (folds count : ℕ) → AllFlushers (flusher_events all_found q folds count)
 all_flushers q folds count = (refl, both (device_calls folds count) _ (calls folds count) (answers (answered_of all_found q.commands)))
+
+all_failing : (q : Batch) (folds count : ℕ) → AllFlushers (failing_flush all_found q folds GateWritten count)
+all_failing q folds count =
+    let firsts : List Event = calls_to (bodies count + 1) GateWritten in
+    let rest : List Event = Fault ∷ answers_to (answered_of all_found q.commands) in
+    (refl, both (replicate folds Fold) (firsts ++ rest) (again folds Fold refl) (both firsts rest (first_calls (bodies count + 1)) (refl, answers (answered_of all_found q.commands))))
+
+all_broken : (q : Batch) → AllFlushers (broken_flush all_found q)
+all_broken q = (refl, answers (answered_of all_found q.commands))
 
 or_second : (a b : Bool) → IsTrue b → IsTrue (a || b)
 or_second true b h = refl
@@ -148,41 +166,98 @@ module _ (laws : RelayLaws) where
   among w last (look ∷ looks) [] state some q k l r = absurd r
   among w last (look ∷ looks) (reply ∷ rs) state some q k l r = laws.scans_among w look looks reply rs state last q k l r
 
+-- ---- the scan amid a turn of the flusher that leads on, whatever the scan decides
+-- what was asked stays so, and the line has room
+asked_on : (old now : List Command) (places : List ClerkPlace) → now ≡ old → AllTakesAsked old places → AllTakesAsked now places
+asked_on old now places same asked n = subst (λ (x : List Command). TakesAsked x n (view_at places n)) (sym same) (asked n)
+
+room_on : {D P : Type 0} (a : AllocatorState P) (f g : FlusherState D) (batch : BatchState) → g.end.received ≡ f.end.received ++ batch ∷ [] → HasRoom a f → HasRoom a g
+room_on a f g batch more room = let much = room in omega (arith, ap length more, length-append f.end.received (batch ∷ []))
+
+module _ {D P : Type 0} (laws : RelayLaws) (choice : Choice) (any : RunsAreAny choice) (w : World) (a b : AllocatorState P) (f g : FlusherState D) (counts : Counts) (t : IsScanTurn choice a b counts)
+    (some : commands_of 0 t.visits ≢ []) (asked : AllTakesAsked w.asked b.seat) (room : HasRoom a f) (m : IsRelayOf w a f)
+    (events : List Event) (given : List Held) (safe : List Entry) (l : LeadsOn w events given safe a g) (all : AllFlushers events)
+    (rs : List Reply) (state : State) (run : Run w.building any_eligible (state_of w) (commands_of 0 t.visits) rs state) where
+  abbrev behind_both : World
+  behind_both = allocated l.end (commands_of 0 t.visits) rs state
+
+  placed : (amid : Amid events (commands_of 0 t.visits)) → (letters : List (Option ℕ)) × (goes (events_amid amid letters) w ≡ Some behind_both)
+  placed amid =
+      let found = found_at laws choice any w a b f counts t some room m asked in
+      let is : asks_found amid.looks ≡ commands_of 0 t.visits = amid.commands_are in
+      let goes_all : goes (flat_map (λ (x : Look). x.before) amid.looks ++ (amid.between ++ amid.behind)) w ≡ Some l.end = ap (λ (es : List Event). goes es w) amid.all ∙ l.possible in
+      let his : AllFlushers (flat_map (λ (x : Look). x.before) amid.looks ++ (amid.between ++ amid.behind)) = subst AllFlushers (sym amid.all) all in
+      let stand = looks_stand laws amid.looks (amid.between ++ amid.behind) w l.end (hears_at laws w m.reached) found.0 his goes_all
+      (subst (λ (x : List Command). Standing w x) (sym is) (standing laws w (commands_of 0 t.visits) found.1)) in
+      let k = among laws w stand.0 amid.looks rs state (λ none. some (sym is ∙ none)) (order laws w m.reached) m.between stand.1
+      (subst (λ (x : List Command). Run w.building any_eligible (state_of w) x rs state) (sym is) run) in
+      let late = beside (amid.between ++ amid.behind) (rest_of (flat_map (λ (x : Look). x.before) amid.looks) (amid.between ++ amid.behind) his) in
+      (k.0, k.1 amid.between amid.behind l.end late stand.2 ∙ ap (λ (x : List Command). Some (allocated l.end x rs state)) is)
+
+  leads_amid : (IsReached behind_both → (safe_list behind_both ≡ safe_list l.end) × IsRelayOf behind_both b g) → (amid : Amid events (commands_of 0 t.visits))
+      → (letters : List (Option ℕ)) × LeadsOn w (events_amid amid letters) given safe b g
+  leads_amid shows amid =
+      let p = placed amid in
+      let s = shows (reaches laws w m.reached (events_amid amid p.0) behind_both p.1 l.same_building) in (
+        p.0,
+        record {
+          end = behind_both;
+          possible = p.1;
+          given_is = l.given_is;
+          safe_is = s.0 ∙ l.safe_is;
+          same_building = l.same_building;
+          answered_is = l.answered_is;
+          same_asked = l.same_asked;
+          same_heard = l.same_heard;
+          shows = s.1;
+        },
+      )
+
 pub flushes_amid_scans : {D P : Type 0} → RelayLaws → (choice : Choice) → RunsAreAny choice → FlushesAmidScans D P choice
 flushes_amid_scans {D} {P} laws choice any w a b f g counts batch made t some asked room flush received m =
     let fl = flushes_are_flushes laws w a f g batch made flush received m in
     let cs : List Command = commands_of 0 t.visits in
-    let rs : List Reply = replies_in t.batch.commands in (
+    let rs : List Reply = replies_in t.batch.commands in
+    let run : Run w.building any_eligible (state_of w) cs rs t.decided = run_in choice any w a.plan a.state cs rs t.decided m.building (m.whole flush.was_whole).state t.run in (
       fl.0,
       λ folds amid.
           let l = fl.1 folds in
-          let events : List Event = flusher_events all_found fl.0 folds (length batch.entries) in
-          let took : (n : ℕ) → TakesAsked l.end.asked n (view_at b.seat n) = λ n. subst (λ (x : List Command). TakesAsked x n (view_at b.seat n)) (sym l.same_asked) (asked n) in
-          let there : HasRoom a g = (let much = room in omega (arith, ap length flush.turn.receives.receives, length-append f.end.received (batch ∷ []))) in
-          let run : Run w.building any_eligible (state_of w) cs rs t.decided = run_in choice any w a.plan a.state cs rs t.decided m.building (m.whole flush.was_whole).state t.run in
-          let found = found_at laws choice any w a b f counts t some room m asked in
-          let is : asks_found amid.looks ≡ cs = amid.commands_are in
-          let goes_all : goes (flat_map (λ (x : Look). x.before) amid.looks ++ (amid.between ++ amid.behind)) w ≡ Some l.end = ap (λ (es : List Event). goes es w) amid.all ∙ l.possible in
-          let all : AllFlushers (flat_map (λ (x : Look). x.before) amid.looks ++ (amid.between ++ amid.behind)) = subst AllFlushers (sym amid.all) (all_flushers fl.0 folds (length batch.entries)) in
-          let stand = looks_stand laws amid.looks (amid.between ++ amid.behind) w l.end (hears_at laws w m.reached) found.0 all goes_all
-          (subst (λ (x : List Command). Standing w x) (sym is) (standing laws w cs found.1)) in
-          let k = among laws w stand.0 amid.looks rs t.decided (λ none. some (sym is ∙ none)) (order laws w m.reached) m.between stand.1
-          (subst (λ (x : List Command). Run w.building any_eligible (state_of w) x rs t.decided) (sym is) run) in
-          let late = beside (amid.between ++ amid.behind) (rest_of (flat_map (λ (x : Look). x.before) amid.looks) (amid.between ++ amid.behind) all) in
-          let possible : goes (events_amid amid k.0) w ≡ Some (allocated l.end cs rs t.decided) =
-          k.1 amid.between amid.behind l.end late stand.2 ∙ ap (λ (x : List Command). Some (allocated l.end x rs t.decided)) is in
-          let behind = stands_behind laws choice any l.end a b g counts t some there l.shows took flush.is_whole in (
-            k.0,
-            record {
-              end = allocated l.end cs rs t.decided;
-              possible = possible;
-              given_is = l.given_is;
-              safe_is = behind.0 ∙ l.safe_is;
-              same_building = l.same_building;
-              answered_is = l.answered_is;
-              same_asked = l.same_asked;
-              same_heard = l.same_heard;
-              shows = behind.1;
-            },
-          ),
+          leads_amid laws choice any w a b f g counts t some asked room m (flusher_events all_found fl.0 folds (length batch.entries)) (map held_as batch.commands) (safe_list w ++ batch.entries) l
+          (all_flushers fl.0 folds (length batch.entries)) rs t.decided run
+          (λ reached. stands_behind laws choice any l.end a b g counts t some (room_on a f g batch flush.turn.receives.receives room) l.shows
+          (asked_on w.asked l.end.asked b.seat l.same_asked asked) flush.is_whole)
+          amid,
+    )
+
+-- while nothing has failed the scan is decided by the policy, also where the flusher's turn then fails
+pub failures_amid_scans : {D P : Type 0} → RelayLaws → (choice : Choice) → RunsAreAny choice → FailuresAmidScans D P choice
+failures_amid_scans {D} {P} laws choice any w a b f g counts batch t some asked room fails received m =
+    let fl = failed_flushes laws w a f g batch fails received m in
+    let cs : List Command = commands_of 0 t.visits in
+    let rs : List Reply = replies_in t.batch.commands in
+    let run : Run w.building any_eligible (state_of w) cs rs t.decided = run_in choice any w a.plan a.state cs rs t.decided m.building (m.whole fails.was_whole).state t.run in (
+      fl.0,
+      λ folds amid.
+          let l = fl.1 folds in
+          leads_amid laws choice any w a b f g counts t some asked room m (failing_flush all_found fl.0 folds GateWritten (length batch.entries)) (map unknown_to (map held_as batch.commands)) (safe_list w) l
+          (all_failing fl.0 folds (length batch.entries)) rs t.decided run
+          (λ reached. stands_broken laws choice any l.end a b g counts t some (room_on a f g batch fails.turn.receives.receives room) l.shows
+          (asked_on w.asked l.end.asked b.seat l.same_asked asked) rs t.decided (run_commands w.building any_eligible (state_of w) t.decided cs rs run) reached fails.breaks)
+          amid,
+    )
+
+-- after a fault the machine may decide anything: each command is answered Unknown
+pub broken_amid_scans : {D P : Type 0} → RelayLaws → (choice : Choice) → RunsAreAny choice → BrokenFlushesAmidScans D P choice
+broken_amid_scans {D} {P} laws choice any w a b f g counts batch t some asked room rests received m =
+    let fl = broken_flushes_are_broken laws w a f g batch rests received m in
+    let cs : List Command = commands_of 0 t.visits in
+    let h = laws.decided w.building (state_of w) cs in
+    let still : g.writer.is_broken ≡ true = ap (λ (v : WriterView D). v.is_broken) rests.rests ∙ rests.was_broken in (
+      fl.0,
+      λ amid.
+          leads_amid laws choice any w a b f g counts t some asked room m (broken_flush all_found fl.0) (map unknown_to (map held_as batch.commands)) (safe_list w) fl.1
+          (all_broken fl.0) h.0 h.1 h.2
+          (λ reached. stands_broken laws choice any fl.1.end a b g counts t some (room_on a f g batch rests.turn.receives.receives room) fl.1.shows
+          (asked_on w.asked fl.1.end.asked b.seat fl.1.same_asked asked) h.0 h.1 (run_commands w.building any_eligible (state_of w) h.1 cs h.0 h.2) reached still)
+          amid,
     )

@@ -182,12 +182,11 @@ module _ {D P : Type 0} (laws : RelayLaws) (choice : Choice) (any : RunsAreAny c
     abbrev waiting : List BatchState
     waiting = m.waiting ++ t.batch ∷ []
 
-    shown : (letters : List (Option ℕ)) → goes (allocator_events cs letters) w ≡ Some end → (f.writer.is_broken ≡ false → RunsWhole end b f waiting) → (f.writer.is_broken ≡ true → RunsBroken end f)
-        → IsRelayOf end b f
-    shown letters possible whole broken = record {
+    shown : IsReached end → (f.writer.is_broken ≡ false → RunsWhole end b f waiting) → (f.writer.is_broken ≡ true → RunsBroken end f) → IsRelayOf end b f
+    shown reached whole broken = record {
       building = m.building ∙ sym t.same_place.1;
       same_plan = m.same_plan;
-      reached = reaches laws w m.reached (allocator_events cs letters) end possible refl;
+      reached = reached;
       between = record { nothing_taken = m.between.nothing_taken; all_sealed = refl };
       nothing_due = m.nothing_due;
       safe = ap register_after (safe_stays laws w m.reached state.batch) ∙ m.safe;
@@ -212,7 +211,7 @@ module _ {D P : Type 0} (laws : RelayLaws) (choice : Choice) (any : RunsAreAny c
       answered_is = sym (append-nil w.answered);
       same_asked = refl;
       same_heard = refl;
-      shows = shown letters possible whole broken;
+      shows = shown (reaches laws w m.reached (allocator_events cs letters) end possible refl) whole broken;
     }
 
   -- while nothing has failed it is decided by the policy
@@ -250,23 +249,33 @@ module _ {D P : Type 0} (laws : RelayLaws) (choice : Choice) (any : RunsAreAny c
       }
 
   pub shown_here : f.writer.is_broken ≡ false → IsRelayOf (allocated w cs replies t.decided) b f
-  shown_here e = shown replies t.decided (same_here e) (made_here e).0 (made_here e).1 (λ q. whole_here e) (λ q. not_both f.writer.is_broken e q)
+  shown_here e =
+      shown replies t.decided (same_here e) (reaches laws w m.reached (allocator_events cs (made_here e).0) (allocated w cs replies t.decided) (made_here e).1 refl)
+      (λ q. whole_here e) (λ q. not_both f.writer.is_broken e q)
+
+  -- after a fault what is decided is no matter
+  broken_here : (rs : List Reply) (state : State) → f.writer.is_broken ≡ true → RunsBroken (allocated w cs rs state) f
+  broken_here rs state e =
+      let k = m.broken e in
+      record {
+        between = record { broken = k.between.broken; nothing_flies = k.between.nothing_flies };
+        doubt = doubt_stays laws w m.reached state.batch ∙ k.doubt;
+        may_be_kept = k.may_be_kept;
+      }
+
+  pub shown_broken : (rs : List Reply) (state : State) → map command_of (with_replies cs rs) ≡ cs → IsReached (allocated w cs rs state) → f.writer.is_broken ≡ true → IsRelayOf (allocated w cs rs state) b f
+  shown_broken rs state same reached e = shown rs state same reached (λ q. not_both f.writer.is_broken q e) (λ q. broken_here rs state e)
 
   by_state : (broken : Bool) → f.writer.is_broken ≡ broken → (letters : List (Option ℕ)) × LeadsOn w (allocator_events cs letters) [] (safe_list w) b f
   by_state false e =
       ((made_here e).0, leads replies t.decided (same_here e) (made_here e).0 (made_here e).1 (λ q. whole_here e) (λ q. not_both f.writer.is_broken e q))
   by_state true e =
-      let k = m.broken e in
       let h = laws.decided w.building (state_of w) cs in
       let made = allocates laws w cs h.0 h.1 some m.between are_found h.2 in (
         made.0,
         leads h.0 h.1 (run_commands w.building any_eligible (state_of w) h.1 cs h.0 h.2) made.0 made.1
             (λ q. not_both f.writer.is_broken q e)
-            (λ q. record {
-              between = record { broken = k.between.broken; nothing_flies = k.between.nothing_flies };
-              doubt = doubt_stays laws w m.reached h.1.batch ∙ k.doubt;
-              may_be_kept = k.may_be_kept;
-            }),
+            (λ q. broken_here h.0 h.1 e),
       )
 
   pub allocation : (letters : List (Option ℕ)) × LeadsOn w (allocator_events cs letters) [] (safe_list w) b f
@@ -299,6 +308,14 @@ module _ {D P : Type 0} (laws : RelayLaws) (choice : Choice) (any : RunsAreAny c
   stands_behind e = (
     safe_stays laws w m.reached t.decided.batch,
     shown_here laws choice any w a b f counts t some room m (looks_asked laws choice w a b f counts t m asked) e,
+  )
+
+  -- so after a fault, whatever is decided there
+  pub stands_broken : (rs : List Reply) (state : State) → map command_of (with_replies (commands_of 0 t.visits) rs) ≡ commands_of 0 t.visits → IsReached (allocated w (commands_of 0 t.visits) rs state)
+      → f.writer.is_broken ≡ true → (safe_list (allocated w (commands_of 0 t.visits) rs state) ≡ safe_list w) × IsRelayOf (allocated w (commands_of 0 t.visits) rs state) b f
+  stands_broken rs state same reached e = (
+    safe_stays laws w m.reached state.batch,
+    shown_broken laws choice any w a b f counts t some room m (looks_asked laws choice w a b f counts t m asked) rs state same reached e,
   )
 
 pub nexts_are_allocations : {D P : Type 0} → RelayLaws → (choice : Choice) → RunsAreAny choice → NextsAreAllocations D P choice

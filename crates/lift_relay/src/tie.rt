@@ -8,7 +8,7 @@ ghost use Rattle.lift_relay.specs.Pair.{IsFlush};
 ghost use Rattle.lift_relay.specs.Laws.{RelayLaws};
 ghost use Rattle.lift_relay.specs.Tie.{SplitsAreNoEvents, RejoiningsAreNoEvents, FullTurnsAreNoEvents, EmptyTurnsAreNoEvents, SendingsAreNoEvents, TellingsAreNoEvents, NothingTakenIsNoEvent, TerminalsKeepParts};
 ghost use Rattle.lift_relay.specs.Tie.{ScansAreAllocations, NextsAreAllocations, FlushesAreFlushes, FailedFlushesAreFailures, BrokenFlushesAreBroken};
-ghost use Rattle.lift_relay.specs.Amid.{FlushesAmidScans};
+ghost use Rattle.lift_relay.specs.Amid.{FlushesAmidScans, FailuresAmidScans, BrokenFlushesAmidScans};
 ghost use Rattle.lift_relay.specs.Tie.{CrashesOfPartsShow, CrashesInFlushesShow, CrashesInFailuresShow};
 ghost use Rattle.lift_relay.specs.Runs.{RunsAreHistories, TurnsStand, TurnsRest, SplitsHavePasts, JoinedGoOn, CutsGoOn, CutsInTurnsGoOn, CutsInFailuresGoOn};
 ghost use Rattle.lift_relay.specs.History.{RelayHistoriesAreRuns, RejoiningsGoOn, RelayCrashesShowGiven, RelayCrashesInTurnsShowGiven, RelayCrashesInFailuresShowGiven};
@@ -44,8 +44,9 @@ fn relay_laws()
 /// terminals ask and hear leads to a world of the parts too. So does each turn, by possible events alone, where by the desk's rule what
 /// was taken was asked, and by the line's what was received was sent: a scan is the machine's, and its batch joins the queue; a
 /// flusher's turn makes the first batch of the queue safe and answers its commands, or the device fails it, or it answers Unknown after
-/// a fault. Whatever has happened so, each image that a crash may leave, also at any moment of a flusher's turn, reads as the register
-/// of the safe entries or of these with the batch, holds every entry that was acknowledged, and still names the car of each letter.
+/// a fault; and so it is wherever a flusher's turn stands amid a scan that took something. Whatever has happened so, each image that a
+/// crash may leave, also at any moment of a flusher's turn, reads as the register of the safe entries or of these with the batch, holds
+/// every entry that was acknowledged, and still names the car of each letter.
 pub fn relays_are_the_machines<D: Disk, P: Policy>()
     ensures split { SplitsAreNoEvents D P }
     ensures rejoined { RejoiningsAreNoEvents D P }
@@ -61,6 +62,8 @@ pub fn relays_are_the_machines<D: Disk, P: Policy>()
     ensures failures { FailedFlushesAreFailures D P }
     ensures broken { BrokenFlushesAreBroken D P }
     ensures amid { (policy : P) → FlushesAmidScans D P (P.chooses policy) }
+    ensures amid_failed { (policy : P) → FailuresAmidScans D P (P.chooses policy) }
+    ensures amid_broken { (policy : P) → BrokenFlushesAmidScans D P (P.chooses policy) }
     ensures crashes { CrashesOfPartsShow D P }
     ensures within { CrashesInFlushesShow D P }
     ensures within_failed { CrashesInFailuresShow D P }

@@ -11,6 +11,12 @@ pub taken_more : (most n : ℕ) (old mid new : Option (List ℕ)) (items : List 
 taken_more most n old mid new items is first (more, few, second) =
     (items ++ more, omega (arith, is, few, length-append items more), Consumes-trans old mid new items more first second)
 
+-- so many calls took one byte at least each, and then one call more was made
+pub each_more : (most n k calls : ℕ) (old mid new : Option (List ℕ)) (items : List ℕ) → length items ≡ n → k ≤ n → calls ≡ k + 1 → Consumes old mid items
+    → (more : List ℕ) × (n + length more ≤ most) × Consumes mid new more → (all : List ℕ) × (length all ≤ most) × (calls ≤ length all + 1) × Consumes old new all
+each_more most n k calls old mid new items is each one first (more, few, second) =
+    (items ++ more, omega (arith, is, few, length-append items more), omega (arith, is, each, one, length-append items more), Consumes-trans old mid new items more first second)
+
 -- what was taken is too long, so all of it is
 pub long_input : (most : ℕ) (old new : Option (List ℕ)) (bytes : List ℕ) → Consumes old new bytes → most < length bytes → (all : List ℕ) × IsInput old all × (most < length all)
 long_input most None new bytes taken long = (bytes, tt, long)

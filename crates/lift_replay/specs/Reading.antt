@@ -16,6 +16,11 @@ IsRead remaining old new = ((new.ended ≡ true) × IsAtEnd (remaining new.reade
 abbrev pub TakesUpTo : {R : Type 0} → ℕ → (R → Option (List ℕ)) → (old new : R) → Type 0
 TakesUpTo most remaining old new = (bytes : List ℕ) × (length bytes ≤ most) × Consumes (remaining old) (remaining new) bytes
 
+-- And each call of the reader but the last has taken one of them at least, so none was made behind the end.
+abbrev pub TakesByEach : {R : Type 0} → ℕ → (R → Option (List ℕ)) → R → InputState R → Type 0
+TakesByEach most remaining old new =
+    (bytes : List ℕ) × (length bytes ≤ most) × (new.calls ≤ length bytes + 1) × Consumes (remaining old) (remaining new.reader) bytes
+
 -- These bytes are the input of a reader that has so much left; of one that doesn't tell, they may be any.
 abbrev pub IsInput : Option (List ℕ) → List ℕ → Type 0
 IsInput None bytes = Unit {0}

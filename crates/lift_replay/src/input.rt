@@ -2,7 +2,7 @@
 
 ghost use Rattle.std.specs.Prelude.{◌≡◌, ℕ, List, ◌+◌, ◌≤◌, ◌<◌, ◌^◌, ◌++◌, length, vec_len, IfOk, OnErr, OnOk, IfSome, ◌⊎◌, true, false};
 ghost use Rattle.std.specs.Io.KnownBytes.{Consumes, IsAtEnd, Keeps};
-ghost use Rattle.lift_replay.specs.Reading.{TakesUpTo};
+ghost use Rattle.lift_replay.specs.Reading.{TakesByEach, TakesUpTo};
 ghost use Rattle.lift_replay.specs.declared.input.InputFault.TheVariants.{Memory as NoMemory};
 
 use lift_base::text::{Counted, ReadFault};
@@ -42,6 +42,7 @@ fn read_some<R: Read + Drop>(
         × Consumes (R.remaining input.old.reader) (R.remaining input.new.reader) more) }
     ensures taken { (more : List ℕ) × (vec_len bytes.old + length more ≤ most + 1)
         × Consumes (R.remaining input.old.reader) (R.remaining input.new.reader) more }
+    ensures grows { result ≡ Ok true → vec_len bytes.old < vec_len bytes.new }
     ensures kept { result ≡ Err InputFault.Read → Keeps (R.remaining input.old.reader) (R.remaining input.new.reader) }
     ensures end { result ≡ Ok false → IsAtEnd (R.remaining input.new.reader) }
     ensures found_end { result ≡ Ok false → input.new.ended ≡ true }
@@ -84,6 +85,7 @@ pub fn read_all<R: Read + Drop>(
         → (input.new.ended ≡ true) × IsAtEnd (R.remaining input.new.reader)) }
     ensures taken { TakesUpTo (most + 1) R.remaining input.old.reader input.new.reader }
     ensures taken_till_fault { result ≡ Err InputFault.Read → TakesUpTo most R.remaining input.old.reader input.new.reader }
+    ensures each_call { TakesByEach (most + 1) R.remaining input.old.reader input.new }
     ensures few_calls { input.new.calls ≤ calls }
     ensures unfailed { OnOk result (input.new.failed ≡ false) }
     ensures cause { result ≡ Err InputFault.Read

@@ -2,7 +2,7 @@
 
 ghost use Rattle.std.specs.Prelude.{◌≡◌, ◌≢◌, ◌⊎◌, ◌+◌, ◌≤◌, ◌++◌, ℕ, List, [], length, string_bytes, true, false, OnOk, OnErr, IfOk};
 ghost use Rattle.std.specs.Io.KnownBytes.{Appends};
-ghost use Rattle.lift_replay.specs.Reading.{IsRead, TakesUpTo, most_bytes};
+ghost use Rattle.lift_replay.specs.Reading.{IsRead, TakesByEach, TakesUpTo, most_bytes};
 ghost use Rattle.lift_replay.specs.Report.{AppendsFront, Reports, building_text};
 ghost use Rattle.lift_replay.specs.Group.{first_group};
 ghost use Rattle.lift_replay.specs.Running.{TellsLines, TellsPart};
@@ -67,6 +67,7 @@ const MOST_CALLS: u32 = 2_097_152;
 /// A report of one line, for a script of which nothing is carried out.
 fn refuse<W: Write>(writer: &mut W, report: &str) -> Result<Verdict, ReplayFault>
     ensures output { result ≢ Err ReplayFault.Read }
+    ensures cause { result ≢ Err ReplayFault.Memory }
     ensures not_good { result ≢ Ok Verdict.Good }
     ensures bad { OnOk result (Appends (W.contents writer.old) (W.contents writer.new) report.now) }
     ensures front { OnErr result (AppendsFront (W.contents writer.old) (W.contents writer.new) report.now) }
@@ -84,6 +85,7 @@ fn refuse_building<W: Write>(
     ensures output { result ≢ Err ReplayFault.Read }
     ensures not_good { result ≢ Ok Verdict.Good }
     ensures memory { fault ≡ BuildingFault.Memory → result ≡ Err ReplayFault.Memory }
+    ensures silent { result ≡ Err ReplayFault.Memory → W.contents writer.new ≡ W.contents writer.old }
     ensures bad { OnOk result ((fault ≢ BuildingFault.Memory) × Appends (W.contents writer.old) (W.contents writer.new) (building_text fault)) }
     ensures front { OnErr result ((W.contents writer.new ≡ W.contents writer.old)
         ⊎ ((fault ≢ BuildingFault.Memory) × AppendsFront (W.contents writer.old) (W.contents writer.new) (building_text fault))) }
@@ -176,6 +178,7 @@ pub fn run<R: Read + Drop, W: Write>(
     ensures unwritten { result ≡ Err ReplayFault.Read → W.contents writer.new ≡ W.contents writer.old }
     ensures unread { result ≡ Err ReplayFault.Read
         → (input.new.failed ≡ true) ⊎ ((input.new.calls ≡ 2097152) × (input.new.ended ≡ false)) }
+    ensures failed { input.new.failed ≡ true → result ≡ Err ReplayFault.Read }
     // A report is written, or refused by the writer, only of a script that was read; a good one was read to its end.
     ensures read { OnOk result (IsRead R.remaining input.old input.new) }
     ensures output { result ≡ Err ReplayFault.Write → IsRead R.remaining input.old input.new }
@@ -183,6 +186,7 @@ pub fn run<R: Read + Drop, W: Write>(
     // Reading stops a byte above what a script may have, and fails only below that.
     ensures taken { TakesUpTo (most_bytes + 1) R.remaining input.old.reader input.new.reader }
     ensures taken_till_fault { result ≡ Err ReplayFault.Read → TakesUpTo most_bytes R.remaining input.old.reader input.new.reader }
+    ensures each_call { TakesByEach (most_bytes + 1) R.remaining input.old.reader input.new }
     ensures few_calls { input.new.calls ≤ 2097152 }
 {
     let bytes = match read_all(alloc, input, MOST_BYTES, MOST_CALLS) {

@@ -1,5 +1,5 @@
 -- What a run of both parts leaves for the clerk of them.
-use Rattle.std.proofs.Common.{◌≡◌, Bool, true, false, ◌||◌, Option, Some, None, [], List, Result, refl, sym, ap, subst, ◌∙◌}
+use Rattle.std.proofs.Common.{◌≡◌, ◌≢◌, Bool, true, false, ◌||◌, Option, Some, None, [], List, Result, refl, sym, ap, subst, ◌∙◌}
 use Rattle.std.specs.Prelude.{is_err}
 use Rattle.lift_disk.specs.Disk.{DiskState}
 use Rattle.lift_policy.specs.Eligible.{Choice}
@@ -12,7 +12,9 @@ use Rattle.lift_relay.specs.Batch.{BatchState}
 use Rattle.lift_relay.specs.Allocator.{AllocatorState}
 use Rattle.lift_relay.specs.Flusher.{FlusherState}
 use Rattle.lift_relay.specs.Relay.{AreParts}
-use Rattle.lift_serve.specs.Relaying.{HaveRunOn, IsLastTurn, Relayed, has_failed}
+use Rattle.lift_serve.specs.declared.serving.ServeFault.{ServeFault}
+use Rattle.lift_serve.specs.declared.serving.ServeFault.TheVariants.{Thread}
+use Rattle.lift_serve.specs.Relaying.{HaveRunOn, IsLastTurn, Relayed, first_told, has_failed, undone}
 
 abbrev is_spawn : Option RunFault → Type 0
 is_spawn None = ⊥
@@ -50,14 +52,13 @@ module _ {D P : Type 0} (choice : Choice) (state : D → DiskState) (before : Cl
       last.turn.broken ∙ last.turn.stays_broken (ap (λ (w : WriterView D). w.is_broken) last.rejoined.writer ∙ run.broken of refl)
 
   pub relayed : (fault : Option RunFault) (after : ClerkState D P) → AreParts before a f → HaveRunOn choice state a b f g fault → IsLastTurn choice b g after
-      → Relayed choice state before after
+      → Relayed choice state before after fault
   relayed fault after parts run last = record {
     allocator = a;
     flusher = f;
     parts = parts;
     allocator' = b;
     flusher' = g;
-    fault = fault;
     ran = run;
     last = last;
     broken = breaks fault after run last;
@@ -68,7 +69,23 @@ module _ {D P : Type 0} (choice : Choice) (state : D → DiskState) (before : Cl
 -- the choice is that of the clerk's policy, which stays
 pub relayed_on : {D P : Type 0} (chooses : P → Choice) (state : D → DiskState) (before after : ClerkState D P) (a b : AllocatorState P) (f g : FlusherState D)
     (fault : Option RunFault) → AreParts before a f → HaveRunOn (chooses a.policy) state a b f g fault → IsLastTurn (chooses b.policy) b g after
-    → Relayed (chooses before.policy) state before after
+    → Relayed (chooses before.policy) state before after fault
 relayed_on {D} {P} chooses state before after a b f g fault parts run last =
-    subst (λ (p : P). Relayed (chooses p) state before after) parts.policy
+    subst (λ (p : P). Relayed (chooses p) state before after fault) parts.policy
     (relayed (chooses a.policy) state before a b f g fault after parts run (subst (λ (p : P). IsLastTurn (chooses p) b g after) run.same.policy last))
+
+abbrev is_told : Option ServeFault → Type 0
+is_told None = ⊥
+is_told (Some fault) = Unit {0}
+
+-- a fault that is told stays so behind an earlier one
+told_behind : (before behind : Option ServeFault) → is_told behind → is_told (first_told before behind)
+told_behind None behind is = is
+told_behind (Some fault) behind is = tt
+
+-- that no thread could be made for the parts is told, or what was before it
+pub tells_spawn : (fault : Option RunFault) (before behind told : Option ServeFault) → behind ≡ undone fault → told ≡ first_told before behind
+    → fault ≡ Some Spawn → told ≢ None
+tells_spawn fault before behind told is first spawn none =
+    let here : is_told behind = subst is_told (sym (is ∙ ap undone spawn)) tt in
+    subst is_told (sym first ∙ none) (told_behind before behind here)

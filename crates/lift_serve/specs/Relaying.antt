@@ -1,5 +1,6 @@
 -- What becomes of a clerk whose work two threads do.
-use Rattle.std.specs.Prelude.{ℕ, ◌≡◌, ◌≢◌, Bool, true, false, ◌||◌, is_err, Option, Some, None, Result, Err, IfOk}
+use Rattle.std.specs.Prelude.{ℕ, ◌≡◌, ◌≢◌, ◌+◌, Bool, true, false, ◌||◌, is_err, Option, Some, None, Result, Err, IfOk, length}
+use Rattle.lift_building.specs.Plan.{Plan}
 use Rattle.lift_disk.specs.Disk.{DiskState}
 use Rattle.lift_policy.specs.Eligible.{Choice}
 use Rattle.lift_journal.specs.declared.fault.JournalFault.TheVariants.{Disk}
@@ -15,6 +16,8 @@ use Rattle.lift_relay.specs.Allocator.{AllocatorState}
 use Rattle.lift_relay.specs.Flusher.{FlusherState}
 use Rattle.lift_relay.specs.Pair.{HaveRun, IsSameAllocator}
 use Rattle.lift_relay.specs.Relay.{AreOfOne, AreParts, IsRejoined}
+use Rattle.lift_serve.specs.declared.serving.ServeFault.{ServeFault}
+use Rattle.lift_serve.specs.declared.serving.ServeFault.TheVariants.{Thread}
 
 -- What a turn of the clerk did, by its result. Behind one that failed the keeper is broken, behind another it is whole.
 pub record TurnsTo {D P : Type 0} (choice : Choice) (before after : ClerkState D P) (result : Result Counts KeeperFault) : Type 0 where
@@ -48,15 +51,25 @@ has_failed None = false
 has_failed (Some Spawn) = false
 has_failed (Some (Keeper fault)) = true
 
--- The clerk was split, its parts ran, each on a thread of its own, and the clerk of both turned once more. The keeper is broken
--- at the end exactly where a turn of the flusher failed or this last one. Desk and policy stay.
-pub record Relayed {D P : Type 0} (choice : Choice) (state : D → DiskState) (before after : ClerkState D P) : Type 0 where
+-- what a run by itself is undone for: that no thread could be made
+abbrev pub undone : Option RunFault → Option ServeFault
+undone None = None
+undone (Some (Keeper fault)) = None
+undone (Some Spawn) = Some Thread
+
+-- the first of two faults, if there is one
+abbrev pub first_told : (before behind : Option ServeFault) → Option ServeFault
+first_told None behind = behind
+first_told (Some fault) behind = Some fault
+
+-- The clerk was split, its parts ran, each on a thread of its own, or came to this fault, and the clerk of both turned once more.
+-- The keeper is broken at the end exactly where a turn of the flusher failed or this last one. Desk and policy stay.
+pub record Relayed {D P : Type 0} (choice : Choice) (state : D → DiskState) (before after : ClerkState D P) (fault : Option RunFault) : Type 0 where
   pub allocator : AllocatorState P
   pub flusher : FlusherState D
   pub parts : AreParts before allocator flusher
   pub allocator' : AllocatorState P
   pub flusher' : FlusherState D
-  pub fault : Option RunFault
   pub ran : HaveRunOn choice state allocator allocator' flusher flusher' fault
   pub last : IsLastTurn choice allocator' flusher' after
   pub broken : after.keeper.writer.is_broken ≡ (has_failed fault || is_err last.result)
@@ -67,7 +80,15 @@ pub record Relayed {D P : Type 0} (choice : Choice) (state : D → DiskState) (b
 pub record IsRelayedKeeper {D P : Type 0} (choice : Choice) (state : D → DiskState) (policy : P) (keeper keeper' : KeeperView D) : Type 0 where
   pub before : ClerkState D P
   pub after : ClerkState D P
+  pub fault : Option RunFault
   pub begins : before.keeper ≡ keeper
   pub policy_is : before.policy ≡ policy
-  pub relayed : Relayed choice state before after
+  pub relayed : Relayed choice state before after fault
   pub ends : after.keeper ≡ keeper'
+
+-- The keeper was relayed to this at a desk with a seat for each terminal that the building may have, 16 cars and its kiosks. Where no
+-- thread could be made for the parts, a fault is told.
+pub record IsServedKeeper {D P : Type 0} (choice : Choice) (state : D → DiskState) (policy : P) (plan : Plan) (keeper keeper' : KeeperView D) (told : Option ServeFault) : Type 0 where
+  pub relayed : IsRelayedKeeper choice state policy keeper keeper'
+  pub seats : length relayed.before.desk ≡ 16 + length plan.kiosks
+  pub tells : relayed.fault ≡ Some Spawn → told ≢ None

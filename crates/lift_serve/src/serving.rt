@@ -1,11 +1,12 @@
 //! The serving of a building on a socket.
 
-ghost use Rattle.std.specs.Prelude.{◌≡◌, ◌≤◌, [], All, IfOk, length, vec_len};
+ghost use Rattle.std.specs.Prelude.{◌≡◌, ◌≤◌, ◌+◌, [], All, Option, IfOk, IfErr, length, vec_len};
 ghost use Rattle.std.specs.Thread.{IsSend, IsSync};
 ghost use Rattle.lift_desk.specs.Seats.{AreSeatsOf, IsSeatOf, seats_from};
 ghost use Rattle.lift_relay.specs.Relay.{AreOfOne};
 ghost use Rattle.lift_serve.specs.Lobby.{all_found, found_at};
-ghost use Rattle.lift_serve.specs.Relaying.{HaveRunOn, IsRelayedKeeper, Relayed};
+ghost use Rattle.lift_relay.specs.declared.pair.RunFault.{RunFault as Fault};
+ghost use Rattle.lift_serve.specs.Relaying.{HaveRunOn, IsRelayedKeeper, IsServedKeeper, Relayed, first_told, undone};
 ghost use Rattle.lift_register.specs.Register.{last_of as last_in};
 ghost use Rattle.lift_serve.specs.Visits.{AreAsFound, IsNewSeat, known_of, letter_in as letter_of};
 
@@ -81,6 +82,27 @@ struct Shared<'a, 'd> {
     fault: &'a Mutex<Option<ServeFault>>,
     ghost some_cars: { cars ≤ 16 },
     ghost some_kiosks: { kiosks ≤ 47 },
+}
+
+/// The first of two faults.
+fn first_of(before: Option<ServeFault>, behind: Option<ServeFault>) -> Option<ServeFault>
+    ensures { result ≡ first_told before behind }
+{
+    match before {
+        Some(fault) => Some(fault),
+        None => behind,
+    }
+}
+
+/// What a run by itself is undone for.
+fn undone_by(fault: Option<RunFault>) -> Option<ServeFault>
+    ensures { result ≡ undone fault }
+{
+    match fault {
+        Some(RunFault::Spawn) => Some(ServeFault::Thread),
+        Some(RunFault::Keeper(_)) => None,
+        None => None,
+    }
 }
 
 /// The letter that a kiosk's last call got.
@@ -160,9 +182,7 @@ impl<'a, 'd> Shared<'a, 'd> {
     /// Keeps the first fault in mind.
     fn note<R: Wait>(self, rt: &R, fault: ServeFault) {
         let mut first = self.fault.lock(rt);
-        if first.is_none() {
-            *first = Some(fault);
-        }
+        *first = first_of(*first, Some(fault));
     }
 
     fn is_over<R: Wait>(self, rt: &R) -> bool {
@@ -170,7 +190,9 @@ impl<'a, 'd> Shared<'a, 'd> {
     }
 
     /// None where all connections have ended that were to end.
-    fn enter<R: Wait>(self, rt: &R, stream: Arc<TcpStream>) -> Result<Option<u64>, ServeFault> {
+    fn enter<R: Wait>(self, rt: &R, stream: Arc<TcpStream>) -> Result<Option<u64>, ServeFault>
+        ensures fault { IfErr result (λ fault. fault ≡ ServeFault.Memory) }
+    {
         match self.connections.lock(rt).enter(stream) {
             Ok(number) => Ok(number),
             Err(_) => Err(ServeFault::Memory),
@@ -215,7 +237,9 @@ fn speak<R: Wait + Clock>(
     alloc: Global,
     shared: Shared<'_, '_>,
     stream: &TcpStream,
-) -> Result<(), ServeFault> {
+) -> Result<(), ServeFault>
+    ensures fault { IfErr result (λ fault. fault ≡ ServeFault.Memory) }
+{
     let Ok(ahead) = BufReader::with_capacity(alloc, AHEAD, stream) else {
         return Err(ServeFault::Memory);
     };
@@ -255,7 +279,9 @@ fn admit<R: Wait>(
     alloc: Global,
     shared: Shared<'_, '_>,
     stream: TcpStream,
-) -> Result<Option<(u64, Arc<TcpStream>)>, ServeFault> {
+) -> Result<Option<(u64, Arc<TcpStream>)>, ServeFault>
+    ensures fault { IfErr result (λ fault. fault ≡ ServeFault.Memory) }
+{
     let Ok(stream) = Arc::new(alloc, stream) else {
         return Err(ServeFault::Memory);
     };
@@ -338,14 +364,16 @@ where
     D: Disk + Drop,
     P: Policy + Drop + Send,
     requires of_one { AreOfOne parts.allocator parts.flusher }
-    ensures { IfOk result (λ ran. HaveRunOn (P.chooses parts.entry.allocator.policy) D.state parts.entry.allocator ran.allocator parts.entry.flusher ran.flusher ran.fault) }
+    ensures ran { IfOk result (λ ran. HaveRunOn (P.chooses parts.entry.allocator.policy) D.state parts.entry.allocator ran.allocator parts.entry.flusher ran.flusher ran.fault) }
+    ensures fault { IfErr result (λ fault. fault ≡ ServeFault.Thread) }
 {
     thread::scope(
         thread::scope_env(),
         rt,
         move |scope| -> Result<Parts<D, P>, ServeFault>
             requires { IsSync R.row × IsSync G.row × IsSend P.row × AreOfOne parts.allocator parts.flusher }
-            ensures { IfOk result (λ ran. HaveRunOn (P.chooses parts.entry.allocator.policy) D.state parts.entry.allocator ran.allocator parts.entry.flusher ran.flusher ran.fault) }
+            ensures ran { IfOk result (λ ran. HaveRunOn (P.chooses parts.entry.allocator.policy) D.state parts.entry.allocator ran.allocator parts.entry.flusher ran.flusher ran.fault) }
+            ensures fault { IfErr result (λ fault. fault ≡ ServeFault.Thread) }
         {
             if scope
                 .spawn(move || welcome_all(rt, alloc, listener, shared))
@@ -362,7 +390,8 @@ where
     )
 }
 
-/// The clerk's work is done in two parts while connections are accepted. It turns once more behind them.
+/// The clerk's work is done in two parts while connections are accepted. It turns once more behind them. What the parts' run by itself is
+/// undone for is told beside the clerk: no contract knows what a lock holds.
 #[tactic(auto, using(crate::proofs::Relayings::relayed_on, crate::proofs::Relayings::none_in_hand, crate::proofs::Relayings::all_received))]
 fn run<'d, 'b, R: Threads + Wait + Clock + Sync, D: Disk + Drop, P: Policy + Drop + Send>(
     rt: &R,
@@ -371,8 +400,8 @@ fn run<'d, 'b, R: Threads + Wait + Clock + Sync, D: Disk + Drop, P: Policy + Dro
     shared: Shared<'_, '_>,
     pagers: &[Pager],
     clerk: Clerk<'d, 'b, D, P>,
-) -> Result<Clerk<'d, 'b, D, P>, ServeFault>
-    ensures { IfOk result (Relayed (P.chooses clerk.entry.policy) D.state clerk.entry) }
+) -> Result<(Clerk<'d, 'b, D, P>, Option<ServeFault>), ServeFault>
+    ensures { IfOk result (λ ran. (fault : Option Fault) × Relayed (P.chooses clerk.entry.policy) D.state clerk.entry ran.0 fault × (ran.1 ≡ undone fault)) }
 {
     let Ok((allocator, flusher)) = split(alloc, clerk) else {
         return Err(ServeFault::Memory);
@@ -384,28 +413,27 @@ fn run<'d, 'b, R: Threads + Wait + Clock + Sync, D: Disk + Drop, P: Policy + Dro
     };
     let pace = Pace::new(shared.bells, pagers, shared.closing);
     let ran = run_beside(rt, alloc, listener, shared, &pace, parts)?;
-    Ok(turn_rejoined(ran.allocator, ran.flusher))
+    let own = undone_by(ran.fault);
+    Ok((turn_rejoined(ran.allocator, ran.flusher), own))
 }
 
-/// Serves at the clerk's desk, whose seats these are.
-fn serve_at<'b, R: Threads + Wait + Clock + Sync, D: Disk + Drop, P: Policy + Drop + Send>(
+/// Serves at the clerk's desk, whose seats wait in this lobby.
+fn serve_from<'d, 'b, R: Threads + Wait + Clock + Sync, D: Disk + Drop, P: Policy + Drop + Send>(
     rt: &R,
     alloc: Global,
     listener: &TcpListener,
     sessions: u32,
     building: &Building,
     pagers: &[Pager],
-    seats: Vec<Seat>,
-    clerk: Clerk<'_, 'b, D, P>,
+    lobby: Lobby<'d>,
+    clerk: Clerk<'d, 'b, D, P>,
 ) -> Result<Served<'b, D>, ServeFault>
-    requires pagers { 63 ≤ length pagers.now }
-    requires new { All IsNewSeat seats.items }
-    requires seats { AreSeatsOf clerk.desk seats.items }
-    requires all { seats.items ≡ seats_from 0 clerk.desk }
-    ensures { IfOk result (λ served. IsRelayedKeeper (P.chooses clerk.entry.policy) D.state clerk.entry.policy clerk.entry.keeper served.keeper) }
+    requires desk { lobby.desk ≡ clerk.desk }
+    requires all { lobby.places ≡ all_found clerk.keeper.state.register clerk.desk (seats_from 0 clerk.desk) }
+    requires count { length clerk.desk ≡ 16 + length building.now.kiosks }
+    ensures { IfOk result (λ served. IsServedKeeper (P.chooses clerk.entry.policy) D.state clerk.entry.policy building.now clerk.entry.keeper served.keeper served.fault) }
 {
-    let register = clerk.keeper().register();
-    let lobby = Mutex::new(lobby_of(clerk.desk(), pagers, seats, register));
+    let lobby = Mutex::new(lobby);
     let Ok(again) = listener.try_clone() else {
         return Err(ServeFault::Network);
     };
@@ -423,12 +451,37 @@ fn serve_at<'b, R: Threads + Wait + Clock + Sync, D: Disk + Drop, P: Policy + Dr
         connections: &connections,
         fault: &fault,
     };
-    let clerk = run(rt, alloc, listener, shared, pagers, clerk)?;
+    let (clerk, own) = run(rt, alloc, listener, shared, pagers, clerk)?;
     let (_seat, keeper, _policy) = clerk.into_parts();
     Ok(Served {
         keeper,
-        fault: *fault.lock(rt),
+        fault: first_of(*fault.lock(rt), own),
     })
+}
+
+/// Serves at the clerk's desk, whose seats these are.
+fn serve_at<'b, R: Threads + Wait + Clock + Sync, D: Disk + Drop, P: Policy + Drop + Send>(
+    rt: &R,
+    alloc: Global,
+    listener: &TcpListener,
+    sessions: u32,
+    building: &Building,
+    pagers: &[Pager],
+    seats: Vec<Seat>,
+    clerk: Clerk<'_, 'b, D, P>,
+) -> Result<Served<'b, D>, ServeFault>
+    requires pagers { 63 ≤ length pagers.now }
+    requires new { All IsNewSeat seats.items }
+    requires seats { AreSeatsOf clerk.desk seats.items }
+    requires all { seats.items ≡ seats_from 0 clerk.desk }
+    requires count { length clerk.desk ≡ 16 + length building.now.kiosks }
+    ensures { IfOk result (λ served. IsServedKeeper (P.chooses clerk.entry.policy) D.state clerk.entry.policy building.now clerk.entry.keeper served.keeper served.fault) }
+{
+    let register = clerk.keeper().register();
+    let lobby = lobby_of(clerk.desk(), pagers, seats, register);
+    serve_from(
+        rt, alloc, listener, sessions, building, pagers, lobby, clerk,
+    )
 }
 
 /// Serves the building on a listening socket until so many connections have ended, those that were refused included: each

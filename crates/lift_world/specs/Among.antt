@@ -42,6 +42,10 @@ abbrev pub StandAmong : World → List Event → Type 0
 StandAmong w [] = Unit {0}
 StandAmong w (event ∷ events) = (is_flushers event ≡ false → IsTrue (goes_on event) × IsSome (next w event)) × StandAmong (unwrap_or (next w event) w) events
 
+-- So stands whatever is possible without a power cut or a recovery.
+abbrev pub PossibleStandAmong : World → Type 0
+PossibleStandAmong w = (events : List Event) (after : World) → AllByRecursion (λ (e : Event). IsTrue (goes_on e)) events → goes events w ≡ Some after → StandAmong w events
+
 -- All of it is possible, and leaves what the others' events leave in the world that the flusher made.
 pub record GoesAmong (events : List Event) (w made : World) : Type 0 where
   pub after : World

@@ -1,5 +1,6 @@
 -- Terminals ask and hear at any moment: their events pass through whatever the controller does.
-use Rattle.std.specs.Prelude.{◌≡◌, Bool, true, false, not, List, [], ◌∷◌, ◌++◌, filter, Some, unwrap_or}
+use Rattle.lift_base.specs.declared.command.Body.{Body}
+use Rattle.std.specs.Prelude.{ℕ, ◌≡◌, Bool, true, false, not, List, [], ◌∷◌, ◌++◌, filter, Some, unwrap_or}
 use Rattle.lift_policy.specs.declared.command.Command.{Command}
 use Rattle.lift_world.specs.declared.event.Answer.{Answer}
 use Rattle.lift_world.specs.declared.event.Event.{Event}
@@ -45,6 +46,11 @@ StandBeside w asked heard (Take terminal letter ∷ events) =
     (filter (asks terminal) asked ≡ filter (asks terminal) w.asked) × StandBeside (unwrap_or (next w (Take terminal letter)) w) asked heard events
 StandBeside w asked heard (Cut kept ∷ events) = ⊥
 StandBeside w asked heard (event ∷ events) = StandBeside (unwrap_or (next w event) w) asked heard events
+
+-- So stands whatever a terminal can do now.
+pub record TerminalsStandBeside (w : World) : Type 0 where
+  pub asks : (terminal number : ℕ) (body : Body) (after : World) → next w (Ask terminal number body) ≡ Some after → StandBeside w w.asked w.heard (Ask terminal number body ∷ [])
+  pub hears : (terminal : ℕ) (after : World) → next w (Hear terminal) ≡ Some after → StandBeside w w.asked w.heard (Hear terminal ∷ [])
 
 -- All of it is possible. It leaves what the terminals' events leave in the world that the controller's events made, and
 -- that world but for what was asked and heard.

@@ -1,5 +1,5 @@
 -- Which events are possible where.
-use Rattle.std.specs.Prelude.{ℕ, ◌≡◌, ◌≢◌, ◌⊎◌, ◌<◌, ◌≤◌, ◌+◌, Bool, true, false, List, [], ◌∷◌, ◌++◌, length, map, filter, replicate, count_by, Contains, Option, Some, None, find, IsTrue}
+use Rattle.std.specs.Prelude.{ℕ, ◌≡◌, ◌≢◌, ◌⊎◌, ◌<◌, ◌≤◌, ◌+◌, ◌*◌, Bool, true, false, List, [], ◌∷◌, ◌++◌, length, map, filter, replicate, count_by, Contains, Option, Some, None, find, IsTrue}
 use Rattle.std.specs.List.{AllByRecursion}
 use Rattle.lift_base.specs.declared.command.Body.{Body}
 use Rattle.lift_world.specs.declared.event.Kept.{Kept}
@@ -10,8 +10,15 @@ use Rattle.lift_world.specs.declared.event.Taken.{Taken}
 use Rattle.lift_world.specs.declared.event.Answer.{Answer}
 use Rattle.lift_world.specs.declared.event.Event.{Event}
 use Rattle.lift_world.specs.declared.event.Event.TheVariants.{Ask, Take, Seal, Pull, Fold, Body as BodyWrite, FirstSync, Gate, SecondSync, Answer as Answering, Hear, Cut, Reopen}
-use Rattle.lift_world.specs.World.{World, Batch, no_batch, unplaced, is_off, is_taken_of, is_answer_to, asks, outcome}
-use Rattle.lift_world.specs.Next.{next, run, asking, unanswered, unknown_to, writes_of, in_phase, settling, hearing, cutting, reopened, answering}
+use Rattle.lift_world.specs.World.{World, Batch, no_batch, unplaced, is_off, is_taken_of, is_answer_to, asks, outcome, acknowledged}
+use Rattle.lift_base.specs.declared.travel.Position.{Position}
+use Rattle.lift_base.specs.declared.travel.Dir.{Dir}
+use Rattle.lift_base.specs.declared.travel.Stop.{Stop}
+use Rattle.lift_base.specs.declared.history.Entry.TheVariants.{Allot, Stop as Stopping}
+use Rattle.lift_base.specs.declared.command.Body.TheVariants.{Call, Stop as StopBody}
+use Rattle.lift_base.specs.declared.command.Reply.TheVariants.{Car, Stopped}
+use Rattle.lift_policy.specs.Terminals.{kiosk_floor}
+use Rattle.lift_world.specs.Next.{bodies, next, run, asking, unanswered, unknown_to, writes_of, in_phase, settling, hearing, cutting, reopened, answering}
 
 -- the power may fail at any moment and leave the safe list
 abbrev pub CutsToSafe : World → Type 0
@@ -179,6 +186,26 @@ pub record IsAnswerDue (w : World) (terminal : ℕ) (after : World) : Type 0 whe
 -- nothing else is ever answered
 abbrev pub AnswersOnlyDue : World → Type 0
 AnswersOnlyDue w = (terminal : ℕ) (after : World) → next w (Answering terminal) ≡ Some after → IsAnswerDue w terminal after
+
+-- the header and the records of a batch, sixteen bytes each, take so many sectors of 512 bytes, and none of these is empty
+pub record FillsSectors (count : ℕ) : Type 0 where
+  pub enough : 16 * (1 + count) ≤ 512 * bodies count
+  pub none_empty : 512 * bodies count < 16 * (1 + count) + 512
+
+-- the reply that is stored is the one that the command was due with
+abbrev pub StoresTheReply : World → Type 0
+StoresTheReply w = (terminal : ℕ) (after : World) → next w (Answering terminal) ≡ Some after
+    → (command : Taken) × Contains w.due command × (after.answered ≡ w.answered ++ record { terminal = command.terminal; number = command.number; reply = command.reply } ∷ []) × (after.given ≡ w.given ++ command ∷ [])
+
+-- no car has a position after a reopening
+abbrev pub ReopeningsUnplace : World → Type 0
+ReopeningsUnplace w = (kept : Kept) (after : World) → next w (Reopen kept) ≡ Some after → AllByRecursion (λ (p : Option Position). p ≡ None) after.positions
+
+-- each `Car` and each `Stopped` that was given acknowledges its entry
+abbrev pub AcknowledgesReplies : World → Type 0
+AcknowledgesReplies w = (c : Taken) → Contains w.given c →
+    ((to party car : ℕ) → c.body ≡ Call to party → c.reply ≡ Car car → Contains (acknowledged w) (Allot c.terminal c.number (kiosk_floor w.building c.terminal) to car party))
+    × ((floor : ℕ) (dir : Dir) (stop : Option Stop) → c.body ≡ StopBody floor dir → c.reply ≡ Stopped stop → Contains (acknowledged w) (Stopping c.terminal c.number floor dir))
 
 -- what was given stays given, whatever comes, power cuts too
 abbrev pub GivenStays : World → Type 0

@@ -1,5 +1,5 @@
 //! What holds of the machine.
-ghost use Rattle.std.specs.Prelude.{ℕ, List};
+ghost use Rattle.std.specs.Prelude.{ℕ, ◌≤◌, List};
 ghost use Rattle.std.specs.List.{AllByRecursion};
 ghost use Rattle.lift_building.specs.Plan.{Plan, IsBuilding};
 ghost use Rattle.lift_policy.specs.Step.{State};
@@ -8,11 +8,11 @@ ghost use Rattle.lift_world.specs.Next.{run};
 ghost use Rattle.lift_world.specs.Headline.{RecoversPrefix, RecoversAcknowledged, RecoversLetters, RecoversFitting, HearsInOrder, SealsAccepted, StoresGiven, QueuesFew, HoldsNothingWhileOff, AllAskOneByOne, IsOfTerminal, HoldsFew};
 ghost use Rattle.lift_world.specs.World.{World, start};
 ghost use Rattle.lift_world.specs.Possible.{CutsToSafe, CutsWithBatch, CutsGive, ReopensAfterCut, OnlyReopensAfterCut, ReopensAfterFault, ReopeningsGive, ReopensWhileQuiet};
-ghost use Rattle.lift_world.specs.Possible.{AsksOnceHeard, HearsTheNext, TakesNeedLooks, Seals, PullsInTurn, CallsInOrder, AnswersDue, AnswersOnlyDue, GivenStays};
+ghost use Rattle.lift_world.specs.Possible.{AsksOnceHeard, HearsTheNext, TakesNeedLooks, Seals, PullsInTurn, CallsInOrder, AnswersDue, AnswersOnlyDue, GivenStays, FillsSectors, AcknowledgesReplies, StoresTheReply, ReopeningsUnplace};
 ghost use Rattle.lift_world.specs.Asking.{AsksStand};
-ghost use Rattle.lift_world.specs.Beside.{GoesAreRuns, RunsJoin, TerminalsPass};
+ghost use Rattle.lift_world.specs.Beside.{GoesAreRuns, RunsJoin, TerminalsPass, TerminalsStandBeside};
 ghost use Rattle.lift_world.specs.Relay.{IsQueueInOrder, AllocationsAreEvents, FullQueueWaits, FlushesAreEvents, FailedFlushesAreEvents, BrokenFlushesAreEvents, TurnsMeet, PartsMeet, FlusherPassesScans, FlusherComesFirst, FlusherPassesSeals};
-ghost use Rattle.lift_world.specs.Among.{FlusherMightComeFirst, FlusherGoesAmong, AsksStandAtOnce, AsksStandOn, LooksFindAsks, SealsAloneQueue, ScansGoAmong, AllocationsGoAmong};
+ghost use Rattle.lift_world.specs.Among.{FlusherMightComeFirst, FlusherGoesAmong, PossibleStandAmong, AsksStandAtOnce, AsksStandOn, LooksFindAsks, SealsAloneQueue, ScansGoAmong, AllocationsGoAmong};
 ghost use Rattle.lift_world.specs.Stays.{StaysBetweenScans, StaysBetweenFlushes, StaysBrokenBetween, StaysInOrder, HearsOnInOrder, AsksOnOneByOne, RestsInOrder};
 ghost use Rattle.lift_world.specs.Lawful.{IsTypedEvent, RecoversRecords, AcceptsFitting, AcceptsRecords};
 ghost use Rattle.lift_world.specs.Policies.{StepsAreAny, RunsAreAny};
@@ -86,6 +86,10 @@ pub fn events_are_possible()
     ensures answers { (w : World) → AnswersDue w }
     ensures nothing_early { (w : World) → AnswersOnlyDue w }
     ensures given { (w : World) → GivenStays w }
+    ensures sectors { (count : ℕ) → 1 ≤ count → count ≤ 63 → FillsSectors count }
+    ensures stored { (w : World) → StoresTheReply w }
+    ensures unplaces { (w : World) → ReopeningsUnplace w }
+    ensures acknowledges { (w : World) → AcknowledgesReplies w }
 {}
 
 /// Each take is one decision of the rules, and whatever the rules allow, under any policy, is a take; they decide on every
@@ -165,6 +169,7 @@ pub fn relays_are_events()
 pub fn parts_interleave()
     ensures first { (w : World) → FlusherMightComeFirst w }
     ensures flushes { (w : World) → FlusherGoesAmong w }
+    ensures among { (w : World) → PossibleStandAmong w }
     ensures asked { (w : World) → AsksStandAtOnce w }
     ensures stands { (w : World) → AsksStandOn w }
     ensures looks { (w : World) (terminal : ℕ) (command : Command) → LooksFindAsks w terminal command }
@@ -194,6 +199,7 @@ pub fn terminals_pass()
     ensures possible { (w : World) → GoesAreRuns w }
     ensures joined { (w : World) → RunsJoin w }
     ensures beside { (w : World) → TerminalsPass w }
+    ensures stand { (w : World) → TerminalsStandBeside w }
 {}
 
 /// Every policy is covered: what it may decide, on one command or on many, is a decision under the policy that may name any

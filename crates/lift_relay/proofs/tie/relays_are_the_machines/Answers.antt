@@ -1,6 +1,6 @@
 use Rattle.lift_relay.proofs.Tied.{splits_are_no_events, rejoinings, full_turns, empty_turns, sendings, tellings}
 use Rattle.lift_relay.proofs.TiedScan.{nothing_taken}
-use Rattle.lift_relay.proofs.Amid.{flushes_amid_scans}
+use Rattle.lift_relay.proofs.Amid.{flushes_amid_scans, failures_amid_scans, broken_amid_scans}
 use Rattle.lift_relay.proofs.TiedTerminals.{terminals_keep_parts}
 use Rattle.lift_relay.proofs.TiedTake.{scans_are_allocations, nexts_are_allocations}
 use Rattle.lift_relay.proofs.TiedFlush.{flushes_are_flushes, failed_flushes, broken_flushes_are_broken}
@@ -49,6 +49,12 @@ returns-clause-broken g c = broken_flushes_are_broken c.relay_laws.ensures
 
 pub returns-clause-amid : goal.returns-clause-amid
 returns-clause-amid g c policy = flushes_amid_scans c.relay_laws.ensures (g.P.Policy.chooses policy) (c.policies_are_covered.ensures.runs policy)
+
+pub returns-clause-amid_failed : goal.returns-clause-amid_failed
+returns-clause-amid_failed g c policy = failures_amid_scans c.relay_laws.ensures (g.P.Policy.chooses policy) (c.policies_are_covered.ensures.runs policy)
+
+pub returns-clause-amid_broken : goal.returns-clause-amid_broken
+returns-clause-amid_broken g c policy = broken_amid_scans c.relay_laws.ensures (g.P.Policy.chooses policy) (c.policies_are_covered.ensures.runs policy)
 
 pub returns-clause-crashes : goal.returns-clause-crashes
 returns-clause-crashes g c = crashes_of_parts c.relay_laws.ensures

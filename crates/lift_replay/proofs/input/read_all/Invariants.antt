@@ -7,6 +7,7 @@ invariant-loop g l = record {
   taken : Consumes (g.R.Read.remaining l.fn.input.reader) (g.R.Read.remaining l.input.reader) l.bytes.items;
   room : vec_len l.bytes ≤ l.most;
   calls : l.input.calls ≡ l.counter;
+  each : l.counter ≤ vec_len l.bytes;
   unhurt : l.input.failed ≡ false;
   unended : l.input.ended ≡ false;
 }

@@ -11,15 +11,15 @@ pub invariant_of-result : goal.invariant_of-result
 invariant_of-result c =
     let n = c.args.sectors in
     let zeros : List ℕ = replicate 512 0 in
-    let now = c.in_ok-zeros-2.field-0.items in
+    let now = c.in_ok-image.image.items in
     record {
-      sized = ap length c.in_ok-no_flags.ensures ∙ length-replicate n false ∙ sym (ap length c.in_ok-zeros-2.ensures ∙ length-replicate n zeros);
-      fits = omega (arith, ap length c.in_ok-zeros-2.ensures, length-replicate n zeros, c.ranges.sectors.fits);
+      sized = ap length c.in_ok-no_flags.ensures ∙ length-replicate n false ∙ sym (ap length c.in_ok-image.ensures ∙ length-replicate n zeros);
+      fits = omega (arith, ap length c.in_ok-image.ensures, length-replicate n zeros, c.ranges.sectors.fits);
       spanned = λ i is. absurd (none_flagged n i (subst (λ (l : List Bool). IsFlagged l i) c.in_ok-no_flags.ensures is));
       order = omega (arith, c.none.ensures.0, c.none.ensures.1);
       bound = omega (arith, c.none.ensures.0, c.none.ensures.1);
-      recorded = ap (λ (l : List Call). image_after l c.in_ok-zeros.field-0.items) c.new.ensures ∙ c.in_ok-zeros.ensures ∙ sym c.in_ok-zeros-2.ensures;
-      kept = subst (λ (l : Image). ChangesWithin (IsFlagged c.in_ok-no_flags.field-0.items) now l) (c.in_ok-zeros-2.ensures ∙ sym c.in_ok-zeros-3.ensures) (changes_nothing (IsFlagged c.in_ok-no_flags.field-0.items) now);
+      recorded = ap (λ (l : List Call). image_after l c.begin.result.first) c.begin.ensures.1 ∙ c.begin.ensures.0 ∙ c.deref.ensures.value;
+      kept = subst (λ (l : Image). ChangesWithin (IsFlagged c.in_ok-no_flags.field-0.items) now l) (c.in_ok-image.ensures ∙ sym c.in_ok-zeros.ensures) (changes_nothing (IsFlagged c.in_ok-no_flags.field-0.items) now);
     }
 
 pub returns-clause-synced : goal.returns-clause-synced

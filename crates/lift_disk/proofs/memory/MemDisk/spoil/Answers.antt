@@ -27,11 +27,11 @@ returns-in-Some c =
     let there = named c.args.sector c.in-Some.i (length m.image.items) c.in-Some.is c.requires in
     let within : c.in-Some.i < length m.loose.items = omega (arith, m.sized, there) in
     record {
-      goes_on = spoil_goes_on m.first.items m.history m.image.items m.synced.items m.loose.items m.is_steady m.is_short m.failures.count m.calls.count m.writes.count m.trace.calls
+      goes_on = spoil_goes_on m.history.first m.history.calls m.image.items m.synced.items m.loose.items m.is_steady m.failures.count m.calls.count m.writes.count m.trace.calls
           c.in-Some.i _ _ _ _ within c.next-self.ensures c.next-self-2.ensures;
       counted = c.next-self.ensures;
       unsteady = λ is. cc is;
-      touched = spoil_touches m.first.items m.history m.image.items m.synced.items m.loose.items m.is_steady m.is_short m.failures.count m.calls.count m.writes.count m.trace.calls
+      touched = spoil_touches m.history.first m.history.calls m.image.items m.synced.items m.loose.items m.is_steady m.failures.count m.calls.count m.writes.count m.trace.calls
           c.args.sector c.in-Some.i _ _ _ _ c.in-Some.is within c.next-self-in-Some.ensures;
       image = refl;
       synced = refl;

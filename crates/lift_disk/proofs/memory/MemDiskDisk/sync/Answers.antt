@@ -1,40 +1,42 @@
-use Rattle.std.proofs.Common.{◌↔◌, List, Bool, false, length, subst, refl, sym, ◌∙◌, ap}
+use Rattle.std.proofs.Common.{◌++◌, [], ◌∷◌, List, Bool, false, length, subst, refl, sym, ◌∙◌, ap}
 use Rattle.std.proofs.lemmas.List.{length-replicate}
 use Rattle.lift_disk.specs.Disk.{Image, ChangesWithin}
-use Rattle.lift_disk.specs.Memory.{image_after, IsFlagged, IsFlaggedFrom}
+use Rattle.lift_disk.specs.Memory.{image_after, IsFlagged}
 use Rattle.lift_disk.specs.Calls.{Call}
 use Rattle.lift_disk.specs.Calls.Call.{Sync}
 use Rattle.lift_disk.proofs.Moments.{changes_nothing}
-use Rattle.lift_disk.proofs.History.{image_after-push, none_flagged, sync_goes_on, ok_items}
+use Rattle.lift_disk.proofs.History.{image_after-push, none_flagged, sync_goes_on}
 use Rattle.lift_disk.proofs.memory.MemDiskDisk.sync.Goals as goal
 
-pub invariant_of-self-2-clause-sized : goal.invariant_of-self-2-clause-sized
-invariant_of-self-2-clause-sized c =
+pub invariant_of-self-clause-sized : goal.invariant_of-self-clause-sized
+invariant_of-self-clause-sized c =
     let m = c.args.self.now in
     ap length c.clear.ensures ∙ length-replicate (length m.loose.items) false ∙ m.sized
 
-pub invariant_of-self-2-clause-spanned : goal.invariant_of-self-2-clause-spanned
-invariant_of-self-2-clause-spanned c = λ i is.
+pub invariant_of-self-clause-spanned : goal.invariant_of-self-clause-spanned
+invariant_of-self-clause-spanned c = λ i is.
     absurd (none_flagged (length c.args.self.now.loose.items) i (subst (λ (l : List Bool). IsFlagged l i) c.clear.ensures is))
 
-pub invariant_of-self-2-clause-recorded : goal.invariant_of-self-2-clause-recorded
-invariant_of-self-2-clause-recorded c =
+pub invariant_of-self-clause-recorded : goal.invariant_of-self-clause-recorded
+invariant_of-self-clause-recorded c =
     let m = c.args.self.now in
-    let noted = ok_items c.note_sync.result c.is_err.ensures.value c.if-is_err.false c.note_sync.ensures.ok in
-    ap (λ (l : List Call). image_after l m.first.items) noted.2 ∙ image_after-push m.history (Sync m.span.from noted.0) m.first.items ∙ m.recorded
+    ap (λ (l : List Call). image_after l c.note_sync.new.self.first) c.note_sync.ensures.1
+    ∙ ap (λ (l : Image). image_after (m.history.calls ++ Sync c.deref.result.now ∷ []) l) c.note_sync.ensures.0
+    ∙ image_after-push m.history.calls (Sync c.deref.result.now) m.history.first
+    ∙ m.recorded
 
-pub invariant_of-self-2-clause-kept : goal.invariant_of-self-2-clause-kept
-invariant_of-self-2-clause-kept c =
+pub invariant_of-self-clause-kept : goal.invariant_of-self-clause-kept
+invariant_of-self-clause-kept c =
     let m = c.args.self.now in
     subst (λ (l : Image). ChangesWithin (IsFlagged c.clear.new.flags.items) m.image.items l) (sym (c.copy_flagged.ensures ∙ c.deref-2.ensures.value)) (changes_nothing (IsFlagged c.clear.new.flags.items) m.image.items)
 
 pub returns-clause-goes_on : goal.returns-clause-goes_on
 returns-clause-goes_on c =
     let m = c.args.self.now in
-    let noted = ok_items c.note_sync.result c.is_err.ensures.value c.if-is_err.false c.note_sync.ensures.ok in
-    sync_goes_on m.first.items m.history m.image.items m.synced.items m.loose.items m.is_steady m.is_short m.failures.count m.calls.count m.writes.count m.trace.calls
-    m.span.from noted.0 c.note_sync.new.self c.copy_flagged.new.to.items c.clear.new.flags.items _ _ _
-    (λ i. subst (λ (l : List Bool). IsFlaggedFrom m.span.from noted.0 i ↔ IsFlagged l i) c.deref.ensures.value (noted.1 i)) m.recorded noted.2 c.next-self.ensures
+    sync_goes_on m.history.first m.history.calls m.image.items m.synced.items m.loose.items m.is_steady m.failures.count m.calls.count m.writes.count m.trace.calls
+    c.note_sync.new.self.first c.note_sync.new.self.calls c.copy_flagged.new.to.items c.clear.new.flags.items _ _ _
+    m.recorded c.note_sync.ensures.0
+    (c.note_sync.ensures.1 ∙ ap (λ (l : List Bool). m.history.calls ++ Sync l ∷ []) c.deref.ensures.value) c.next-self.ensures
     (λ i. subst (λ (l : List Bool). ¬ IsFlagged l i) (sym c.clear.ensures) (none_flagged (length m.loose.items) i))
 
 pub returns-clause-touched : goal.returns-clause-touched
