@@ -5,3 +5,4 @@ pub mod Records
 pub mod Text
 pub mod Input
 pub mod Output
+pub mod lemmas

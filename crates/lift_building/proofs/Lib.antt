@@ -1,7 +1,2 @@
 pub mod Each
 pub mod Flags
-pub mod Limits
-pub mod Times
-pub mod Getters
-pub mod Described
-pub mod Again

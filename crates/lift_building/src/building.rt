@@ -80,7 +80,7 @@ impl Building {
     ///
     /// # Errors
     /// `Memory` where no memory was left for the document; else the text's first fault.
-    #[tactic(auto, using(crate::proofs::Again::text_is, crate::proofs::Again::text_again))]
+    #[tactic(auto, using(crate::specs::lemmas::Again::text_is, crate::specs::lemmas::Again::text_again))]
     pub fn read(alloc: Global, text: &str) -> Result<Self, BuildingFault>
         // What is read is what the text says, and it is a building.
         ensures found { IfOk result (λ building. IsTextOf text.now building × IsBuilding building) }
@@ -134,7 +134,7 @@ impl Building {
     }
 
     /// The time from leaving floor i to standing at floor j, at most 600,000 ms; 0 where the building lacks one of them.
-    #[tactic(auto, using(crate::proofs::Times::flight_short))]
+    #[tactic(auto, using(crate::specs::lemmas::Times::flight_short))]
     pub fn flight(&self, i: Floor, j: Floor) -> u32
         ensures value { result ≡ flight_ms self.now i j }
         ensures limit { result ≤ 600000 }
@@ -144,7 +144,7 @@ impl Building {
     }
 
     /// Whether the building has this car and this floor, and the car serves it.
-    #[tactic(auto, using(crate::proofs::Getters::serves_within))]
+    #[tactic(auto, using(crate::specs::lemmas::Getters::serves_within))]
     pub fn serves(&self, car: Letter, floor: Floor) -> bool
         ensures value { result ≡ serves_floor self.now car floor }
         ensures within { result ≡ true → (car < length self.now.cars) × (floor < self.now.floors) }
@@ -154,7 +154,7 @@ impl Building {
     }
 
     /// How many persons the car takes at a time, 1 to 32; 0 where the building lacks it.
-    #[tactic(auto, using(crate::proofs::Getters::places_short, crate::proofs::Getters::places_there))]
+    #[tactic(auto, using(crate::specs::lemmas::Getters::places_short, crate::specs::lemmas::Getters::places_there))]
     pub fn places(&self, car: Letter) -> u8
         ensures value { result ≡ places_of self.now car }
         ensures there { (1 ≤ result) ↔ (car < length self.now.cars) }
@@ -175,7 +175,7 @@ impl Building {
     }
 
     /// The shape of a journal for this building, with so many sectors in half of its disk.
-    #[tactic(auto, using(crate::proofs::Getters::shape_within))]
+    #[tactic(auto, using(crate::specs::lemmas::Getters::shape_within))]
     pub fn shape(&self, half: u32) -> Shape
         ensures value { result ≡ shape_of self.now half }
         ensures limits { 64 ≤ half → half ≤ 1000000 → IsWithinLimits result }

@@ -8,12 +8,12 @@ use Rattle.std.proofs.lemmas.Option.{IfSome_then}
 use Rattle.lift_base.specs.declared.travel.Dir.{Dir}
 use Rattle.lift_base.specs.declared.travel.Dir.TheVariants.{Up, Down}
 use Rattle.lift_base.specs.Text.{AreWords, dir_text}
-use Rattle.lift_base.proofs.Words.{one_reading}
-use Rattle.lift_base.proofs.Texts.{none_weaker}
+use Rattle.lift_base.specs.lemmas.Words.{one_reading}
+use Rattle.lift_base.specs.lemmas.Texts.{none_weaker}
 use Rattle.lift_kiosk.specs.Lines.{AreAscii}
 use Rattle.lift_kiosk.specs.declared.dialect.Wanted.{Wanted}
 use Rattle.lift_kiosk.specs.declared.dialect.Wanted.TheVariants.{Ask as Asks, NoFloor}
-use Rattle.lift_kiosk.proofs.Words.{ascii_with}
+use Rattle.lift_kiosk.specs.lemmas.Words.{ascii_with}
 use Rattle.lift_car.specs.declared.lines.Move.{Move}
 use Rattle.lift_car.specs.Lines.{IsMove, IsNumber, SpellsMove, WantsMove, move_words}
 

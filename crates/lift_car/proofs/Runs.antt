@@ -8,7 +8,7 @@ use Rattle.lift_kiosk.specs.declared.outcome.Opening.{Opening}
 use Rattle.lift_kiosk.specs.declared.outcome.Outcome.TheVariants.{Answered}
 use Rattle.lift_kiosk.specs.Port.{PortView}
 use Rattle.lift_kiosk.specs.Session.{PortOpened}
-use Rattle.lift_kiosk.proofs.Ends.{IsLate, looks_grow, opening_grows, not_answered}
+use Rattle.lift_kiosk.specs.lemmas.Ends.{IsLate, looks_grow, opening_grows, not_answered}
 use Rattle.lift_car.specs.declared.terms.Ending.{Ending}
 use Rattle.lift_car.specs.declared.terms.Ending.TheVariants.{Late, Spent}
 use Rattle.lift_car.specs.Drive.{Standing, LastAsk, ask_at, Errand, GoesOn, Run, Moves, Rests, Tells, stop_in, last_stop, later_stop}

@@ -6,7 +6,7 @@ use Rattle.std.proofs.lemmas.Fmt.{decimal_injective}
 use Rattle.lift_base.specs.declared.travel.Dir.{Dir}
 use Rattle.lift_base.specs.declared.travel.Dir.TheVariants.{Up, Down}
 use Rattle.lift_base.specs.Text.{dir_text}
-use Rattle.lift_base.proofs.Words.{one_reading}
+use Rattle.lift_base.specs.lemmas.Words.{one_reading}
 use Rattle.lift_kiosk.specs.declared.dialect.Wanted.{Wanted}
 use Rattle.lift_kiosk.specs.declared.dialect.Wanted.TheVariants.{Ask as Asks, NoFloor}
 use Rattle.lift_car.specs.declared.lines.Move.{Move}

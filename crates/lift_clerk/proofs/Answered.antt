@@ -14,7 +14,7 @@ use Rattle.lift_policy.specs.Run.{unknowns}
 use Rattle.lift_clerk.specs.declared.scan.Answer.{Answer}
 use Rattle.lift_clerk.specs.Visits.{Visit, commands_of, served}
 use Rattle.lift_clerk.specs.Scanning.{IsScanned, terminals_in, terminals_of, replies_told, told}
-use Rattle.lift_clerk.proofs.Visiting.{Answerable, answered-more, length-served}
+use Rattle.lift_clerk.specs.lemmas.Visiting.{Answerable, answered-more, length-served}
 
 pub many-commands : (answers : List Answer) (commands : List Command) → terminals_in answers ≡ terminals_of commands → length answers ≡ length commands
 many-commands answers commands e =

@@ -33,12 +33,12 @@ use Rattle.lift_clerk.specs.Turn.{IsEither}
 use Rattle.lift_clerk.specs.Visits.{commands_of}
 use Rattle.lift_clerk.specs.Machine.{IsMachineOf, IsReached, ShowsWhole, ShowsBroken, IsKept, IsKeptAtGate, kept_of, events_to_gate, CrashesAreCuts, CrashesWithinTurns, CrashesWithinFailures, CutsShowLetters, BeginsAfterCrash}
 use Rattle.lift_clerk.specs.Laws.{Laws}
-use Rattle.lift_clerk.proofs.Served.{all_apart}
-use Rattle.lift_clerk.proofs.Standing.{fresh}
-use Rattle.lift_clerk.proofs.Asked.{Asked, ask, reaches, rests, goes_behind, run_in}
-use Rattle.lift_clerk.proofs.Turned.{splits, register_with, safe_all}
+use Rattle.lift_clerk.specs.lemmas.Served.{all_apart}
+use Rattle.lift_clerk.specs.lemmas.Standing.{fresh}
+use Rattle.lift_clerk.specs.lemmas.Asked.{Asked, ask, reaches, rests, goes_behind, run_in}
+use Rattle.lift_clerk.specs.lemmas.Turned.{splits, register_with, safe_all}
 use Rattle.lift_clerk.proofs.Doubts.{was_safe, in_doubt}
-use Rattle.lift_clerk.proofs.Reopened.{with_nothing, begins_after_cut}
+use Rattle.lift_clerk.specs.lemmas.Reopened.{with_nothing, begins_after_cut}
 
 kept_safe : (w : World) (plan : Plan) (register : RegisterState) (left : Image) → w.building ≡ plan → register_after (safe_list w) ≡ register → IsImageOf plan register left → IsKept w (safe_list w) left
 kept_safe w plan register left b r reads = record {

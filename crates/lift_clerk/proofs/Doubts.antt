@@ -25,11 +25,11 @@ use Rattle.lift_world.specs.Turns.{IsAtRest, IsBrokenAtRest, with_replies, faile
 use Rattle.lift_clerk.specs.Visits.{commands_of}
 use Rattle.lift_clerk.specs.Machine.{ShowsWhole, ShowsBroken, events_while_broken, FailuresAreFailures, BrokenTurnsAreBroken}
 use Rattle.lift_clerk.specs.Laws.{Laws}
-use Rattle.lift_clerk.proofs.Served.{all_apart}
-use Rattle.lift_clerk.proofs.Standing.{fresh}
-use Rattle.lift_clerk.proofs.Words.{Ends}
-use Rattle.lift_clerk.proofs.Asked.{Asked, ask, rests, rests_broken, goes_behind, run_in, not_both}
-use Rattle.lift_clerk.proofs.Turned.{splits, follows, safe_all, asked_rests}
+use Rattle.lift_clerk.specs.lemmas.Served.{all_apart}
+use Rattle.lift_clerk.specs.lemmas.Standing.{fresh}
+use Rattle.lift_clerk.specs.lemmas.Words.{Ends}
+use Rattle.lift_clerk.specs.lemmas.Asked.{Asked, ask, rests, rests_broken, goes_behind, run_in, not_both}
+use Rattle.lift_clerk.specs.lemmas.Turned.{splits, follows, safe_all, asked_rests}
 
 -- what was decided is no matter where each is answered Unknown
 forgotten : (plan : Plan) (choice : Choice) (state next : State) (cs : List Command) (rs : List Reply) → Run plan choice state cs rs next

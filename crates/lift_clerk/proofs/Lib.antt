@@ -1,15 +1,6 @@
-pub mod Visiting
-pub mod Scanned
 pub mod Answered
 pub mod Turning
-pub mod Lists
-pub mod Served
-pub mod Standing
-pub mod Words
-pub mod Asked
-pub mod Turned
 pub mod Doubts
-pub mod Reopened
 pub mod Crashes
 pub mod Terminals
 pub mod Moved
@@ -17,7 +8,6 @@ pub mod Told
 pub mod Histories
 pub mod Moments
 pub mod Begun
-pub mod Groups
 pub mod Stood
 pub mod Pasts
 pub mod Passed

@@ -5,7 +5,7 @@ use Rattle.lift_base.specs.declared.history.Entry.{Entry}
 use Rattle.lift_building.specs.Plan.{Plan}
 use Rattle.lift_disk.specs.Disk.{DiskState, Image, LeavesNow, LeavesOnly, LeavesNoOther}
 use Rattle.lift_register.specs.Register.{RegisterState}
-use Rattle.lift_disk.proofs.Moments.{leaves_none, leaves_weaker}
+use Rattle.lift_disk.specs.lemmas.Moments.{leaves_none, leaves_weaker}
 use Rattle.lift_policy.specs.Eligible.{Choice}
 use Rattle.lift_keeper.specs.Images.{IsImageOf, IsInDoubt}
 use Rattle.lift_keeper.specs.Keeper.{KeeperView}

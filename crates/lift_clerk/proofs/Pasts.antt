@@ -32,9 +32,9 @@ use Rattle.lift_clerk.specs.Machine.{ask_of, answer_words, IsReached, IsMachineO
 use Rattle.lift_clerk.specs.History.{History, Began, Turned, Failed, TurnedWhileBroken, Reopened, Stayed, Told, CutBetween, CutWithin, CutWithinFailure, BeginsOver}
 use Rattle.lift_clerk.specs.Group.{ShowsTerminal, IsGroup, TakesAsks, IsPastOf, GoesOn, GroupLaws, PastsBegin, PastsGoOnOverAsks, PastsGoOnOverHears, PastsStayOverReads, PastsStayOverTells}
 use Rattle.lift_clerk.specs.Group.{PastsGoOnOverTurns, PastsGoOnOverFailures, PastsGoOnOverBrokenTurns, PastsGoOnOverReopenings, PastsGoOnOverRefusals, PastsGoOnOverCuts, PastsGoOnOverCutTurns, PastsGoOnOverCutFailures}
-use Rattle.lift_clerk.proofs.Asked.{goes_behind}
-use Rattle.lift_clerk.proofs.Groups.{hears, one_by_one, same_terminal, asks_is_ask, hears_is_hear, reads_are_no_events}
-use Rattle.lift_clerk.proofs.Words.{asks_count}
+use Rattle.lift_clerk.specs.lemmas.Asked.{goes_behind}
+use Rattle.lift_clerk.specs.lemmas.Groups.{hears, one_by_one, same_terminal, asks_is_ask, hears_is_hear, reads_are_no_events}
+use Rattle.lift_clerk.specs.lemmas.Words.{asks_count}
 use Rattle.lift_clerk.proofs.Stood.{Stand, stand_agree, stand_waits, stand_from}
 
 empty_of : {A : Type 0} (xs : List A) → length xs ≡ 0 → xs ≡ []

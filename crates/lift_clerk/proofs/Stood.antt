@@ -25,10 +25,10 @@ use Rattle.lift_world.specs.Turns.{with_replies}
 use Rattle.lift_clerk.specs.Visits.{Visit, FindsAt, Finds, command_at, commands_of, with_reply, replies_behind, served}
 use Rattle.lift_clerk.specs.Machine.{ask_of, waiting_in, LooksAgree, ShowsWords}
 use Rattle.lift_clerk.specs.Group.{ShowsTerminal}
-use Rattle.lift_clerk.proofs.Groups.{last_has}
-use Rattle.lift_clerk.proofs.Standing.{waiting_is}
-use Rattle.lift_clerk.proofs.Visiting.{taken-new}
-use Rattle.lift_clerk.proofs.Words.{asks_both, asks_count, splits_of}
+use Rattle.lift_clerk.specs.lemmas.Groups.{last_has}
+use Rattle.lift_clerk.specs.lemmas.Standing.{waiting_is}
+use Rattle.lift_clerk.specs.lemmas.Visiting.{taken-new}
+use Rattle.lift_clerk.specs.lemmas.Words.{asks_both, asks_count, splits_of}
 
 -- a word spells one ask
 dir_same : (d e : Dir) → dir_bit d ≡ dir_bit e → d ≡ e

@@ -16,8 +16,8 @@ use Rattle.lift_world.specs.Beside.{is_of_terminals, with_words}
 use Rattle.lift_clerk.specs.Clerk.{ClerkState}
 use Rattle.lift_clerk.specs.Machine.{IsMachineOf, ShowsWords, TerminalsKeepIt}
 use Rattle.lift_clerk.specs.Laws.{Laws}
-use Rattle.lift_clerk.proofs.Asked.{reaches}
-use Rattle.lift_clerk.proofs.Reopened.{goes_once}
+use Rattle.lift_clerk.specs.lemmas.Asked.{reaches}
+use Rattle.lift_clerk.specs.lemmas.Reopened.{goes_once}
 
 -- the world is as before but for these asks, and for what was heard
 record AsksOn (w end : World) : Type 0 where

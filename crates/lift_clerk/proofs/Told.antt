@@ -11,16 +11,16 @@ use Rattle.lift_desk.specs.Words.{ask_word}
 use Rattle.lift_desk.specs.Spelled.{ask_words, IsAsk}
 use Rattle.lift_desk.specs.Steps.{is_new, with_taking, with_told_asks}
 use Rattle.lift_desk.specs.Seats.{ClerkPlace, view_at, clerk_with, IsToldAsk}
-use Rattle.lift_desk.proofs.Places.{view_at-here, view_at-else}
-use Rattle.lift_desk.proofs.WordLists.{prefix_length}
+use Rattle.lift_desk.specs.lemmas.Places.{view_at-here, view_at-else}
+use Rattle.lift_desk.specs.lemmas.WordLists.{prefix_length}
 use Rattle.lift_policy.specs.declared.command.Command.{Command}
 use Rattle.lift_world.specs.World.{World, asks}
 use Rattle.lift_clerk.specs.Clerk.{ClerkState}
 use Rattle.lift_clerk.specs.Visits.{Visit, FindsAt, Finds, command_at, commands_of}
 use Rattle.lift_clerk.specs.Machine.{ask_of, waiting_in, LooksAgree, ShowsWords, IsMachineOf, KnowsAsks, ToldLooksAgree, TellsAreNoEvents, TellsMakeKnown}
-use Rattle.lift_clerk.proofs.Standing.{waiting_is}
-use Rattle.lift_clerk.proofs.Visiting.{taken-new, taken-old}
-use Rattle.lift_clerk.proofs.Words.{asks_both, asks_count, splits_of}
+use Rattle.lift_clerk.specs.lemmas.Standing.{waiting_is}
+use Rattle.lift_clerk.specs.lemmas.Visiting.{taken-new, taken-old}
+use Rattle.lift_clerk.specs.lemmas.Words.{asks_both, asks_count, splits_of}
 
 abbrev told_at : List ClerkPlace → ℕ → List ℕ → List ClerkPlace
 told_at clerk t words = clerk_with clerk t (with_told_asks (view_at clerk t) words)

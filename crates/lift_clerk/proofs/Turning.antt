@@ -18,7 +18,7 @@ use Rattle.lift_clerk.specs.Visits.{Visit, commands_of, served, Serves}
 use Rattle.lift_clerk.specs.Clerk.{ClerkState}
 use Rattle.lift_clerk.specs.Scanning.{Decides, IsScanned, Scans, replies_in, replies_told}
 use Rattle.lift_clerk.specs.Turn.{IsFailedTurn, IsBrokenTurn}
-use Rattle.lift_clerk.proofs.Visiting.{nothing_owed}
+use Rattle.lift_clerk.specs.lemmas.Visiting.{nothing_owed}
 use Rattle.lift_clerk.proofs.Answered.{many-commands, told_unknown}
 
 -- each look is answered

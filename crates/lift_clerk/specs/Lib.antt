@@ -7,3 +7,4 @@ pub mod Laws
 pub mod History
 pub mod Group
 pub mod Past
+pub mod lemmas

@@ -11,10 +11,10 @@ use Rattle.lift_base.specs.declared.history.Row.{Row}
 use Rattle.lift_building.specs.Plan.{Plan, flight_ms, IsBuilding}
 use Rattle.lift_building.specs.Arrivals.{arrivals_from}
 use Rattle.lift_stops.specs.StopList.{same_halt, halt_at, stop_list, legs_of}
-use Rattle.lift_stops.proofs.Listed.{stops_differ, stops_stay, stops_at_legs, stops_have}
+use Rattle.lift_stops.specs.lemmas.Listed.{stops_differ, stops_stay, stops_at_legs, stops_have}
 use Rattle.lift_cost.specs.Calls.{AreWithin}
 use Rattle.lift_cost.specs.Cost.{moment_at, arrival_at, etd, total_etd}
-use Rattle.lift_building.proofs.Times.{flight_short}
+use Rattle.lift_building.specs.lemmas.Times.{flight_short}
 use Rattle.lift_cost.proofs.Earlier.{AllBelow, IsAhead, earlier}
 
 -- ---- an open call's passengers

@@ -5,10 +5,10 @@ use Rattle.std.specs.List.{range_with_len}
 use Rattle.std.proofs.lemmas.List.Sums.{sum_by_push}
 use Rattle.lift_base.specs.declared.travel.Halt.{Halt}
 use Rattle.lift_building.specs.Arrivals.{arrivals_of}
-use Rattle.lift_building.proofs.Times.{arrivals_are}
+use Rattle.lift_building.specs.lemmas.Times.{arrivals_are}
 use Rattle.lift_stops.specs.StopList.{same_halt}
 use Rattle.lift_stops.specs.Parts.{has_halt, AllDiffer}
-use Rattle.lift_stops.proofs.Listed.{same_itself}
+use Rattle.lift_stops.specs.lemmas.Listed.{same_itself}
 use Rattle.lift_cost.specs.Cost.{moment_at}
 use Rattle.lift_cost.specs.Laws.{way_behind, ArrivalsAddUp, ArrivalsAreAtPlaces, OthersHaveNone}
 use Rattle.lift_cost.proofs.Earlier.{not_here}

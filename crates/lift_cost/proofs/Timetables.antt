@@ -12,7 +12,7 @@ use Rattle.lift_building.specs.Arrivals.{arrivals_from, arrivals_of}
 use Rattle.lift_base.specs.declared.travel.Position.{Position}
 use Rattle.lift_base.specs.declared.history.Row.{Row}
 use Rattle.lift_stops.specs.StopList.{same_halt, same_pass, stop_list}
-use Rattle.lift_stops.proofs.Listed.{stops_differ}
+use Rattle.lift_stops.specs.lemmas.Listed.{stops_differ}
 use Rattle.lift_stops.specs.Parts.{has_halt, AllDiffer}
 use Rattle.lift_cost.specs.Cost.{moment_at, arrival_at}
 use Rattle.lift_cost.specs.Timetable.{place_of, IsTimetable}

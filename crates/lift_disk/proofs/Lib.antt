@@ -1,5 +1,3 @@
-pub mod Moments
-pub mod History
 pub mod Fills
 pub mod Cuts
 mod Traces

@@ -5,8 +5,8 @@ use Rattle.std.proofs.lemmas.List.{length-set}
 use Rattle.lift_disk.specs.Trace.{Access}
 use Rattle.lift_disk.specs.Disk.{DiskState, Image, ChangesWithin, Elapses, GoesOn, Settles, ReadsAsWritten, Touches, TouchesNothing, StaysLoose, KeepsSynced, IsSteadyAt}
 use Rattle.lift_disk.specs.Runs.{IsInRun, with_run, Announces, buffered, waiting, Rests, Opens, KeepsWrites, run_outside, run_loose, left_with}
-use Rattle.lift_disk.proofs.History.{set_here}
-use Rattle.lift_disk.proofs.Moments.{changes_nothing, changes_more, changes_twice, changes_both}
+use Rattle.lift_disk.specs.lemmas.History.{set_here}
+use Rattle.lift_disk.specs.lemmas.Moments.{changes_nothing, changes_more, changes_twice, changes_both}
 
 -- a sector of a run, by its place there
 run_here : (run : List (List ℕ)) (from : ℕ) (image : Image) (k i : ℕ) → i ≡ from + k → k < length run → from + length run ≤ length image → slice_get (with_run from run image) i ≡ slice_get run k

@@ -7,3 +7,4 @@ pub mod Outcomes
 pub mod Faults
 pub mod Files
 pub mod Runs
+pub mod lemmas

@@ -3,11 +3,11 @@ use Rattle.std.proofs.Common.{◌≡◌, ◌<◌, ◌≤◌, ◌+◌, ℕ, List,
 use Rattle.std.proofs.lemmas.List.{take_at, drop_at, drop-set-add, take-set-le, get_or-set_same}
 use Rattle.std.proofs.lemmas.Option.{unwrap_or-slice_get}
 use Rattle.lift_disk.specs.Disk.{DiskState, Image, ChangesWithin}
-use Rattle.lift_disk.proofs.Moments.{changes_more}
+use Rattle.lift_disk.specs.lemmas.Moments.{changes_more}
 use Rattle.lift_journal.specs.Layout.{Batch, is_marked, IsClosed, IsBody, used, sector_at, start_of, Holds, IsBehind, IsPrepared}
 use Rattle.lift_journal.specs.Steps.{overwritten, marked, unmarked, IsInRange, IsReady}
 use Rattle.lift_base.specs.declared.history.Shape.{Shape}
-use Rattle.lift_journal.proofs.Chains.{holds_behind, start_same, start_high, holds_opened}
+use Rattle.lift_journal.specs.lemmas.Chains.{holds_behind, start_same, start_high, holds_opened}
 
 -- what was written stands there
 pub overwritten_there : (image : Image) (first : ℕ) (sectors : Image) → first + length sectors ≤ length image → take (length sectors) (drop first (overwritten image first sectors)) ≡ sectors

@@ -11,7 +11,7 @@ use Rattle.lift_register.specs.Register.{RegisterState, rows_of, last_of, cars, 
 use Rattle.lift_register.specs.Base.{base_records, record_of_last, last_records}
 use Rattle.lift_register.specs.WellFormed.{IsWellFormed}
 use Rattle.lift_journal.specs.Order.{IsOfBase, MayFollow, IsInOrderBehind, IsInOrder, last_behind, MayEnd, IsComplete}
-use Rattle.lift_journal.proofs.Orders.{order_join, last_join}
+use Rattle.lift_journal.specs.lemmas.Orders.{order_join, last_join}
 
 -- an open call of this car, or of a later one, may follow
 abbrev BeforeCar : ℕ → Option Record → Type 0

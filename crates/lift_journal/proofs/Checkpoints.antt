@@ -14,7 +14,7 @@ use Rattle.lift_record.specs.declared.version.Version.{Version}
 use Rattle.lift_record.specs.declared.version.Version.TheVariants.{One, Two}
 use Rattle.lift_record.specs.Version.{version_number}
 use Rattle.lift_disk.specs.Disk.{DiskState, Image, RunsOn, LooseWithin, TouchesOnly, LeavesNoOther, IsSteadyAt, IsWhole}
-use Rattle.lift_disk.proofs.Moments.{runs_none, runs_then, touches_none, touches_then}
+use Rattle.lift_disk.specs.lemmas.Moments.{runs_none, runs_then, touches_none, touches_then}
 use Rattle.lift_journal.specs.Order.{IsInOrder, IsComplete}
 use Rattle.lift_journal.specs.Layout.{Batch, records_of, bodies, size_of, used, NeverFall, IsSound, IsBody, is_marked, IsOpen, sector_at}
 use Rattle.lift_journal.specs.Steps.{overwritten, marked, IsInRange}
@@ -25,11 +25,11 @@ use Rattle.lift_disk.specs.Trace.{Access}
 use Rattle.lift_disk.specs.Trace.Access.{Write}
 use Rattle.lift_journal.specs.Calls.{body_of, draft_calls, writes_from, StopsIn}
 use Rattle.lift_journal.proofs.Following.{all_then, front_then, front_more}
-use Rattle.lift_journal.proofs.Telling.{none_made, passes_then}
+use Rattle.lift_journal.specs.lemmas.Telling.{none_made, passes_then}
 use Rattle.lift_journal.proofs.Appends.{overwritten_there, length-overwritten, sector_set}
 use Rattle.lift_journal.proofs.Bases.{base_in_order, base_complete}
-use Rattle.lift_journal.proofs.Chains.{used_more}
-use Rattle.lift_journal.proofs.Orders.{order_front}
+use Rattle.lift_journal.specs.lemmas.Chains.{used_more}
+use Rattle.lift_journal.specs.lemmas.Orders.{order_front}
 use Rattle.lift_journal.proofs.Seeing.{bodies_few}
 use Rattle.lift_journal.proofs.Walks.{front_same, reaches_start, reaches_more}
 

@@ -10,7 +10,7 @@ use Rattle.lift_disk.specs.Disk.{Image}
 use Rattle.lift_journal.specs.Layout.{Batch, IsOpen, IsClosed, size_of, IsBody, IsChain, used, sector_at, start_of, Holds}
 use Rattle.lift_journal.specs.Journal.{CursorView, IsCursorIn, IsNext}
 use Rattle.lift_journal.specs.Walk.{IsBatchAt}
-use Rattle.lift_journal.proofs.Chains.{tail_is, from_gate, chain_room, start_high, used_below}
+use Rattle.lift_journal.specs.lemmas.Chains.{tail_is, from_gate, chain_room, start_high, used_below}
 use Rattle.lift_journal.proofs.Unique.{body_unique}
 
 abbrev pub blank : Batch

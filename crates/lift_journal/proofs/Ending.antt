@@ -1,7 +1,7 @@
 -- What a refused opening has read, from its steps.
 use Rattle.std.proofs.Common.{◌≡◌, ◌⊎◌, inl, inr, ⊎_elim, ◌+◌, ◌-◌, ◌++◌, [], ◌∷◌, ℕ, List, sym, ◌∙◌, ap, subst, arith, append_assoc}
 use Rattle.lift_disk.specs.Disk.{DiskState, Image, IsSynced}
-use Rattle.lift_journal.proofs.Chains.{all_same}
+use Rattle.lift_journal.specs.lemmas.Chains.{all_same}
 use Rattle.lift_disk.specs.Trace.{Access}
 use Rattle.lift_disk.specs.Trace.Access.{Read, Sync}
 use Rattle.lift_journal.specs.declared.fault.JournalFault.{JournalFault}

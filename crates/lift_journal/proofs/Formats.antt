@@ -5,13 +5,13 @@ use Rattle.std.proofs.lemmas.List.Elements.{All-nil}
 use Rattle.lift_base.specs.declared.history.Shape.{Shape}
 use Rattle.lift_base.specs.History.{IsWithinLimits}
 use Rattle.lift_disk.specs.Disk.{Image}
-use Rattle.lift_disk.proofs.History.{set_other}
+use Rattle.lift_disk.specs.lemmas.History.{set_other}
 use Rattle.lift_journal.specs.Order.{IsEntry, IsOfBase}
 use Rattle.lift_journal.specs.Layout.{filled, stamp_bytes, is_marked, Picks, IsClosed, IsChain, sector_at, start_of}
 use Rattle.lift_journal.specs.Steps.{unmarked}
 use Rattle.lift_journal.specs.Journal.{ReadsAs}
 use Rattle.lift_journal.proofs.Appends.{sector_set}
-use Rattle.lift_journal.proofs.Chains.{closed_at, ends_any}
+use Rattle.lift_journal.specs.lemmas.Chains.{closed_at, ends_any}
 
 other_sector : (image : Image) (i j : ℕ) (sector : List ℕ) → ¬ (j ≡ i) → sector_at (slice_set image i sector) j ≡ sector_at image j
 other_sector image i j sector other = ap (λ o. unwrap_or o []) (set_other image i j sector other)

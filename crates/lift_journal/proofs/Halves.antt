@@ -4,7 +4,7 @@ use Rattle.lift_disk.specs.Disk.{Image, ChangesWithin}
 use Rattle.lift_journal.specs.Layout.{Batch, is_marked, IsChain, sector_at, start_of, IsStamped, IsSound, Holds}
 use Rattle.lift_journal.specs.Steps.{IsInRange}
 use Rattle.lift_base.specs.declared.history.Shape.{Shape}
-use Rattle.lift_journal.proofs.Chains.{window_same}
+use Rattle.lift_journal.specs.lemmas.Chains.{window_same}
 
 -- the half at this place holds these batches
 abbrev pub HalfHolds : ℕ → ℕ → List Batch → Image → Type 0

@@ -1,14 +1,10 @@
-pub mod Telling
 pub mod Following
-pub mod Chains
 pub mod Writes
 pub mod Texts
 pub mod Appends
 pub mod Halves
-pub mod Orders
 pub mod Unique
 pub mod Walks
-pub mod Looking
 pub mod Seeing
 pub mod Refusing
 pub mod Refusals

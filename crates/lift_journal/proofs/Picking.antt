@@ -3,8 +3,8 @@ use Rattle.std.proofs.Common.{◌≡◌, ◌⊎◌, ◌<◌, ◌≤◌, ◌+◌,
 use Rattle.std.proofs.lemmas.List.{length-set}
 use Rattle.lift_base.specs.declared.history.Shape.{Shape}
 use Rattle.lift_disk.specs.Disk.{DiskState, Image, ChangesWithin, IsFilled}
-use Rattle.lift_disk.proofs.History.{set_other}
-use Rattle.lift_disk.proofs.Moments.{changes_more, changes_nothing, changes_twice}
+use Rattle.lift_disk.specs.lemmas.History.{set_other}
+use Rattle.lift_disk.specs.lemmas.Moments.{changes_more, changes_nothing, changes_twice}
 use Rattle.lift_journal.specs.Layout.{Batch, is_marked, picks_second, Picks, start_of, IsSound, Holds, HoldsIn}
 use Rattle.lift_journal.specs.Stops.{StopsAtPick, StopsCheckpoint}
 use Rattle.lift_journal.specs.Switch.{HasWritten, MissesPick, StopsWriting}

@@ -12,8 +12,8 @@ use Rattle.lift_base.specs.declared.history.Record.{Record}
 use Rattle.lift_journal.specs.Order.{IsInOrder, IsComplete}
 use Rattle.lift_journal.specs.Opening.{RefusedFor}
 use Rattle.lift_journal.specs.Walk.{IsFront, IsSoundFront, IsDamagedAt}
-use Rattle.lift_journal.proofs.Chains.{chain_room, start_high}
-use Rattle.lift_journal.proofs.Orders.{fall_front, order_front}
+use Rattle.lift_journal.specs.lemmas.Chains.{chain_room, start_high}
+use Rattle.lift_journal.specs.lemmas.Orders.{fall_front, order_front}
 use Rattle.lift_journal.proofs.Unique.{body_unique, stamp_unique}
 use Rattle.lift_journal.proofs.Walks.{from_here}
 

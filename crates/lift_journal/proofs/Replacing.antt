@@ -8,7 +8,7 @@ use Rattle.lift_register.specs.Register.{RegisterState}
 use Rattle.lift_register.specs.Base.{base_records}
 use Rattle.lift_register.specs.WellFormed.{IsWellFormed}
 use Rattle.lift_disk.specs.Disk.{DiskState, Image, ChangesWithin, LeavesNow, LeavesOnly, IsSynced, RunsOn}
-use Rattle.lift_disk.proofs.Moments.{changes_nothing, leaves_weaker, leaves_if_honest}
+use Rattle.lift_disk.specs.lemmas.Moments.{changes_nothing, leaves_weaker, leaves_if_honest}
 use Rattle.lift_journal.specs.Order.{IsEntry}
 use Rattle.lift_journal.specs.Layout.{Batch, is_marked, sector_at, Picks, start_of, Holds}
 use Rattle.lift_journal.specs.Steps.{IsInRange}
@@ -18,7 +18,7 @@ use Rattle.lift_journal.specs.Stops.{StopsCheckpoint}
 use Rattle.lift_journal.specs.Switch.{IsOtherHalf, HasWritten, StopsWriting}
 use Rattle.lift_journal.proofs.Bases.{base_is_base}
 use Rattle.lift_journal.proofs.Checkpoints.{length_batches, used_checkpoint, checkpoint_records, checkpoint_sound}
-use Rattle.lift_journal.proofs.Chains.{all_same}
+use Rattle.lift_journal.specs.lemmas.Chains.{all_same}
 use Rattle.lift_journal.proofs.Seeing.{bodies_few}
 use Rattle.lift_journal.proofs.Picking.{checkpoint_stops}
 use Rattle.lift_journal.proofs.Standing.{reads_old, stands_in}

@@ -6,7 +6,7 @@ use Rattle.lift_base.specs.declared.history.Record.{Record}
 use Rattle.lift_disk.specs.Disk.{Image}
 use Rattle.lift_record.specs.declared.headers.Header.{Header}
 use Rattle.lift_record.specs.Header.{header_bytes, IsHeaderSpelling}
-use Rattle.lift_record.proofs.Spellings.{header_versions, header_counts}
+use Rattle.lift_record.specs.lemmas.Spellings.{header_versions, header_counts}
 use Rattle.lift_journal.specs.Layout.{Batch, bodies, size_of, IsBody, sector_at}
 use Rattle.lift_journal.specs.Walk.{IsBatchAt}
 use Rattle.lift_journal.specs.Seen.{IsTailOf}

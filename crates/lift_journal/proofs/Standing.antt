@@ -5,7 +5,7 @@ use Rattle.lift_base.specs.declared.history.Record.{Record}
 use Rattle.lift_base.specs.declared.history.Shape.{Shape}
 use Rattle.lift_record.specs.declared.version.Version.TheVariants.{Two}
 use Rattle.lift_disk.specs.Disk.{DiskState, Image, ChangesWithin, LeavesNow, LeavesOnly, RunsOn, IsSynced, TouchesOnly}
-use Rattle.lift_disk.proofs.Moments.{leaves_weaker, leaves_if_honest, changes_nothing}
+use Rattle.lift_disk.specs.lemmas.Moments.{leaves_weaker, leaves_if_honest, changes_nothing}
 use Rattle.lift_journal.specs.Order.{IsEntry, IsOfBase}
 use Rattle.lift_journal.specs.Layout.{Batch, records_of, size_of, IsBody, is_marked, picks_second, Picks, start_of, Holds, used}
 use Rattle.lift_journal.specs.Steps.{IsInRange, IsReady, IsSettled, ReadsOnly}
@@ -13,8 +13,8 @@ use Rattle.lift_journal.specs.Journal.{ReadsAs, StandsFor, HasPlace, StandsAt, I
 use Rattle.lift_journal.specs.Opening.{Opens}
 use Rattle.lift_journal.specs.Told.{NoneFails}
 use Rattle.lift_journal.proofs.Unique.{holds_unique, stamp_unique}
-use Rattle.lift_journal.proofs.Chains.{all_same, used_more}
-use Rattle.lift_journal.proofs.Orders.{order_parts, Parts, records_push, sound_push}
+use Rattle.lift_journal.specs.lemmas.Chains.{all_same, used_more}
+use Rattle.lift_journal.specs.lemmas.Orders.{order_parts, Parts, records_push, sound_push}
 use Rattle.lift_journal.proofs.Seeing.{bodies_few}
 
 -- the half of a journal by its first sector

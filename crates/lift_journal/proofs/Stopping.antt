@@ -2,11 +2,11 @@
 use Rattle.std.proofs.Common.{◌≡◌, ◌≢◌, ◌<◌, ◌≤◌, ◌+◌, ◌==◌, ⊎_elim, ℕ, false, List, [], length, replicate, unwrap_or, refl, sym, ◌∙◌, ap, subst, arith}
 use Rattle.lift_base.specs.declared.history.Shape.{Shape}
 use Rattle.lift_disk.specs.Disk.{DiskState, Image, ChangesWithin, IsFilled, MayLeave, IsSynced}
-use Rattle.lift_disk.proofs.Moments.{changes_more, changes_twice}
+use Rattle.lift_disk.specs.lemmas.Moments.{changes_more, changes_twice}
 use Rattle.lift_journal.specs.Layout.{Batch, Holds, IsPrepared, is_marked, sector_at}
 use Rattle.lift_journal.specs.Steps.{marked}
 use Rattle.lift_journal.specs.Stops.{Misses, StopsAtGate}
-use Rattle.lift_journal.proofs.Chains.{all_same, holds_closed, holds_opened}
+use Rattle.lift_journal.specs.lemmas.Chains.{all_same, holds_closed, holds_opened}
 use Rattle.lift_journal.proofs.Appends.{gate_opens}
 
 -- what is safe is what is read

@@ -3,8 +3,8 @@ use Rattle.std.proofs.Common.{◌≡◌, ◌⊎◌, ◌<◌, ◌≤◌, ◌+◌,
 use Rattle.std.proofs.lemmas.List.{take-set-le, length-set}
 use Rattle.lift_base.specs.declared.history.Shape.{Shape}
 use Rattle.lift_disk.specs.Disk.{DiskState, Image, ChangesWithin, LeavesOnly, TouchesOnly, IsWhole}
-use Rattle.lift_disk.proofs.Moments.{leaves_weaker, leaves_then, changes_nothing, changes_twice, changes_more}
-use Rattle.lift_disk.proofs.History.{set_other}
+use Rattle.lift_disk.specs.lemmas.Moments.{leaves_weaker, leaves_then, changes_nothing, changes_twice, changes_more}
+use Rattle.lift_disk.specs.lemmas.History.{set_other}
 use Rattle.lift_journal.specs.Layout.{Batch, is_marked, IsClosed, IsChain, sector_at, start_of, IsStamped, IsSound, Holds}
 use Rattle.lift_journal.specs.Steps.{IsInRange, unmarked}
 use Rattle.lift_journal.specs.Walk.{Reaches}

@@ -11,7 +11,7 @@ use Rattle.lift_disk.specs.Disk.{Image}
 use Rattle.lift_record.specs.declared.version.Version.{Version}
 use Rattle.lift_record.specs.Record.{spelling_of}
 use Rattle.lift_record.specs.Header.{header_bytes}
-use Rattle.lift_record.proofs.Spellings.{length-spelling_of, length-header_bytes}
+use Rattle.lift_record.specs.lemmas.Spellings.{length-spelling_of, length-header_bytes}
 use Rattle.lift_journal.specs.Layout.{Batch, filled, bodies, size_of, batch_bytes, IsBody, IsRecordIn, sector_at}
 use Rattle.lift_journal.specs.Seen.{IsRecordsIn, IsTailOf}
 

@@ -11,7 +11,7 @@ use Rattle.lift_disk.specs.Disk.{Image}
 use Rattle.lift_record.specs.declared.version.Version.{Version}
 use Rattle.lift_record.specs.Record.{spelling_of}
 use Rattle.lift_record.specs.Header.{header_bytes}
-use Rattle.lift_record.proofs.Spellings.{spelling_of_unique, header_versions, header_counts, length-spelling_of, length-header_bytes}
+use Rattle.lift_record.specs.lemmas.Spellings.{spelling_of_unique, header_versions, header_counts, length-spelling_of, length-header_bytes}
 use Rattle.lift_journal.specs.Layout.{Batch, bodies, size_of, filled, IsRecordIn, IsBody, IsChain, start_of, stamp_bytes, IsStamped, Holds}
 use Rattle.lift_journal.proofs.Texts.{length-spellings}
 

@@ -14,9 +14,9 @@ use Rattle.lift_journal.specs.Fronts.{Passes, passed}
 use Rattle.lift_journal.specs.declared.reads.AtGate.{AtGate}
 use Rattle.lift_journal.specs.Seen.{batch_of, ShowsAt}
 use Rattle.lift_journal.specs.Calls.{reads_from}
-use Rattle.lift_journal.proofs.Looking.{reads_none, well_none}
-use Rattle.lift_journal.proofs.Chains.{tail_is, from_gate, used_more}
-use Rattle.lift_journal.proofs.Orders.{front_push, front_rises, front_order, version_push, last_push}
+use Rattle.lift_journal.specs.lemmas.Looking.{reads_none, well_none}
+use Rattle.lift_journal.specs.lemmas.Chains.{tail_is, from_gate, used_more}
+use Rattle.lift_journal.specs.lemmas.Orders.{front_push, front_rises, front_order, version_push, last_push}
 use Rattle.lift_journal.proofs.Unique.{body_unique}
 
 -- the batches before a front

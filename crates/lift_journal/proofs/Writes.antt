@@ -8,10 +8,10 @@ use Rattle.lift_disk.specs.Trace.Access.{Write}
 use Rattle.lift_journal.specs.Calls.{writes_from, StopsIn}
 use Rattle.lift_journal.proofs.Following.{all_then, writes-push, writes-take, length-writes}
 use Rattle.lift_disk.specs.Disk.{DiskState, Image, GoesOn, RunsOn, Touches, LooseWithin, TouchesOnly, IsSteadyAt, LeavesNoOther, IsWhole}
-use Rattle.lift_disk.proofs.Moments.{runs_none, runs_call, runs_then, touches_write, touches_then, touches_none}
+use Rattle.lift_disk.specs.lemmas.Moments.{runs_none, runs_call, runs_then, touches_write, touches_then, touches_none}
 use Rattle.lift_journal.specs.Steps.{overwritten, IsInRange}
 use Rattle.lift_journal.specs.Told.{NoneFails}
-use Rattle.lift_journal.proofs.Telling.{none_made, passes_then}
+use Rattle.lift_journal.specs.lemmas.Telling.{none_made, passes_then}
 
 -- so many of the sectors are written
 pub record Written (old now : DiskState) (first : ℕ) (sectors : Image) (count : ℕ) : Type 0 where

@@ -13,3 +13,4 @@ pub mod Checkpoint
 pub mod Switch
 pub mod Fault
 pub mod Behind
+pub mod lemmas

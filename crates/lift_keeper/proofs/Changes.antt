@@ -13,7 +13,7 @@ use Rattle.lift_base.specs.declared.history.Row.{Row}
 use Rattle.lift_base.specs.declared.history.Entry.TheVariants.{Allot, Stop}
 use Rattle.lift_register.specs.Register.{RegisterState, rows_of, register_of, waiting_row}
 use Rattle.lift_register.specs.WellFormed.{IsWellFormed}
-use Rattle.lift_register.proofs.EntryLemmas.{register_of-allot, register_of-stop}
+use Rattle.lift_register.specs.lemmas.EntryLemmas.{register_of-allot, register_of-stop}
 use Rattle.lift_stops.specs.Schedule.{ScheduleState}
 use Rattle.lift_policy.specs.View.{positions_of, position_of, AreSchedulesOf}
 use Rattle.lift_building.specs.Plan.{Plan}

@@ -10,13 +10,13 @@ use Rattle.lift_base.specs.declared.command.Reason.{Reason}
 use Rattle.lift_base.specs.declared.command.Reply.{Reply}
 use Rattle.lift_base.specs.declared.command.Reply.TheVariants.{Refused}
 use Rattle.lift_building.specs.Plan.{Plan, IsBuilding}
-use Rattle.lift_building.proofs.Getters.{serves_within}
+use Rattle.lift_building.specs.lemmas.Getters.{serves_within}
 use Rattle.lift_register.specs.Fits.{Fits}
 use Rattle.lift_policy.specs.Terminals.{kiosk_floor}
 use Rattle.lift_policy.specs.Eligible.{Choice}
 use Rattle.lift_policy.specs.Step.{State, Step, Proceeds, Allots, Repeats, view_of, call_at, cars_for, first_cause, has_cause, is_new, is_same, accepting, standing, stopping, next_from}
-use Rattle.lift_policy.proofs.Steps.{no_cause}
-use Rattle.lift_policy.proofs.Joins.{eligible_passes}
+use Rattle.lift_policy.specs.lemmas.Steps.{no_cause}
+use Rattle.lift_policy.specs.lemmas.Joins.{eligible_passes}
 
 pub step_refused : (plan : Plan) (choice : Choice) (state : State) (terminal number : ℕ) (body : Body) (reason : Reason)
     → first_cause plan state terminal number body ≡ Some reason → Step plan choice state terminal number body (Refused reason) state

@@ -11,23 +11,23 @@ use Rattle.lift_base.specs.declared.history.Record.TheVariants.{Allot, Stop, Row
 use Rattle.lift_base.specs.declared.history.Shape.{Shape}
 use Rattle.lift_building.specs.Plan.{Plan, shape_of}
 use Rattle.lift_disk.specs.Disk.{DiskState, Image, CountsNow, RunsOn, LeavesNow, LeavesOnly, MayLeave, MayLose}
-use Rattle.lift_disk.proofs.Moments.{changes_nothing, leaves_weaker, leaves_if_honest, filled_left}
+use Rattle.lift_disk.specs.lemmas.Moments.{changes_nothing, leaves_weaker, leaves_if_honest, filled_left}
 use Rattle.lift_register.specs.Register.{RegisterState, register_of, rows_of, rows_after, last_after, calls_of, done_among, empty}
 use Rattle.lift_register.specs.Fits.{FitFrom}
 use Rattle.lift_register.specs.Base.{BaseFits, BaseFitFrom, base_records, with_record, with_records}
 use Rattle.lift_register.specs.Belongs.{BelongsTo}
 use Rattle.lift_register.specs.Balanced.{IsBalanced}
 use Rattle.lift_register.specs.WellFormed.{IsWellFormed}
-use Rattle.lift_register.proofs.BaseLemmas.{BaseFitFrom-base_records, with_records-base_records}
-use Rattle.lift_register.proofs.EntryLemmas.{register_of-nothing, rows_after-nothing, done-nothing}
-use Rattle.lift_register.proofs.HistoryLemmas.{register_of-append, same_state}
-use Rattle.lift_register.proofs.Laws.{FitFrom-append}
-use Rattle.lift_register.proofs.Sums.{list_on_cars, list_on_terminals, nothing_over_cars, length-on_cars, length-on_terminals}
+use Rattle.lift_register.specs.lemmas.BaseLemmas.{BaseFitFrom-base_records, with_records-base_records}
+use Rattle.lift_register.specs.lemmas.EntryLemmas.{register_of-nothing, rows_after-nothing, done-nothing}
+use Rattle.lift_register.specs.lemmas.HistoryLemmas.{register_of-append, same_state}
+use Rattle.lift_register.specs.lemmas.Laws.{FitFrom-append}
+use Rattle.lift_register.specs.lemmas.Sums.{list_on_cars, list_on_terminals, nothing_over_cars, length-on_cars, length-on_terminals}
 use Rattle.lift_journal.specs.declared.fault.JournalFault.{JournalFault}
 use Rattle.lift_journal.specs.declared.fault.JournalFault.TheVariants.{Disk, Full, Broken}
 use Rattle.lift_journal.specs.Journal.{ReadsAs, StandsFor}
 use Rattle.lift_journal.specs.Told.{NoneFails, LastFails, FailsBy, AnswersAsTold}
-use Rattle.lift_journal.proofs.Telling.{passes_then, fault_then}
+use Rattle.lift_journal.specs.lemmas.Telling.{passes_then, fault_then}
 use Rattle.lift_journal.specs.Checkpoint.{sectors_for}
 use Rattle.lift_journal.specs.Layout.{Batch, new_batch, records_of, size_of, bodies, used, Holds, HoldsIn, Picks}
 use Rattle.lift_journal.specs.Order.{IsEntry, IsOfBase}

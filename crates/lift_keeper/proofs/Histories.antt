@@ -12,8 +12,8 @@ use Rattle.lift_register.specs.Register.{RegisterState, register_of, empty}
 use Rattle.lift_register.specs.WellFormed.{IsWellFormed}
 use Rattle.lift_register.specs.Fits.{FitFrom}
 use Rattle.lift_register.specs.Base.{BaseFitFrom, with_record, with_records}
-use Rattle.lift_register.proofs.HistoryLemmas.{register_of-append}
-use Rattle.lift_register.proofs.EntryLemmas.{register_of-nothing}
+use Rattle.lift_register.specs.lemmas.HistoryLemmas.{register_of-append}
+use Rattle.lift_register.specs.lemmas.EntryLemmas.{register_of-nothing}
 use Rattle.lift_journal.specs.Order.{IsEntry, IsOfBase}
 use Rattle.lift_journal.specs.Layout.{Batch, records_of}
 use Rattle.lift_keeper.specs.Recovery.{AllFit, with_all, entries_of, IsRegisterOf, MakesRegister}

@@ -8,5 +8,4 @@ pub mod Applying
 pub mod Guarding
 pub mod Reopenings
 pub mod Writers
-pub mod Keepers
 pub mod Reading

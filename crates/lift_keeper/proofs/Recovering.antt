@@ -17,10 +17,10 @@ use Rattle.lift_journal.specs.Layout.{Batch, records_of, Holds, used}
 use Rattle.lift_journal.specs.Order.{MayFollow, last_behind}
 use Rattle.lift_journal.specs.Steps.{ReadsOnly}
 use Rattle.lift_journal.specs.Told.{NoneFails, FailsBy}
-use Rattle.lift_journal.proofs.Telling.{none_made, passes_then, fails_then}
-use Rattle.lift_journal.proofs.Chains.{used_below}
-use Rattle.lift_journal.proofs.Looking.{reads_none, reads_then}
-use Rattle.lift_journal.proofs.Orders.{order_at}
+use Rattle.lift_journal.specs.lemmas.Telling.{none_made, passes_then, fails_then}
+use Rattle.lift_journal.specs.lemmas.Chains.{used_below}
+use Rattle.lift_journal.specs.lemmas.Looking.{reads_none, reads_then}
+use Rattle.lift_journal.specs.lemmas.Orders.{order_at}
 use Rattle.lift_keeper.specs.Calls.{ReadsBehind}
 use Rattle.lift_keeper.proofs.Reading.{reads_nothing, behind_then}
 use Rattle.lift_keeper.specs.Opening.{KeepsAll, UnreadFor}

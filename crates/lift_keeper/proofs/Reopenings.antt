@@ -8,7 +8,7 @@ use Rattle.lift_base.specs.declared.history.Record.TheVariants.{Allot, Stop, Row
 use Rattle.lift_base.specs.declared.history.Shape.{Shape}
 use Rattle.lift_building.specs.Plan.{Plan, shape_of}
 use Rattle.lift_disk.specs.Disk.{DiskState, Image, ChangesWithin, KeepsImage, LeavesNow, LeavesOnly, MayLeave}
-use Rattle.lift_disk.proofs.Moments.{changes_nothing, leaves_then, leaves_weaker, runs_then}
+use Rattle.lift_disk.specs.lemmas.Moments.{changes_nothing, leaves_then, leaves_weaker, runs_then}
 use Rattle.lift_register.specs.Register.{RegisterState, register_of, empty}
 use Rattle.lift_register.specs.Fits.{FitFrom}
 use Rattle.lift_register.specs.Base.{with_records}
@@ -23,8 +23,8 @@ use Rattle.lift_journal.specs.Opening.{Opens, Refuses}
 use Rattle.lift_journal.specs.Order.{IsEntry}
 use Rattle.lift_journal.specs.Steps.{ReadsOnly, SavesAsRead, IsSyncedAt}
 use Rattle.lift_journal.specs.Told.{NoneFails}
-use Rattle.lift_journal.proofs.Chains.{all_same}
-use Rattle.lift_journal.proofs.Telling.{passes_then, fails_then}
+use Rattle.lift_journal.specs.lemmas.Chains.{all_same}
+use Rattle.lift_journal.specs.lemmas.Telling.{passes_then, fails_then}
 use Rattle.lift_keeper.specs.declared.fault.KeeperFault.{KeeperFault}
 use Rattle.lift_keeper.specs.declared.fault.KeeperFault.TheVariants.{Journal, OtherBuilding, BadEntry}
 use Rattle.lift_keeper.specs.Images.{IsImageOf, IsImageIn}

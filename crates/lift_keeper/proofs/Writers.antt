@@ -5,12 +5,12 @@ use Rattle.lift_base.specs.declared.history.Entry.{Entry}
 use Rattle.lift_base.specs.declared.history.Shape.{Shape}
 use Rattle.lift_building.specs.Plan.{Plan}
 use Rattle.lift_disk.specs.Disk.{DiskState, Image, CountsNow, IsUnchanged, LeavesNow, LeavesOnly, MayLeave}
-use Rattle.lift_disk.proofs.Moments.{changes_nothing, leaves_weaker, unchanged_leaves}
+use Rattle.lift_disk.specs.lemmas.Moments.{changes_nothing, leaves_weaker, unchanged_leaves}
 use Rattle.lift_register.specs.Register.{RegisterState, register_of}
 use Rattle.lift_register.specs.Belongs.{BelongsTo}
 use Rattle.lift_register.specs.Balanced.{IsBalanced}
 use Rattle.lift_register.specs.WellFormed.{IsWellFormed}
-use Rattle.lift_register.proofs.EntryLemmas.{register_of-nothing}
+use Rattle.lift_register.specs.lemmas.EntryLemmas.{register_of-nothing}
 use Rattle.lift_journal.specs.declared.fault.JournalFault.TheVariants.{Disk}
 use Rattle.lift_journal.specs.Journal.{JournalView, ReadsAs}
 use Rattle.lift_journal.specs.Layout.{Holds, Picks}

@@ -8,3 +8,4 @@ pub mod Writer
 pub mod Reopening
 pub mod Keeper
 pub mod Calls
+pub mod lemmas

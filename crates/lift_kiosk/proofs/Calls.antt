@@ -5,13 +5,13 @@ use Rattle.std.specs.Str.{IsAscii}
 use Rattle.std.proofs.lemmas.Fmt.{IsAscii-decimal}
 use Rattle.std.proofs.lemmas.Str.Ascii.{IsAscii-nil}
 use Rattle.lift_base.specs.Text.{AreWords, ArePartyWords}
-use Rattle.lift_base.proofs.Words.{one_reading}
-use Rattle.lift_base.proofs.Texts.{none_weaker}
+use Rattle.lift_base.specs.lemmas.Words.{one_reading}
+use Rattle.lift_base.specs.lemmas.Texts.{none_weaker}
 use Rattle.lift_kiosk.specs.Lines.{AreAscii}
 use Rattle.lift_kiosk.specs.declared.dialect.Wanted.{Wanted}
 use Rattle.lift_kiosk.specs.declared.dialect.Wanted.TheVariants.{Ask as Asks, NoFloor}
 use Rattle.lift_kiosk.specs.Kiosk.{AreCallWords, SpellsCall, WantsCall}
-use Rattle.lift_kiosk.proofs.Words.{ascii_with}
+use Rattle.lift_kiosk.specs.lemmas.Words.{ascii_with}
 
 pub no_call_among : {A : Type 0} (r : Option A) (all rest : List (List ℕ)) → all ≡ codes "CALL" ∷ rest
     → IfNone r ((number floor party : ℕ) → AreCallWords rest number floor party → ⊥)

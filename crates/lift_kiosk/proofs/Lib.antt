@@ -1,10 +1,7 @@
 pub mod Hearing
-pub mod Lines
 pub mod Texts
 pub mod Sessions
-pub mod Words
 pub mod Calls
-pub mod Ends
 pub mod Spelled
 pub mod Desk
 pub mod Single

@@ -23,7 +23,7 @@ use Rattle.lift_policy.specs.Choices.{IsFirstLeast, IsEtdChoice, IsFewestOpen, I
 use Rattle.lift_policy.specs.Laws.{IsPickedBy}
 use Rattle.lift_policy.proofs.Picks.{first_least-exact, first_least-some, first_least-member}
 use Rattle.lift_policy.proofs.Letters.{eligible_cars-rise}
-use Rattle.lift_policy.proofs.Steps.{NoCause, no_cause, IsRepeat, repeated, HasStepped, has_stepped, Proceeded, WasRefused}
+use Rattle.lift_policy.specs.lemmas.Steps.{NoCause, no_cause, IsRepeat, repeated, HasStepped, has_stepped, Proceeded, WasRefused}
 
 -- the reply and the state after it are a decision's
 abbrev Carries : Decision → Reply → State → Type 0

@@ -1,9 +1,5 @@
 pub mod Runs
-pub mod Views
 pub mod Letters
-pub mod Least
-pub mod Steps
-pub mod Joins
 pub mod States
 pub mod Refusals
 pub mod Picks

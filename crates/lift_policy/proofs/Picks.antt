@@ -5,7 +5,7 @@ use Rattle.std.proofs.lemmas.Bool.{ltb-true, ltb-false}
 use Rattle.std.proofs.lemmas.List.Elements.{All-contains, All-cons, All-nil}
 use Rattle.lift_policy.specs.Eligible.{Rise}
 use Rattle.lift_policy.specs.Choices.{IsFirstLeast, better, first_least}
-use Rattle.lift_policy.proofs.Least.{Rise-low}
+use Rattle.lift_policy.specs.lemmas.Least.{Rise-low}
 
 head_in : (x : ℕ) (xs : List ℕ) → Contains (x ∷ xs) x
 head_in x xs = (0, omega arith, refl)

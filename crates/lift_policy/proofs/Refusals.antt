@@ -9,7 +9,7 @@ use Rattle.lift_base.specs.declared.command.Reply.TheVariants.{Car, Stopped, Pla
 use Rattle.lift_building.specs.Plan.{Plan}
 use Rattle.lift_policy.specs.Eligible.{Choice}
 use Rattle.lift_policy.specs.Step.{State, Step, Proceeds, Allots, Repeats, first_cause, is_new}
-use Rattle.lift_policy.proofs.Steps.{HasStepped, has_stepped, Proceeded, WasRefused}
+use Rattle.lift_policy.specs.lemmas.Steps.{HasStepped, has_stepped, Proceeded, WasRefused}
 
 -- the replies to commands without a cause
 abbrev IsAccepted : Reply → Bool

@@ -18,22 +18,22 @@ use Rattle.lift_base.specs.declared.command.Body.TheVariants.{Call, Stop, Place}
 use Rattle.lift_base.specs.declared.command.Reply.{Reply}
 use Rattle.lift_base.specs.declared.command.Reply.TheVariants.{Car, Stopped, Placed, Refused, Unknown}
 use Rattle.lift_building.specs.Plan.{Plan, IsBuilding}
-use Rattle.lift_building.proofs.Getters.{serves_within, places_short}
+use Rattle.lift_building.specs.lemmas.Getters.{serves_within, places_short}
 use Rattle.lift_register.specs.Register.{RegisterState, register_of, last_of, last_after, kept_of}
 use Rattle.lift_register.specs.Fits.{Fits}
 use Rattle.lift_register.specs.WellFormed.{IsWellFormed}
 use Rattle.lift_register.specs.Belongs.{BelongsTo}
 use Rattle.lift_register.specs.Balanced.{IsBalanced}
-use Rattle.lift_register.proofs.Sums.{get_or-on_terminals}
-use Rattle.lift_register.proofs.EntryLemmas.{last_after-own}
-use Rattle.lift_register.proofs.Laws.{IsWellFormed-entry, IsBalanced-entry, BelongsTo-entry}
+use Rattle.lift_register.specs.lemmas.Sums.{get_or-on_terminals}
+use Rattle.lift_register.specs.lemmas.EntryLemmas.{last_after-own}
+use Rattle.lift_register.specs.lemmas.Laws.{IsWellFormed-entry, IsBalanced-entry, BelongsTo-entry}
 use Rattle.lift_policy.specs.Terminals.{kiosk_floor}
 use Rattle.lift_policy.specs.View.{position_of}
 use Rattle.lift_policy.specs.Eligible.{Choice}
 use Rattle.lift_policy.specs.Step.{State, Step, Proceeds, Allots, Repeats, is_new, is_same, accepting, standing}
 use Rattle.lift_policy.specs.Laws.{JoinsAtMostOne, IsTypedBody, IsStateIn, Tells}
-use Rattle.lift_policy.proofs.Steps.{NoCause, no_cause, repeated, HasStepped, has_stepped, Proceeded, WasRefused}
-use Rattle.lift_policy.proofs.Joins.{Step-joins}
+use Rattle.lift_policy.specs.lemmas.Steps.{NoCause, no_cause, repeated, HasStepped, has_stepped, Proceeded, WasRefused}
+use Rattle.lift_policy.specs.lemmas.Joins.{Step-joins}
 
 -- an entry that keeps a typed command is typed
 typed : (plan : Plan) (state : State) (terminal number : ℕ) (body : Body) (entry : Entry) → IsBuilding plan → IsTypedCommand terminal number → IsTypedBody body

@@ -7,3 +7,4 @@ pub mod Step
 pub mod Run
 pub mod Decision
 pub mod Laws
+pub mod lemmas

@@ -1,3 +1,4 @@
 pub mod Version
 pub mod Record
 pub mod Header
+pub mod lemmas

@@ -12,8 +12,8 @@ use Rattle.lift_base.specs.declared.history.Row.{Row}
 use Rattle.lift_register.specs.Status.{status_of, row_with}
 use Rattle.lift_register.specs.Register.{Call, open_part, calls_before}
 use Rattle.lift_register.specs.Follows.{row_behind, rows_behind, RowsFollow}
-use Rattle.lift_register.proofs.EntryLemmas.{rows-nothing, open_part-allot, open_part-stop, status-other}
-use Rattle.lift_register.proofs.HistoryLemmas.{open_part-then, calls_before-rows-append}
+use Rattle.lift_register.specs.lemmas.EntryLemmas.{rows-nothing, open_part-allot, open_part-stop, status-other}
+use Rattle.lift_register.specs.lemmas.HistoryLemmas.{open_part-then, calls_before-rows-append}
 
 differ_from : (one other : ℕ) → (one == other) ≡ false → one ≢ other
 differ_from one other unlike same = let alike = eq-eqb one other same in absurd (let both = sym unlike ∙ alike in cc)

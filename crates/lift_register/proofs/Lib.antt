@@ -1,10 +1,4 @@
-pub mod HistoryLemmas
 pub mod Follows
-pub mod Sums
-pub mod EntryLemmas
-pub mod KeptLemmas
-pub mod Laws
 pub mod ReadLemmas
-pub mod BaseLemmas
 pub mod SameLemmas
 pub mod BuildingLaws

@@ -17,8 +17,8 @@ use Rattle.lift_register.specs.Rows.{row_lists}
 use Rattle.lift_register.specs.Base.{record_of_last, last_records, base_records}
 use Rattle.lift_register.specs.Balanced.{open_count}
 use Rattle.lift_register.specs.Register.{RegisterState, rows_of, last_of, terminals, cars, kiosk_terminals, empty}
-use Rattle.lift_register.proofs.Sums.{sum_by-range_more, list_on_cars, list_on_terminals}
-use Rattle.lift_register.proofs.HistoryLemmas.{state_of, same_state}
+use Rattle.lift_register.specs.lemmas.Sums.{sum_by-range_more, list_on_cars, list_on_terminals}
+use Rattle.lift_register.specs.lemmas.HistoryLemmas.{state_of, same_state}
 
 pub row_lists-at : (rows : List (ArrayVec Row 32 (Unit {0}))) (i : ℕ) (d : ArrayVec Row 32 (Unit {0})) → i < length rows → slice_index_or (row_lists rows) i [] ≡ (slice_index_or rows i d).items
 row_lists-at rows i d below = get_or-map (λ list. list.items) rows i d [] below

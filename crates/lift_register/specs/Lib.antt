@@ -9,3 +9,4 @@ pub mod Rows
 pub mod Steps
 pub mod Joins
 pub mod Follows
+pub mod lemmas

@@ -24,13 +24,13 @@ use Rattle.lift_world.specs.Among.{Look, LooksStand, look_events, StandsAsk, Are
 use Rattle.lift_world.specs.Beside.{is_of_terminals}
 use Rattle.lift_world.specs.Relay.{IsQueueInOrder, IsBetweenScans, is_flushers, allocated, answers_to, answered_of, flusher_events, failing_flush, broken_flush}
 use Rattle.lift_world.specs.Turns.{AreFound, device_calls, calls_to}
-use Rattle.lift_world.proofs.Goes.{goes-append}
-use Rattle.lift_world.proofs.Heard.{hears}
-use Rattle.lift_world.proofs.Steps.{then_from}
+use Rattle.lift_world.specs.lemmas.Goes.{goes-append}
+use Rattle.lift_world.specs.lemmas.Heard.{hears}
+use Rattle.lift_world.specs.lemmas.Steps.{then_from}
 use Rattle.lift_clerk.specs.declared.counts.Counts.{Counts}
 use Rattle.lift_clerk.specs.Visits.{commands_of}
 use Rattle.lift_clerk.specs.Machine.{IsReached}
-use Rattle.lift_clerk.proofs.Asked.{run_in}
+use Rattle.lift_clerk.specs.lemmas.Asked.{run_in}
 use Rattle.lift_relay.specs.Batch.{BatchState, replies_in}
 use Rattle.lift_relay.specs.Allocator.{AllocatorState, IsScanTurn}
 use Rattle.lift_relay.specs.Flusher.{FlusherState}

@@ -11,12 +11,12 @@ use Rattle.lift_desk.specs.declared.words.Ask.{Ask}
 use Rattle.lift_desk.specs.Words.{turn_of, last_of, number_of, reply_word}
 use Rattle.lift_desk.specs.Steps.{with_taking, with_answer}
 use Rattle.lift_desk.specs.Seats.{ClerkPlace, no_place, placed_at, view_at, clerk_with, ahead_from, TakesOf, Owes, OwesNothing, Says}
-use Rattle.lift_desk.proofs.Places.{view_at-here, view_at-else}
-use Rattle.lift_desk.proofs.WordLists.{last_of-push}
+use Rattle.lift_desk.specs.lemmas.Places.{view_at-here, view_at-else}
+use Rattle.lift_desk.specs.lemmas.WordLists.{last_of-push}
 use Rattle.lift_clerk.specs.Scanning.{told}
 use Rattle.lift_clerk.specs.Visits.{Visit, FindsAt}
-use Rattle.lift_clerk.proofs.Visiting.{finds-at, taken-new}
-use Rattle.lift_clerk.proofs.Scanned.{Looked}
+use Rattle.lift_clerk.specs.lemmas.Visiting.{finds-at, taken-new}
+use Rattle.lift_clerk.specs.lemmas.Scanned.{Looked}
 use Rattle.lift_relay.specs.declared.batch.Taken.{Taken}
 use Rattle.lift_relay.specs.Batch.{AreBelow, commands_in, turns_of, turns_with, turns_after, IsNoted, AreNoted}
 use Rattle.lift_relay.specs.Flusher.{GivesIt, answered_at, AnswersOne, AnswersAll, Answered, IsSettled}

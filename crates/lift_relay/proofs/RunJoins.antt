@@ -14,7 +14,7 @@ use Rattle.lift_world.specs.Policies.{RunsAreAny}
 use Rattle.lift_clerk.specs.Clerk.{ClerkState}
 use Rattle.lift_clerk.specs.Machine.{ask_of, waiting_in}
 use Rattle.lift_clerk.specs.History.{IsRunOf}
-use Rattle.lift_clerk.proofs.Words.{asks_count}
+use Rattle.lift_clerk.specs.lemmas.Words.{asks_count}
 use Rattle.lift_relay.specs.Allocator.{AllocatorState}
 use Rattle.lift_relay.specs.Flusher.{FlusherState, IsFlusher}
 use Rattle.lift_relay.specs.Pair.{IsTelling}

@@ -5,7 +5,7 @@ use Rattle.std.proofs.lemmas.List.{append-nil, length-append}
 use Rattle.lift_base.specs.declared.history.Entry.{Entry}
 use Rattle.lift_building.specs.Plan.{Plan}
 use Rattle.lift_disk.specs.Disk.{DiskState, Image, LeavesOnly}
-use Rattle.lift_disk.proofs.Moments.{leaves_weaker}
+use Rattle.lift_disk.specs.lemmas.Moments.{leaves_weaker}
 use Rattle.lift_register.specs.Register.{RegisterState}
 use Rattle.lift_keeper.specs.Images.{IsImageOf, IsInDoubt}
 use Rattle.lift_keeper.specs.declared.fault.KeeperFault.{KeeperFault}
@@ -16,7 +16,7 @@ use Rattle.lift_clerk.specs.declared.counts.Counts.{Counts}
 use Rattle.lift_clerk.specs.Turn.{IsEither}
 use Rattle.lift_clerk.specs.Machine.{kept_of}
 use Rattle.lift_clerk.specs.History.{ShowsGiven, ShowsEither}
-use Rattle.lift_clerk.proofs.Asked.{not_both}
+use Rattle.lift_clerk.specs.lemmas.Asked.{not_both}
 use Rattle.lift_relay.specs.declared.flusher.FlushCounts.{FlushCounts}
 use Rattle.lift_relay.specs.Batch.{BatchState}
 use Rattle.lift_relay.specs.Line.{Begins, ReceivesOne}

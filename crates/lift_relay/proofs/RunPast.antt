@@ -21,9 +21,9 @@ use Rattle.lift_world.specs.Policies.{RunsAreAny}
 use Rattle.lift_clerk.specs.declared.counts.Counts.{Counts}
 use Rattle.lift_clerk.specs.Visits.{Visit, command_at, commands_of, served}
 use Rattle.lift_clerk.specs.Machine.{ask_of}
-use Rattle.lift_clerk.proofs.Lists.{AreOthers, no_asks}
-use Rattle.lift_clerk.proofs.Served.{AreApart, all_apart}
-use Rattle.lift_clerk.proofs.Words.{asks_count}
+use Rattle.lift_clerk.specs.lemmas.Lists.{AreOthers, no_asks}
+use Rattle.lift_clerk.specs.lemmas.Served.{AreApart, all_apart}
+use Rattle.lift_clerk.specs.lemmas.Words.{asks_count}
 use Rattle.lift_relay.specs.declared.batch.Taken.{Taken}
 use Rattle.lift_relay.specs.Batch.{BatchState, commands_in, noted_in}
 use Rattle.lift_relay.specs.Scan.{TakesAt, TakesEach, word_at, words_of}

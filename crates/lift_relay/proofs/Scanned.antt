@@ -11,16 +11,16 @@ use Rattle.lift_desk.specs.Words.{last_of, turn_of}
 use Rattle.lift_desk.specs.Spelled.{IsAsk}
 use Rattle.lift_desk.specs.Steps.{with_taking}
 use Rattle.lift_desk.specs.Seats.{ClerkPlace, no_place, view_at, clerk_with, TakesAheadOf, IsToldAhead}
-use Rattle.lift_desk.proofs.Places.{view_at-here}
+use Rattle.lift_desk.specs.lemmas.Places.{view_at-here}
 use Rattle.lift_policy.specs.declared.command.Command.{Command}
 use Rattle.lift_policy.specs.Eligible.{Choice}
 use Rattle.lift_policy.specs.Laws.{RunsJoin, StepsJoinAtMostOne}
 use Rattle.lift_policy.specs.Run.{Run}
 use Rattle.lift_policy.specs.Step.{State}
 use Rattle.lift_keeper.specs.Keeper.{IsKeeper}
-use Rattle.lift_keeper.proofs.Keepers.{decided_keeper, settled_keeper}
+use Rattle.lift_keeper.specs.lemmas.Keepers.{decided_keeper, settled_keeper}
 use Rattle.lift_clerk.specs.Visits.{Visit, command_at, commands_of}
-use Rattle.lift_clerk.proofs.Visiting.{commands-more, looked-more, untouched}
+use Rattle.lift_clerk.specs.lemmas.Visiting.{commands-more, looked-more, untouched}
 use Rattle.lift_relay.specs.declared.batch.Taken.{Taken}
 use Rattle.lift_relay.specs.Batch.{commands_in, replies_in, noted_in, AreBelow}
 use Rattle.lift_relay.specs.Scan.{TakesAt, TakesEach, ScansAhead, word_at, words_of}

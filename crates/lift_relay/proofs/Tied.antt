@@ -24,8 +24,8 @@ use Rattle.lift_world.specs.Turns.{IsAtRest, IsBrokenAtRest}
 use Rattle.lift_clerk.specs.Clerk.{ClerkState}
 use Rattle.lift_clerk.specs.Turn.{settled}
 use Rattle.lift_clerk.specs.Machine.{IsReached, IsMachineOf, ShowsWords, ShowsWhole, ShowsBroken, ask_of, answer_words}
-use Rattle.lift_clerk.proofs.Asked.{not_both}
-use Rattle.lift_clerk.proofs.Turned.{safe_all}
+use Rattle.lift_clerk.specs.lemmas.Asked.{not_both}
+use Rattle.lift_clerk.specs.lemmas.Turned.{safe_all}
 use Rattle.lift_relay.specs.Batch.{BatchState}
 use Rattle.lift_relay.specs.Allocator.{AllocatorState}
 use Rattle.lift_relay.specs.Flusher.{FlusherState, IsFlusher}

@@ -17,7 +17,7 @@ use Rattle.lift_desk.specs.Words.{ask_word, reply_word}
 use Rattle.lift_desk.specs.Spelled.{ask_words}
 use Rattle.lift_desk.specs.Steps.{with_taking, with_answer}
 use Rattle.lift_desk.specs.Seats.{ClerkPlace, no_place, view_at, clerk_with, placed_at}
-use Rattle.lift_desk.proofs.Places.{view_at-here, view_at-else}
+use Rattle.lift_desk.specs.lemmas.Places.{view_at-here, view_at-else}
 use Rattle.lift_policy.specs.declared.command.Command.{Command}
 use Rattle.lift_world.specs.declared.event.Answer.{Answer}
 use Rattle.lift_world.specs.declared.event.Event.{Event}
@@ -29,10 +29,10 @@ use Rattle.lift_world.specs.Relay.{answered_of, left_of, flushed, flush_failed, 
 use Rattle.lift_clerk.specs.Scanning.{told}
 use Rattle.lift_clerk.specs.Visits.{Visit}
 use Rattle.lift_clerk.specs.Machine.{ask_of, answer_words}
-use Rattle.lift_clerk.proofs.Visiting.{taken-new}
-use Rattle.lift_clerk.proofs.Words.{asks_both, asks_count, answers_both}
-use Rattle.lift_clerk.proofs.Groups.{answers_count}
-use Rattle.lift_clerk.proofs.Asked.{not_both}
+use Rattle.lift_clerk.specs.lemmas.Visiting.{taken-new}
+use Rattle.lift_clerk.specs.lemmas.Words.{asks_both, asks_count, answers_both}
+use Rattle.lift_clerk.specs.lemmas.Groups.{answers_count}
+use Rattle.lift_clerk.specs.lemmas.Asked.{not_both}
 use Rattle.lift_relay.specs.declared.batch.Taken.{Taken}
 use Rattle.lift_relay.specs.declared.flusher.FlushCounts.{FlushCounts}
 use Rattle.lift_relay.specs.Batch.{BatchState, AreBelow, commands_in, after}

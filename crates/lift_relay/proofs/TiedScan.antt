@@ -39,12 +39,12 @@ use Rattle.lift_world.specs.Turns.{AreFound, with_replies}
 use Rattle.lift_clerk.specs.Turn.{settled}
 use Rattle.lift_clerk.specs.Visits.{Visit, command_at, commands_of, with_reply, replies_behind, served}
 use Rattle.lift_clerk.specs.Machine.{IsReached, ask_of}
-use Rattle.lift_clerk.proofs.Lists.{AreOthers, no_asks}
-use Rattle.lift_clerk.proofs.Served.{AreApart, all_apart, behind}
-use Rattle.lift_clerk.proofs.Standing.{finds_last}
-use Rattle.lift_clerk.proofs.Words.{asks_both, asks_count}
-use Rattle.lift_clerk.proofs.Visiting.{taken-new, taken-old}
-use Rattle.lift_clerk.proofs.Asked.{not_both, run_in}
+use Rattle.lift_clerk.specs.lemmas.Lists.{AreOthers, no_asks}
+use Rattle.lift_clerk.specs.lemmas.Served.{AreApart, all_apart, behind}
+use Rattle.lift_clerk.specs.lemmas.Standing.{finds_last}
+use Rattle.lift_clerk.specs.lemmas.Words.{asks_both, asks_count}
+use Rattle.lift_clerk.specs.lemmas.Visiting.{taken-new, taken-old}
+use Rattle.lift_clerk.specs.lemmas.Asked.{not_both, run_in}
 use Rattle.lift_clerk.specs.declared.counts.Counts.{Counts}
 use Rattle.lift_relay.specs.declared.batch.Taken.{Taken}
 use Rattle.lift_relay.specs.Batch.{BatchState, AreBelow, commands_in, replies_in}
@@ -370,7 +370,7 @@ nothing_read (p ∷ places) (u ∷ visits) first takes none =
     (k.0, nothing_read places visits (suc first) takes.1 k.1)
 
 length-served : (places : List ClerkPlace) (visits : List Visit) → length (served places visits []) ≡ length places
-length-served places visits = Rattle.lift_clerk.proofs.Visiting.length-served places visits []
+length-served places visits = Rattle.lift_clerk.specs.lemmas.Visiting.length-served places visits []
 
 empty_run : (plan : Plan) (choice : Choice) (state next : State) (cs : List Command) (rs : List Reply) → cs ≡ [] → Run plan choice state cs rs next → next ≡ state
 empty_run plan choice state next [] [] e r = r

@@ -26,15 +26,15 @@ use Rattle.lift_world.specs.Next.{goes}
 use Rattle.lift_world.specs.Policies.{RunsAreAny}
 use Rattle.lift_world.specs.Relay.{IsBetweenScans, flown, allocated, allocator_events}
 use Rattle.lift_world.specs.Turns.{AreFound, with_replies}
-use Rattle.lift_world.proofs.Ordered.{end_above}
-use Rattle.lift_world.proofs.Steps.{GoesOn, state_goes_on, steps_go_on}
+use Rattle.lift_world.specs.lemmas.Ordered.{end_above}
+use Rattle.lift_world.specs.lemmas.Steps.{GoesOn, state_goes_on, steps_go_on}
 use Rattle.lift_clerk.specs.Turn.{settled}
 use Rattle.lift_clerk.specs.Visits.{commands_of, served}
 use Rattle.lift_clerk.specs.Machine.{IsReached, ask_of}
 use Rattle.lift_clerk.specs.declared.counts.Counts.{Counts}
-use Rattle.lift_clerk.proofs.Served.{all_apart}
-use Rattle.lift_clerk.proofs.Words.{asks_both, asks_count}
-use Rattle.lift_clerk.proofs.Asked.{not_both, run_in}
+use Rattle.lift_clerk.specs.lemmas.Served.{all_apart}
+use Rattle.lift_clerk.specs.lemmas.Words.{asks_both, asks_count}
+use Rattle.lift_clerk.specs.lemmas.Asked.{not_both, run_in}
 use Rattle.lift_relay.specs.declared.batch.Taken.{Taken}
 use Rattle.lift_relay.specs.Batch.{BatchState, AreBelow, commands_in, replies_in}
 use Rattle.lift_relay.specs.Allocator.{AllocatorState, IsScanTurn}
@@ -190,7 +190,7 @@ module _ {D P : Type 0} (laws : RelayLaws) (choice : Choice) (any : RunsAreAny c
       between = record { nothing_taken = m.between.nothing_taken; all_sealed = refl };
       nothing_due = m.nothing_due;
       safe = ap register_after (safe_stays laws w m.reached state.batch) ∙ m.safe;
-      seats = ap (λ (s : List ClerkPlace). length s) t.looked ∙ Rattle.lift_clerk.proofs.Visiting.length-served a.seat t.visits [] ∙ m.seats;
+      seats = ap (λ (s : List ClerkPlace). length s) t.looked ∙ Rattle.lift_clerk.specs.lemmas.Visiting.length-served a.seat t.visits [] ∙ m.seats;
       waiting = waiting;
       line = t.some some ∙ ap (λ (xs : List BatchState). xs ++ t.batch ∷ []) m.line ∙ append_assoc f.end.received m.waiting (t.batch ∷ []);
       queue = queued_more (length f.seat) m.waiting w.queue t.batch (record { commands = with_replies cs rs; upto = length (w.accepted ++ state.batch) }) m.queue (same ∙ sym t.commands)

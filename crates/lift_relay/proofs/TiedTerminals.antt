@@ -13,7 +13,7 @@ use Rattle.lift_world.specs.Decided.{when}
 use Rattle.lift_world.specs.World.{World, asks, is_off}
 use Rattle.lift_world.specs.Next.{next, hearing, next_answer, may_ask, asking}
 use Rattle.lift_world.specs.Beside.{is_of_terminals, with_words}
-use Rattle.lift_clerk.proofs.Reopened.{goes_once}
+use Rattle.lift_clerk.specs.lemmas.Reopened.{goes_once}
 use Rattle.lift_relay.specs.Allocator.{AllocatorState}
 use Rattle.lift_relay.specs.Flusher.{FlusherState}
 use Rattle.lift_relay.specs.Laws.{RelayLaws}

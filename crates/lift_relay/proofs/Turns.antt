@@ -7,9 +7,9 @@ use Rattle.lift_desk.specs.declared.words.Ask.{Ask}
 use Rattle.lift_desk.specs.Words.{turn_of, last_of}
 use Rattle.lift_desk.specs.Steps.{with_taking}
 use Rattle.lift_desk.specs.Seats.{ClerkPlace, TakesAheadOf}
-use Rattle.lift_desk.proofs.WordLists.{last_of-push}
+use Rattle.lift_desk.specs.lemmas.WordLists.{last_of-push}
 use Rattle.lift_clerk.specs.Visits.{Visit, command_at, commands_of, served}
-use Rattle.lift_clerk.proofs.Visiting.{taken-new, taken-old}
+use Rattle.lift_clerk.specs.lemmas.Visiting.{taken-new, taken-old}
 use Rattle.lift_relay.specs.Scan.{TakesAt, TakesEach, capped, turns_in}
 
 pub below_is : (m n : ℕ) → nat_lt m n ≡ true → m < n

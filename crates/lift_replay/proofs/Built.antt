@@ -13,8 +13,8 @@ use Rattle.lift_building.specs.declared.fault.Field.{Field}
 use Rattle.lift_building.specs.declared.fault.Field.TheVariants.{Floors, DoorMs, Kiosks, Flight, Cars, Places, Serves}
 use Rattle.lift_building.specs.declared.fault.BuildingFault.{BuildingFault}
 use Rattle.lift_building.specs.declared.fault.BuildingFault.TheVariants.{Detour, Memory, OutOfRange, TableShape}
-use Rattle.lift_building.proofs.Again.{text_is}
-use Rattle.lift_building.proofs.Limits.{bind_ok, plan_ok}
+use Rattle.lift_building.specs.lemmas.Again.{text_is}
+use Rattle.lift_building.specs.lemmas.Limits.{bind_ok, plan_ok}
 use Rattle.lift_replay.proofs.Found.{IsDecided, IsLeast, Within, within, below, least}
 
 -- no want of memory

@@ -6,7 +6,7 @@ use Rattle.std.specs.List.{AllByRecursion}
 use Rattle.lift_base.specs.Text.{HasNoSpace, AreWords, spaced}
 use Rattle.lift_base.specs.declared.travel.Dir.{Dir}
 use Rattle.lift_base.specs.declared.travel.Dir.TheVariants.{Up, Down}
-use Rattle.lift_base.proofs.Words.{same_text, other_text}
+use Rattle.lift_base.specs.lemmas.Words.{same_text, other_text}
 use Rattle.std.specs.Prelude.{bytes_eq}
 
 -- it is so, or it is not

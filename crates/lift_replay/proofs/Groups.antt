@@ -29,7 +29,7 @@ use Rattle.lift_disk.specs.declared.fuse.FuseDisk.{FuseDisk}
 use Rattle.lift_keeper.specs.Keeper.{KeeperView}
 use Rattle.lift_clerk.specs.declared.counts.Counts.{Counts}
 use Rattle.lift_clerk.specs.Turn.{IsTurn, IsFailedTurn, IsBrokenTurn, settled}
-use Rattle.lift_clerk.proofs.Visiting.{length-served}
+use Rattle.lift_clerk.specs.lemmas.Visiting.{length-served}
 use Rattle.lift_clerk.specs.Visits.{Visit, Serves, commands_of as commands_at}
 use Rattle.lift_replay.specs.Group.{Asking, GroupState, Stopped, Found, half, commands_in, commands_of, having_heard, answers_text, state_by, replies_by, beginning, decided, calls_for, passes, passing_after, calls_to_stop, after_turn, after_stop, after_commit, commit_text, turned, turn_told, by_mark, at_mark, standing, folded, with_room, with_batch, in_folding, in_append, room_for, left_of}
 use Rattle.lift_replay.specs.Report.{turn_text, fault_text}

@@ -9,7 +9,7 @@ use Rattle.lift_desk.specs.declared.view.ClerkView.{ClerkView}
 use Rattle.lift_desk.specs.Words.{number_of, last_of, reply_word, IsReply}
 use Rattle.lift_desk.specs.Steps.{is_new, with_taking, with_answer, with_hearing, with_told_answers, with_told_asks}
 use Rattle.lift_desk.specs.Seats.{TerminalSeat, ClerkPlace, Waits, IsToldAnswer, HearsOf, TakesOf, view_at}
-use Rattle.lift_desk.proofs.WordLists.{last_of-push, prefix_length}
+use Rattle.lift_desk.specs.lemmas.WordLists.{last_of-push, prefix_length}
 use Rattle.lift_policy.specs.declared.command.Command.{Command}
 use Rattle.lift_clerk.specs.Visits.{Visit, FindsAt, Finds, command_at, commands_of, with_reply, replies_behind, served}
 use Rattle.lift_replay.specs.Group.{Asking, asking_at, commands_in, having_heard, answers_text}

@@ -5,7 +5,7 @@ use Rattle.std.proofs.lemmas.Fmt.{decimal_injective}
 use Rattle.lift_base.specs.Text.{ArePartyWords, letter_text, dir_text}
 use Rattle.lift_base.specs.declared.travel.Dir.{Dir}
 use Rattle.lift_base.specs.declared.travel.Dir.TheVariants.{Up, Down}
-use Rattle.lift_base.proofs.Words.{one_reading}
+use Rattle.lift_base.specs.lemmas.Words.{one_reading}
 use Rattle.lift_building.specs.Plan.{Plan}
 use Rattle.lift_disk.specs.declared.outcome.Outcome.{Outcome}
 use Rattle.lift_disk.specs.declared.outcome.Outcome.TheVariants.{Keep, Lose, Fill}

@@ -8,7 +8,7 @@ use Rattle.lift_building.specs.Gives.{NamesDetour}
 use Rattle.lift_building.specs.Reading.{plan_of}
 use Rattle.lift_building.specs.declared.fault.BuildingFault.{BuildingFault}
 use Rattle.lift_building.specs.declared.fault.BuildingFault.TheVariants.{NotToml, Missing, WrongType, OutOfRange, TableShape, Detour, Memory}
-use Rattle.lift_building.proofs.Again.{text_again}
+use Rattle.lift_building.specs.lemmas.Again.{text_again}
 use Rattle.lift_replay.specs.declared.lines.Verdict.{Verdict}
 use Rattle.lift_replay.specs.Group.{first_group}
 use Rattle.lift_replay.specs.Replaying.{IsPartsReport, IsTextReport, IsReport}

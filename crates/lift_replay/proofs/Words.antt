@@ -2,7 +2,7 @@
 use Rattle.std.proofs.Common.{◌≡◌, ℕ, List, [], ◌∷◌, refl, subst, ◌∙◌, arith}
 use Rattle.std.specs.Prelude.{codes}
 use Rattle.lift_base.specs.Text.{AreWords}
-use Rattle.lift_base.proofs.Words.{one_reading}
+use Rattle.lift_base.specs.lemmas.Words.{one_reading}
 use Rattle.lift_replay.specs.Grammar.{AskFor, IsInRange, Spells}
 use Rattle.lift_replay.specs.declared.line.ScriptLine.{ScriptLine}
 use Rattle.lift_replay.specs.declared.line.ScriptLine.TheVariants.{Turn}

@@ -6,12 +6,12 @@ use Rattle.std.specs.Fmt.{decimal}
 use Rattle.std.proofs.lemmas.Fmt.{decimal_injective, IsAscii-decimal}
 use Rattle.std.proofs.lemmas.Str.Ascii.{IsAscii-nil}
 use Rattle.lift_base.specs.Text.{AreWords}
-use Rattle.lift_base.proofs.Words.{one_reading, same_text}
-use Rattle.lift_base.proofs.Texts.{none_weaker, pair, texts}
+use Rattle.lift_base.specs.lemmas.Words.{one_reading, same_text}
+use Rattle.lift_base.specs.lemmas.Texts.{none_weaker, pair, texts}
 use Rattle.lift_kiosk.specs.Lines.{AreAscii, Fails, FindsEnd, GivesPart, Source}
 use Rattle.lift_kiosk.specs.declared.line.NoLine.{NoLine}
 use Rattle.lift_kiosk.specs.declared.line.NoLine.TheVariants.{AtEnd, NoCalls, Fault}
-use Rattle.lift_kiosk.proofs.Words.{ascii_with}
+use Rattle.lift_kiosk.specs.lemmas.Words.{ascii_with}
 use Rattle.lift_serve.specs.Connections.{EndsWithoutLine, first_reads}
 use Rattle.lift_serve.specs.FirstLine.{AreTerminalWords, IsCarWord, IsKioskWord, SpeaksFor}
 

@@ -1,5 +1,2 @@
-pub mod Insertion
-pub mod Halts
-pub mod Listed
 pub mod Tallies
 pub mod Passing

@@ -12,8 +12,8 @@ use Rattle.lift_stops.specs.StopList.{same_halt, all_halts}
 use Rattle.lift_stops.specs.Insertion.{put, rank_of}
 use Rattle.lift_stops.specs.Parts.{has_halt, AllDiffer}
 use Rattle.lift_stops.specs.Tally.{times_in, IsTally, HasTally}
-use Rattle.lift_stops.proofs.Halts.{put-halt, or_false, filter-none}
-use Rattle.lift_stops.proofs.Listed.{halts_equal, same_itself, differ_kept, halts_differ}
+use Rattle.lift_stops.specs.lemmas.Halts.{put-halt, or_false, filter-none}
+use Rattle.lift_stops.specs.lemmas.Listed.{halts_equal, same_itself, differ_kept, halts_differ}
 
 -- ---- one leg more
 

@@ -3,3 +3,4 @@ pub mod Parts
 pub mod Insertion
 pub mod Tally
 pub mod Schedule
+pub mod lemmas

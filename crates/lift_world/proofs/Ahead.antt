@@ -17,14 +17,14 @@ use Rattle.lift_world.specs.World.{World, Batch, is_running, is_broken, is_off, 
 use Rattle.lift_world.specs.Next.{next, taking, deciding, sealing, unanswered, unknown_to, answer_of, may_take, pulled, may_pull, in_phase, settling, failing, answering, bodies, may_write, may_sync, may_fail}
 use Rattle.lift_world.specs.Possible.{CanBeLookedAt}
 use Rattle.lift_world.specs.Relay.{is_flushers, FlusherPassesScans, FlusherComesFirst, FlusherPassesSeals}
-use Rattle.lift_world.proofs.Phases.{writing_busy}
+use Rattle.lift_world.specs.lemmas.Phases.{writing_busy}
 use Rattle.lift_world.proofs.Beside.{lift_when, lift_then, lift_if, lift_pull, lift_cond, keeps_words}
-use Rattle.lift_world.proofs.Counted.{count_both, owed, in_queue, owed_unknown, owed_none, owed_parts, owed_others, answered_by, owed_to}
+use Rattle.lift_world.specs.lemmas.Counted.{count_both, owed, in_queue, owed_unknown, owed_none, owed_parts, owed_others, answered_by, owed_to}
 use Rattle.lift_world.proofs.Given.{led}
-use Rattle.lift_world.proofs.Looks.{may_be_taken, takes_need_looks}
+use Rattle.lift_world.specs.lemmas.Looks.{may_be_taken, takes_need_looks}
 use Rattle.lift_world.proofs.Scans.{taken_as}
-use Rattle.lift_world.proofs.Steps.{if_from, then_from, mapped, taken_next}
-use Rattle.lift_world.proofs.Ordered.{Ordered, ordered_from, end_above, flies_to, none_owed}
+use Rattle.lift_world.specs.lemmas.Steps.{if_from, then_from, mapped, taken_next}
+use Rattle.lift_world.specs.lemmas.Ordered.{Ordered, ordered_from, end_above, flies_to, none_owed}
 
 -- a part of a front stays, whatever comes behind it
 part_of : (front ys : List Entry) (s u : ℕ) → s ≤ u → u ≤ length front → take (u - s) (drop s (front ++ ys)) ≡ take (u - s) (drop s front)

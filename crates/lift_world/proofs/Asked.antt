@@ -9,7 +9,7 @@ use Rattle.lift_world.specs.Decided.{when}
 use Rattle.lift_world.specs.World.{World, is_off, is_answer_to, asks}
 use Rattle.lift_world.specs.Next.{asking, hearing, next_answer}
 use Rattle.lift_world.specs.Possible.{AsksOnceHeard, HearsTheNext}
-use Rattle.lift_world.proofs.Moves.{never}
+use Rattle.lift_world.specs.lemmas.Moves.{never}
 
 pub asks_once_heard : (w : World) → AsksOnceHeard w
 asks_once_heard w = record {

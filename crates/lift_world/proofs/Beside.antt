@@ -19,10 +19,10 @@ use Rattle.lift_world.specs.World.{World, Batch, is_running, is_broken, is_off, 
 use Rattle.lift_world.specs.Next.{next, goes, asking, taking, deciding, sealing, pulled, pulling, in_phase, settling, failing, answering, hearing, next_answer, reopened, unanswered, unknown_to, may_ask, may_take, may_seal, may_pull, may_write, may_sync, may_fail, may_reopen}
 use Rattle.lift_world.specs.Relay.{is_flushers}
 use Rattle.lift_world.specs.Beside.{is_of_terminals, terminals_part, own_part, with_words, StandBeside, PassesThrough, TerminalsPass}
-use Rattle.lift_world.proofs.Steps.{then_from, if_from, mapped}
+use Rattle.lift_world.specs.lemmas.Steps.{then_from, if_from, mapped}
 use Rattle.lift_world.proofs.Possibilities.{when_some}
 use Rattle.lift_world.proofs.Given.{led}
-use Rattle.lift_world.proofs.Goes.{one}
+use Rattle.lift_world.specs.lemmas.Goes.{one}
 
 -- the first that passes is the first of those that pass
 first : {A : Type 0} → List A → Option A
@@ -256,7 +256,7 @@ module _ (made : World) (asked : List Command) (heard : List Answer) where
       }
 
 all_pass : (events : List Event) (w made : World) (asked : List Command) (heard : List Answer) → goes (own_part events) w ≡ Some made → StandBeside w asked heard events → Passed asked heard events w made
-all_pass [] w made asked heard g s = nothing_passes made asked heard w (Rattle.lift_world.proofs.Decisions.some_is w made g)
+all_pass [] w made asked heard g s = nothing_passes made asked heard w (Rattle.lift_world.specs.lemmas.Decisions.some_is w made g)
 all_pass (Ask terminal number body ∷ events) w made asked heard g s =
     theirs_passes made asked heard (Ask terminal number body) events w s.0 refl s.1 (λ k. ask_later w made asked heard k terminal number body s.0 s.1) (all_pass events w made s.0.asked s.0.heard g s.2)
 all_pass (Hear terminal ∷ events) w made asked heard g s =

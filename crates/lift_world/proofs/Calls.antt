@@ -12,8 +12,8 @@ use Rattle.lift_world.specs.Decided.{when}
 use Rattle.lift_world.specs.World.{World, is_running, is_synced, is_gate_written, written}
 use Rattle.lift_world.specs.Next.{next, in_phase, settling, writes_of}
 use Rattle.lift_world.specs.Possible.{is_device_call, CallsInOrder}
-use Rattle.lift_world.proofs.Decisions.{some_is}
-use Rattle.lift_world.proofs.Steps.{then_from}
+use Rattle.lift_world.specs.lemmas.Decisions.{some_is}
+use Rattle.lift_world.specs.lemmas.Steps.{then_from}
 use Rattle.lift_world.proofs.Possibilities.{when_some}
 use Rattle.lift_world.proofs.Turns.{runs}
 

@@ -24,7 +24,7 @@ use Rattle.lift_world.specs.Carries.{Carries, state_with, joined}
 use Rattle.lift_world.specs.World.{World, register_after, state_of}
 use Rattle.lift_world.specs.Next.{taking, deciding}
 use Rattle.lift_world.specs.Replays.{FitAfter, IsTight, MovesTo}
-use Rattle.lift_world.proofs.Decisions.{NoCause, no_cause, decides_well, DecidesWell}
+use Rattle.lift_world.specs.lemmas.Decisions.{NoCause, no_cause, decides_well, DecidesWell}
 use Rattle.lift_world.proofs.Consistent.{fit_more, accepted_after}
 
 module _ (building : Plan) (state : State) (terminal number : ℕ) where

@@ -11,8 +11,8 @@ use Rattle.lift_cost.specs.declared.call.NewCall.{NewCall}
 use Rattle.lift_policy.specs.View.{ViewState}
 use Rattle.lift_policy.specs.Eligible.{is_eligible, eligible_cars}
 use Rattle.lift_world.specs.Decided.{is_among}
-use Rattle.lift_world.proofs.Decisions.{among_held, held_among}
-use Rattle.lift_world.proofs.Entries.{filter_held}
+use Rattle.lift_world.specs.lemmas.Decisions.{among_held, held_among}
+use Rattle.lift_world.specs.lemmas.Entries.{filter_held}
 
 among_if : (p : ℕ → Bool) (car : ℕ) (b c : Bool) → p car ≡ b → is_among car (filter p cars) ≡ c → Contains cars car → c ≡ b
 among_if p car true true q r h = refl

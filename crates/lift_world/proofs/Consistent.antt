@@ -10,7 +10,7 @@ use Rattle.lift_base.specs.declared.history.Entry.{Entry}
 use Rattle.lift_building.specs.Plan.{Plan, IsBuilding}
 use Rattle.lift_register.specs.Register.{RegisterState, empty, cars, terminals}
 use Rattle.lift_register.specs.Fits.{FitFrom}
-use Rattle.lift_register.proofs.HistoryLemmas.{register_of-append}
+use Rattle.lift_register.specs.lemmas.HistoryLemmas.{register_of-append}
 use Rattle.lift_policy.specs.declared.command.Command.{Command}
 use Rattle.lift_world.specs.declared.event.Kept.{Kept}
 use Rattle.lift_world.specs.declared.event.Kept.TheVariants.{Safe, WithBatch}
@@ -25,10 +25,10 @@ use Rattle.lift_world.specs.Next.{run, next, unknown_to, deciding, taking, askin
 use Rattle.lift_world.specs.Headline.{RecoversPrefix, RecoversAcknowledged, RecoversFitting}
 use Rattle.lift_world.specs.Replays.{FitAfter}
 use Rattle.lift_world.specs.Lawful.{AcceptsFitting}
-use Rattle.lift_world.proofs.Phases.{not_idle, not_idle_synced, writing_busy}
-use Rattle.lift_world.proofs.Moves.{hold_when, hold_if, hold_then, hold_map}
-use Rattle.lift_world.proofs.Entries.{find_held}
-use Rattle.lift_world.proofs.Decisions.{IsAllotted, DecidesWell, decides_well, fits_allotted, told-unknown}
+use Rattle.lift_world.specs.lemmas.Phases.{not_idle, not_idle_synced, writing_busy}
+use Rattle.lift_world.specs.lemmas.Moves.{hold_when, hold_if, hold_then, hold_map}
+use Rattle.lift_world.specs.lemmas.Entries.{find_held}
+use Rattle.lift_world.specs.lemmas.Decisions.{IsAllotted, DecidesWell, decides_well, fits_allotted, told-unknown}
 
 -- what a reply tells of is among these entries
 abbrev pub Tells : Plan → List Entry → Taken → Type 0

@@ -16,8 +16,8 @@ use Rattle.lift_world.specs.World.{World, Batch, is_running, is_broken, is_off, 
 use Rattle.lift_world.specs.Next.{next, unknown_to, asking, taking, deciding, sealing, pulled, in_phase, settling, failing, answering, hearing, next_answer, cutting, reopened, may_ask, may_take, may_seal, may_pull, may_write, may_sync, may_fail, may_reopen}
 use Rattle.lift_world.specs.Headline.{HoldsNothingWhileOff}
 use Rattle.lift_world.specs.Due.{IsOfSafeBatch, GetsUnknown, DueOnceSafe}
-use Rattle.lift_world.proofs.Moves.{hold_when, hold_if, hold_then, hold_map}
-use Rattle.lift_world.proofs.Entries.{head_of}
+use Rattle.lift_world.specs.lemmas.Moves.{hold_when, hold_if, hold_then, hold_map}
+use Rattle.lift_world.specs.lemmas.Entries.{head_of}
 use Rattle.lift_world.proofs.Possibilities.{quiet_reopening}
 
 left_true : (a b : Bool) → a ≡ true → (a || b) ≡ true

@@ -16,8 +16,8 @@ use Rattle.lift_world.specs.Decided.{when, decided}
 use Rattle.lift_world.specs.World.{World, Batch, no_batch, is_running, is_broken, is_off, is_synced, is_gate_written, written, asks, is_taken_of, state_of}
 use Rattle.lift_world.specs.Next.{run, next, unknown_to, asking, taking, deciding, sealing, pulled, in_phase, settling, failing, answering, hearing, next_answer, reopened, may_ask, may_take, may_seal, may_pull, may_write, may_sync, may_fail, may_reopen}
 use Rattle.lift_world.specs.Faults.{IsFailed, FaultsLeaveDoubt, goes_on, WasDueOrUnknown, OnlyUnknownSince, UnknownAfterFault, UnknownOverReopening}
-use Rattle.lift_world.proofs.Moves.{hold_when, hold_if, hold_then, hold_map}
-use Rattle.lift_world.proofs.Entries.{find_held}
+use Rattle.lift_world.specs.lemmas.Moves.{hold_when, hold_if, hold_then, hold_map}
+use Rattle.lift_world.specs.lemmas.Entries.{find_held}
 use Rattle.lift_world.proofs.Possibilities.{when_some}
 use Rattle.lift_world.proofs.Turns.{runs}
 

@@ -12,8 +12,8 @@ use Rattle.lift_world.specs.declared.event.Event.{Event}
 use Rattle.lift_world.specs.World.{World, Batch, start, asks, is_taken_of}
 use Rattle.lift_world.specs.Next.{run, next, others, unanswered}
 use Rattle.lift_world.specs.Headline.{IsOfTerminal, HoldsFew}
-use Rattle.lift_world.proofs.Counted.{count_cons, count_both, count_filter, owed, in_queue, asked_by, all_ask_one_by_one}
-use Rattle.lift_world.proofs.Leads.{leads}
+use Rattle.lift_world.specs.lemmas.Counted.{count_cons, count_both, count_filter, owed, in_queue, asked_by, all_ask_one_by_one}
+use Rattle.lift_world.specs.lemmas.Leads.{leads}
 
 -- a terminal's commands, and the others
 pub record Splits (n : ℕ) (cs rest : List Taken) : Type 0 where

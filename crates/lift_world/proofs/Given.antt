@@ -13,7 +13,7 @@ use Rattle.lift_world.specs.Next.{run, next, answering, answer_of}
 use Rattle.lift_world.specs.Headline.{StoresGiven}
 use Rattle.lift_world.specs.Possible.{GivenStays}
 use Rattle.lift_world.specs.Faults.{OnlyFaultsBreak}
-use Rattle.lift_world.proofs.Leads.{Leads, leads}
+use Rattle.lift_world.specs.lemmas.Leads.{Leads, leads}
 
 -- an event that is possible leads to what it leaves
 pub led : (P : World → Type 0) (w : World) (event : Event) (after : World) → Leads P w event → next w event ≡ Some after → P after

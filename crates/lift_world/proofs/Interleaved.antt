@@ -15,15 +15,15 @@ use Rattle.lift_world.specs.Beside.{with_words, is_of_terminals}
 use Rattle.lift_world.specs.Faults.{goes_on}
 use Rattle.lift_world.specs.Relay.{is_flushers}
 use Rattle.lift_world.specs.Among.{flushers_part, others_part, is_pull, is_beside, FlusherMightComeFirst, StandAmong, GoesAmong, FlusherGoesAmong}
-use Rattle.lift_world.proofs.Decisions.{some_is}
+use Rattle.lift_world.specs.lemmas.Decisions.{some_is}
 use Rattle.lift_world.proofs.Possibilities.{when_some, answers_only_due}
-use Rattle.lift_world.proofs.Goes.{one, joined, goes-append}
-use Rattle.lift_world.proofs.Steps.{if_from, then_from, mapped}
+use Rattle.lift_world.specs.lemmas.Goes.{one, joined, goes-append}
+use Rattle.lift_world.specs.lemmas.Steps.{if_from, then_from, mapped}
 use Rattle.lift_world.proofs.Given.{led}
 use Rattle.lift_world.proofs.Calls.{calls_in_order}
-use Rattle.lift_world.proofs.Counted.{count_cons, count_filter}
+use Rattle.lift_world.specs.lemmas.Counted.{count_cons, count_filter}
 use Rattle.lift_world.proofs.Beside.{passes_words, Keeps, keeps_words, ask_later, hear_later}
-use Rattle.lift_world.proofs.Ordered.{Ordered, ordered_from, ordered_next}
+use Rattle.lift_world.specs.lemmas.Ordered.{Ordered, ordered_from, ordered_next}
 use Rattle.lift_world.proofs.Ahead.{passes, took, flusher_passes_seals}
 use Rattle.lift_world.proofs.Scans.{taken_as}
 

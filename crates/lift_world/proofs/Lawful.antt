@@ -15,11 +15,11 @@ use Rattle.lift_base.specs.declared.command.Body.TheVariants.{Call, Stop, Place}
 use Rattle.lift_building.specs.Plan.{Plan, IsBuilding, serves_floor}
 use Rattle.lift_register.specs.Register.{kept_of}
 use Rattle.lift_register.specs.Fits.{Fits}
-use Rattle.lift_register.proofs.Laws.{IsRecord-fitting}
+use Rattle.lift_register.specs.lemmas.Laws.{IsRecord-fitting}
 use Rattle.lift_policy.specs.declared.command.Command.{Command}
 use Rattle.lift_policy.specs.Laws.{IsTypedBody, Joins}
 use Rattle.lift_policy.specs.Step.{State, is_same}
-use Rattle.lift_policy.proofs.Joins.{Step-joins}
+use Rattle.lift_policy.specs.lemmas.Joins.{Step-joins}
 use Rattle.lift_world.specs.declared.event.Kept.{Kept}
 use Rattle.lift_world.specs.declared.event.Kept.TheVariants.{Safe, WithBatch}
 use Rattle.lift_world.specs.declared.event.Event.{Event}
@@ -28,10 +28,10 @@ use Rattle.lift_world.specs.World.{World, start, state_of, register_after, outco
 use Rattle.lift_world.specs.Next.{run, next}
 use Rattle.lift_world.specs.Tie.{naming}
 use Rattle.lift_world.specs.Lawful.{IsTypedEvent, RecoversRecords, AcceptsRecords}
-use Rattle.lift_world.proofs.Decisions.{true_of, fits_allotted, served_floor}
-use Rattle.lift_world.proofs.Entries.{find_held, reverse_held}
-use Rattle.lift_world.proofs.Leads.{leads}
-use Rattle.lift_world.proofs.Steps.{decided_step}
+use Rattle.lift_world.specs.lemmas.Decisions.{true_of, fits_allotted, served_floor}
+use Rattle.lift_world.specs.lemmas.Entries.{find_held, reverse_held}
+use Rattle.lift_world.specs.lemmas.Leads.{leads}
+use Rattle.lift_world.specs.lemmas.Steps.{decided_step}
 
 -- the party of a call is the one that was asked for
 party_typed : (body : Body) (from to car party : ℕ) → IsTypedBody body → is_same body (Letter from to car party) ≡ true → (1 ≤ party) × (party ≤ 15)

@@ -7,11 +7,11 @@ use Rattle.lift_base.specs.declared.history.Entry.TheVariants.{Allot, Stop as St
 use Rattle.lift_base.specs.declared.history.Row.{Row}
 use Rattle.lift_building.specs.Plan.{Plan}
 use Rattle.lift_register.specs.Register.{rows_of, waiting_row}
-use Rattle.lift_stops.proofs.Listed.{stops_in_order}
+use Rattle.lift_stops.specs.lemmas.Listed.{stops_in_order}
 use Rattle.lift_world.specs.World.{World, register_after, outcome, acknowledged}
 use Rattle.lift_world.specs.Headline.{StillNames, RecoversLetters}
-use Rattle.lift_world.proofs.Entries.{open_or_done, IsRow, IsDoneCall}
-use Rattle.lift_world.proofs.Decisions.{IsAllotted}
+use Rattle.lift_world.specs.lemmas.Entries.{open_or_done, IsRow, IsDoneCall}
+use Rattle.lift_world.specs.lemmas.Decisions.{IsAllotted}
 use Rattle.lift_world.proofs.Consistent.{IsConsistent, recovers_acknowledged, outcome_fits, fit_allotted}
 
 still_call : (building : Plan) (entries : List Entry) (kiosk number from to car party : ℕ) → IsAllotted building (Allot kiosk number from to car party)

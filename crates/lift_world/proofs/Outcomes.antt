@@ -19,10 +19,10 @@ use Rattle.lift_world.specs.World.{World, Batch, is_running, is_broken, is_off, 
 use Rattle.lift_world.specs.Next.{next, unknown_to, asking, taking, deciding, sealing, pulled, in_phase, settling, failing, answering, hearing, next_answer, cutting, reopened, is_empty, is_quiet, may_ask, may_take, may_seal, may_pull, may_write, may_sync, may_fail, may_reopen}
 use Rattle.lift_world.specs.Relay.{IsQueueInOrder, flown}
 use Rattle.lift_world.specs.Outcomes.{moves_outcomes, SameOutcomes, OutcomesStay, GateOffersBatch, GatesOfferBatches, SyncKeepsBatch, SyncsKeepBatches, ReopeningKeepsOne, ReopeningsKeepOne}
-use Rattle.lift_world.proofs.Decisions.{true_of}
-use Rattle.lift_world.proofs.Moves.{hold_when, hold_if, hold_then, hold_map}
-use Rattle.lift_world.proofs.Ordered.{end_above, flies_to}
-use Rattle.lift_world.proofs.Phases.{not_idle}
+use Rattle.lift_world.specs.lemmas.Decisions.{true_of}
+use Rattle.lift_world.specs.lemmas.Moves.{hold_when, hold_if, hold_then, hold_map}
+use Rattle.lift_world.specs.lemmas.Ordered.{end_above, flies_to}
+use Rattle.lift_world.specs.lemmas.Phases.{not_idle}
 use Rattle.lift_world.proofs.Possibilities.{when_some}
 use Rattle.lift_world.proofs.Replayed.{batch_front}
 

@@ -10,10 +10,10 @@ use Rattle.lift_world.specs.declared.event.Event.TheVariants.{Take}
 use Rattle.lift_world.specs.Decided.{Decision}
 use Rattle.lift_world.specs.World.{World, Batch, asks, is_taken_of}
 use Rattle.lift_world.specs.Next.{next, unknown_to, unanswered, deciding, may_take}
-use Rattle.lift_world.proofs.Counted.{count_cons, count_both, owed, owed_unknown, owed_none, owed_parts, owed_others, in_queue, owed_to}
-use Rattle.lift_world.proofs.Entries.{find_held}
+use Rattle.lift_world.specs.lemmas.Counted.{count_cons, count_both, owed, owed_unknown, owed_none, owed_parts, owed_others, in_queue, owed_to}
+use Rattle.lift_world.specs.lemmas.Entries.{find_held}
 use Rattle.lift_world.proofs.Given.{led}
-use Rattle.lift_world.proofs.Looks.{can_be_looked_at}
+use Rattle.lift_world.specs.lemmas.Looks.{can_be_looked_at}
 
 module _ (terminal : ℕ) (most : ℕ) (w : World) (k : owed_to w terminal ≤ most) where
   first_owed : (batch : Batch) (rest : List Batch) → w.queue ≡ batch ∷ rest → owed terminal (in_queue w.queue) ≡ owed terminal batch.commands + owed terminal (in_queue rest)

@@ -15,9 +15,9 @@ use Rattle.lift_world.specs.Decided.{when}
 use Rattle.lift_world.specs.World.{World, Batch, may_keep, is_gate_written, is_broken, is_off, is_running, is_idle, written, same_kept, is_taken_of}
 use Rattle.lift_world.specs.Next.{next, run, sealing, cutting, reopened, answering, pulled, unknown_to, may_reopen, is_quiet, is_empty}
 use Rattle.lift_world.specs.Possible.{CutsToSafe, CutsWithBatch, IsCut, CutsGive, Seals, ReopensAfterCut, OnlyReopensAfterCut, IsReopened, ReopensAfterFault, ReopeningsGive, IsQuiet, ReopensWhileQuiet, PullsInTurn, AnswersDue, AnswersOnlyDue}
-use Rattle.lift_world.proofs.Moves.{never}
-use Rattle.lift_world.proofs.Entries.{find_held}
-use Rattle.lift_world.proofs.Steps.{if_from, mapped}
+use Rattle.lift_world.specs.lemmas.Moves.{never}
+use Rattle.lift_world.specs.lemmas.Entries.{find_held}
+use Rattle.lift_world.specs.lemmas.Steps.{if_from, mapped}
 
 pub cuts_to_safe : (w : World) → CutsToSafe w
 cuts_to_safe w = refl

@@ -9,8 +9,8 @@ use Rattle.lift_world.specs.declared.event.Event.{Event}
 use Rattle.lift_world.specs.World.{World, Batch, start, is_off}
 use Rattle.lift_world.specs.Next.{run, next, is_empty}
 use Rattle.lift_world.specs.Headline.{QueuesFew, HoldsNothingWhileOff}
-use Rattle.lift_world.proofs.Leads.{leads, running_on}
-use Rattle.lift_world.proofs.Looks.{can_be_looked_at}
+use Rattle.lift_world.specs.lemmas.Leads.{leads, running_on}
+use Rattle.lift_world.specs.lemmas.Looks.{can_be_looked_at}
 
 not_none : (cs : List Taken) → is_empty cs ≡ false → cs ≢ []
 not_none cs some none = false≢true (sym some ∙ ap is_empty none)

@@ -18,8 +18,8 @@ use Rattle.lift_world.specs.Headline.{FliesNothingWhileIdle, ReopensInPlace}
 use Rattle.lift_world.specs.Possible.{IsQuiet}
 use Rattle.lift_world.specs.Relay.{last_end, flown, IsQueueInOrder}
 use Rattle.lift_world.specs.Turns.{IsAtRest}
-use Rattle.lift_world.proofs.Leads.{leads}
-use Rattle.lift_world.proofs.Ordered.{queue_in_order}
+use Rattle.lift_world.specs.lemmas.Leads.{leads}
+use Rattle.lift_world.specs.lemmas.Ordered.{queue_in_order}
 use Rattle.lift_world.proofs.Possibilities.{reopens_while_quiet, when_some}
 use Rattle.lift_world.proofs.Turns.{at_rest, is_at_rest}
 

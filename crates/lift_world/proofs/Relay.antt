@@ -21,10 +21,10 @@ use Rattle.lift_world.specs.World.{World, Batch, no_batch, batch_of, is_idle, is
 use Rattle.lift_world.specs.Next.{goes, next, in_phase, failing, unknown_to, bodies, unanswered, others, answering, answer_of, sealing}
 use Rattle.lift_world.specs.Turns.{with_replies, scanned, take_events, calls_to, device_calls, MayFailIn}
 use Rattle.lift_world.specs.Relay.{AreApart, EndInOrder, last_end, flown, IsQueueInOrder, allocated, AllocationsAreEvents, FullQueueWaits, IsBetweenScans, IsBetweenFlushes, answers_to, answered_of, left_of, flusher_events, flushed, FlushesAreEvents, failing_flush, flush_failed, FailedFlushesAreEvents, IsBrokenBetween, broken_flush, flushed_broken, BrokenFlushesAreEvents, TurnsMeet, PartsMeet}
-use Rattle.lift_world.proofs.Goes.{one, joined}
-use Rattle.lift_world.proofs.Ordered.{end_above}
+use Rattle.lift_world.specs.lemmas.Goes.{one, joined}
+use Rattle.lift_world.specs.lemmas.Ordered.{end_above}
 use Rattle.lift_world.proofs.Scans.{runs_are_takes, taken_as}
-use Rattle.lift_world.proofs.Looks.{can_be_looked_at, takes_need_looks}
+use Rattle.lift_world.specs.lemmas.Looks.{can_be_looked_at, takes_need_looks}
 use Rattle.lift_world.proofs.Possibilities.{seals}
 use Rattle.lift_world.proofs.Turns.{runs, folded, reached, made_safe, fails, keep_one, others-first, answering_on, terminals_of, unknown_terminals, unknown_apart}
 

@@ -21,9 +21,9 @@ use Rattle.lift_world.specs.World.{World, Batch, unplaced, start, state_of, may_
 use Rattle.lift_world.specs.Next.{next, goes, cutting, reopened, may_reopen, answer_of, unknown_to}
 use Rattle.lift_world.specs.Turns.{AreFound, IsAtRest, with_replies, take_events, answer_events, IsBrokenAtRest, broken_events, with_unknown, turned_broken, BrokenTurnsAreRuns, ChangesAnswersAlone, BrokenTurnsChangeNothing, TurnsEndAtRest, FailuresEndAtRest, BrokenTurnsEndAtRest, ReopeningsEndAtRest, CutsEndAtRest, RunningReopeningsEndAtRest, FailedReopeningsEndAtRest}
 use Rattle.lift_world.proofs.Scans.{runs_are_takes, taken_as}
-use Rattle.lift_world.proofs.Decisions.{true_of}
+use Rattle.lift_world.specs.lemmas.Decisions.{true_of}
 use Rattle.lift_world.proofs.Possibilities.{broken_opens, reopens_while_quiet, when_some}
-use Rattle.lift_world.proofs.Goes.{goes-append}
+use Rattle.lift_world.specs.lemmas.Goes.{goes-append}
 use Rattle.lift_world.proofs.Turns.{at_rest, is_at_rest, SameLength, same_length, all_apart, answered_all, answers_of, answering_on, unknown_terminals, unknown_apart}
 
 -- where turns begin

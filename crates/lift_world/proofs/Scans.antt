@@ -19,8 +19,8 @@ use Rattle.lift_world.specs.Next.{deciding, is_waiting, unanswered}
 use Rattle.lift_world.specs.Tie.{Finds}
 use Rattle.lift_world.specs.Turns.{AreFound, with_replies, take_events, scanned, RunsAreTakes}
 use Rattle.lift_world.specs.declared.event.Event.TheVariants.{Take}
-use Rattle.lift_world.proofs.Goes.{one}
-use Rattle.lift_world.proofs.Steps.{GoesOn, state_goes_on, steps_go_on, state_after, steps_are_takes}
+use Rattle.lift_world.specs.lemmas.Goes.{one}
+use Rattle.lift_world.specs.lemmas.Steps.{GoesOn, state_goes_on, steps_go_on, state_after, steps_are_takes}
 
 abbrev pub taken_as : Command → Reply → Taken
 taken_as command reply = record { terminal = command.terminal; number = command.number; body = command.body; reply = reply }

@@ -20,13 +20,13 @@ use Rattle.lift_world.specs.Next.{next, goes, asking, hearing, next_answer, deci
 use Rattle.lift_world.specs.Turns.{with_replies, scanned}
 use Rattle.lift_world.specs.Relay.{IsBetweenScans, allocated, is_flushers}
 use Rattle.lift_world.specs.Among.{is_beside, AreBeside, Look, commands_of, LooksStand, look_events, ScansGoAmong, AllocationsGoAmong}
-use Rattle.lift_world.proofs.Decisions.{some_is}
-use Rattle.lift_world.proofs.Goes.{one, joined, goes-append}
-use Rattle.lift_world.proofs.Steps.{GoesOn, then_from, state_goes_on, steps_go_on, state_after, steps_are_takes}
+use Rattle.lift_world.specs.lemmas.Decisions.{some_is}
+use Rattle.lift_world.specs.lemmas.Goes.{one, joined, goes-append}
+use Rattle.lift_world.specs.lemmas.Steps.{GoesOn, then_from, state_goes_on, steps_go_on, state_after, steps_are_takes}
 use Rattle.lift_world.proofs.Scans.{taken_as, found_still, scanned_rest, scanned_none}
-use Rattle.lift_world.proofs.Looks.{can_be_looked_at}
+use Rattle.lift_world.specs.lemmas.Looks.{can_be_looked_at}
 use Rattle.lift_world.proofs.Beside.{lift_when, lift_if}
-use Rattle.lift_world.proofs.Ordered.{Ordered, ordered_from, ordered_next}
+use Rattle.lift_world.specs.lemmas.Ordered.{Ordered, ordered_from, ordered_next}
 use Rattle.lift_world.proofs.Ahead.{decided_on, passes, flusher_passes_seals}
 use Rattle.lift_world.proofs.Relay.{seals_scan, sealed_scan}
 use Rattle.lift_world.proofs.Interleaved.{Untouched, untouched, pulls_some}

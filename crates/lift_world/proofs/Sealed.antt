@@ -11,7 +11,7 @@ use Rattle.lift_world.specs.Decided.{Decision, when, decided}
 use Rattle.lift_world.specs.World.{World, Batch, start, is_taken_of, asks, written, is_running, is_broken, is_off, is_synced, is_gate_written, state_of, may_keep}
 use Rattle.lift_world.specs.Next.{run, next, next_answer, hearing, answering, asking, taking, deciding, sealing, pulled, in_phase, settling, failing, cutting, reopened, unknown_to, may_ask, may_take, may_seal, may_pull, may_write, may_sync, may_fail, may_reopen}
 use Rattle.lift_world.specs.Headline.{SealsAccepted}
-use Rattle.lift_world.proofs.Moves.{hold_when, hold_if, hold_then, hold_map}
+use Rattle.lift_world.specs.lemmas.Moves.{hold_when, hold_if, hold_then, hold_map}
 
 deciding_seals : (w : World) (command : Command) (d : Decision) → SealsAccepted w → SealsAccepted (deciding w command d)
 deciding_seals w command d k =

@@ -7,7 +7,7 @@ use Rattle.std.proofs.lemmas.List.{length-append, length-take, length-drop, take
 use Rattle.std.proofs.lemmas.List.Elements.{All-head, All-tail}
 use Rattle.lift_building.specs.Plan.{Plan}
 use Rattle.lift_policy.specs.declared.command.Command.{Command}
-use Rattle.lift_policy.proofs.Joins.{Step-joins}
+use Rattle.lift_policy.specs.lemmas.Joins.{Step-joins}
 use Rattle.lift_world.specs.declared.event.Taken.{Taken}
 use Rattle.lift_world.specs.declared.event.Event.{Event}
 use Rattle.lift_world.specs.declared.event.Phase.{Phase}
@@ -19,13 +19,13 @@ use Rattle.lift_world.specs.Headline.{IsOfTerminal, HoldsFew}
 use Rattle.lift_world.specs.Relay.{last_end, flown}
 use Rattle.lift_world.specs.Tie.{naming}
 use Rattle.lift_world.specs.Short.{AreShort, HoldsFewEntries}
-use Rattle.lift_world.proofs.Counted.{in_queue}
+use Rattle.lift_world.specs.lemmas.Counted.{in_queue}
 use Rattle.lift_world.proofs.Few.{holds_few}
-use Rattle.lift_world.proofs.Goes.{runs_join}
-use Rattle.lift_world.proofs.Leads.{leads}
-use Rattle.lift_world.proofs.Ordered.{Ordered, ordered_after, first_of, none_ends, not_both, last_pushed, flies_to}
-use Rattle.lift_world.proofs.Phases.{not_idle}
-use Rattle.lift_world.proofs.Steps.{decided_step}
+use Rattle.lift_world.specs.lemmas.Goes.{runs_join}
+use Rattle.lift_world.specs.lemmas.Leads.{leads}
+use Rattle.lift_world.specs.lemmas.Ordered.{Ordered, ordered_after, first_of, none_ends, not_both, last_pushed, flies_to}
+use Rattle.lift_world.specs.lemmas.Phases.{not_idle}
+use Rattle.lift_world.specs.lemmas.Steps.{decided_step}
 
 -- each of these batches, from here or from where the one before it ends, has at most one entry for each of its commands
 abbrev pub AreCounted : ℕ → List Batch → Type 0

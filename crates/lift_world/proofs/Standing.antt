@@ -17,10 +17,10 @@ use Rattle.lift_world.specs.Beside.{is_of_terminals}
 use Rattle.lift_world.specs.Headline.{HearsInOrder}
 use Rattle.lift_world.specs.Turns.{AreFound}
 use Rattle.lift_world.specs.Asking.{AreAnswered, asked_on, AsksStand}
-use Rattle.lift_world.proofs.Heard.{passes, run_hears}
+use Rattle.lift_world.specs.lemmas.Heard.{passes, run_hears}
 use Rattle.lift_world.proofs.Asked.{at_front, hears_the_next, asks_once_heard}
-use Rattle.lift_world.proofs.Looks.{may_be_taken}
-use Rattle.lift_world.proofs.Goes.{one, joined, goes_are_runs}
+use Rattle.lift_world.specs.lemmas.Looks.{may_be_taken}
+use Rattle.lift_world.specs.lemmas.Goes.{one, joined, goes_are_runs}
 
 keep_last : (p : Answer → Bool) (xs : List Answer) (a : Answer) → p a ≡ true → filter p (xs ++ a ∷ []) ≡ filter p xs ++ a ∷ []
 keep_last p xs a e = filter-append p xs (a ∷ []) ∙ ap (λ (b : Bool). filter p xs ++ cond b (a ∷ []) []) e

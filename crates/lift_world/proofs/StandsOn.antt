@@ -15,10 +15,10 @@ use Rattle.lift_world.specs.Next.{next, asking, deciding, sealing, in_phase, set
 use Rattle.lift_world.specs.Headline.{HearsInOrder}
 use Rattle.lift_world.specs.Among.{StandsAsk, AsksStandAtOnce, AsksStandOn, LooksFindAsks, SealsAloneQueue}
 use Rattle.lift_world.proofs.Possibilities.{when_some}
-use Rattle.lift_world.proofs.Counted.{count_cons, count_both, heard_few, owed, owed_none, owed_parts, owed_others, in_queue, owed_to}
+use Rattle.lift_world.specs.lemmas.Counted.{count_cons, count_both, heard_few, owed, owed_none, owed_parts, owed_others, in_queue, owed_to}
 use Rattle.lift_world.proofs.Given.{led}
-use Rattle.lift_world.proofs.Looks.{can_be_looked_at, may_be_taken}
-use Rattle.lift_world.proofs.Ordered.{none_owed}
+use Rattle.lift_world.specs.lemmas.Looks.{can_be_looked_at, may_be_taken}
+use Rattle.lift_world.specs.lemmas.Ordered.{none_owed}
 use Rattle.lift_world.proofs.Owing.{owes_on}
 use Rattle.lift_world.proofs.Beside.{same_last}
 use Rattle.lift_world.proofs.Standing.{finds_ask, count_other}

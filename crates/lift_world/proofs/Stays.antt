@@ -15,12 +15,12 @@ use Rattle.lift_world.specs.Turns.{IsAtRest}
 use Rattle.lift_world.specs.Relay.{AreApart, EndInOrder, last_end, flown, IsBetweenScans, is_flushers}
 use Rattle.lift_world.specs.Stays.{StaysBetweenScans, StaysBetweenFlushes, StaysBrokenBetween, StaysInOrder, HearsOnInOrder, AsksOnOneByOne, RestsInOrder}
 use Rattle.lift_world.proofs.Possibilities.{when_some}
-use Rattle.lift_world.proofs.Steps.{if_from, mapped}
+use Rattle.lift_world.specs.lemmas.Steps.{if_from, mapped}
 use Rattle.lift_world.proofs.Given.{led}
-use Rattle.lift_world.proofs.Heard.{hears}
-use Rattle.lift_world.proofs.Counted.{count_cons, owed, owed_none, owed_parts, in_queue, Balances, balances}
+use Rattle.lift_world.specs.lemmas.Heard.{hears}
+use Rattle.lift_world.specs.lemmas.Counted.{count_cons, owed, owed_none, owed_parts, in_queue, Balances, balances}
 use Rattle.lift_world.proofs.Owing.{owes_on}
-use Rattle.lift_world.proofs.Ordered.{ordered_from, ordered_next, are_apart}
+use Rattle.lift_world.specs.lemmas.Ordered.{ordered_from, ordered_next, are_apart}
 use Rattle.lift_world.proofs.Ahead.{took}
 
 -- the allocator

@@ -23,7 +23,7 @@ use Rattle.lift_world.specs.World.{World, Batch, no_batch, is_running, is_off, i
 use Rattle.lift_world.specs.Next.{goes, next, in_phase, settling, answering, answer_of, unknown_to, failing, others, bodies}
 use Rattle.lift_world.specs.Turns.{AreFound, IsAtRest, with_replies, take_events, answer_events, calls_to, device_calls, turn_events, turned, TurnsAreRuns, MayFailIn, failed_events, failed, FailuresAreRuns}
 use Rattle.lift_world.specs.Relay.{AreApart}
-use Rattle.lift_world.proofs.Goes.{one, goes-append}
+use Rattle.lift_world.specs.lemmas.Goes.{one, goes-append}
 use Rattle.lift_world.proofs.Scans.{runs_are_takes, taken_as}
 
 may : {A : Type 0} (b c : Bool) (x : A) → b ≡ true → c ≡ true → when (b && c) x ≡ Some x

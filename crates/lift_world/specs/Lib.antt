@@ -18,3 +18,4 @@ pub mod Due
 pub mod Faults
 pub mod Outcomes
 pub mod Short
+pub mod lemmas

@@ -1,5 +1,5 @@
 use Rattle.std.proofs.Common.{codes, sym}
-use Rattle.lift_base.proofs.Texts.{begins_with, texts}
+use Rattle.lift_base.specs.lemmas.Texts.{begins_with, texts}
 use Rattle.lift_car.proofs.Moves.{moves_alike}
 use Rattle.lift_car.proofs.lines.move_among.Goals as goal
 

@@ -1,6 +1,6 @@
 use Rattle.std.proofs.Common.{List, ℕ, subst, sym, ap}
 use Rattle.lift_base.specs.Text.{AreWords}
-use Rattle.lift_base.proofs.Texts.{texts}
+use Rattle.lift_base.specs.lemmas.Texts.{texts}
 use Rattle.lift_car.proofs.Moves.{no_move_line, move_has_words}
 use Rattle.lift_car.proofs.lines.move_line.Goals as goal
 

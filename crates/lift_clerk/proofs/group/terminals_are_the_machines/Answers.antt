@@ -1,4 +1,4 @@
-use Rattle.lift_clerk.proofs.Groups.{asks_are_asks, hears_are_hears, told_answers_are_heard, reads_are_no_events}
+use Rattle.lift_clerk.specs.lemmas.Groups.{asks_are_asks, hears_are_hears, told_answers_are_heard, reads_are_no_events}
 use Rattle.lift_clerk.proofs.group.terminals_are_the_machines.Goals as goal
 
 pub returns-clause-asks : goal.returns-clause-asks

@@ -1,4 +1,4 @@
-use Rattle.lift_clerk.proofs.Reopened.{reopenings_are_reopenings, failed_reopenings_are_faults, nothing_is_no_event, begins_at_start, begins_after_cut}
+use Rattle.lift_clerk.specs.lemmas.Reopened.{reopenings_are_reopenings, failed_reopenings_are_faults, nothing_is_no_event, begins_at_start, begins_after_cut}
 use Rattle.lift_clerk.proofs.machine.reopenings_are_the_machines.Goals as goal
 
 pub returns-clause-reopenings : goal.returns-clause-reopenings

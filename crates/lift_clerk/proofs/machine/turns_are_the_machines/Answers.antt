@@ -1,4 +1,4 @@
-use Rattle.lift_clerk.proofs.Turned.{turns_are_turns}
+use Rattle.lift_clerk.specs.lemmas.Turned.{turns_are_turns}
 use Rattle.lift_clerk.proofs.Doubts.{failures_are_failures, broken_turns_are_broken}
 use Rattle.lift_clerk.proofs.Terminals.{terminals_keep_it}
 use Rattle.lift_clerk.proofs.machine.turns_are_the_machines.Goals as goal

@@ -6,7 +6,7 @@ use Rattle.lift_desk.specs.Seats.{ClerkPlace}
 use Rattle.lift_keeper.specs.Writer.{WriterView}
 use Rattle.lift_clerk.specs.Visits.{command_at}
 use Rattle.lift_clerk.specs.Scanning.{Decides, Scans, terminals_in, terminals_of, replies_in}
-use Rattle.lift_clerk.proofs.Scanned.{Looked, looked-at, scans-more, few-more}
+use Rattle.lift_clerk.specs.lemmas.Scanned.{Looked, looked-at, scans-more, few-more}
 use Rattle.lift_clerk.proofs.scan.scan.Goals as goal
 
 pub loop-t-preserved : goal.loop-t-preserved

@@ -1,7 +1,7 @@
 use Rattle.std.proofs.Common.{List, sym, subst}
 use Rattle.lift_base.specs.declared.history.Row.{Row}
 use Rattle.lift_cost.specs.Calls.{AreWithin}
-use Rattle.lift_policy.proofs.Views.{rows_within}
+use Rattle.lift_policy.specs.lemmas.Views.{rows_within}
 use Rattle.lift_figure_cases.proofs.crowd.plain_cost.Goals as goal
 
 pub total_cost-requires-clause-calls : goal.total_cost-requires-clause-calls

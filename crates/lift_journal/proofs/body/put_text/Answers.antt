@@ -6,7 +6,7 @@ use Rattle.lift_base.specs.declared.history.Record.{Record}
 use Rattle.lift_record.specs.Record.{spelling_of}
 use Rattle.lift_record.specs.Header.{header_bytes}
 use Rattle.lift_record.specs.declared.version.Version.TheVariants.{Two}
-use Rattle.lift_record.proofs.Spellings.{length-header_bytes}
+use Rattle.lift_record.specs.lemmas.Spellings.{length-header_bytes}
 use Rattle.lift_journal.specs.Layout.{filled, IsRecordIn}
 use Rattle.lift_journal.proofs.Texts.{put_more, length-spellings}
 use Rattle.lift_journal.proofs.body.put_text.Goals as goal

@@ -1,9 +1,9 @@
 use Rattle.std.proofs.Common.{[], ◌∷◌, inl, inr, refl, ◌∙◌, arith}
 use Rattle.std.proofs.lemmas.Result.{on_ok_weaker}
-use Rattle.lift_disk.proofs.Moments.{runs_call, touches_write, touches_then_rest}
+use Rattle.lift_disk.specs.lemmas.Moments.{runs_call, touches_write, touches_then_rest}
 use Rattle.lift_journal.specs.Steps.{IsInRange}
-use Rattle.lift_journal.proofs.Looking.{both_on_ok, both_on_err, err_any, err_weaker}
-use Rattle.lift_journal.proofs.Telling.{one_passes, one_fails, call_stops, stops_then, err_stops}
+use Rattle.lift_journal.specs.lemmas.Looking.{both_on_ok, both_on_err, err_any, err_weaker}
+use Rattle.lift_journal.specs.lemmas.Telling.{one_passes, one_fails, call_stops, stops_then, err_stops}
 use Rattle.lift_disk.specs.Trace.Access.{Write, Sync}
 use Rattle.lift_journal.specs.Calls.{puts}
 use Rattle.lift_journal.proofs.Following.{front_one, one_follows, front_more, follows_then, err_follows}

@@ -1,11 +1,11 @@
 use Rattle.std.proofs.Common.{◌≡◌, ◌++◌, ◌⊎◌, inl, inr, ⊎_elim, slice_set, ◌∙◌, ap, subst, arith}
 use Rattle.std.proofs.lemmas.Result.{on_ok_weaker}
 use Rattle.lift_disk.specs.Disk.{Image, ChangesWithin}
-use Rattle.lift_disk.proofs.Moments.{leaves_weaker, leaves_then, leaves_if_honest, changes_more, changes_twice}
+use Rattle.lift_disk.specs.lemmas.Moments.{leaves_weaker, leaves_then, leaves_if_honest, changes_more, changes_twice}
 use Rattle.lift_journal.specs.Steps.{IsInRange, unmarked}
-use Rattle.lift_journal.proofs.Looking.{err_any, err_weaker}
+use Rattle.lift_journal.specs.lemmas.Looking.{err_any, err_weaker}
 use Rattle.lift_journal.proofs.Stopping.{synced_image}
-use Rattle.lift_journal.proofs.Telling.{stops_then}
+use Rattle.lift_journal.specs.lemmas.Telling.{stops_then}
 use Rattle.lift_journal.specs.Calls.{puts}
 use Rattle.lift_journal.proofs.Following.{front_more, follows_then, err_follows}
 use Rattle.lift_journal.proofs.checkpoint.switch_half.Goals as goal

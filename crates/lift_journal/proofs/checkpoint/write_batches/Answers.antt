@@ -12,7 +12,7 @@ use Rattle.lift_journal.proofs.Bases.{base_in_order}
 use Rattle.lift_journal.proofs.Checkpoints.{Drafted, drafted_touched, drafted_more, lawful_part, next_size, next_body, next_exact, next_room, draft_stops, used_most, used_within, used_checkpoint}
 use Rattle.lift_journal.specs.Calls.{body_of, draft_calls, StopsIn}
 use Rattle.lift_journal.proofs.Following.{err_follows}
-use Rattle.lift_journal.proofs.Telling.{fails_then, err_stops}
+use Rattle.lift_journal.specs.lemmas.Telling.{fails_then, err_stops}
 use Rattle.lift_journal.proofs.checkpoint.write_batches.Goals as goal
 
 pub put_body-requires-clause-lawful : goal.put_body-requires-clause-lawful

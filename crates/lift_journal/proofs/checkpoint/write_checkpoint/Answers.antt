@@ -1,19 +1,19 @@
 use Rattle.std.proofs.Common.{◌≡◌, ◌+◌, ◌++◌, length, subst, slice_set, slice_get, ◌∙◌, ap, arith}
 use Rattle.std.proofs.lemmas.List.{length-set}
 use Rattle.lift_disk.specs.Disk.{Image, ChangesWithin}
-use Rattle.lift_disk.proofs.History.{set_other}
+use Rattle.lift_disk.specs.lemmas.History.{set_other}
 use Rattle.lift_register.specs.Base.{base_records}
 use Rattle.lift_journal.specs.Layout.{sector_at, used}
 use Rattle.lift_journal.specs.Steps.{IsInRange, unmarked}
 use Rattle.lift_journal.specs.Checkpoint.{sectors_for}
-use Rattle.lift_disk.proofs.Moments.{changes_more, changes_twice}
-use Rattle.lift_journal.proofs.Looking.{err_any}
+use Rattle.lift_disk.specs.lemmas.Moments.{changes_more, changes_twice}
+use Rattle.lift_journal.specs.lemmas.Looking.{err_any}
 use Rattle.lift_journal.specs.Checkpoint.{checkpoint_of}
 use Rattle.lift_journal.proofs.Appends.{sector_set}
 use Rattle.lift_journal.proofs.Switching.{checkpoint_leaves, written_left, writing_stops}
 use Rattle.lift_journal.specs.Calls.{Follows, draft_calls, puts}
 use Rattle.lift_journal.proofs.Following.{all_then, front_then, front_more, err_follows}
-use Rattle.lift_journal.proofs.Telling.{passes_then, fails_then, err_stops}
+use Rattle.lift_journal.specs.lemmas.Telling.{passes_then, fails_then, err_stops}
 use Rattle.lift_journal.proofs.checkpoint.write_checkpoint.Goals as goal
 
 pub returns-in_err-switch_half-clause-any_moment : goal.returns-in_err-switch_half-clause-any_moment

@@ -1,9 +1,9 @@
 use Rattle.std.proofs.Common.{◌+◌, ◌++◌, [], ◌∷◌, subst, ap, ◌∙◌, arith, slice_set, ℕ, List}
 use Rattle.std.proofs.lemmas.Result.{on_ok_weaker}
 use Rattle.lift_disk.specs.Disk.{Image}
-use Rattle.lift_disk.proofs.Moments.{touches_then_write}
+use Rattle.lift_disk.specs.lemmas.Moments.{touches_then_write}
 use Rattle.lift_journal.specs.Steps.{overwritten, marked, IsInRange}
-use Rattle.lift_journal.proofs.Telling.{call_stops, stops_then}
+use Rattle.lift_journal.specs.lemmas.Telling.{call_stops, stops_then}
 use Rattle.lift_disk.specs.Trace.Access.{Write}
 use Rattle.lift_journal.specs.Calls.{Follows, writes_from}
 use Rattle.lift_journal.proofs.Following.{one_follows, front_more, follows_then, err_follows}

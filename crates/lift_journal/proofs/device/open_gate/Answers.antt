@@ -1,9 +1,9 @@
 use Rattle.std.proofs.Common.{ℕ, List, ◌+◌, ◌++◌, [], ◌∷◌, inl, inr, refl, ap, ◌∙◌, arith, slice_set, Result, OnOk, Ok, Err}
 use Rattle.std.proofs.lemmas.Result.{on_ok_weaker}
-use Rattle.lift_disk.proofs.Moments.{runs_call, touches_none, touches_then_write, touches_then_rest}
+use Rattle.lift_disk.specs.lemmas.Moments.{runs_call, touches_none, touches_then_write, touches_then_rest}
 use Rattle.lift_journal.specs.Steps.{IsInRange, marked}
-use Rattle.lift_journal.proofs.Looking.{err_any, err_weaker, both_on_err}
-use Rattle.lift_journal.proofs.Telling.{one_passes, one_fails, call_stops, stops_then, err_stops}
+use Rattle.lift_journal.specs.lemmas.Looking.{err_any, err_weaker, both_on_err}
+use Rattle.lift_journal.specs.lemmas.Telling.{one_passes, one_fails, call_stops, stops_then, err_stops}
 use Rattle.lift_disk.specs.Trace.Access.{Write, Sync}
 use Rattle.lift_journal.specs.Calls.{puts}
 use Rattle.lift_journal.proofs.Following.{front_one, one_follows, front_more, follows_then, err_follows}

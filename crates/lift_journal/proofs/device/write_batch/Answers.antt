@@ -1,14 +1,14 @@
 use Rattle.std.proofs.Common.{◌≡◌, ◌⊎◌, ◌+◌, ◌++◌, [], ◌∷◌, inl, ⊎_elim, ℕ, length, ◌∙◌, arith, ◌<◌}
 use Rattle.std.proofs.lemmas.Result.{on_ok_weaker}
 use Rattle.lift_disk.specs.Disk.{Image, ChangesWithin}
-use Rattle.lift_disk.proofs.Moments.{leaves_weaker, leaves_then, changes_more, changes_twice, touches_weaker, touches_then}
+use Rattle.lift_disk.specs.lemmas.Moments.{leaves_weaker, leaves_then, changes_more, changes_twice, touches_weaker, touches_then}
 use Rattle.lift_journal.specs.Layout.{Holds}
 use Rattle.lift_journal.specs.Steps.{IsInRange, marked, unmarked}
-use Rattle.lift_journal.proofs.Chains.{holds_either}
+use Rattle.lift_journal.specs.lemmas.Chains.{holds_either}
 use Rattle.lift_journal.proofs.Appends.{body_leaves, body_start, body_prepares, gate_opens, gate_start}
-use Rattle.lift_journal.proofs.Looking.{err_any, err_weaker}
+use Rattle.lift_journal.specs.lemmas.Looking.{err_any, err_weaker}
 use Rattle.lift_journal.proofs.Stopping.{synced_image, stops_at_gate}
-use Rattle.lift_journal.proofs.Telling.{stops_then}
+use Rattle.lift_journal.specs.lemmas.Telling.{stops_then}
 use Rattle.lift_disk.specs.Trace.Access.{Write, Sync}
 use Rattle.lift_journal.specs.Calls.{writes_from, puts, append_calls}
 use Rattle.lift_journal.proofs.Following.{front_more, follows_then, err_follows}

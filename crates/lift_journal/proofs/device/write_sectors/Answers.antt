@@ -2,7 +2,7 @@ use Rattle.std.proofs.Common.{◌≡◌, [], ◌∷◌, ◌++◌, slice_set, get
 use Rattle.std.proofs.lemmas.List.{take_all}
 use Rattle.lift_disk.specs.Disk.{Image, Touches, IsSteadyAt}
 use Rattle.lift_journal.proofs.Writes.{written_none, written_more, written_all, written_front, touched_more}
-use Rattle.lift_journal.proofs.Telling.{one_passes, one_fails, fails_then, err_stops}
+use Rattle.lift_journal.specs.lemmas.Telling.{one_passes, one_fails, fails_then, err_stops}
 use Rattle.lift_disk.specs.Trace.Access.{Write}
 use Rattle.lift_journal.specs.Calls.{writes_from}
 use Rattle.lift_journal.proofs.Following.{err_follows}

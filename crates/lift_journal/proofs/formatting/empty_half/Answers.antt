@@ -3,8 +3,8 @@ use Rattle.std.proofs.lemmas.Result.{on_ok_weaker}
 use Rattle.lift_disk.specs.Trace.Access.{Write, Sync}
 use Rattle.lift_journal.specs.Steps.{IsFormatted, unmarked}
 use Rattle.lift_journal.proofs.Following.{front_one, one_follows, all_then, front_then, front_more, follows_then, err_follows}
-use Rattle.lift_disk.proofs.Moments.{runs_call, runs_then, touches_write, touches_then_write, touches_then_rest}
-use Rattle.lift_journal.proofs.Telling.{one_passes, one_fails, call_stops, passes_then, fails_then, stops_then, err_stops}
+use Rattle.lift_disk.specs.lemmas.Moments.{runs_call, runs_then, touches_write, touches_then_write, touches_then_rest}
+use Rattle.lift_journal.specs.lemmas.Telling.{one_passes, one_fails, call_stops, passes_then, fails_then, stops_then, err_stops}
 use Rattle.lift_journal.proofs.formatting.empty_half.Goals as goal
 
 pub returns-clause-synced : goal.returns-clause-synced

@@ -2,13 +2,13 @@ use Rattle.std.proofs.Common.{inl, ⊎_elim, false, [], ◌∷◌, sym, subst, a
 use Rattle.std.proofs.lemmas.Result.{on_ok_weaker}
 use Rattle.lift_disk.specs.Trace.Access.{Write, Sync}
 use Rattle.lift_journal.specs.Calls.{puts, format_calls}
-use Rattle.lift_disk.proofs.Moments.{touches_then, touches_weaker_honest}
+use Rattle.lift_disk.specs.lemmas.Moments.{touches_then, touches_weaker_honest}
 use Rattle.lift_journal.specs.Steps.{IsFormatted, unmarked}
 use Rattle.lift_journal.specs.Layout.{filled, stamp_bytes, Picks}
 use Rattle.lift_journal.specs.Journal.{ReadsAs}
 use Rattle.lift_journal.proofs.Formats.{formatted, formatted_half}
 use Rattle.lift_journal.proofs.Following.{front_more, follows_then, err_follows}
-use Rattle.lift_journal.proofs.Telling.{stops_then}
+use Rattle.lift_journal.specs.lemmas.Telling.{stops_then}
 use Rattle.lift_journal.proofs.formatting.format.Goals as goal
 
 pub returns-clause-synced : goal.returns-clause-synced

@@ -5,9 +5,9 @@ use Rattle.lift_journal.specs.Layout.{filled, stamp_bytes}
 use Rattle.lift_journal.specs.Calls.{puts}
 use Rattle.lift_journal.specs.Steps.{IsFormatted}
 use Rattle.lift_journal.proofs.Following.{front_one, one_follows, front_more, follows_then, err_follows}
-use Rattle.lift_journal.proofs.Looking.{both_on_ok}
-use Rattle.lift_journal.proofs.Telling.{one_passes, one_fails, call_stops, stops_then, err_stops}
-use Rattle.lift_disk.proofs.Moments.{runs_call, touches_write, touches_then_rest}
+use Rattle.lift_journal.specs.lemmas.Looking.{both_on_ok}
+use Rattle.lift_journal.specs.lemmas.Telling.{one_passes, one_fails, call_stops, stops_then, err_stops}
+use Rattle.lift_disk.specs.lemmas.Moments.{runs_call, touches_write, touches_then_rest}
 use Rattle.lift_journal.proofs.formatting.put_stamp.Goals as goal
 
 pub returns-clause-stored : goal.returns-clause-stored

@@ -1,7 +1,7 @@
 use Rattle.std.proofs.Common.{◌≡◌, ◌+◌, suc, take, get_or, sym, subst, ap, ◌∙◌, Option, Some, arith}
 use Rattle.lift_base.specs.declared.history.Record.{Record}
 use Rattle.lift_journal.specs.Order.{MayFollow, IsInOrderBehind, last_behind}
-use Rattle.lift_journal.proofs.Orders.{order_at, order_more, last_more}
+use Rattle.lift_journal.specs.lemmas.Orders.{order_at, order_more, last_more}
 use Rattle.lift_journal.proofs.order.pass_records.Goals as goal
 
 pub returns-then-not-may_follow-clause-ordered : goal.returns-then-not-may_follow-clause-ordered

@@ -5,7 +5,7 @@ use Rattle.lift_journal.specs.Fronts.{IsOfChain}
 use Rattle.lift_journal.specs.Layout.{IsStamped}
 use Rattle.lift_journal.specs.Steps.{ReadsOnly, ReadsWell, HasItsCause}
 use Rattle.lift_journal.specs.Opening.{RefusedFor}
-use Rattle.lift_journal.proofs.Looking.{reads_then, well_then, ok_weaker, cause_then, if_err_weaker, if_err_both, open_ok, open_err}
+use Rattle.lift_journal.specs.lemmas.Looking.{reads_then, well_then, ok_weaker, cause_then, if_err_weaker, if_err_both, open_ok, open_err}
 use Rattle.lift_journal.proofs.Refusing.{refused_stamp, refused_chain}
 use Rattle.lift_journal.specs.Told.{NoneFails}
 use Rattle.std.proofs.Common.{[], ◌∷◌, inl, arith}

@@ -1,4 +1,4 @@
-use Rattle.lift_journal.proofs.Looking.{reads_then, well_then, cause_then}
+use Rattle.lift_journal.specs.lemmas.Looking.{reads_then, well_then, cause_then}
 use Rattle.std.proofs.Common.{◌≡◌, ◌⊎◌, ◌+◌, [], ◌∷◌, inl, inr, refl}
 use Rattle.lift_disk.specs.Trace.Access.{Read}
 use Rattle.lift_journal.proofs.Following.{all_then}

@@ -1,4 +1,4 @@
-use Rattle.lift_journal.proofs.Looking.{reads_then, well_then, failed_then}
+use Rattle.lift_journal.specs.lemmas.Looking.{reads_then, well_then, failed_then}
 use Rattle.std.proofs.Common.{◌+◌, arith}
 use Rattle.lift_journal.proofs.Following.{row_then, rows_then}
 use Rattle.lift_journal.proofs.reads.look.Goals as goal

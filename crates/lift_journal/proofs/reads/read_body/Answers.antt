@@ -1,5 +1,5 @@
 use Rattle.std.proofs.Common.{◌≡◌, ◌+◌, length, refl, arith}
-use Rattle.lift_journal.proofs.Looking.{looks_then, ok_weaker, err_weaker}
+use Rattle.lift_journal.specs.lemmas.Looking.{looks_then, ok_weaker, err_weaker}
 use Rattle.lift_journal.proofs.Seeing.{no_header}
 use Rattle.lift_journal.proofs.Following.{row_then}
 use Rattle.lift_journal.proofs.reads.read_body.Goals as goal

@@ -1,6 +1,6 @@
-use Rattle.lift_disk.proofs.Moments.{runs_call, touches_rest}
-use Rattle.lift_journal.proofs.Looking.{looks_by, ok_weaker, both_on_ok, saves_sync}
-use Rattle.lift_journal.proofs.Telling.{call_stops}
+use Rattle.lift_disk.specs.lemmas.Moments.{runs_call, touches_rest}
+use Rattle.lift_journal.specs.lemmas.Looking.{looks_by, ok_weaker, both_on_ok, saves_sync}
+use Rattle.lift_journal.specs.lemmas.Telling.{call_stops}
 use Rattle.lift_journal.proofs.reads.settle.Goals as goal
 
 pub returns-clause-looks : goal.returns-clause-looks

@@ -3,7 +3,7 @@ use Rattle.lift_journal.specs.Walk.{IsDamagedAt}
 use Rattle.lift_journal.specs.declared.walk.Front.{Front}
 use Rattle.lift_journal.specs.declared.reads.AtGate.TheVariants.{Closed, Batch, Damaged}
 use Rattle.lift_journal.proofs.Walks.{IsAtFront, walk_begins, goes_on, ends, ends_early, none_here, may_not, seen_at}
-use Rattle.lift_journal.proofs.Looking.{reads_then, well_then, failed_then}
+use Rattle.lift_journal.specs.lemmas.Looking.{reads_then, well_then, failed_then}
 use Rattle.lift_journal.proofs.Seeing.{bodies_few}
 use Rattle.lift_journal.specs.Layout.{bodies}
 use Rattle.lift_journal.specs.Calls.{reads_from}

@@ -1,5 +1,5 @@
 use Rattle.std.proofs.Common.{sym}
-use Rattle.lift_register.proofs.EntryLemmas.{register_of-nothing}
+use Rattle.lift_register.specs.lemmas.EntryLemmas.{register_of-nothing}
 use Rattle.lift_keeper.proofs.copies.apply_all.Goals as goal
 
 pub loop-entry-init : goal.loop-entry-init

@@ -1,5 +1,5 @@
 use Rattle.std.proofs.Common.{◌≡◌, ◌∙◌, length, ap, arith}
-use Rattle.lift_disk.proofs.Moments.{leaves_then, leaves_weaker}
+use Rattle.lift_disk.specs.lemmas.Moments.{leaves_then, leaves_weaker}
 use Rattle.lift_keeper.specs.Images.{IsImageOf, IsInDoubt}
 use Rattle.lift_keeper.proofs.Guarding.{ok_four, append_leaves, append_keeps, in_doubt_of, guards_then, answers_then, now_after, by_disk_alone, disk_calls, append_stops, adding_stops}
 use Rattle.std.proofs.lemmas.List.{length-map}

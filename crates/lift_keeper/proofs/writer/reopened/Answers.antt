@@ -2,7 +2,7 @@ use Rattle.std.proofs.Common.{[], ◌∷◌, inr, sym, ap, subst}
 use Rattle.lift_base.specs.declared.history.Shape.{Shape}
 use Rattle.lift_journal.specs.Journal.{JournalView}
 use Rattle.lift_journal.specs.Steps.{ReadsOnly}
-use Rattle.lift_journal.proofs.Looking.{reads_then}
+use Rattle.lift_journal.specs.lemmas.Looking.{reads_then}
 use Rattle.lift_keeper.specs.Reopening.{RefusesReopening}
 use Rattle.lift_keeper.proofs.Reopenings.{reopens, guards, refused_journal, refused_recovery}
 use Rattle.lift_disk.specs.Trace.Access.{Sync}

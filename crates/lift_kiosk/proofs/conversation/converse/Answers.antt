@@ -1,4 +1,4 @@
-use Rattle.lift_kiosk.proofs.Ends.{late_lines, spent_lines, closed_lines, failed_lines, unwritten_lines}
+use Rattle.lift_kiosk.specs.lemmas.Ends.{late_lines, spent_lines, closed_lines, failed_lines, unwritten_lines}
 use Rattle.lift_kiosk.proofs.conversation.converse.Goals as goal
 
 pub returns-clause-late : goal.returns-clause-late

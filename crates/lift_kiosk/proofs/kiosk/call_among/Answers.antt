@@ -1,6 +1,6 @@
 use Rattle.std.proofs.Common.{codes, sym}
 use Rattle.std.proofs.lemmas.Option.{IfSome_then}
-use Rattle.lift_base.proofs.Texts.{begins_with, texts}
+use Rattle.lift_base.specs.lemmas.Texts.{begins_with, texts}
 use Rattle.lift_kiosk.proofs.Calls.{no_call_among}
 use Rattle.lift_kiosk.proofs.kiosk.call_among.Goals as goal
 

@@ -1,6 +1,6 @@
 use Rattle.std.proofs.Common.{List, ℕ, subst, sym, ap}
 use Rattle.lift_base.specs.Text.{AreWords}
-use Rattle.lift_base.proofs.Texts.{texts}
+use Rattle.lift_base.specs.lemmas.Texts.{texts}
 use Rattle.lift_kiosk.proofs.Calls.{no_call_line, call_has_words}
 use Rattle.lift_kiosk.proofs.kiosk.call_line.Goals as goal
 

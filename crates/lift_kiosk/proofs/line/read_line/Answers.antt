@@ -1,5 +1,5 @@
 use Rattle.std.proofs.Common.{rules}
-use Rattle.lift_kiosk.proofs.Lines.{part_more, part_ends}
+use Rattle.lift_kiosk.specs.lemmas.Lines.{part_more, part_ends}
 use Rattle.lift_kiosk.proofs.line.read_line.Goals as goal
 
 pub returns-in-Ok-Some-eq10-clause-line : goal.returns-in-Ok-Some-eq10-clause-line

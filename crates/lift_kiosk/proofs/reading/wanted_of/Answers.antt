@@ -3,7 +3,7 @@ use Rattle.std.specs.Prelude.{IfSome, IfNone}
 use Rattle.std.specs.Str.Lines.{strip_carriage_return}
 use Rattle.lift_kiosk.specs.Lines.{Keeps65}
 use Rattle.lift_kiosk.specs.declared.dialect.Wanted.{Wanted}
-use Rattle.lift_kiosk.proofs.Lines.{kept_whole}
+use Rattle.lift_kiosk.specs.lemmas.Lines.{kept_whole}
 use Rattle.lift_kiosk.proofs.reading.wanted_of.Goals as goal
 
 pub returns-clause-some : goal.returns-clause-some

@@ -1,4 +1,4 @@
-use Rattle.lift_kiosk.proofs.Words.{words_make_text}
+use Rattle.lift_kiosk.specs.lemmas.Words.{words_make_text}
 use Rattle.lift_kiosk.proofs.reading.words_in.Goals as goal
 
 pub returns-in-Err-clause-none : goal.returns-in-Err-clause-none

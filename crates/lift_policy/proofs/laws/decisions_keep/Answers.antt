@@ -1,5 +1,5 @@
 use Rattle.lift_policy.proofs.Runs.{Run-append}
-use Rattle.lift_policy.proofs.Joins.{Step-joins}
+use Rattle.lift_policy.specs.lemmas.Joins.{Step-joins}
 use Rattle.lift_policy.proofs.Refusals.{Step-refused, Step-known}
 use Rattle.lift_policy.proofs.States.{Step-keeps, Step-tells}
 use Rattle.lift_policy.proofs.laws.decisions_keep.Goals as goal

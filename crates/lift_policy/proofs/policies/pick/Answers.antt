@@ -1,7 +1,7 @@
 use Rattle.std.proofs.Common.{List, ℕ, length, subst}
 use Rattle.lift_policy.specs.Least.{IsFirstLeastAt}
 use Rattle.lift_policy.specs.Choices.{IsFirstLeast}
-use Rattle.lift_policy.proofs.Least.{picked_is}
+use Rattle.lift_policy.specs.lemmas.Least.{picked_is}
 use Rattle.lift_policy.proofs.policies.pick.Goals as goal
 
 pub returns : goal.returns

@@ -1,6 +1,6 @@
 use Rattle.std.proofs.Common.{◌∙◌, arith}
 use Rattle.std.proofs.Math.ListN.{length-set}
-use Rattle.lift_policy.proofs.Views.{made_more, all_made_own, all_made_positions}
+use Rattle.lift_policy.specs.lemmas.Views.{made_more, all_made_own, all_made_positions}
 use Rattle.lift_policy.proofs.schedules.schedules_at.Goals as goal
 
 pub loop-index-preserved : goal.loop-index-preserved

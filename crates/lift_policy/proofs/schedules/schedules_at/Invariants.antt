@@ -1,5 +1,5 @@
 use Rattle.std.proofs.Common.{◌≡◌, ℕ, ◌<◌, None, get_or, length}
-use Rattle.lift_policy.proofs.Views.{made_at}
+use Rattle.lift_policy.specs.lemmas.Views.{made_at}
 use Rattle.lift_policy.proofs.schedules.schedules_at.Given as goal
 
 abbrev pub invariant-loop-index : goal.invariant-loop-index

@@ -1,6 +1,6 @@
-use Rattle.lift_register.proofs.HistoryLemmas.{register_of-append}
-use Rattle.lift_register.proofs.EntryLemmas.{register_of-nothing}
-use Rattle.lift_register.proofs.Laws.{FitFrom-append, FitFrom-parts}
+use Rattle.lift_register.specs.lemmas.HistoryLemmas.{register_of-append}
+use Rattle.lift_register.specs.lemmas.EntryLemmas.{register_of-nothing}
+use Rattle.lift_register.specs.lemmas.Laws.{FitFrom-append, FitFrom-parts}
 use Rattle.lift_register.proofs.joins.registers_join.Goals as goal
 
 pub returns : goal.returns

@@ -5,9 +5,9 @@ use Rattle.lift_desk.specs.declared.words.Ask.{Ask}
 use Rattle.lift_desk.specs.Steps.{with_taking}
 use Rattle.lift_desk.specs.Words.{last_of, number_of}
 use Rattle.lift_desk.specs.Seats.{ClerkPlace, view_at, Owes}
-use Rattle.lift_desk.proofs.Places.{view_at-here}
+use Rattle.lift_desk.specs.lemmas.Places.{view_at-here}
 use Rattle.lift_clerk.specs.Scanning.{told}
-use Rattle.lift_clerk.proofs.Scanned.{looked-at}
+use Rattle.lift_clerk.specs.lemmas.Scanned.{looked-at}
 use Rattle.lift_relay.specs.Flusher.{GivesIt}
 use Rattle.lift_relay.proofs.Flushed.{gives_one, settles_one}
 use Rattle.lift_relay.proofs.flusher.answer.Goals.{then-is_safe, else-is_safe}

@@ -1,7 +1,7 @@
 use Rattle.std.proofs.Common.{◌≡◌, ◌<◌, List, take, length, get_or, sym, ap, ◌∙◌, subst, arith}
 use Rattle.std.proofs.lemmas.List.{length-set, get_or-set_other}
 use Rattle.atomic_table.specs.Seated.{TableId}
-use Rattle.lift_desk.proofs.Places.{refill_set}
+use Rattle.lift_desk.specs.lemmas.Places.{refill_set}
 use Rattle.lift_relay.specs.declared.batch.Taken.{Taken}
 use Rattle.lift_relay.specs.Batch.{turns_after, IsNoted}
 use Rattle.lift_relay.specs.Flusher.{IsSettled}

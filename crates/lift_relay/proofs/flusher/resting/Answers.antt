@@ -1,6 +1,6 @@
 use Rattle.std.proofs.Common.{subst}
 use Rattle.lift_disk.specs.Disk.{LeavesNow}
-use Rattle.lift_disk.proofs.Moments.{leaves_none}
+use Rattle.lift_disk.specs.lemmas.Moments.{leaves_none}
 use Rattle.lift_register.specs.Register.{RegisterState}
 use Rattle.lift_keeper.specs.Images.{IsInDoubt}
 use Rattle.lift_relay.proofs.flusher.resting.Goals as goal

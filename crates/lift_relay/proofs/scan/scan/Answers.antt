@@ -8,8 +8,8 @@ use Rattle.lift_desk.specs.Words.{last_of, turn_of, ask_word}
 use Rattle.lift_desk.specs.Seats.{ClerkPlace, IsClerkOf, IsNoteOf, view_at}
 use Rattle.lift_policy.specs.Run.{Run}
 use Rattle.lift_clerk.specs.Visits.{command_at}
-use Rattle.lift_clerk.proofs.Scanned.{few-more}
-use Rattle.lift_keeper.proofs.Keepers.{nothing_more}
+use Rattle.lift_clerk.specs.lemmas.Scanned.{few-more}
+use Rattle.lift_keeper.specs.lemmas.Keepers.{nothing_more}
 use Rattle.lift_relay.specs.Batch.{AreBelow, AreNoted, commands_in, replies_in, turns_of, turns_after}
 use Rattle.lift_relay.specs.declared.batch.Taken.{Taken}
 use Rattle.lift_relay.specs.Scan.{ScansAhead, turns_in}

@@ -1,6 +1,6 @@
 use Rattle.std.proofs.Common.{ap, sym, ◌∙◌, ◌∷◌, []}
-use Rattle.lift_base.proofs.Words.{same_text}
-use Rattle.lift_base.proofs.Texts.{alone, pair}
+use Rattle.lift_base.specs.lemmas.Words.{same_text}
+use Rattle.lift_base.specs.lemmas.Texts.{alone, pair}
 use Rattle.lift_replay.proofs.Words.{both}
 use Rattle.lift_replay.proofs.parsing.outcome_of.Goals as goal
 

@@ -1,6 +1,6 @@
 use Rattle.std.proofs.Common.{ap, sym, ◌∙◌}
-use Rattle.lift_base.proofs.Texts.{first_and_others, none_weaker, texts}
-use Rattle.lift_base.proofs.Words.{same_text}
+use Rattle.lift_base.specs.lemmas.Texts.{first_and_others, none_weaker, texts}
+use Rattle.lift_base.specs.lemmas.Words.{same_text}
 use Rattle.lift_replay.proofs.Words.{one_line, turn_line}
 use Rattle.lift_replay.proofs.parsing.parse.Goals as goal
 

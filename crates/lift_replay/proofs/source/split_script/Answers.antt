@@ -1,6 +1,6 @@
 use Rattle.std.proofs.Common.{arith, rules, sym, ap, ◌∙◌, ◌++◌, ◌∷◌, [], string_bytes}
 use Rattle.std.proofs.lemmas.List.{append_assoc}
-use Rattle.lift_base.proofs.Words.{other_text}
+use Rattle.lift_base.specs.lemmas.Words.{other_text}
 use Rattle.lift_replay.specs.Source.{divider}
 use Rattle.lift_replay.proofs.Sources.{one_above}
 use Rattle.lift_replay.proofs.source.split_script.Goals as goal

@@ -2,9 +2,9 @@ use Rattle.std.proofs.Common.{List, ℕ, subst, sym, ap, ◌∙◌}
 use Rattle.std.specs.Prelude.{IfSome, IfNone}
 use Rattle.std.specs.Str.Lines.{strip_carriage_return}
 use Rattle.lift_base.specs.Text.{AreWords}
-use Rattle.lift_base.proofs.Texts.{texts}
+use Rattle.lift_base.specs.lemmas.Texts.{texts}
 use Rattle.lift_kiosk.specs.Lines.{Keeps65}
-use Rattle.lift_kiosk.proofs.Lines.{kept_whole}
+use Rattle.lift_kiosk.specs.lemmas.Lines.{kept_whole}
 use Rattle.lift_serve.specs.FirstLine.{SpeaksFor}
 use Rattle.lift_serve.proofs.FirstLines.{line_some, line_none, names_few_words}
 use Rattle.lift_serve.proofs.first_line.terminal_of.Goals as goal

@@ -1,12 +1,12 @@
 use Rattle.std.proofs.Common.{◌<◌, ◌≤◌, arith, sym, ◌∙◌, length, ◌≡◌, ◌==◌, true, get_or}
 use Rattle.std.proofs.lemmas.Bool.{ltb-true, ltb-false, eq-eqb}
 use Rattle.lift_stops.specs.Insertion.{rank_of}
-use Rattle.lift_stops.proofs.Insertion.{get_or-default, put-insert, put-same}
+use Rattle.lift_stops.specs.lemmas.Insertion.{get_or-default, put-insert, put-same}
 use Rattle.lift_base.specs.declared.travel.Dir.{Dir}
 use Rattle.lift_base.specs.declared.travel.Halt.{Halt}
 use Rattle.lift_stops.specs.StopList.{same_halt}
-use Rattle.lift_stops.proofs.Halts.{same_ranks}
-use Rattle.lift_stops.proofs.Listed.{halts_equal}
+use Rattle.lift_stops.specs.lemmas.Halts.{same_ranks}
+use Rattle.lift_stops.specs.lemmas.Listed.{halts_equal}
 use Rattle.lift_stops.proofs.stops.find_halt.Goals as goal
 
 pub returns-then-comes_before-clause-missing : goal.returns-then-comes_before-clause-missing

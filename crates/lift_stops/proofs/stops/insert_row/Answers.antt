@@ -1,4 +1,4 @@
-use Rattle.lift_stops.proofs.Halts.{stop_list-aboard, stop_list-waiting}
+use Rattle.lift_stops.specs.lemmas.Halts.{stop_list-aboard, stop_list-waiting}
 use Rattle.lift_stops.proofs.stops.insert_row.Goals as goal
 
 pub returns-then-row-clause-halts : goal.returns-then-row-clause-halts

@@ -4,8 +4,8 @@ use Rattle.std.proofs.lemmas.List.Elements.{All-append, All-cons, All-nil}
 use Rattle.lift_base.specs.declared.history.Row.{Row}
 use Rattle.lift_stops.specs.Parts.{AllDiffer}
 use Rattle.lift_stops.specs.StopList.{HasFloors, stop_list}
-use Rattle.lift_stops.proofs.Listed.{stops_differ}
-use Rattle.lift_stops.proofs.Halts.{stop_list-none, stop_list-own}
+use Rattle.lift_stops.specs.lemmas.Listed.{stops_differ}
+use Rattle.lift_stops.specs.lemmas.Halts.{stop_list-none, stop_list-own}
 use Rattle.lift_stops.proofs.stops.stop_list.Goals as goal
 
 pub loop-row-init : goal.loop-row-init

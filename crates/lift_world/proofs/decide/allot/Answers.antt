@@ -1,7 +1,7 @@
 use Rattle.std.proofs.Common.{[], sym, ◌∙◌}
 use Rattle.lift_world.specs.Carries.{state_with}
 use Rattle.lift_world.proofs.Carried.{call_known, call_clear}
-use Rattle.lift_world.proofs.Decisions.{call_fits}
+use Rattle.lift_world.specs.lemmas.Decisions.{call_fits}
 use Rattle.lift_world.proofs.decide.allot.Goals as goal
 
 pub call_at-call-requires : goal.call_at-call-requires

@@ -2,7 +2,7 @@ use Rattle.lift_world.proofs.Possibilities.{cuts_to_safe, cuts_with_batch, cuts_
 use Rattle.lift_world.proofs.Calls.{calls_in_order}
 use Rattle.lift_world.proofs.Given.{given_stays}
 use Rattle.lift_world.proofs.Asked.{asks_once_heard, hears_the_next}
-use Rattle.lift_world.proofs.Looks.{looks_are_takes, takes_need_looks}
+use Rattle.lift_world.specs.lemmas.Looks.{looks_are_takes, takes_need_looks}
 use Rattle.std.proofs.Common.{ℕ, ◌≡◌, ◌≤◌, ◌<◌, ◌+◌, ◌*◌, Bool, true, false, Option, None, [], zero, suc, replicate, leb, cond, refl, sym, ap, subst, arith}
 use Rattle.std.specs.List.{AllByRecursion}
 use Rattle.lift_base.specs.declared.travel.Position.{Position}
@@ -17,7 +17,7 @@ use Rattle.lift_base.specs.declared.command.Reply.{Reply}
 use Rattle.lift_policy.specs.Terminals.{kiosk_floor}
 use Rattle.lift_world.specs.declared.event.Taken.{Taken}
 use Rattle.lift_world.specs.World.{World, told_by, told_in, acknowledged}
-use Rattle.lift_world.proofs.Entries.{flat_map_held}
+use Rattle.lift_world.specs.lemmas.Entries.{flat_map_held}
 use Rattle.lift_world.proofs.theorem.events_are_possible.Goals as goal
 
 fills : (count : ℕ) (b : Bool) → leb count 31 ≡ b → count ≤ 63 → (16 * (1 + count) ≤ 512 * cond b 1 2) × (512 * cond b 1 2 < 16 * (1 + count) + 512)

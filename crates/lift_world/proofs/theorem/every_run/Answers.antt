@@ -1,11 +1,11 @@
 use Rattle.lift_world.specs.World.{start}
 use Rattle.lift_world.specs.Next.{run}
-use Rattle.lift_world.proofs.Heard.{run_hears, start_hears}
+use Rattle.lift_world.specs.lemmas.Heard.{run_hears, start_hears}
 use Rattle.lift_world.proofs.Given.{run_stores, start_stores}
 use Rattle.lift_world.proofs.Lawful.{recovers_records, accepts_records}
-use Rattle.lift_world.proofs.Ordered.{queue_in_order}
+use Rattle.lift_world.specs.lemmas.Ordered.{queue_in_order}
 use Rattle.lift_world.proofs.Queued.{run_queues, start_queues, run_holds, start_holds_nothing}
-use Rattle.lift_world.proofs.Counted.{all_ask_one_by_one}
+use Rattle.lift_world.specs.lemmas.Counted.{all_ask_one_by_one}
 use Rattle.lift_world.proofs.Few.{holds_few}
 use Rattle.lift_world.proofs.Short.{holds_few_entries}
 use Rattle.lift_world.proofs.Quiet.{flies_nothing_while_idle, reopens_in_place}

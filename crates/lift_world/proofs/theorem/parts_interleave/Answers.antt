@@ -9,7 +9,7 @@ use Rattle.lift_world.specs.World.{World}
 use Rattle.lift_world.specs.Next.{next, goes}
 use Rattle.lift_world.specs.Faults.{goes_on}
 use Rattle.lift_world.specs.Among.{StandAmong}
-use Rattle.lift_world.proofs.Steps.{then_from}
+use Rattle.lift_world.specs.lemmas.Steps.{then_from}
 use Rattle.lift_world.proofs.theorem.parts_interleave.Goals as goal
 
 stand_among : (events : List Event) (w after : World) → AllByRecursion (λ (e : Event). IsTrue (goes_on e)) events → goes events w ≡ Some after → StandAmong w events

@@ -1,4 +1,4 @@
-use Rattle.lift_world.proofs.Policies.{steps_are_any, runs_are_any}
+use Rattle.lift_world.specs.lemmas.Policies.{steps_are_any, runs_are_any}
 use Rattle.lift_world.proofs.theorem.policies_are_covered.Goals as goal
 
 pub returns : goal.returns

@@ -1,4 +1,4 @@
-use Rattle.lift_world.proofs.Goes.{goes_are_runs, runs_join}
+use Rattle.lift_world.specs.lemmas.Goes.{goes_are_runs, runs_join}
 use Rattle.lift_world.proofs.Beside.{terminals_pass}
 use Rattle.lift_world.proofs.theorem.terminals_pass.Goals as goal
 

@@ -1,5 +1,5 @@
 use Rattle.std.proofs.Common.{ap, ◌∙◌, ◌∷◌, []}
-use Rattle.lift_base.proofs.Texts.{alone, party_none}
+use Rattle.lift_base.specs.lemmas.Texts.{alone, party_none}
 use Rattle.lift_base.proofs.text.names.party_of_words.Goals as goal
 
 pub returns-in-Some-clause-none : goal.returns-in-Some-clause-none

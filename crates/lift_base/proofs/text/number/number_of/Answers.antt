@@ -1,6 +1,6 @@
 use Rattle.std.proofs.Common.{refl}
 use Rattle.std.proofs.lemmas.Bool.{false≢true}
-use Rattle.lift_base.proofs.Numbers.{plain_is_printed, no_other, not_plain}
+use Rattle.lift_base.specs.lemmas.Numbers.{plain_is_printed, no_other, not_plain}
 use Rattle.lift_base.proofs.text.number.number_of.Goals as goal
 
 pub returns-then-not-is_plain-clause-none : goal.returns-then-not-is_plain-clause-none

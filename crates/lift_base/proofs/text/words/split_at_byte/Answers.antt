@@ -2,7 +2,7 @@ use Rattle.std.proofs.Common.{◌≡◌, arith, slice_get, Some}
 use Rattle.std.proofs.lemmas.Grind.{common_steps}
 use Rattle.std.proofs.lemmas.Option.{slice_get_within, get_or_from_slice_get}
 use Rattle.std.proofs.lemmas.Str.{lead_after_ascii}
-use Rattle.lift_base.proofs.Words.{cut_at}
+use Rattle.lift_base.specs.lemmas.Words.{cut_at}
 use Rattle.lift_base.proofs.text.words.split_at_byte.Goals as goal
 
 pub range_from-requires : goal.range_from-requires

@@ -1,5 +1,5 @@
 use Rattle.std.proofs.Common.{arith, rules}
-use Rattle.lift_base.proofs.Words.{all_read, one_more, too_many}
+use Rattle.lift_base.specs.lemmas.Words.{all_read, one_more, too_many}
 use Rattle.lift_base.proofs.text.words.words_of.Goals as goal
 
 pub returns-in-None-clause-some : goal.returns-in-None-clause-some

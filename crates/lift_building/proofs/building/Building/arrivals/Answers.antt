@@ -1,6 +1,6 @@
 use Rattle.std.proofs.Common.{List, ℕ, subst, sym}
 use Rattle.lift_building.specs.Arrivals.{AreArrivals}
-use Rattle.lift_building.proofs.Times.{arrivals_are, arrivals_end}
+use Rattle.lift_building.specs.lemmas.Times.{arrivals_are, arrivals_end}
 use Rattle.lift_building.proofs.building.Building.arrivals.Goals as goal
 
 pub returns-clause-laws : goal.returns-clause-laws

@@ -4,7 +4,7 @@ use Rattle.lift_desk.specs.Words.{turn_of, last_of, ask_word}
 use Rattle.lift_desk.specs.Steps.{at_clerk, with_taking, is_new}
 use Rattle.lift_desk.specs.Seats.{ClerkPlace, is_seated, view_in}
 use Rattle.lift_desk.proofs.Keeps.{looks_ahead_keep, lt_true, taken_more}
-use Rattle.lift_desk.proofs.WordLists.{last_of-push}
+use Rattle.lift_desk.specs.lemmas.WordLists.{last_of-push}
 use Rattle.lift_desk.proofs.ahead.AheadPlace.take.Goals as goal
 
 pub load-word-requires : goal.load-word-requires

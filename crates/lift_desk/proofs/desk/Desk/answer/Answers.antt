@@ -1,7 +1,7 @@
 use Rattle.std.proofs.Common.{◌≡◌, length, map, sym, ap, ◌∙◌, arith}
 use Rattle.std.proofs.lemmas.List.{length-map}
 use Rattle.lift_desk.specs.Seats.{ClerkPlace}
-use Rattle.lift_desk.proofs.Places.{seated_refill, stays_refill, table_at}
+use Rattle.lift_desk.specs.lemmas.Places.{seated_refill, stays_refill, table_at}
 use Rattle.lift_desk.proofs.desk.Desk.answer.Goals as goal
 
 pub invariant_of-clerk : goal.invariant_of-clerk

@@ -1,7 +1,7 @@
 use Rattle.std.proofs.Common.{◌≡◌, length, map, sym, ap, ◌∙◌, arith}
 use Rattle.std.proofs.lemmas.List.{length-map}
 use Rattle.lift_desk.specs.Seats.{ClerkPlace}
-use Rattle.lift_desk.proofs.Places.{table_at}
+use Rattle.lift_desk.specs.lemmas.Places.{table_at}
 use Rattle.lift_desk.proofs.desk.Desk.note.Goals as goal
 
 pub note-requires-clause-table : goal.note-requires-clause-table

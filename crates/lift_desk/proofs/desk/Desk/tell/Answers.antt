@@ -1,6 +1,6 @@
 use Rattle.std.proofs.Common.{map, sym, ap, ◌∙◌}
 use Rattle.lift_desk.specs.Seats.{ClerkPlace}
-use Rattle.lift_desk.proofs.Places.{stays_refill}
+use Rattle.lift_desk.specs.lemmas.Places.{stays_refill}
 use Rattle.lift_desk.proofs.desk.Desk.tell.Goals as goal
 
 pub returns-clause-stays : goal.returns-clause-stays

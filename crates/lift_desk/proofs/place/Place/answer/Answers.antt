@@ -5,7 +5,7 @@ use Rattle.lift_desk.specs.Words.{turn_of, number_of, last_of}
 use Rattle.lift_desk.specs.Steps.{at_clerk, with_answer}
 use Rattle.lift_desk.specs.Seats.{is_seated, view_in}
 use Rattle.lift_desk.proofs.Keeps.{answers_keep, owes_one}
-use Rattle.lift_desk.proofs.WordLists.{last_of-push}
+use Rattle.lift_desk.specs.lemmas.WordLists.{last_of-push}
 use Rattle.lift_desk.proofs.place.Place.answer.Goals as goal
 
 pub store-requires : goal.store-requires

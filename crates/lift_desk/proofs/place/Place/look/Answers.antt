@@ -6,7 +6,7 @@ use Rattle.lift_desk.specs.Rule.{with_note}
 use Rattle.lift_desk.specs.Steps.{at_clerk, with_taking, is_new}
 use Rattle.lift_desk.specs.Seats.{is_seated, view_in}
 use Rattle.lift_desk.proofs.Keeps.{looks_keep, lt_true, taken_more}
-use Rattle.lift_desk.proofs.WordLists.{last_of-push}
+use Rattle.lift_desk.specs.lemmas.WordLists.{last_of-push}
 use Rattle.lift_desk.proofs.place.Place.look.Goals as goal
 
 pub load-word-requires : goal.load-word-requires

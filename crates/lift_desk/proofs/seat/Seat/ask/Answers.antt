@@ -2,7 +2,7 @@ use Rattle.std.proofs.Common.{◌≡◌, ℕ, ◌+◌, List, [], ◌∷◌, ◌+
 use Rattle.std.proofs.lemmas.List.{length_push}
 use Rattle.lift_desk.specs.Words.{number_of, last_of}
 use Rattle.lift_desk.proofs.Keeps.{asks_keep}
-use Rattle.lift_desk.proofs.WordLists.{last_of-push}
+use Rattle.lift_desk.specs.lemmas.WordLists.{last_of-push}
 use Rattle.lift_desk.proofs.seat.Seat.ask.Goals as goal
 
 pub store-requires : goal.store-requires

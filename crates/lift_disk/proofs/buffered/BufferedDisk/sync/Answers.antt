@@ -1,4 +1,4 @@
-use Rattle.lift_disk.proofs.History.{ok_items}
+use Rattle.lift_disk.specs.lemmas.History.{ok_items}
 use Rattle.lift_disk.proofs.Waiting.{sync_settles}
 use Rattle.lift_disk.proofs.buffered.BufferedDisk.sync.Goals as goal
 

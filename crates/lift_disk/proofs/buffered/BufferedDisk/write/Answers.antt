@@ -1,5 +1,5 @@
 use Rattle.std.proofs.Common.{arith, ap, ◌∙◌}
-use Rattle.lift_disk.proofs.History.{ok_items}
+use Rattle.lift_disk.specs.lemmas.History.{ok_items}
 use Rattle.lift_disk.proofs.Waiting.{push_goes_on, push_touched, push_settles, push_steady}
 use Rattle.lift_disk.proofs.buffered.BufferedDisk.write.Goals as goal
 

@@ -3,8 +3,8 @@ use Rattle.std.proofs.lemmas.List.{length-replicate}
 use Rattle.lift_disk.specs.Disk.{Image, ChangesWithin}
 use Rattle.lift_disk.specs.Memory.{IsFlagged, image_after}
 use Rattle.lift_disk.specs.Calls.{Call}
-use Rattle.lift_disk.proofs.History.{none_flagged}
-use Rattle.lift_disk.proofs.Moments.{changes_nothing}
+use Rattle.lift_disk.specs.lemmas.History.{none_flagged}
+use Rattle.lift_disk.specs.lemmas.Moments.{changes_nothing}
 use Rattle.lift_disk.proofs.memory.MemDisk.new.Goals as goal
 
 pub invariant_of-result : goal.invariant_of-result

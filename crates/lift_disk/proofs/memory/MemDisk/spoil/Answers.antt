@@ -1,7 +1,7 @@
 use Rattle.std.proofs.Common.{◌≡◌, ◌<◌, ℕ, Option, Some, IfSome, length, refl, subst, inl, inr, ⊎_elim, arith}
 use Rattle.lift_disk.specs.Memory.{IsFlagged}
-use Rattle.lift_disk.proofs.Moments.{changes_more}
-use Rattle.lift_disk.proofs.History.{flagged_set, spoil_goes_on, spoil_touches}
+use Rattle.lift_disk.specs.lemmas.Moments.{changes_more}
+use Rattle.lift_disk.specs.lemmas.History.{flagged_set, spoil_goes_on, spoil_touches}
 use Rattle.lift_disk.proofs.memory.MemDisk.spoil.Goals as goal
 
 -- a sector that is named is there

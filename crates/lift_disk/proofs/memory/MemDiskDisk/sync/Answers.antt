@@ -4,8 +4,8 @@ use Rattle.lift_disk.specs.Disk.{Image, ChangesWithin}
 use Rattle.lift_disk.specs.Memory.{image_after, IsFlagged}
 use Rattle.lift_disk.specs.Calls.{Call}
 use Rattle.lift_disk.specs.Calls.Call.{Sync}
-use Rattle.lift_disk.proofs.Moments.{changes_nothing}
-use Rattle.lift_disk.proofs.History.{image_after-push, none_flagged, sync_goes_on}
+use Rattle.lift_disk.specs.lemmas.Moments.{changes_nothing}
+use Rattle.lift_disk.specs.lemmas.History.{image_after-push, none_flagged, sync_goes_on}
 use Rattle.lift_disk.proofs.memory.MemDiskDisk.sync.Goals as goal
 
 pub invariant_of-self-clause-sized : goal.invariant_of-self-clause-sized

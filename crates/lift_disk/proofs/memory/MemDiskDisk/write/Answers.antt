@@ -4,7 +4,7 @@ use Rattle.lift_disk.specs.Disk.{Image}
 use Rattle.lift_disk.specs.Memory.{image_after}
 use Rattle.lift_disk.specs.Calls.{Call}
 use Rattle.lift_disk.specs.Calls.Call.{Write}
-use Rattle.lift_disk.proofs.History.{image_after-push, flagged_set, write_within, kept_write, write_goes_on}
+use Rattle.lift_disk.specs.lemmas.History.{image_after-push, flagged_set, write_within, kept_write, write_goes_on}
 use Rattle.lift_disk.proofs.memory.MemDiskDisk.write.Goals as goal
 
 pub invariant_of-self-clause-recorded : goal.invariant_of-self-clause-recorded

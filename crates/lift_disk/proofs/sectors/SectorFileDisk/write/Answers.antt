@@ -1,7 +1,7 @@
 use Rattle.std.proofs.Common.{◌*◌, [], ◌∷◌, ℕ, refl, sym, ◌∙◌, ap}
 use Rattle.lift_disk.specs.Trace.{Access}
 use Rattle.lift_disk.specs.Trace.Access.{Read, Write, Sync}
-use Rattle.lift_disk.proofs.History.{ok_items}
+use Rattle.lift_disk.specs.lemmas.History.{ok_items}
 use Rattle.lift_disk.proofs.Traces.{one_more}
 use Rattle.lift_disk.proofs.sectors.SectorFileDisk.write.Goals as goal
 

@@ -1,6 +1,6 @@
 use Rattle.std.proofs.Common.{◌*◌, [], ◌∷◌, sym, ◌∙◌, ap}
 use Rattle.lift_disk.specs.Trace.Access.{Read}
-use Rattle.lift_disk.proofs.History.{ok_items}
+use Rattle.lift_disk.specs.lemmas.History.{ok_items}
 use Rattle.lift_disk.proofs.Traces.{one_more}
 use Rattle.lift_disk.proofs.sectors.SectorFileRunDisk.read_run.Goals as goal
 

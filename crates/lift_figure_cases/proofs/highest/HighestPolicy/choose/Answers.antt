@@ -1,7 +1,7 @@
 use Rattle.std.proofs.Common.{◌≡◌, ◌≤◌, ◌<◌, ◌-◌, ◌+◌, ℕ, List, length, get_or, sym, subst, arith}
 use Rattle.std.proofs.lemmas.List.{get_or_default}
 use Rattle.lift_policy.specs.Eligible.{Rise}
-use Rattle.lift_policy.proofs.Least.{Rise-le}
+use Rattle.lift_policy.specs.lemmas.Least.{Rise-le}
 use Rattle.lift_figure_cases.specs.Highest.{IsHighest}
 use Rattle.lift_figure_cases.proofs.highest.HighestPolicy.choose.Goals as goal
 

@@ -1,17 +1,17 @@
 use Rattle.std.proofs.Common.{◌≡◌, ◌⊎◌, ◌++◌, ◌+◌, ◌-◌, false, nat_lt, inl, [], ◌∷◌, List, length, take, drop, sym, ◌∙◌, ap, subst, arith}
 use Rattle.lift_base.specs.declared.history.Record.{Record}
 use Rattle.lift_disk.specs.Disk.{Image, LeavesNow, LeavesOnly}
-use Rattle.lift_disk.proofs.Moments.{leaves_none}
+use Rattle.lift_disk.specs.lemmas.Moments.{leaves_none}
 use Rattle.lift_record.specs.declared.version.Version.TheVariants.{Two}
 use Rattle.lift_journal.specs.Layout.{Batch, new_batch, bodies, size_of, start_of, IsBody, Holds, Picks}
 use Rattle.lift_journal.specs.Stops.{StopsShort}
 use Rattle.lift_journal.specs.Journal.{ReadsAs, StandsFor, JournalView}
-use Rattle.lift_journal.proofs.Looking.{open_ok, open_err}
+use Rattle.lift_journal.specs.lemmas.Looking.{open_ok, open_err}
 use Rattle.lift_journal.proofs.Seeing.{bodies_few}
 use Rattle.lift_journal.proofs.Standing.{picks_synced, append_picks, gate_high, ready, append_leaves, append_stands, lists_leave, lists_stand, same_batches, stands_then}
 use Rattle.lift_journal.specs.Told.{NoneFails, LastFails}
 use Rattle.lift_journal.specs.Calls.{half_start, append_calls, StopsIn}
-use Rattle.lift_journal.proofs.Telling.{none_made}
+use Rattle.lift_journal.specs.lemmas.Telling.{none_made}
 use Rattle.lift_journal.proofs.Following.{begins_at}
 use Rattle.lift_journal.proofs.journal.Journal.append.Goals as goal
 

@@ -9,7 +9,7 @@ use Rattle.lift_journal.proofs.Cursors.{none_next, some_next, next_is, not_close
 use Rattle.lift_journal.proofs.Unique.{holds_unique}
 use Rattle.lift_journal.proofs.Walks.{seen_at}
 use Rattle.lift_journal.specs.Told.{NoneFails, LastFails}
-use Rattle.lift_journal.proofs.Telling.{none_made}
+use Rattle.lift_journal.specs.lemmas.Telling.{none_made}
 use Rattle.lift_journal.proofs.journal.Journal.next.Goals as goal
 
 pub returns-then-cursor-self-clause-gives : goal.returns-then-cursor-self-clause-gives

@@ -1,4 +1,4 @@
-use Rattle.lift_journal.proofs.Looking.{cause_told}
+use Rattle.lift_journal.specs.lemmas.Looking.{cause_told}
 use Rattle.lift_journal.proofs.Refusals.{good_refusal}
 use Rattle.lift_journal.proofs.Standing.{opens, picks_synced}
 use Rattle.std.proofs.Common.{◌+◌, ◌-◌, arith}

@@ -1,7 +1,7 @@
 use Rattle.std.proofs.Common.{◌≡◌, ◌+◌, ◌-◌, ◌++◌, ◌∙◌, nat_lt, arith, refl, sym, ap, subst}
 use Rattle.lift_journal.specs.Journal.{JournalView}
 use Rattle.lift_journal.specs.Opening.{Opens, Refuses}
-use Rattle.lift_journal.proofs.Looking.{cause_told}
+use Rattle.lift_journal.specs.lemmas.Looking.{cause_told}
 use Rattle.lift_journal.proofs.Refusals.{good_refusal}
 use Rattle.lift_journal.proofs.Standing.{opens, picks_synced}
 use Rattle.lift_journal.specs.Calls.{half_start, opening_calls}

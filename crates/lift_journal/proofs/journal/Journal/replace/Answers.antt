@@ -10,7 +10,7 @@ use Rattle.lift_journal.proofs.Replacing.{replace_picks, replace_second, replace
 use Rattle.lift_journal.proofs.Standing.{holds_synced, same_batches}
 use Rattle.lift_journal.specs.Stops.{StopsCheckpoint}
 use Rattle.lift_journal.specs.Told.{NoneFails, LastFails}
-use Rattle.lift_journal.proofs.Telling.{none_made}
+use Rattle.lift_journal.specs.lemmas.Telling.{none_made}
 use Rattle.lift_disk.specs.Trace.{Access}
 use Rattle.lift_journal.specs.Calls.{half_start, pick_of, checkpoint_calls, StopsIn}
 use Rattle.lift_journal.proofs.Following.{picked_at, calls_at}

@@ -1,4 +1,4 @@
-use Rattle.lift_keeper.proofs.Keepers.{decided_keeper, nothing_more}
+use Rattle.lift_keeper.specs.lemmas.Keepers.{decided_keeper, nothing_more}
 use Rattle.lift_keeper.proofs.keeper.Keeper.decide.Goals as goal
 
 pub invariant_of-self : goal.invariant_of-self

@@ -1,6 +1,6 @@
 use Rattle.std.proofs.Common.{◌∙◌, sym, ap}
 use Rattle.lift_keeper.specs.Decider.{DeciderState}
-use Rattle.lift_keeper.proofs.Keepers.{settled_keeper, nothing_more}
+use Rattle.lift_keeper.specs.lemmas.Keepers.{settled_keeper, nothing_more}
 use Rattle.lift_keeper.proofs.keeper.Keeper.open.Goals as goal
 
 pub invariant_of-result : goal.invariant_of-result

@@ -3,7 +3,7 @@ use Rattle.lift_register.specs.Register.{register_of}
 use Rattle.lift_keeper.specs.Decider.{DeciderState}
 use Rattle.lift_keeper.specs.Keeper.{KeeperView}
 use Rattle.lift_keeper.proofs.Writers.{not_both}
-use Rattle.lift_keeper.proofs.Keepers.{nothing_more}
+use Rattle.lift_keeper.specs.lemmas.Keepers.{nothing_more}
 use Rattle.lift_keeper.proofs.keeper.Keeper.part.Goals as goal
 
 pub returns-clause-equal : goal.returns-clause-equal

@@ -1,6 +1,6 @@
 use Rattle.std.proofs.Common.{⊎_elim}
 use Rattle.lift_keeper.proofs.Writers.{not_both}
-use Rattle.lift_keeper.proofs.Keepers.{settled_keeper, nothing_more}
+use Rattle.lift_keeper.specs.lemmas.Keepers.{settled_keeper, nothing_more}
 use Rattle.lift_keeper.proofs.keeper.Keeper.whole.Goals as goal
 
 pub invariant_of-result : goal.invariant_of-result

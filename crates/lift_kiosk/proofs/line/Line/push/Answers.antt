@@ -1,5 +1,5 @@
 use Rattle.std.proofs.Common.{rules}
-use Rattle.lift_kiosk.proofs.Lines.{keeps_no_more, keeps_one_more}
+use Rattle.lift_kiosk.specs.lemmas.Lines.{keeps_no_more, keeps_one_more}
 use Rattle.lift_kiosk.proofs.line.Line.push.Goals as goal
 
 pub returns-then-is_full : goal.returns-then-is_full

@@ -1,7 +1,7 @@
 use Rattle.std.proofs.Common.{List, sym, subst}
 use Rattle.lift_base.specs.declared.history.Row.{Row}
 use Rattle.lift_cost.specs.Calls.{AreWithin}
-use Rattle.lift_policy.proofs.Views.{shown, rows_within}
+use Rattle.lift_policy.specs.lemmas.Views.{shown, rows_within}
 use Rattle.lift_policy.proofs.policies.Etd.cost.Goals as goal
 
 pub cost_of-requires-clause-calls : goal.cost_of-requires-clause-calls

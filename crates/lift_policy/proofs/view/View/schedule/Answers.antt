@@ -1,5 +1,5 @@
 use Rattle.std.proofs.Common.{◌∙◌, None, arith}
-use Rattle.lift_policy.proofs.Views.{seen_at}
+use Rattle.lift_policy.specs.lemmas.Views.{seen_at}
 use Rattle.lift_policy.proofs.view.View.schedule.Goals as goal
 
 pub returns-in-None : goal.returns-in-None

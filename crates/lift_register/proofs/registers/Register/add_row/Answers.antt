@@ -1,8 +1,8 @@
 use Rattle.std.proofs.Common.{◌<◌, subst, sym, length}
 use Rattle.lift_register.specs.Rows.{row_lists}
 use Rattle.lift_register.specs.Register.{RegisterState, rows_of}
-use Rattle.lift_register.proofs.HistoryLemmas.{state_of}
-use Rattle.lift_register.proofs.KeptLemmas.{IsWellFormed-row}
+use Rattle.lift_register.specs.lemmas.HistoryLemmas.{state_of}
+use Rattle.lift_register.specs.lemmas.KeptLemmas.{IsWellFormed-row}
 use Rattle.lift_register.proofs.registers.Register.add_row.Goals as goal
 
 pub invariant_of-self : goal.invariant_of-self

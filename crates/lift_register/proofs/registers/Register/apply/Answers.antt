@@ -7,9 +7,9 @@ use Rattle.lift_register.specs.Register.{waiting_row}
 use Rattle.lift_register.specs.Balanced.{IsBalanced}
 use Rattle.lift_register.specs.Belongs.{BelongsTo}
 use Rattle.lift_register.specs.Fits.{Fits}
-use Rattle.lift_register.proofs.EntryLemmas.{register_of-allot, register_of-stop}
-use Rattle.lift_register.proofs.KeptLemmas.{has_room, countable}
-use Rattle.lift_register.proofs.Laws.{history-step, IsRecord-fitting, IsBalanced-entry, BelongsTo-entry}
+use Rattle.lift_register.specs.lemmas.EntryLemmas.{register_of-allot, register_of-stop}
+use Rattle.lift_register.specs.lemmas.KeptLemmas.{has_room, countable}
+use Rattle.lift_register.specs.lemmas.Laws.{history-step, IsRecord-fitting, IsBalanced-entry, BelongsTo-entry}
 use Rattle.lift_register.proofs.registers.Register.apply.Goals as goal
 
 pub allot-requires-clause-room : goal.allot-requires-clause-room

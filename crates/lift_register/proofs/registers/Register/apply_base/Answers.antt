@@ -3,7 +3,7 @@ use Rattle.lift_base.specs.Records.{IsRecord}
 use Rattle.lift_base.specs.declared.history.Record.{Record}
 use Rattle.lift_base.specs.declared.history.Record.TheVariants.{Row as RowRecord}
 use Rattle.lift_register.specs.Base.{BaseFits}
-use Rattle.lift_register.proofs.KeptLemmas.{has_room, BelongsTo-row}
+use Rattle.lift_register.specs.lemmas.KeptLemmas.{has_room, BelongsTo-row}
 use Rattle.lift_register.proofs.registers.Register.apply_base.Goals as goal
 
 pub add_row-requires-clause-room : goal.add_row-requires-clause-room

@@ -1,6 +1,6 @@
 use Rattle.std.proofs.Common.{refl}
 use Rattle.lift_register.proofs.ReadLemmas.{length-base_records}
-use Rattle.lift_register.proofs.BaseLemmas.{IsRecord-base_records, with_records-base_records, BaseFitFrom-base_records}
+use Rattle.lift_register.specs.lemmas.BaseLemmas.{IsRecord-base_records, with_records-base_records, BaseFitFrom-base_records}
 use Rattle.lift_register.proofs.registers.Register.base_len.Goals as goal
 
 pub returns-clause-value : goal.returns-clause-value

@@ -5,7 +5,7 @@ use Rattle.lift_base.specs.declared.history.Record.TheVariants.{Row as RowRecord
 use Rattle.lift_register.specs.Base.{base_records, last_records}
 use Rattle.lift_register.specs.Register.{terminals}
 use Rattle.lift_register.proofs.ReadLemmas.{base_record-row, base_record-past_rows, base_record-last, base_record-done}
-use Rattle.lift_register.proofs.BaseLemmas.{IsRecord-base_records, All-slice_get}
+use Rattle.lift_register.specs.lemmas.BaseLemmas.{IsRecord-base_records, All-slice_get}
 use Rattle.lift_register.proofs.registers.Register.base_record.Goals as goal
 
 pub overflow_sub-place : goal.overflow_sub-place

@@ -2,7 +2,7 @@ use Rattle.std.proofs.Common.{subst, sym, arith}
 use Rattle.lift_register.specs.WellFormed.{IsWellFormed}
 use Rattle.lift_register.specs.Balanced.{IsBalanced}
 use Rattle.lift_register.specs.Belongs.{BelongsTo}
-use Rattle.lift_register.proofs.Laws.{IsWellFormed-empty, IsBalanced-empty, BelongsTo-empty}
+use Rattle.lift_register.specs.lemmas.Laws.{IsWellFormed-empty, IsBalanced-empty, BelongsTo-empty}
 use Rattle.lift_register.proofs.ReadLemmas.{empty-made}
 use Rattle.lift_register.proofs.registers.Register.empty.Goals as goal
 

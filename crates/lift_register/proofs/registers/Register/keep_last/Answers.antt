@@ -1,7 +1,7 @@
 use Rattle.lift_register.specs.Rows.{row_lists}
 use Rattle.lift_register.specs.Register.{RegisterState}
-use Rattle.lift_register.proofs.HistoryLemmas.{state_of}
-use Rattle.lift_register.proofs.KeptLemmas.{IsWellFormed-last}
+use Rattle.lift_register.specs.lemmas.HistoryLemmas.{state_of}
+use Rattle.lift_register.specs.lemmas.KeptLemmas.{IsWellFormed-last}
 use Rattle.lift_register.proofs.registers.Register.keep_last.Goals as goal
 
 pub invariant_of-self : goal.invariant_of-self

@@ -1,6 +1,6 @@
 use Rattle.std.proofs.Common.{arith}
 use Rattle.lift_register.specs.Register.{last_number}
-use Rattle.lift_register.proofs.Sums.{sum_by-range_more}
+use Rattle.lift_register.specs.lemmas.Sums.{sum_by-range_more}
 use Rattle.lift_register.proofs.ReadLemmas.{sum_over_all_kiosks}
 use Rattle.lift_register.proofs.registers.Register.numbered_calls.Goals as goal
 

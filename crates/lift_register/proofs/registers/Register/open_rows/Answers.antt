@@ -6,7 +6,7 @@ use Rattle.lift_base.specs.declared.history.Row.{Row}
 use Rattle.lift_base.specs.declared.history.Record.TheVariants.{Row as RowRecord}
 use Rattle.lift_register.specs.Register.{RegisterState, rows_of}
 use Rattle.lift_register.specs.Rows.{row_lists}
-use Rattle.lift_register.proofs.HistoryLemmas.{state_of}
+use Rattle.lift_register.specs.lemmas.HistoryLemmas.{state_of}
 use Rattle.lift_register.proofs.ReadLemmas.{row_lists-at}
 use Rattle.lift_register.proofs.registers.Register.open_rows.Goals as goal
 

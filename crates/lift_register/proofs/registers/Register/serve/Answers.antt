@@ -2,8 +2,8 @@ use Rattle.std.proofs.Common.{◌≡◌, ◌+◌, ◌≤◌, subst, sym, length,
 use Rattle.lift_register.specs.Rows.{row_lists}
 use Rattle.lift_register.specs.Register.{RegisterState, rows_of}
 use Rattle.lift_register.specs.Steps.{ended_by}
-use Rattle.lift_register.proofs.HistoryLemmas.{state_of}
-use Rattle.lift_register.proofs.KeptLemmas.{IsWellFormed-stop}
+use Rattle.lift_register.specs.lemmas.HistoryLemmas.{state_of}
+use Rattle.lift_register.specs.lemmas.KeptLemmas.{IsWellFormed-stop}
 use Rattle.lift_register.proofs.registers.Register.serve.Goals as goal
 
 pub invariant_of-self : goal.invariant_of-self

@@ -5,7 +5,7 @@ use Rattle.lift_clerk.specs.declared.counts.Counts.{Counts}
 use Rattle.lift_building.specs.Plan.{Plan}
 use Rattle.lift_policy.specs.Eligible.{any_eligible}
 use Rattle.lift_policy.specs.Run.{Run}
-use Rattle.lift_world.proofs.Policies.{runs_are_any}
+use Rattle.lift_world.specs.lemmas.Policies.{runs_are_any}
 use Rattle.lift_relay.specs.Batch.{BatchState, commands_in, replies_in}
 use Rattle.lift_relay.specs.Line.{SendState, Begins, WasFull}
 use Rattle.lift_relay.specs.Allocator.{AllocatorState, IsAllocation}

@@ -3,8 +3,8 @@ use Rattle.std.specs.List.{All}
 use Rattle.lift_stops.specs.StopList.{HasFloors, stop_list}
 use Rattle.lift_stops.specs.Parts.{AllDiffer}
 use Rattle.lift_stops.specs.Schedule.{ScheduleState}
-use Rattle.lift_stops.proofs.Listed.{stops_differ}
-use Rattle.lift_stops.proofs.Halts.{stop_list-own}
+use Rattle.lift_stops.specs.lemmas.Listed.{stops_differ}
+use Rattle.lift_stops.specs.lemmas.Halts.{stop_list-own}
 use Rattle.lift_stops.proofs.Passing.{tally-stops}
 use Rattle.lift_stops.proofs.schedule.Schedule.halts.Goals as goal
 

@@ -3,7 +3,7 @@ use Rattle.std.specs.Prelude.{find, reverse}
 use Rattle.lift_policy.specs.declared.command.Command.{Command}
 use Rattle.lift_world.specs.World.{World, asks}
 use Rattle.lift_world.specs.Next.{may_take}
-use Rattle.lift_world.proofs.Steps.{taken_next}
+use Rattle.lift_world.specs.lemmas.Steps.{taken_next}
 use Rattle.lift_world.proofs.world.World.take.Goals as goal
 
 pub returns-in-Some-clause-ok : goal.returns-in-Some-clause-ok

@@ -1,0 +1,5 @@
+pub mod Limits
+pub mod Times
+pub mod Getters
+pub mod Described
+pub mod Again

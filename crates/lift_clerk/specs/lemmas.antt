@@ -1,0 +1,10 @@
+pub mod Visiting
+pub mod Scanned
+pub mod Lists
+pub mod Served
+pub mod Standing
+pub mod Words
+pub mod Asked
+pub mod Turned
+pub mod Reopened
+pub mod Groups

@@ -1,0 +1,4 @@
+pub mod Telling
+pub mod Chains
+pub mod Orders
+pub mod Looking

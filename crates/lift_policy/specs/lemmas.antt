@@ -1,0 +1,4 @@
+pub mod Views
+pub mod Least
+pub mod Steps
+pub mod Joins

@@ -1,0 +1,12 @@
+pub mod Moves
+pub mod Phases
+pub mod Leads
+pub mod Counted
+pub mod Heard
+pub mod Entries
+pub mod Decisions
+pub mod Steps
+pub mod Goes
+pub mod Looks
+pub mod Ordered
+pub mod Policies
