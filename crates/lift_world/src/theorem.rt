@@ -1,12 +1,23 @@
 //! What holds of the machine.
-ghost use Rattle.std.specs.Prelude.{ℕ, ◌≤◌, List};
+ghost use Rattle.std.specs.Prelude.{ℕ, ◌≡◌, ◌≢◌, ◌<◌, ◌≤◌, ◌⊎◌, ◌↔◌, false, List, filter, Contains, IsTrue};
 ghost use Rattle.std.specs.List.{AllByRecursion};
+ghost use Rattle.lift_base.specs.declared.travel.Dir.{Dir};
+ghost use Rattle.lift_base.specs.declared.travel.Position.{Position};
+ghost use Rattle.lift_base.specs.declared.history.Entry.{Entry};
+ghost use Rattle.lift_base.specs.declared.history.Entry.TheVariants.{Allot};
+ghost use Rattle.lift_base.specs.declared.history.Row.{Row};
+ghost use Rattle.lift_base.specs.declared.command.Body.TheVariants.{Call as Calling, Stop as Stopping, Place};
 ghost use Rattle.lift_building.specs.Plan.{Plan, IsBuilding};
+ghost use Rattle.lift_register.specs.Register.{Call, rows_of, calls_in, waiting_row, status};
+ghost use Rattle.lift_register.specs.Status.{Done};
+ghost use Rattle.lift_stops.specs.StopList.{stop_list, is_halt_of, halts_of};
 ghost use Rattle.lift_policy.specs.Step.{State};
 ghost use Rattle.lift_policy.specs.declared.command.Command.{Command};
 ghost use Rattle.lift_world.specs.Next.{run};
+ghost use Rattle.lift_world.specs.declared.event.Kept.{Kept};
+ghost use Rattle.lift_world.specs.declared.event.Event.TheVariants.{Ask, Cut, Reopen};
 ghost use Rattle.lift_world.specs.Headline.{RecoversPrefix, RecoversAcknowledged, RecoversLetters, RecoversFitting, HearsInOrder, SealsAccepted, StoresGiven, QueuesFew, HoldsNothingWhileOff, AllAskOneByOne, IsOfTerminal, HoldsFew};
-ghost use Rattle.lift_world.specs.World.{World, start};
+ghost use Rattle.lift_world.specs.World.{World, start, register_after, outcome, may_keep, acknowledged};
 ghost use Rattle.lift_world.specs.Possible.{CutsToSafe, CutsWithBatch, CutsGive, ReopensAfterCut, OnlyReopensAfterCut, ReopensAfterFault, ReopeningsGive, ReopensWhileQuiet};
 ghost use Rattle.lift_world.specs.Possible.{AsksOnceHeard, HearsTheNext, TakesNeedLooks, Seals, PullsInTurn, CallsInOrder, AnswersDue, AnswersOnlyDue, GivenStays, FillsSectors, AcknowledgesReplies, StoresTheReply, ReopeningsUnplace};
 ghost use Rattle.lift_world.specs.Asking.{AsksStand};
@@ -18,25 +29,29 @@ ghost use Rattle.lift_world.specs.Lawful.{IsTypedEvent, RecoversRecords, Accepts
 ghost use Rattle.lift_world.specs.Policies.{StepsAreAny, RunsAreAny};
 ghost use Rattle.lift_world.specs.Due.{DueOnceSafe};
 ghost use Rattle.lift_world.specs.Faults.{FaultsLeaveDoubt, OnlyFaultsBreak, UnknownAfterFault, UnknownOverReopening};
+ghost use Rattle.lift_world.specs.Faults.{goes_on};
 ghost use Rattle.lift_world.specs.Tie.{TakesAreSteps, StepsAreTakes, LooksAreTakes};
 ghost use Rattle.lift_world.specs.Turns.{HasRun, RunsAreTakes, TurnsAreRuns, FailuresAreRuns, BrokenTurnsAreRuns, BrokenTurnsChangeNothing};
 ghost use Rattle.lift_world.specs.Turns.{IsAtRest, TurnsEndAtRest, FailuresEndAtRest, BrokenTurnsEndAtRest, ReopeningsEndAtRest, CutsEndAtRest};
 ghost use Rattle.lift_world.specs.Turns.{RunningReopeningsEndAtRest, FailedReopeningsEndAtRest};
-ghost use Rattle.lift_world.specs.Headline.{FliesNothingWhileIdle, ReopensInPlace};
+ghost use Rattle.lift_world.specs.Headline.{FliesNothingWhileIdle, ReopensInPlace, IsOpenWith, IsDone, StillNames};
 ghost use Rattle.lift_world.specs.Outcomes.{OutcomesStay, GatesOfferBatches, SyncsKeepBatches, ReopeningsKeepOne};
 ghost use Rattle.lift_world.specs.Short.{HoldsFewEntries};
 
 use crate::event::Event;
+use lift_base::{Body, Number, Terminal};
 use lift_policy::Policy;
 
 /// What holds at each point of every run, whatever comes: each recovery that a power cut or a fault may lead to gives a
 /// prefix of what was accepted, has every acknowledged entry, still names the car of each letter that was shown, and is
-/// refused for no entry. All that was accepted fits, one entry after another, and is a record of the journal where asks are
-/// as their types hold them. What is acknowledged or shown is read from what was given, and each stored answer is that of
-/// a command given. Each terminal asks one by one, and hears what it was answered, in order and each once. At most five
-/// batches are queued, and where asks are of the 63 terminals none of more than 63 commands, nor, while running, of more entries; between batches
-/// none is in flight, and a reopening while nothing failed unplaces the cars alone; a cut leaves no command on its way; and
-/// what is sealed is a front of what is accepted, which a scan's law asks for.
+/// refused for no entry. The call of such a letter is open, and its remaining stops stand in order in its car's list
+/// wherever the car is, or it is done. All that was accepted fits, one entry after another, and is a record of the
+/// journal where asks are as their types hold them. What is acknowledged or shown is read from what was given, and each
+/// stored answer is that of a command given. Each terminal asks one by one, and hears what it was answered, in order
+/// and each once. At most five batches are queued, and where asks are of the 63 terminals none of more than 63
+/// commands, nor, while running, of more entries; between batches none is in flight, and a reopening while nothing
+/// failed unplaces the cars alone; a cut leaves no command on its way; and what is sealed is a front of what is
+/// accepted, which a scan's law asks for.
 pub fn every_run()
     ensures prefix { (building : Plan) (events : List Event) → IsBuilding building
         → RecoversPrefix (run events (start building)) }
@@ -44,6 +59,14 @@ pub fn every_run()
         → RecoversAcknowledged (run events (start building)) }
     ensures letters { (building : Plan) (events : List Event) → IsBuilding building
         → RecoversLetters (run events (start building)) }
+    ensures remaining { (building : Plan) (events : List Event) (kept : Kept) (kiosk number from to car party : ℕ)
+        → let w = run events (start building) in let entries = outcome w kept in
+        let rows = rows_of (register_after entries) car in let waiting = waiting_row kiosk number from to car party in
+        IsBuilding building → IsTrue (may_keep w kept)
+        → Contains (acknowledged w) (Allot kiosk number from to car party)
+        → ((row : Row) × (record row { aboard = false } ≡ waiting) × Contains rows row
+        × ((position : Position) → filter (is_halt_of position row) (stop_list rows position) ≡ halts_of position row))
+        ⊎ ((call : Call) × (call.row ≡ waiting) × Contains (calls_in entries) call × (status call ≡ Done)) }
     ensures fitting { (building : Plan) (events : List Event) → IsBuilding building
         → RecoversFitting (run events (start building)) }
     ensures lawful { (building : Plan) (events : List Event) → IsBuilding building → AllByRecursion IsTypedEvent events
@@ -208,3 +231,62 @@ pub fn policies_are_covered<P: Policy>()
     ensures steps { (policy : P) → StepsAreAny (P.chooses policy) }
     ensures runs { (policy : P) → RunsAreAny (P.chooses policy) }
 {}
+
+/// What definitions of these laws say, spelled out. A letter still names its car where the call is open there, with its
+/// remaining stops in order in the car's list wherever the car is, or is done. Asks alone are bound to ranges: those of
+/// their types, and the 63 terminals. All events go on but a cut and a reopening.
+pub fn definitions_are_exact()
+    ensures open_call { (entries : List Entry) (kiosk number from to car party : ℕ)
+        → let rows = rows_of (register_after entries) car in let waiting = waiting_row kiosk number from to car party in
+        IsOpenWith entries kiosk number from to car party
+        ↔ ((row : Row) × (record row { aboard = false } ≡ waiting) × Contains rows row
+        × ((position : Position)
+        → filter (is_halt_of position row) (stop_list rows position) ≡ halts_of position row)) }
+    ensures done_call { (entries : List Entry) (kiosk number from to car party : ℕ)
+        → IsDone entries kiosk number from to car party
+        ↔ ((call : Call) × (call.row ≡ waiting_row kiosk number from to car party) × Contains (calls_in entries) call
+        × (status call ≡ Done)) }
+    ensures letter { (entries : List Entry) (kiosk number from to car party : ℕ)
+        → StillNames entries (Allot kiosk number from to car party)
+        ↔ (IsOpenWith entries kiosk number from to car party ⊎ IsDone entries kiosk number from to car party) }
+    ensures typed_call { (terminal number floor party : ℕ) → IsTypedEvent (Ask terminal number (Calling floor party))
+        ↔ ((terminal ≤ 62) × (number ≤ 16777215) × (floor ≤ 63) × (1 ≤ party) × (party ≤ 15)) }
+    ensures typed_stop { (terminal number floor : ℕ) (dir : Dir)
+        → IsTypedEvent (Ask terminal number (Stopping floor dir))
+        ↔ ((terminal ≤ 62) × (number ≤ 16777215) × (floor ≤ 63)) }
+    ensures typed_place { (terminal number floor : ℕ) (dir : Dir)
+        → IsTypedEvent (Ask terminal number (Place floor dir))
+        ↔ ((terminal ≤ 62) × (number ≤ 16777215) × (floor ≤ 63)) }
+    ensures typed_others { (event : Event)
+        → ((terminal number : ℕ) (body : Body) → event ≢ Ask terminal number body) → IsTypedEvent event }
+    ensures of_terminal { (terminal number : ℕ) (body : Body)
+        → IsOfTerminal (Ask terminal number body) ↔ (terminal < 63) }
+    ensures of_terminal_others { (event : Event)
+        → ((terminal number : ℕ) (body : Body) → event ≢ Ask terminal number body) → IsOfTerminal event }
+    ensures going_on { (event : Event) → IsTrue (goes_on event)
+        ↔ (((kept : Kept) → event ≢ Cut kept) × ((kept : Kept) → event ≢ Reopen kept)) }
+{}
+
+/// Each event that the types hold meets the premises on asks.
+pub fn events_are_typed(event: &Event)
+    ensures typed { IsTypedEvent event.now }
+    ensures of_terminal { IsOfTerminal event.now }
+{
+    if let Event::Ask(terminal, number, body) = event {
+        note_ask(*terminal, *number, body);
+    }
+}
+
+fn note_ask(terminal: Terminal, number: Number, body: &Body)
+    ensures typed { IsTypedEvent (Ask terminal number body.now) }
+    ensures of_terminal { terminal < 63 }
+{
+    prove!(terminal.get() <= 62 && number.get() <= 16_777_215);
+    match body {
+        Body::Call(floor, party) => {
+            prove!(floor.get() <= 63 && party.get() >= 1 && party.get() <= 15);
+        }
+        Body::Stop(floor, _) => prove!(floor.get() <= 63),
+        Body::Place(floor, _) => prove!(floor.get() <= 63),
+    }
+}

@@ -11,7 +11,7 @@ use Rattle.lift_world.proofs.Short.{holds_few_entries}
 use Rattle.lift_world.proofs.Quiet.{flies_nothing_while_idle, reopens_in_place}
 use Rattle.lift_world.proofs.Sealed.{run_seals, start_seals}
 use Rattle.lift_world.proofs.Consistent.{start_holds, run_keeps, recovers_prefix, recovers_acknowledged, recovers_fitting, accepts_fitting}
-use Rattle.lift_world.proofs.Letters.{recovers_letters}
+use Rattle.lift_world.proofs.Letters.{recovers_letters, remaining_stops}
 use Rattle.lift_world.proofs.theorem.every_run.Goals as goal
 
 pub returns-clause-prefix : goal.returns-clause-prefix
@@ -24,6 +24,10 @@ returns-clause-acknowledged c building events sound =
 pub returns-clause-letters : goal.returns-clause-letters
 returns-clause-letters c building events sound =
     recovers_letters (run events (start building)) (run_keeps events (start building) (start_holds building sound))
+
+pub returns-clause-remaining : goal.returns-clause-remaining
+returns-clause-remaining c building events kept kiosk number from to car party sound may told =
+    remaining_stops (run events (start building)) (run_keeps events (start building) (start_holds building sound)) kept kiosk number from to car party may told
 
 pub returns-clause-fitting : goal.returns-clause-fitting
 returns-clause-fitting c building events sound =
