@@ -129,6 +129,19 @@ fn last_seat(_desk: &Desk, seats: &mut Vec<Seat>) -> Seat
     seats.pop().unwrap()
 }
 
+/// The seats of both kiosks, the last two of 18.
+fn kiosk_seats(desk: &Desk, seats: &mut Vec<Seat>) -> (Seat, Seat)
+    requires at { AreSeatsOf desk.now seats.old.items }
+    requires count { vec_len seats.old ≡ 18 }
+    ensures seats { IsSeatOf desk.now result.0 × IsSeatOf desk.now result.1 }
+    ensures rest { AreSeatsOf desk.now seats.new.items }
+    ensures left { vec_len seats.new ≡ 16 }
+{
+    let second = last_seat(desk, seats);
+    let first = last_seat(desk, seats);
+    (first, second)
+}
+
 /// Cars A and B say where they stand: the last two of the seats that are left, those of 16 cars.
 fn cars_ask(desk: &Desk, mut seats: Vec<Seat>)
     requires at { AreSeatsOf desk.now seats.items }
@@ -154,8 +167,7 @@ fn meet_both<R: Threads + Abort + Sync>(rt: &R, alloc: Global) -> Result<(), Fai
     } = Desk::open(alloc, 18).ok().ok_or("memory")?;
     let keeper = opened(formatted(alloc, &building)?, &building)?;
     let mut clerk = Clerk::new(&desk, clerk, keeper, Etd);
-    let second = last_seat(&desk, &mut seats);
-    let first = last_seat(&desk, &mut seats);
+    let (first, second) = kiosk_seats(&desk, &mut seats);
     cars_ask(&desk, seats);
     let _placed = clerk.turn();
     let (kiosks, clerk) = all_three(rt, &desk, first, second, clerk);
