@@ -127,14 +127,14 @@ impl<'s> Gate for Pace<'s> {
 
     fn has_flushed<R: Wait>(&self, _rt: &R, count: u64) {
         self.flushed.store(count, Ordering::SeqCst);
-        // The next batch is decided while the terminals of this one are woken. Once it is sent, it comes first: the
-        // allocator wakes the others.
-        self.bells.room.unpark();
+        // Whoever is answered may ask again before the next batch is decided, which is fuller then. One that was decided
+        // ahead comes first: the allocator wakes the others.
         for pager in self.pagers {
             if self.sent.load(Ordering::SeqCst) > count {
-                return;
+                break;
             }
             pager.is_flushed(count);
         }
+        self.bells.room.unpark();
     }
 }
