@@ -1,7 +1,7 @@
--- A call that joins makes no other call's passengers arrive earlier.
-use Rattle.std.proofs.Common.{◌≡◌, ℕ, ◌+◌, ◌*◌, ◌≤◌, ◌<◌, Bool, true, false, cond, List, [], ◌∷◌, ◌++◌, length, get_or, drop, Contains, refl, sym, ap, ◌∙◌, arith, sum_by}
-use Rattle.std.proofs.lemmas.List.Elements.{All-contains_itself, recursion_from_All, All-push}
-use Rattle.std.proofs.Math.Nat.{mul-le-mul_left}
+-- What a new call adds to the times of all passengers, and how long arrivals take.
+use Rattle.std.proofs.Common.{◌≡◌, ℕ, ◌+◌, ◌*◌, ◌≤◌, ◌<◌, Bool, true, false, cond, All, List, [], ◌∷◌, ◌++◌, length, get_or, drop, Contains, refl, sym, ap, subst, ◌∙◌, arith, sum_by}
+use Rattle.std.proofs.lemmas.List.Elements.{All-contains_itself, All-from_recursion, recursion_from_All, All-push, Contains-push}
+use Rattle.std.proofs.Math.Nat.{mul-add}
 use Rattle.std.proofs.lemmas.List.{drop_more}
 use Rattle.std.proofs.lemmas.List.Sums.{sum_by-cons, sum_by_push}
 use Rattle.std.specs.List.{AllByRecursion}
@@ -10,17 +10,16 @@ use Rattle.lift_base.specs.declared.travel.Position.{Position}
 use Rattle.lift_base.specs.declared.history.Row.{Row}
 use Rattle.lift_building.specs.Plan.{Plan, flight_ms, IsBuilding}
 use Rattle.lift_building.specs.Arrivals.{arrivals_from}
+use Rattle.lift_stops.specs.Parts.{IsPartOf, has_halt, AllDiffer}
 use Rattle.lift_stops.specs.StopList.{same_halt, halt_at, stop_list, legs_of}
 use Rattle.lift_stops.specs.lemmas.Listed.{stops_differ, stops_stay, stops_at_legs, stops_have}
 use Rattle.lift_cost.specs.Calls.{AreWithin}
 use Rattle.lift_cost.specs.Cost.{moment_at, arrival_at, etd, total_etd}
+use Rattle.lift_cost.specs.Timetable.{place_of, AreDelays}
 use Rattle.lift_building.specs.lemmas.Times.{flight_short}
-use Rattle.lift_cost.proofs.Earlier.{AllBelow, IsAhead, earlier}
+use Rattle.lift_cost.proofs.Earlier.{AllBelow}
 
--- ---- an open call's passengers
-
-nobody_ahead : (plan : Plan) (a : ℕ) → IsAhead plan a 0 a 0
-nobody_ahead plan a = record { no_later = λ f f-in. omega arith }
+-- ---- the halts with a new call
 
 abbrev Within : ℕ → Row → Type 0
 Within floors row = (row.from < floors) × (row.to < floors)
@@ -37,46 +36,68 @@ all_legs floors (row ∷ rows) inside = (legs_within floors row.aboard row.from 
 stops_within : (floors : ℕ) (rows : List Row) (position : Position) → AreWithin floors rows → AllBelow floors (stop_list rows position)
 stops_within floors rows position inside = stops_at_legs (λ floor. floor < floors) rows position (all_legs floors rows (recursion_from_All (Within floors) rows inside))
 
--- an open call's passengers arrive no earlier where one more call joins
-pub etd_stays : (plan : Plan) → IsBuilding plan → (position : Position) (rows : List Row) (new row : Row) → position.floor < plan.floors → AreWithin plan.floors (rows ++ new ∷ []) → Contains rows row → row.to < plan.floors
-    → etd plan position rows row ≤ etd plan position (rows ++ new ∷ []) row
-unfolding etd
-etd_stays plan lawful position rows new row here inside among to-in =
-    earlier plan lawful.no_detour (halt_at position row row.to) (stop_list rows position) (stop_list (rows ++ new ∷ []) position) position.floor 0 position.floor 0 here
-    (stops_within plan.floors (rows ++ new ∷ []) position inside) (stops_differ (rows ++ new ∷ []) position) (stops_stay rows new position)
-    (stops_have rows row position among (omega (arith, lawful.limits.few_floors))) (nobody_ahead plan position.floor)
+-- what the halts with a new call are, beside those without it
+pub record AreJoined (plan : Plan) (halts halts_with : List Halt) (halt : Halt) : Type 0 where
+  pub within : All (λ (h : Halt). h.floor < plan.floors) halts_with
+  pub differ : AllDiffer halts_with
+  pub part : IsPartOf halts halts_with
+  pub goal : has_halt halt halts_with ≡ true
 
--- ---- the sums
+pub are_joined : (plan : Plan) (position : Position) (rows : List Row) (new : Row) (halts halts_with : List Halt) (goal : Halt) → IsBuilding plan → AreWithin plan.floors rows → new.from < plan.floors → new.to < plan.floors
+    → halts ≡ stop_list rows position → halts_with ≡ stop_list (rows ++ new ∷ []) position → goal ≡ halt_at position new new.to → AreJoined plan halts halts_with goal
+are_joined plan position rows new halts halts_with goal lawful inside from-in to-in halts-are with-are goal-is =
+    let all : AreWithin plan.floors (rows ++ new ∷ []) = All-push (Within plan.floors) rows new inside (from-in, to-in) in
+    let low : new.to < 64 = omega (arith, lawful.limits.few_floors) in
+    rw (halts-are, with-are, goal-is) (record {
+      within = All-from_recursion (λ (h : Halt). h.floor < plan.floors) (stop_list (rows ++ new ∷ []) position) (stops_within plan.floors (rows ++ new ∷ []) position all);
+      differ = stops_differ (rows ++ new ∷ []) position;
+      part = stops_stay rows new position;
+      goal = stops_have (rows ++ new ∷ []) new position (Contains-push rows new) low;
+    })
 
--- a call's time, once for each of its persons
+-- ---- what a new call adds
+
+-- a call's time, once for each person
 abbrev weighed : Plan → Position → List Row → Row → ℕ
 weighed plan position rows row = row.party * etd plan position rows row
 
-times-le : (k m n : ℕ) → m ≤ n → k * m ≤ k * n
-times-le k m n le = mul-le-mul_left k le
+-- how much later its passengers are where they leave, once for each person
+abbrev pub later : Position → List ℕ → Row → ℕ
+later position delays row = row.party * get_or delays (place_of (halt_at position row row.to)) 0
 
-sum_grows : (f g : Row → ℕ) (rows : List Row) → AllByRecursion (λ row. f row ≤ g row) rows → sum_by f rows ≤ sum_by g rows
-sum_grows f g [] each = omega arith
-sum_grows f g (row ∷ rows) each =
-    let rest = sum_grows f g rows each.1 in
-    omega (arith, sum_by-cons f row rows, sum_by-cons g row rows, each.0, rest)
+sums_meet : (f g d : Row → ℕ) (rows : List Row) → AllByRecursion (λ row. g row ≡ f row + d row) rows → sum_by g rows ≡ sum_by f rows + sum_by d rows
+sums_meet f g d [] each = refl
+sums_meet f g d (row ∷ rows) each =
+    let rest = sums_meet f g d rows each.1 in
+    omega (arith, sum_by-cons f row rows, sum_by-cons g row rows, sum_by-cons d row rows, each.0, rest)
 
-each_stays : (plan : Plan) → IsBuilding plan → (position : Position) (rows : List Row) (new : Row) → position.floor < plan.floors → AreWithin plan.floors rows → AreWithin plan.floors (rows ++ new ∷ [])
-    → AllByRecursion (λ row. weighed plan position rows row ≤ weighed plan position (rows ++ new ∷ []) row) rows
-each_stays plan lawful position rows new here inside all =
-    let Stays : Row → Type 0 = λ row. weighed plan position rows row ≤ weighed plan position (rows ++ new ∷ []) row in
+one_later : (plan : Plan) (position : Position) (rows : List Row) (new : Row) (delays : List ℕ) (row : Row) → AreDelays plan position.floor (stop_list rows position) (stop_list (rows ++ new ∷ []) position) delays
+    → Contains rows row → row.to < 64 → weighed plan position (rows ++ new ∷ []) row ≡ weighed plan position rows row + later position delays row
+unfolding etd
+one_later plan position rows new delays row table among low =
+    let goal : Halt = halt_at position row row.to in
+    let at = table.at_each goal low (stops_have rows row position among low) in
+    ap (λ time. row.party * time) at ∙ mul-add row.party (arrival_at plan position.floor (stop_list rows position) goal) (get_or delays (place_of goal) 0)
+
+-- the times with the new call are those without it, the delays and its own
+pub record Adds (plan : Plan) (position : Position) (rows : List Row) (new : Row) (others own : ℕ) : Type 0 where
+  pub added : others + own + total_etd plan position rows ≡ total_etd plan position (rows ++ new ∷ [])
+  pub own_is : own ≡ new.party * etd plan position (rows ++ new ∷ []) new
+
+pub adds : (plan : Plan) (position : Position) (rows : List Row) (new : Row) (halts halts_with : List Halt) (delays : List ℕ) (others own : ℕ) → IsBuilding plan → AreWithin plan.floors rows
+    → halts ≡ stop_list rows position → halts_with ≡ stop_list (rows ++ new ∷ []) position → AreDelays plan position.floor halts halts_with delays
+    → others ≡ sum_by (later position delays) rows → own ≡ new.party * arrival_at plan position.floor halts_with (halt_at position new new.to) → Adds plan position rows new others own
+unfolding etd
+adds plan position rows new halts halts_with delays others own lawful inside halts-are with-are table others-is own-is =
+    let listed : AreDelays plan position.floor (stop_list rows position) (stop_list (rows ++ new ∷ []) position) delays =
+    subst (λ (hs : List Halt). AreDelays plan position.floor (stop_list rows position) hs delays) with-are (subst (λ (hs : List Halt). AreDelays plan position.floor hs halts_with delays) halts-are table) in
+    let Later : Row → Type 0 = λ row. weighed plan position (rows ++ new ∷ []) row ≡ weighed plan position rows row + later position delays row in
     let among = All-contains_itself rows in
-    recursion_from_All Stays rows (λ k d lt.
-    let row : Row = get_or rows k d in
-    times-le row.party (etd plan position rows row) (etd plan position (rows ++ new ∷ []) row) (etd_stays plan lawful position rows new row here all (among k d lt) (inside k d lt).1))
-
--- the times of the calls that were open before grow by no less than nothing
-pub no_negative : (plan : Plan) → IsBuilding plan → (position : Position) (rows : List Row) (new : Row) → position.floor < plan.floors → AreWithin plan.floors rows → Within plan.floors new
-    → total_etd plan position rows + weighed plan position (rows ++ new ∷ []) new ≤ total_etd plan position (rows ++ new ∷ [])
-no_negative plan lawful position rows new here inside new-in =
-    let all : AreWithin plan.floors (rows ++ new ∷ []) = All-push (Within plan.floors) rows new inside new-in in
-    let grows = sum_grows (weighed plan position rows) (weighed plan position (rows ++ new ∷ [])) rows (each_stays plan lawful position rows new here inside all) in
-    omega (arith, grows, sum_by_push (weighed plan position (rows ++ new ∷ [])) rows new)
+    let each : AllByRecursion Later rows = recursion_from_All Later rows (λ k d lt. one_later plan position rows new delays (get_or rows k d) listed (among k d lt) (let within = (inside k d lt).1 in omega (arith, within, lawful.limits.few_floors))) in
+    let sums = sums_meet (weighed plan position rows) (weighed plan position (rows ++ new ∷ [])) (later position delays) rows each in
+    let own-etd : own ≡ weighed plan position (rows ++ new ∷ []) new = own-is ∙ ap (λ (hs : List Halt). new.party * arrival_at plan position.floor hs (halt_at position new new.to)) with-are in
+    let pushed = sum_by_push (weighed plan position (rows ++ new ∷ [])) rows new in
+    record { added = omega (arith, sums, own-etd, pushed, others-is); own_is = own-etd }
 
 -- ---- how long arrivals take
 
@@ -106,38 +127,3 @@ pub arrival_short : (plan : Plan) (floor : ℕ) (hs : List Halt) (h : Halt) → 
 arrival_short plan floor hs h lawful few =
     let short = moment_short plan lawful h hs floor 0 in
     omega (arith, short, few)
-
--- ---- what the functions make
-
--- the sum over the halts of these calls
-pub total_is : (plan : Plan) (position : Position) (halts : List Halt) (calls rows : List Row) → halts ≡ stop_list calls position
-    → sum_by (λ row. row.party * arrival_at plan position.floor halts (halt_at position row row.to)) rows ≡ sum_by (weighed plan position calls) rows
-unfolding etd
-total_is plan position halts calls rows halts-are = ap (λ hs. sum_by (λ row. row.party * arrival_at plan position.floor hs (halt_at position row row.to)) rows) halts-are
-
-pub own_is : (plan : Plan) (position : Position) (halts : List Halt) (calls : List Row) (row : Row) → halts ≡ stop_list calls position
-    → arrival_at plan position.floor halts (halt_at position row row.to) ≡ etd plan position calls row
-unfolding etd
-own_is plan position halts calls row halts-are = ap (λ hs. arrival_at plan position.floor hs (halt_at position row row.to)) halts-are
-
--- what the sums over the halts without and with a new call have to do with one another
-pub record Sums (plan : Plan) (position : Position) (rows : List Row) (new : Row) (without others own : ℕ) : Type 0 where
-  pub without_is : without ≡ total_etd plan position rows
-  pub with_is : others + own ≡ total_etd plan position (rows ++ new ∷ [])
-  pub own_is : own ≡ new.party * etd plan position (rows ++ new ∷ []) new
-  pub no_loss : without + own ≤ others + own
-
-pub sums_are : (plan : Plan) (position : Position) (rows : List Row) (new : Row) (halts with : List Halt) (without others own : ℕ) → IsBuilding plan → position.floor < plan.floors → AreWithin plan.floors rows
-    → new.from < plan.floors → new.to < plan.floors
-    → halts ≡ stop_list rows position → with ≡ stop_list (rows ++ new ∷ []) position
-    → without ≡ sum_by (λ row. row.party * arrival_at plan position.floor halts (halt_at position row row.to)) rows
-    → others ≡ sum_by (λ row. row.party * arrival_at plan position.floor with (halt_at position row row.to)) rows
-    → own ≡ new.party * arrival_at plan position.floor with (halt_at position new new.to)
-    → Sums plan position rows new without others own
-sums_are plan position rows new halts with without others own lawful here inside from-in to-in halts-are with-are without-is others-is own-is' =
-    let w = without-is ∙ total_is plan position halts rows rows halts-are in
-    let o = others-is ∙ total_is plan position with (rows ++ new ∷ []) rows with-are in
-    let n = own-is' ∙ ap (λ time. new.party * time) (own_is plan position with (rows ++ new ∷ []) new with-are) in
-    let pushed = sum_by_push (weighed plan position (rows ++ new ∷ [])) rows new in
-    let law = no_negative plan lawful position rows new here inside (from-in, to-in) in
-    record { without_is = w; with_is = omega (arith, o, n, pushed); own_is = n; no_loss = omega (arith, w, o, n, pushed, law) }

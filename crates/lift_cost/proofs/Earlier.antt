@@ -1,13 +1,11 @@
--- A halt more in a list never makes another halt's arrival earlier.
-use Rattle.std.proofs.Common.{◌≡◌, ℕ, ◌+◌, ◌≤◌, ◌<◌, Bool, true, false, cond, ◌||◌, List, [], ◌∷◌, refl, sym, ap, subst, ◌∙◌, arith, inl, inr, ◌⊎◌}
+-- Where a car makes a halt more, it is nowhere earlier.
+use Rattle.std.proofs.Common.{◌≡◌, ℕ, ◌+◌, ◌≤◌, ◌<◌, Bool, true, false, ◌||◌, List, [], ◌∷◌, refl, sym, ap, ◌∙◌, arith, inl, inr, ◌⊎◌}
 use Rattle.std.proofs.lemmas.Bool.{cases_Bool}
 use Rattle.std.specs.List.{AllByRecursion}
 use Rattle.lift_base.specs.declared.travel.Halt.{Halt}
 use Rattle.lift_building.specs.Plan.{Plan, flight_ms, HasNoDetour}
-use Rattle.lift_building.specs.Arrivals.{arrivals_from}
 use Rattle.lift_stops.specs.StopList.{same_halt}
-use Rattle.lift_stops.specs.Parts.{IsPartOf, has_halt, AllDiffer}
-use Rattle.lift_cost.specs.Cost.{moment_at}
+use Rattle.lift_stops.specs.Parts.{IsPartOf, has_halt}
 
 abbrev pub AllBelow : ℕ → List Halt → Type 0
 AllBelow floors hs = AllByRecursion (λ h. h.floor < floors) hs
@@ -23,7 +21,7 @@ or_cases false b e = inr e
 or_left : (a b : Bool) → a ≡ true → (a || b) ≡ true
 or_left a b e = rw e
 
-or_right : (a b : Bool) → b ≡ true → (a || b) ≡ true
+pub or_right : (a b : Bool) → b ≡ true → (a || b) ≡ true
 or_right true b e = refl
 or_right false b e = e
 
@@ -56,31 +54,6 @@ not_here g h gs differ has =
       | inr there ↦ there
     ]
 
-at_first_or_later : (here : Bool) (m n u v : ℕ) → m ≤ n → (here ≡ false → u ≤ v) → cond here m u ≤ cond here n v
-at_first_or_later true m n u v now later = now
-at_first_or_later false m n u v now later = later refl
-
-only_later : (a b : Bool) → (a || b) ≡ true → a ≡ false → b ≡ true
+pub only_later : (a b : Bool) → (a || b) ≡ true → a ≡ false → b ≡ true
 only_later true b e not_a = absurd cc
 only_later false b e not_a = e
-
-pub earlier : (plan : Plan) → HasNoDetour plan → (h : Halt) (hs gs : List Halt) (a s b t : ℕ) → b < plan.floors → AllBelow plan.floors gs → AllDiffer gs → IsPartOf hs gs → has_halt h hs ≡ true → IsAhead plan a s b t
-    → moment_at h hs (arrivals_from plan a s hs) ≤ moment_at h gs (arrivals_from plan b t gs)
-earlier plan direct h [] gs a s b t b-in below differ part has ahead = absurd cc
-earlier plan direct h (x ∷ hs) [] a s b t b-in below differ part has ahead = absurd part
-earlier plan direct h (x ∷ hs) (g ∷ gs) a s b t b-in below differ part has ahead =
-    elim part [
-      | inl same ↦
-          let has-g : (same_halt g h || has_halt h hs) ≡ true = ap (λ y. same_halt y h || has_halt h hs) (sym same.0) ∙ has in
-          let both : moment_at h (g ∷ hs) (arrivals_from plan a s (g ∷ hs)) ≤ moment_at h (g ∷ gs) (arrivals_from plan b t (g ∷ gs))
-          = at_first_or_later (same_halt g h) _ _ _ _ (ahead.no_later g.floor below.0)
-          (λ elsewhere. earlier plan direct h hs gs g.floor (s + flight_ms plan a g.floor + plan.door_ms) g.floor (t + flight_ms plan b g.floor + plan.door_ms)
-          below.0 below.1 differ.1 same.1 (only_later (same_halt g h) (has_halt h hs) has-g elsewhere) (ahead_at_same plan a s b t g.floor below.0 ahead)) in
-          subst (λ y. moment_at h (y ∷ hs) (arrivals_from plan a s (y ∷ hs)) ≤ moment_at h (g ∷ gs) (arrivals_from plan b t (g ∷ gs))) (sym same.0) both
-      | inr behind ↦
-          let elsewhere : same_halt g h ≡ false = not_here g h gs differ.0 (has_in_part h (x ∷ hs) gs behind has) in
-          let rest : moment_at h (x ∷ hs) (arrivals_from plan a s (x ∷ hs)) ≤ moment_at h gs (arrivals_from plan g.floor (t + flight_ms plan b g.floor + plan.door_ms) gs)
-          = earlier plan direct h (x ∷ hs) gs a s g.floor (t + flight_ms plan b g.floor + plan.door_ms) below.0 below.1 differ.1 behind has (ahead_of_halt plan direct a s b t g.floor b-in below.0 ahead) in
-          let Bound : ℕ → Type 0 = λ n. moment_at h (x ∷ hs) (arrivals_from plan a s (x ∷ hs)) ≤ n in
-          subst Bound (sym (ap (λ here. cond here (t + flight_ms plan b g.floor) (moment_at h gs (arrivals_from plan g.floor (t + flight_ms plan b g.floor + plan.door_ms) gs))) elsewhere)) rest
-    ]

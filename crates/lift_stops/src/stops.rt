@@ -78,11 +78,8 @@ pub fn find_halt(halts: &[Halt], dir: Dir, halt: &Halt) -> Result<usize, usize>
         × put (rank_of dir) halt.now halts.now ≡ insert halts.now at halt.now) }
 {
     for (i, other) in halts.iter().enumerate() {
-        if comes_before(dir, halt, other) {
-            return Err(i);
-        }
         if !comes_before(dir, other, halt) {
-            return Ok(i);
+            return if other == halt { Ok(i) } else { Err(i) };
         }
     }
     Err(halts.len())
