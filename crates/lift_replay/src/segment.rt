@@ -40,6 +40,7 @@ fn add_lines<W: Write>(
     writer: &mut W,
 ) -> Result<End, ReplayFault>
     ensures output { result ≢ Err ReplayFault.Read }
+    ensures emptied { result ≡ Err ReplayFault.Write → string_bytes piece.new ≡ [] }
     // What they tell is what is computed, of whichever group the station shows.
     ensures tells { IfOk result (λ end. (g : GroupState) → Shows station.old.building.now g station.old.clerk station.old.terminals.seats.items
         → (added : List ℕ) × LinesEnd station.old.building.now lines.old.count g (lines_in lines.old.rest.now) added lines.new.count (lines_in lines.new.rest.now)
