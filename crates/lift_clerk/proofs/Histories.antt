@@ -21,7 +21,7 @@ use Rattle.lift_clerk.specs.Turn.{IsBrokenTurn, IsEither}
 use Rattle.lift_clerk.specs.Visits.{commands_of}
 use Rattle.lift_clerk.specs.Machine.{IsReached, Follows, Turns, Fails, Reopens, Stays, Begins, kept_of, IsKept, IsKeptAtGate, Shows, CutsShowLetters}
 use Rattle.lift_clerk.specs.Laws.{CallLaws}
-use Rattle.lift_clerk.specs.History.{History, Began, Turned, Failed, TurnedWhileBroken, Reopened, Stayed, Told, CutBetween, CutWithin, CutWithinFailure}
+use Rattle.lift_clerk.specs.History.{History, Began, Led, Turned, Failed, TurnedWhileBroken, Reopened, Stayed, Told, CutBetween, CutWithin, CutWithinFailure}
 use Rattle.lift_clerk.specs.History.{BeginsOver, IsRunOf, HistoriesAreRuns, acknowledged_in, ShowsGiven, CrashesShowGiven, CrashesInTurnsShowGiven, CrashesInFailuresShowGiven}
 use Rattle.lift_clerk.proofs.Moved.{all_agree}
 
@@ -170,6 +170,7 @@ module _ {D P : Type 0} (chooses : P → Choice) (laws : CallLaws D P chooses) w
 
   run_of : (clerk : ClerkState D P) (safe : List Entry) (given : List Taken) → History chooses clerk safe given → IsRunOf clerk safe given
   run_of clerk safe given (Began sound b none) = start_run clerk sound b none
+  run_of clerk safe given (Led r) = r
   run_of clerk safe given (Turned h t) = turn_run _ clerk _ _ (run_of _ _ _ h) _ t
   run_of clerk safe given (Failed h t) = failure_run _ clerk _ _ (run_of _ _ _ h) t
   run_of clerk safe given (TurnedWhileBroken h t was) = broken_run _ clerk _ _ (run_of _ _ _ h) t was

@@ -24,11 +24,24 @@ pub record BeginsOver {D P : Type 0} (plan : Plan) (image : Image) (clerk : Cler
   pub same_plan : clerk.keeper.writer.plan ≡ plan
   pub only : (other : RegisterState) → IsImageOf plan other image → other ≡ clerk.keeper.writer.register
 
+-- Some run of the machine leads to a world of this clerk's. No ask waits there, just these entries are safe, and just these
+-- commands were answered.
+pub record IsRunOf {D P : Type 0} (clerk : ClerkState D P) (safe : List Entry) (given : List Taken) : Type 0 where
+  pub world : World
+  pub shows : IsMachineOf world clerk
+  pub waits : WaitsNowhere world
+  pub safe_is : safe_list world ≡ safe
+  pub given_is : world.given ≡ given
+  pub building : IsBuilding clerk.keeper.writer.plan
+
 -- What can have happened by now: the group's clerk as it is, the entries that are safe, in the order in which they were
 -- accepted, and each command that was ever answered, with its answer. Each clerk decides by its own policy.
 pub data History {D P : Type 0} (chooses : P → Choice) : ClerkState D P → List Entry → List Taken → Type 0 where
   -- A clerk begins at a new desk, over an empty journal of a building.
   Began : {clerk : ClerkState D P} → IsBuilding clerk.keeper.writer.plan → Begins clerk → clerk.keeper.writer.register ≡ empty → History chooses clerk [] []
+  -- A run of the machine leads to the clerk: so it does where the clerk's work was done in two parts, which are joined again, or
+  -- where a clerk begins over what a crash of these left.
+  Led : {clerk : ClerkState D P} {safe : List Entry} {given : List Taken} → IsRunOf clerk safe given → History chooses clerk safe given
   -- A turn answers Ok: its batch is safe behind the rest, and its commands have their replies.
   Turned : {before after : ClerkState D P} {safe : List Entry} {given : List Taken} {counts : Counts}
       → History chooses before safe given → (t : Turns (chooses before.policy) before after counts)
@@ -88,16 +101,6 @@ pub record GoesOnOver {D P : Type 0} (chooses : P → Choice) (plan : Plan) (ima
       → before.keeper.writer.plan ≡ plan → (t : Fails (chooses before.policy) before there)
       → (either : IsEither before.keeper.writer.plan before.keeper.writer.register there.keeper.state.register image)
       → History chooses clerk (kept_of safe there.keeper.state.batch either) given
-
--- Some run of the machine leads to a world of this clerk's. No ask waits there, just these entries are safe, and just these
--- commands were answered.
-pub record IsRunOf {D P : Type 0} (clerk : ClerkState D P) (safe : List Entry) (given : List Taken) : Type 0 where
-  pub world : World
-  pub shows : IsMachineOf world clerk
-  pub waits : WaitsNowhere world
-  pub safe_is : safe_list world ≡ safe
-  pub given_is : world.given ≡ given
-  pub building : IsBuilding clerk.keeper.writer.plan
 
 abbrev pub HistoriesAreRuns : (D P : Type 0) → (P → Choice) → Type 0
 HistoriesAreRuns D P chooses = (clerk : ClerkState D P) (safe : List Entry) (given : List Taken) → History chooses clerk safe given → IsRunOf clerk safe given

@@ -136,10 +136,11 @@ pub scan_turn : {P : Type 0} (choice : Choice) (old a new : AllocatorState P) (c
     → counts.taken ≡ length taken → counts.accepted ≡ length decided.batch
     → (length taken ≡ 0 → (new.end.sent ++ new.hand ≡ a.end.sent) × (new.hand ≡ []))
     → (0 < length taken → new.end.sent ++ new.hand ≡ a.end.sent ++ batch ∷ [])
+    → Begins a.end.sent new.end.sent
     → (new.hand ≢ [] → WasFull new.end)
     → Begins a.end.gone new.end.gone
     → IsScanTurn choice old new counts
-scan_turn {P} choice old a new counts taken decided batch between scans commands entries settles place many accepted nothing some full later =
+scan_turn {P} choice old a new counts taken decided batch between scans commands entries settles place many accepted nothing some sent full later =
     let same = between.same in
     let visits = scans.visits in
     record {
@@ -156,6 +157,7 @@ scan_turn {P} choice old a new counts taken decided batch between scans commands
       after = settles;
       nothing = λ none. let n = nothing (no_command taken (commands_of 0 visits) scans.commands none) in (n.0 ∙ between.sent, n.1);
       some = λ any. some (some_command taken (commands_of 0 visits) scans.commands any) ∙ ap (λ l. l ++ batch ∷ []) between.sent;
+      sent = subst (λ (l : List BatchState). Begins l new.end.sent) between.sent sent;
       full = full;
       same_place = (
         place.0 ∙ ap (λ (s : AllocatorState P). s.desk) same,

@@ -5,7 +5,7 @@ use Rattle.lift_base.specs.declared.travel.Dir.TheVariants.{Up, Down}
 use Rattle.lift_base.specs.declared.command.Body.{Body}
 use Rattle.lift_base.specs.declared.command.Body.TheVariants.{Call, Stop, Place}
 use Rattle.lift_desk.specs.declared.words.Ask.{Ask}
-use Rattle.lift_desk.specs.Words.{dir_bit, body_bits, ask_word, IsBody}
+use Rattle.lift_desk.specs.Words.{turn_of, dir_bit, body_bits, ask_word, IsBody}
 use Rattle.lift_desk.specs.Spelled.{IsAsk}
 
 dir_same : (d e : Dir) → dir_bit d ≡ dir_bit e → d ≡ e
@@ -18,7 +18,7 @@ dir_small : (d : Dir) → dir_bit d ≤ 1
 dir_small Up = omega arith
 dir_small Down = omega arith
 
-bits_small : (b : Body) → IsBody b → body_bits b < 2 ^ 20
+pub bits_small : (b : Body) → IsBody b → body_bits b < 2 ^ 20
 bits_small (Call floor party) h = omega arith
 bits_small (Stop floor dir) h = let d = dir_small dir in omega arith
 bits_small (Place floor dir) h = let d = dir_small dir in omega arith
@@ -45,6 +45,10 @@ bits_same (Place f d) (Place g u) h k e =
 
 fields_same : (turn other n m b c : ℕ) → n < 2 ^ 24 → m < 2 ^ 24 → b < 2 ^ 20 → c < 2 ^ 20 → turn * 2 ^ 44 + n * 2 ^ 20 + b ≡ other * 2 ^ 44 + m * 2 ^ 20 + c → (turn ≡ other) × (n ≡ m) × (b ≡ c)
 fields_same turn other n m b c ns ms bs cs e = (omega arith, omega arith, omega arith)
+
+-- the turn of a word
+pub word_turn : (turn n b : ℕ) → n < 2 ^ 24 → b < 2 ^ 20 → turn_of (turn * 2 ^ 44 + n * 2 ^ 20 + b) ≡ turn
+word_turn turn n b ns bs = omega arith
 
 -- the turns are the same, and the asks
 pub one_ask : (turn other : ℕ) (a b : Ask) → IsAsk a → IsAsk b → ask_word turn a.number a.body ≡ ask_word other b.number b.body → (turn ≡ other) × (a.number ≡ b.number) × (a.body ≡ b.body)

@@ -83,7 +83,7 @@ advances_of {D} {P} chooses state a b f g fault safe given law (inl refused) sam
       (λ i. (sym refused.1.0 i, sym refused.1.1 i, sym (append-nil safe) i, sym (append-nil given) i)) start;
 }
 advances_of chooses state a b f g fault safe given law (inr run) same start =
-    law a b f g fault safe given start run (same (λ spawn. not_spawn run.first (subst is_spawn (sym spawn ∙ run.is_first) tt)))
+    law a b f g run.first safe given start run.allocator run.flusher run.nothing_in_hand (same (λ spawn. not_spawn run.first (subst is_spawn (sym spawn ∙ run.is_first) tt)))
 
 -- a drain behind the turns of both parts
 pub have_run : {D P : Type 0} (chooses : P → Choice) (state : D → DiskState) (a b c : AllocatorState P) (f g h : FlusherState D) (first last : Option KeeperFault) (fault : Option RunFault)

@@ -16,7 +16,7 @@ use Rattle.lift_world.specs.Policies.{RunsAreAny}
 use Rattle.lift_clerk.specs.Clerk.{ClerkState}
 use Rattle.lift_clerk.specs.Turn.{IsEither}
 use Rattle.lift_clerk.specs.Machine.{IsReached, IsKept, BeginsAfterCrash, kept_of}
-use Rattle.lift_clerk.specs.History.{BeginsOver, IsRunOf}
+use Rattle.lift_clerk.specs.History.{History, Led, BeginsOver, IsRunOf}
 use Rattle.lift_relay.specs.Batch.{BatchState}
 use Rattle.lift_relay.specs.Line.{ReceivesOne}
 use Rattle.lift_relay.specs.Allocator.{AllocatorState}
@@ -103,10 +103,10 @@ module _ {D P : Type 0} (laws : RelayLaws) (w : World) (a : AllocatorState P) (f
 module _ {D P : Type 0} (laws : RelayLaws) (recovery : BeginsAfterCrash D P) (chooses : P → Choice) (any : (policy : P) → RunsAreAny (chooses policy)) where
   -- of the world that a history has
   goes_on : (a : AllocatorState P) (f : FlusherState D) (clerk : ClerkState D P) (v : Words) (safe : List Entry) (given : List Held) (image : Image) (k : IsRunOfParts a f v safe given) (keep : List Entry → List Entry)
-      → MayCut f.writer.plan (keep (safe_list k.world)) k.world.given image → BeginsOver f.writer.plan image clerk → IsRunOf clerk (keep safe) given
+      → MayCut f.writer.plan (keep (safe_list k.world)) k.world.given image → BeginsOver f.writer.plan image clerk → History chooses clerk (keep safe) given
   goes_on a f clerk v safe given image k keep c b =
-      restart recovery f.writer.plan (keep safe) given image clerk (subst (λ (p : Plan). IsBuilding p) k.shows.same_plan k.building)
-      (subst (λ (x : List Entry × List Held). MayCut f.writer.plan (keep x.0) x.1 image) (λ i. (k.safe_is i, k.given_is i)) c) b
+      Led (restart recovery f.writer.plan (keep safe) given image clerk (subst (λ (p : Plan). IsBuilding p) k.shows.same_plan k.building)
+      (subst (λ (x : List Entry × List Held). MayCut f.writer.plan (keep x.0) x.1 image) (λ i. (k.safe_is i, k.given_is i)) c) b)
 
   pub cuts_go_on : CutsGoOn D P chooses
   cuts_go_on a f clerk v safe given image h doubt b =

@@ -1,10 +1,12 @@
 -- A clerk's past is its parts', and theirs is the joined clerk's.
-use Rattle.std.proofs.Common.{ℕ, ◌≡◌, ◌+◌, ◌-◌, ◌≤◌, List, [], ◌∷◌, ◌++◌, length, map, drop, refl, sym, ap, subst, ◌∙◌, arith}
+use Rattle.std.proofs.Common.{ℕ, ◌≡◌, ◌+◌, ◌-◌, ◌≤◌, List, [], ◌∷◌, ◌++◌, length, map, drop, Option, None, refl, sym, ap, subst, ◌∙◌, arith}
 use Rattle.std.specs.Prelude.{filter, count_by}
 use Rattle.std.proofs.lemmas.List.{length-append, length-map, length-drop}
 use Rattle.std.proofs.lemmas.List.Sums.{length-filter}
 use Rattle.lift_base.specs.declared.history.Entry.{Entry}
 use Rattle.lift_building.specs.Plan.{Plan, IsBuilding}
+use Rattle.lift_disk.specs.Disk.{DiskState}
+use Rattle.lift_keeper.specs.declared.fault.KeeperFault.{KeeperFault}
 use Rattle.lift_desk.specs.Seats.{ClerkPlace, view_at}
 use Rattle.lift_policy.specs.Eligible.{Choice}
 use Rattle.lift_policy.specs.declared.command.Command.{Command}
@@ -13,7 +15,7 @@ use Rattle.lift_world.specs.World.{World, asks, is_answer_to}
 use Rattle.lift_world.specs.Policies.{RunsAreAny}
 use Rattle.lift_clerk.specs.Clerk.{ClerkState}
 use Rattle.lift_clerk.specs.Machine.{ask_of, waiting_in}
-use Rattle.lift_clerk.specs.History.{IsRunOf}
+use Rattle.lift_clerk.specs.History.{Led, HistoriesAreRuns}
 use Rattle.lift_clerk.specs.lemmas.Words.{asks_count}
 use Rattle.lift_relay.specs.Allocator.{AllocatorState}
 use Rattle.lift_relay.specs.Flusher.{FlusherState, IsFlusher}
@@ -21,13 +23,15 @@ use Rattle.lift_relay.specs.Pair.{IsTelling}
 use Rattle.lift_relay.specs.Relay.{AreParts, IsRejoined}
 use Rattle.lift_relay.specs.Laws.{RelayLaws}
 use Rattle.lift_relay.specs.History.{Words, words_in, RelayHistory, ClerkSplit, PartsTold}
-use Rattle.lift_relay.specs.Runs.{AllTaken, HasPast, SplitsHavePasts, JoinedGoOn}
+use Rattle.lift_relay.specs.Pair.{AllocatorTurns, FlusherTurns}
+use Rattle.lift_relay.specs.Runs.{AllTaken, HasPast, RunsAreHistories, SplitsHavePasts, JoinedGoOn, ClerkAdvances}
 use Rattle.lift_relay.proofs.Tied.{view_ahead}
 use Rattle.lift_relay.proofs.TiedHistory.{rejoinings_go_on}
 use Rattle.lift_relay.proofs.RunPast.{even}
 
-pub splits_have_pasts : {D P : Type 0} (chooses : P → Choice) → SplitsHavePasts D P chooses
-splits_have_pasts {D} {P} chooses clerk a f safe given r p is =
+pub splits_have_pasts : {D P : Type 0} (chooses : P → Choice) → HistoriesAreRuns D P chooses → SplitsHavePasts D P chooses
+splits_have_pasts {D} {P} chooses runs clerk a f safe given h p is =
+    let r = runs clerk safe given h in
     let w : World = r.world in
     record {
       words = words_in w;
@@ -71,7 +75,7 @@ joined_go_on laws chooses any a f clerk safe given p r =
     let k = rejoinings_go_on laws chooses any a f clerk p.words safe given p.history r in
     let w : World = k.0 in
     let e = even laws chooses any a f safe given p.words p.history p.all_taken (let all = r.all_received in omega (arith, ap length r.nothing_in_hand)) in
-    record {
+    Led (record {
       world = w;
       shows = k.2;
       waits = λ t.
@@ -94,4 +98,12 @@ joined_go_on laws chooses any a f clerk safe given p r =
       safe_is = k.4;
       given_is = k.5;
       building = subst (λ (x : Plan). IsBuilding x) k.2.building k.1;
-    }
+    })
+
+-- turns of both parts, and a rejoining behind them
+pub turns_join : {D P : Type 0} (chooses : P → Choice) (state : D → DiskState) → RunsAreHistories D P chooses state → JoinedGoOn D P chooses → (a b : AllocatorState P) (f g : FlusherState D)
+    (clerk : ClerkState D P) (last : Option KeeperFault) (safe : List Entry) (given : List Held) → HasPast chooses a f safe given → AllocatorTurns (chooses a.policy) a b → FlusherTurns state f None g last
+    → IsRejoined b g clerk → ClerkAdvances chooses clerk f g safe given
+turns_join chooses state runs joins a b f g clerk last safe given start turns flushes r =
+    let k = runs a b f g last safe given start turns flushes r.nothing_in_hand r.same_batches in
+    record { batches = k.batches; more = k.more; told = k.told; adds = k.adds; past = joins b g clerk (safe ++ k.more) (given ++ k.told) k.past r }

@@ -14,8 +14,9 @@ use Rattle.lift_world.specs.declared.event.Taken.{Taken as Held}
 use Rattle.lift_world.specs.Policies.{RunsAreAny}
 use Rattle.lift_clerk.specs.declared.counts.Counts.{Counts}
 use Rattle.lift_clerk.specs.Turn.{IsEither}
-use Rattle.lift_clerk.specs.Machine.{kept_of}
-use Rattle.lift_clerk.specs.History.{ShowsGiven, ShowsEither}
+use Rattle.lift_clerk.specs.Machine.{BeginsAfterCrash, kept_of}
+use Rattle.lift_clerk.specs.Clerk.{ClerkState}
+use Rattle.lift_clerk.specs.History.{History, BeginsOver, ShowsGiven, ShowsEither}
 use Rattle.lift_clerk.specs.lemmas.Asked.{not_both}
 use Rattle.lift_relay.specs.declared.flusher.FlushCounts.{FlushCounts}
 use Rattle.lift_relay.specs.Batch.{BatchState}
@@ -25,8 +26,9 @@ use Rattle.lift_relay.specs.Flusher.{FlusherState, Answered}
 use Rattle.lift_relay.specs.Pair.{AllocatorTurns, NoMore, OneMore, HandSent, FlusherTurns, NoFlush, OneFlush, IsFlush}
 use Rattle.lift_relay.specs.Laws.{RelayLaws}
 use Rattle.lift_relay.specs.Tie.{entries_of, ReceivesSent}
-use Rattle.lift_relay.specs.Runs.{HasPast, Advances, TurnStands, TurnsStand, TurnRests, TurnsRest}
+use Rattle.lift_relay.specs.Runs.{HasPast, Advances, ReceivedGrows, TurnsLead, GoesOnEither, TurnStands, TurnsStand, TurnRests, TurnsRest}
 use Rattle.lift_relay.proofs.TiedHistory.{run_of, crashes_show, crashes_in_turns, crashes_in_failing_turns}
+use Rattle.lift_relay.proofs.RunCuts.{cuts_go_on, cuts_in_turns_go_on, cuts_in_failures_go_on}
 use Rattle.lift_relay.proofs.RunTurns.{all_of, begins_again, begins_long, begins_less, Step, NoBatch, MadeSafe, NotMade, WhileBroken, step_of, Turn, TakesNone, TakesSome, quiet_sending, turn_at, turn_grows, FromFirst, before, both}
 
 shows_either : {A B : Type 0} (plan : Plan) (safe batch : List Entry) (given : List Held) (left : Image) (o : A ⊎ B) → ShowsGiven plan (kept_of safe batch o) given left
@@ -34,18 +36,23 @@ shows_either : {A B : Type 0} (plan : Plan) (safe batch : List Entry) (given : L
 shows_either plan safe batch given left (inl without) s = inl s
 shows_either plan safe batch given left (inr with_it) s = inr s
 
+goes_on_either : {A B D P : Type 0} (chooses : P → Choice) (clerk : ClerkState D P) (safe batch : List Entry) (given : List Held) (o : A ⊎ B) → History chooses clerk (kept_of safe batch o) given
+    → History chooses clerk safe given ⊎ History chooses clerk (safe ++ batch) given
+goes_on_either chooses clerk safe batch given (inl without) h = inl h
+goes_on_either chooses clerk safe batch given (inr with_it) h = inr h
+
 step_grows : {D : Type 0} (h g : FlusherState D) → Step h g → Begins h.end.received g.end.received
 step_grows {D} h g (NoBatch e) = ([], ap (λ (x : FlusherState D). x.end.received) e.same ∙ sym (append-nil h.end.received))
 step_grows h g (MadeSafe {batch = batch} t) = (batch ∷ [], t.turn.receives.receives)
 step_grows h g (NotMade {batch = batch} t) = (batch ∷ [], t.turn.receives.receives)
 step_grows h g (WhileBroken {batch = batch} t) = (batch ∷ [], t.turn.receives.receives)
 
-flushes_grow : {D : Type 0} (state : D → DiskState) (f g : FlusherState D) (none last : Option KeeperFault) → FlusherTurns state f none g last → Begins f.end.received g.end.received
+pub flushes_grow : {D : Type 0} (state : D → DiskState) → ReceivedGrows D state
 flushes_grow state f g none last NoFlush = ([], sym (append-nil f.end.received))
 flushes_grow state f g none last (OneFlush {g = h} {first = first} {answer = answer} more flush is) =
     begins_again f.end.received h.end.received g.end.received (flushes_grow state f h none first more) (step_grows h g (step_of state h g answer flush))
 
-module _ {D P : Type 0} (laws : RelayLaws) (chooses : P → Choice) (any : (policy : P) → RunsAreAny (chooses policy)) (state : D → DiskState) (choice : Choice) (a : AllocatorState P) (f : FlusherState D)
+module _ {D P : Type 0} (laws : RelayLaws) (recovery : BeginsAfterCrash D P) (chooses : P → Choice) (any : (policy : P) → RunsAreAny (chooses policy)) (state : D → DiskState) (choice : Choice) (a : AllocatorState P) (f : FlusherState D)
     (is_choice : choice ≡ chooses a.policy) (safe : List Entry) (given : List Held) (start : HasPast chooses a f safe given) (whole : List BatchState) where
   abbrev long : AllocatorState P → ℕ
   long c = length (all_of c)
@@ -92,10 +99,17 @@ module _ {D P : Type 0} (laws : RelayLaws) (chooses : P → Choice) (any : (poli
   meets n y c is (HandSent {b = d} rest s) le front =
       meet_turn n y d c (TakesNone (quiet_sending D laws chooses any d c s)) (is, HandSent rest s) le front (λ l k. meets n y d is rest l k)
 
+  turned_from : {n : ℕ} (m : Meets n) → AllocatorTurns (chooses a.policy) a m.now
+  turned_from m = subst (λ (p : Choice × AllocatorState P). AllocatorTurns p.0 p.1 m.now) (λ i. (is_choice i, m.turns.0 i)) m.turns.1
+
+  -- what was received was sent by then
+  sent_at : (received : List BatchState) (m : Meets (length received)) → Begins received whole → Begins received (all_of m.now)
+  sent_at received m begins = begins_less received (all_of m.now) whole m.le begins m.front
+
   module _ (g h : FlusherState D) (first : Option KeeperFault) (answer : Result FlushCounts KeeperFault) (more : FlusherTurns state f None g first) (flush : IsFlush state g h answer)
       (was : g.writer.is_broken ≡ false) (begins : Begins h.end.received whole) where
     abbrev Stands : Type 0
-    Stands = TurnStands chooses f g h safe given (state g.writer.device) (state h.writer.device)
+    Stands = TurnStands chooses a f g h safe given (state g.writer.device) (state h.writer.device)
 
     -- up to the turn
     rest : Begins g.end.received whole → (y c : AllocatorState P) → From y c → length g.end.received ≤ long c → Near c (length g.end.received) → Begins (all_of c) whole → Advances chooses c f g safe given
@@ -104,13 +118,17 @@ module _ {D P : Type 0} (laws : RelayLaws) (chooses : P → Choice) (any : (poli
     -- one that received a batch
     stands : (batch : BatchState) (is_safe : Bool) → ReceivesOne g.end batch h.end → Answered is_safe g.seat batch.commands h.seat → Meets (length h.end.received)
         → ((c : AllocatorState P) (p : Advances chooses c f g safe given) → ReceivesSent c h → (left : Image) → (either : IsEither g.writer.plan g.writer.register h.end.register left)
-        → ShowsGiven g.writer.plan (kept_of (safe ++ p.more) batch.entries either) (given ++ p.told) left) → Stands
-    stands batch is_safe receives answered m show =
+        → ShowsGiven g.writer.plan (kept_of (safe ++ p.more) batch.entries either) (given ++ p.told) left)
+        → ((c : AllocatorState P) (p : Advances chooses c f g safe given) → ReceivesSent c h → (left : Image) → (either : IsEither g.writer.plan g.writer.register h.end.register left)
+        → (clerk : ClerkState D P) → BeginsOver g.writer.plan left clerk → History chooses clerk (kept_of (safe ++ p.more) batch.entries either) (given ++ p.told)) → Stands
+    stands batch is_safe receives answered m show goes =
         let front : Begins g.end.received whole = begins_again g.end.received h.end.received whole (batch ∷ [], receives.receives) begins in
         let p = before D laws chooses any state choice a f is_choice safe given start whole g h batch is_safe receives answered begins (rest front) m.first m.now m.turns.0 m.turns.1 m.le m.near m.front in
-        let sent : ReceivesSent m.now h = begins_less h.end.received (all_of m.now) whole m.le begins m.front in
+        let sent : ReceivesSent m.now h = sent_at h.end.received m begins in
         record {
           now = m.now;
+          turned = turned_from m;
+          sent = sent;
           before = p;
           batches = batch ∷ [];
           receives = receives.receives;
@@ -118,6 +136,11 @@ module _ {D P : Type 0} (laws : RelayLaws) (chooses : P → Choice) (any : (poli
               (ShowsEither g.writer.plan (safe ++ p.more) (entries_of (batch ∷ [])) (given ++ p.told))
               (λ honest left either. subst (λ (l : List Entry). ShowsEither g.writer.plan (safe ++ p.more) l (given ++ p.told) left) (sym (append-nil batch.entries))
               (shows_either g.writer.plan (safe ++ p.more) batch.entries (given ++ p.told) left either (show m.now p sent left either)))
+              (flush.any_moment was);
+          cuts = leaves_weaker (state g.writer.device) (state h.writer.device) (IsEither g.writer.plan g.writer.register h.end.register)
+              (GoesOnEither D P chooses g.writer.plan (safe ++ p.more) (entries_of (batch ∷ [])) (given ++ p.told))
+              (λ honest left either. subst (λ (l : List Entry). GoesOnEither D P chooses g.writer.plan (safe ++ p.more) l (given ++ p.told) left) (sym (append-nil batch.entries))
+              (λ clerk over. goes_on_either chooses clerk (safe ++ p.more) batch.entries (given ++ p.told) either (goes m.now p sent left either clerk over)))
               (flush.any_moment was);
         }
 
@@ -130,6 +153,8 @@ module _ {D P : Type 0} (laws : RelayLaws) (chooses : P → Choice) (any : (poli
         let register : h.end.register ≡ g.writer.register = ap (λ (x : FlusherState D). x.end.register) e.same ∙ sym (k.shows.whole was).register in
         record {
           now = m.now;
+          turned = turned_from m;
+          sent = sent_at h.end.received m begins;
           before = p;
           batches = [];
           receives = same ∙ sym (append-nil g.end.received);
@@ -139,6 +164,12 @@ module _ {D P : Type 0} (laws : RelayLaws) (chooses : P → Choice) (any : (poli
               inl (crashes_show laws chooses any m.now g p.past.words (safe ++ p.more) (given ++ p.told) left p.past.history
               (inl (one_of g.writer.plan g.writer.register h.end.register left register either))))
               (flush.any_moment was);
+          cuts = leaves_weaker (state g.writer.device) (state h.writer.device) (IsEither g.writer.plan g.writer.register h.end.register)
+              (GoesOnEither D P chooses g.writer.plan (safe ++ p.more) [] (given ++ p.told))
+              (λ honest left either clerk over.
+              inl (cuts_go_on laws recovery chooses any m.now g clerk p.past.words (safe ++ p.more) (given ++ p.told) left p.past.history
+              (inl (one_of g.writer.plan g.writer.register h.end.register left register either)) over))
+              (flush.any_moment was);
         }
       where
         one_of : (plan : Plan) (old new : RegisterState) (left : Image) → new ≡ old → IsEither plan old new left → IsImageOf plan old left
@@ -147,20 +178,24 @@ module _ {D P : Type 0} (laws : RelayLaws) (chooses : P → Choice) (any : (poli
     by_step (MadeSafe {batch = batch} {counts = counts} t) m =
         stands batch true t.turn.receives t.turn.answered m
         (λ c p sent left either. crashes_in_turns laws chooses any c g h p.past.words (safe ++ p.more) (given ++ p.told) batch counts left p.past.history t sent either)
+        (λ c p sent left either clerk over. cuts_in_turns_go_on laws recovery chooses any c g h clerk p.past.words (safe ++ p.more) (given ++ p.told) batch counts left p.past.history t sent either over)
     by_step (NotMade {batch = batch} t) m =
         stands batch false t.turn.receives t.turn.answered m
         (λ c p sent left either. crashes_in_failing_turns laws chooses any c g h p.past.words (safe ++ p.more) (given ++ p.told) batch left p.past.history t sent either)
+        (λ c p sent left either clerk over. cuts_in_failures_go_on laws recovery chooses any c g h clerk p.past.words (safe ++ p.more) (given ++ p.told) batch left p.past.history t sent either over)
     by_step (WhileBroken t) m = not_both g.writer.is_broken was t.was_broken
 
   -- one that finds the writer broken
   module _ (g h : FlusherState D) (first : Option KeeperFault) (answer : Result FlushCounts KeeperFault) (more : FlusherTurns state f None g first) (flush : IsFlush state g h answer)
       (was : g.writer.is_broken ≡ true) (begins : Begins h.end.received whole) where
     abbrev Rests : Type 0
-    Rests = TurnRests chooses f g h safe given (state g.writer.device) (state h.writer.device)
+    Rests = TurnRests chooses a f g h safe given (state g.writer.device) (state h.writer.device)
 
-    rests_at : (c : AllocatorState P) → Advances chooses c f g safe given → (batches : List BatchState) → h.end.received ≡ g.end.received ++ batches → Rests
-    rests_at c p batches receives = record {
-      now = c;
+    rests_at : (m : Meets (length h.end.received)) → Advances chooses m.now f g safe given → (batches : List BatchState) → h.end.received ≡ g.end.received ++ batches → Rests
+    rests_at m p batches receives = record {
+      now = m.now;
+      turned = turned_from m;
+      sent = sent_at h.end.received m begins;
       before = p;
       batches = batches;
       receives = receives;
@@ -168,7 +203,13 @@ module _ {D P : Type 0} (laws : RelayLaws) (chooses : P → Choice) (any : (poli
           (ShowsEither g.writer.plan (safe ++ p.more) g.writer.doubt (given ++ p.told))
           (λ honest left doubt.
           shows_either g.writer.plan (safe ++ p.more) g.writer.doubt (given ++ p.told) left doubt
-          (crashes_show laws chooses any c g p.past.words (safe ++ p.more) (given ++ p.told) left p.past.history doubt))
+          (crashes_show laws chooses any m.now g p.past.words (safe ++ p.more) (given ++ p.told) left p.past.history doubt))
+          (flush.while_broken was);
+      cuts = leaves_weaker (state g.writer.device) (state h.writer.device) (IsInDoubt g.writer.plan g.writer.register g.writer.doubt)
+          (GoesOnEither D P chooses g.writer.plan (safe ++ p.more) g.writer.doubt (given ++ p.told))
+          (λ honest left doubt clerk over.
+          goes_on_either chooses clerk (safe ++ p.more) g.writer.doubt (given ++ p.told) doubt
+          (cuts_go_on laws recovery chooses any m.now g clerk p.past.words (safe ++ p.more) (given ++ p.told) left p.past.history doubt over))
           (flush.while_broken was);
     }
 
@@ -178,30 +219,41 @@ module _ {D P : Type 0} (laws : RelayLaws) (chooses : P → Choice) (any : (poli
     broken_step : Step g h → Meets (length h.end.received) → Rests
     broken_step (NoBatch e) m =
         let same : h.end.received ≡ g.end.received = ap (λ (x : FlusherState D). x.end.received) e.same in
-        rests_at m.now
+        rests_at m
         (up_to (subst (λ (l : List BatchState). Begins l whole) same begins) m.first m.now m.turns (subst (λ (l : List BatchState). length l ≤ long m.now) same m.le)
         (subst (λ (l : List BatchState). Near m.now (length l)) same m.near) m.front)
         [] (same ∙ sym (append-nil g.end.received))
     broken_step (WhileBroken {batch = batch} t) m =
         let front : Begins g.end.received whole = begins_again g.end.received h.end.received whole (batch ∷ [], t.turn.receives.receives) begins in
-        rests_at m.now
+        rests_at m
         (before D laws chooses any state choice a f is_choice safe given start whole g h batch false t.turn.receives t.turn.answered begins (up_to front) m.first m.now m.turns.0 m.turns.1 m.le m.near m.front)
         (batch ∷ []) t.turn.receives.receives
     broken_step (MadeSafe t) m = not_both g.writer.is_broken t.was_whole was
     broken_step (NotMade t) m = not_both g.writer.is_broken t.was_whole was
 
-pub turns_stand : {D P : Type 0} → RelayLaws → (chooses : P → Choice) → ((policy : P) → RunsAreAny (chooses policy)) → (state : D → DiskState) → TurnsStand D P chooses state
-turns_stand {D} {P} laws chooses any state a b f g h i first next last answer safe given start turns more flush later none same was =
-    let whole : List BatchState = all_of b in
-    let is : i.end.received ≡ whole = sym same ∙ sym (append-nil b.end.sent) ∙ ap (λ (l : List BatchState). b.end.sent ++ l) (sym none) in
-    let begins : Begins h.end.received whole = subst (λ (l : List BatchState). Begins h.end.received l) is (flushes_grow state h i next last later) in
-    by_step laws chooses any state (chooses a.policy) a f refl safe given start whole g h first answer more flush was begins (step_of state g h answer flush)
-    (meets laws chooses any state (chooses a.policy) a f refl safe given start whole (length h.end.received) a b refl turns (begins_long h.end.received whole begins) ([], sym (append-nil whole)))
+module _ {D P : Type 0} (laws : RelayLaws) (recovery : BeginsAfterCrash D P) (chooses : P → Choice) (any : (policy : P) → RunsAreAny (chooses policy)) (state : D → DiskState) where
+  -- the allocator when it had sent what was received
+  met : (a b : AllocatorState P) (f : FlusherState D) (safe : List Entry) (given : List Held) (start : HasPast chooses a f safe given) → AllocatorTurns (chooses a.policy) a b → (received : List BatchState)
+      → Begins received (all_of b) → Meets laws recovery chooses any state (chooses a.policy) a f refl safe given start (all_of b) (length received)
+  met a b f safe given start turns received begins =
+      meets laws recovery chooses any state (chooses a.policy) a f refl safe given start (all_of b) (length received) a b refl turns (begins_long received (all_of b) begins) ([], sym (append-nil (all_of b)))
 
-pub turns_rest : {D P : Type 0} → RelayLaws → (chooses : P → Choice) → ((policy : P) → RunsAreAny (chooses policy)) → (state : D → DiskState) → TurnsRest D P chooses state
-turns_rest {D} {P} laws chooses any state a b f g h i first next last answer safe given start turns more flush later none same was =
-    let whole : List BatchState = all_of b in
-    let is : i.end.received ≡ whole = sym same ∙ sym (append-nil b.end.sent) ∙ ap (λ (l : List BatchState). b.end.sent ++ l) (sym none) in
-    let begins : Begins h.end.received whole = subst (λ (l : List BatchState). Begins h.end.received l) is (flushes_grow state h i next last later) in
-    broken_step laws chooses any state (chooses a.policy) a f refl safe given start whole g h first answer more flush was begins (step_of state g h answer flush)
-    (meets laws chooses any state (chooses a.policy) a f refl safe given start whole (length h.end.received) a b refl turns (begins_long h.end.received whole begins) ([], sym (append-nil whole)))
+  pub turns_stand : TurnsStand D P chooses state
+  turns_stand a b f g h first answer safe given start turns more flush begins was =
+      by_step laws recovery chooses any state (chooses a.policy) a f refl safe given start (all_of b) g h first answer more flush was begins (step_of state g h answer flush)
+      (met a b f safe given start turns h.end.received begins)
+
+  pub turns_rest : TurnsRest D P chooses state
+  turns_rest a b f g h first answer safe given start turns more flush begins was =
+      broken_step laws recovery chooses any state (chooses a.policy) a f refl safe given start (all_of b) g h first answer more flush was begins (step_of state g h answer flush)
+      (met a b f safe given start turns h.end.received begins)
+
+  pub turns_lead : TurnsLead D P chooses state
+  turns_lead a b f g last safe given start turns more begins =
+      let m = met a b f safe given start turns g.end.received begins in
+      record {
+        now = m.now;
+        turned = turned_from laws recovery chooses any state (chooses a.policy) a f refl safe given start (all_of b) m;
+        sent = sent_at laws recovery chooses any state (chooses a.policy) a f refl safe given start (all_of b) g.end.received m begins;
+        past = both D laws chooses any state (chooses a.policy) a f refl safe given start (all_of b) m.first m.now m.turns f g None last refl more m.le m.near m.front begins;
+      }

@@ -23,6 +23,7 @@ use Rattle.lift_clerk.specs.Visits.{Visit, command_at, commands_of, served}
 use Rattle.lift_clerk.specs.Machine.{ask_of}
 use Rattle.lift_clerk.specs.lemmas.Lists.{AreOthers, no_asks}
 use Rattle.lift_clerk.specs.lemmas.Served.{AreApart, all_apart}
+use Rattle.lift_clerk.specs.lemmas.Groups.{answers_count}
 use Rattle.lift_clerk.specs.lemmas.Words.{asks_count}
 use Rattle.lift_relay.specs.declared.batch.Taken.{Taken}
 use Rattle.lift_relay.specs.Batch.{BatchState, commands_in, noted_in}
@@ -32,7 +33,7 @@ use Rattle.lift_relay.specs.Flusher.{FlusherState, AnswersOne, AnswersAll, Answe
 use Rattle.lift_relay.specs.Laws.{RelayLaws}
 use Rattle.lift_relay.specs.Tie.{on_way, IsRelayOf, Reads, AsksNext, AllAskNext, HasRoom}
 use Rattle.lift_relay.specs.History.{Words, words_in, with_ask, with_hearing, RelayHistory, TerminalAsked, TerminalHeard, AllocatedNext, IsRunOfParts}
-use Rattle.lift_relay.specs.Runs.{AllTaken, HasPast}
+use Rattle.lift_relay.specs.Runs.{AllTaken, HasPast, TakesNext}
 use Rattle.lift_relay.proofs.Tied.{hears, none_queued, queue_none}
 use Rattle.lift_relay.proofs.TiedScan.{last_has, left}
 use Rattle.lift_relay.proofs.TiedFlush.{other}
@@ -220,24 +221,20 @@ module _ {D P : Type 0} (laws : RelayLaws) (chooses : P → Choice) (any : (poli
       nothing [] e = refl
       nothing (x ∷ xs) e = absurd (omega arith)
 
--- ---- one scan that took something, where the flusher's next turn answers its batch
-pub took_then : {D P : Type 0} (laws : RelayLaws) (chooses : P → Choice) (any : (policy : P) → RunsAreAny (chooses policy)) (a b : AllocatorState P) (f : FlusherState D) (safe : List Entry) (given : List Held)
-    (counts : Counts) (t : IsScanTurn (chooses a.policy) a b counts) → commands_of 0 t.visits ≢ [] → length a.end.sent + length a.hand ≡ length f.end.received
-    → (is_safe : Bool) (next : List ClerkPlace) → Answered is_safe f.seat t.batch.commands next → HasPast chooses a f safe given → HasPast chooses b f safe given
-took_then laws chooses any a b f safe given counts t some all is_safe next answered p =
+-- ---- one scan that took something
+-- where each look took the word of its terminal's next turn, and all that was asked there before is answered
+pub takes_then : {D P : Type 0} (laws : RelayLaws) (chooses : P → Choice) (any : (policy : P) → RunsAreAny (chooses policy)) (a b : AllocatorState P) (f : FlusherState D) (safe : List Entry) (given : List Held)
+    (counts : Counts) (t : IsScanTurn (chooses a.policy) a b counts) → commands_of 0 t.visits ≢ [] → Reads a.seat t.visits → HasRoom b f → (p : HasPast chooses a f safe given)
+    → AllByRecursion (λ (c : Command). count_by (asks c.terminal) p.words.asked ≡ count_by (is_answer_to c.terminal) p.words.answered) (commands_of 0 t.visits) → HasPast chooses b f safe given
+takes_then laws chooses any a b f safe given counts t some reads room p heard =
     let cs : List Command = commands_of 0 t.visits in
     let v : Words = p.words in
     let apart : AreApart cs = all_apart 0 t.visits in
-    let e = even laws chooses any a f safe given v p.history p.all_taken all in
-    let asked = ask_all laws chooses any a f safe given cs v apart p.history (each v cs e.heard) in
-    let says = says_next is_safe f.seat next t.batch.commands answered.visits answered.all (subst AreApart (sym t.commands) apart) in
-    let reads : Reads a.seat t.visits =
-    reads_from (λ (n : ℕ). length (view_at f.seat n).taken) 0 a.seat t.visits t.batch.commands (λ k n at. let same : k ≡ n = omega arith in ap (λ (i : ℕ). length (view_at a.seat i).taken) same ∙ e.same n)
-    t.takes t.commands t.notes says in
+    let asked = ask_all laws chooses any a f safe given cs v apart p.history heard in
     let stand : AllAskNext asked.now.asked a.seat cs = subst (λ (xs : List Command). AllAskNext xs a.seat cs) (sym asked.asked) (all_next v.asked a.seat cs cs p.all_taken (only_ones cs apart)) in
     record {
       words = asked.now;
-      history = AllocatedNext asked.past t some reads stand (omega (arith, length-append a.end.sent a.hand));
+      history = AllocatedNext asked.past t some reads stand room;
       all_taken = λ n.
           let more = left a.seat t.visits 0 reads n n (omega arith) in
           let here : List Command = filter (asks n) cs in
@@ -254,8 +251,46 @@ took_then laws chooses any a b f safe given counts t some all is_safe next answe
             length-map here ask_of,
           );
     }
+
+-- where the flusher's next turn answers its batch
+pub took_then : {D P : Type 0} (laws : RelayLaws) (chooses : P → Choice) (any : (policy : P) → RunsAreAny (chooses policy)) (a b : AllocatorState P) (f : FlusherState D) (safe : List Entry) (given : List Held)
+    (counts : Counts) (t : IsScanTurn (chooses a.policy) a b counts) → commands_of 0 t.visits ≢ [] → length a.end.sent + length a.hand ≡ length f.end.received
+    → (is_safe : Bool) (next : List ClerkPlace) → Answered is_safe f.seat t.batch.commands next → HasPast chooses a f safe given → HasPast chooses b f safe given
+took_then laws chooses any a b f safe given counts t some all is_safe next answered p =
+    let cs : List Command = commands_of 0 t.visits in
+    let e = even laws chooses any a f safe given p.words p.history p.all_taken all in
+    let says = says_next is_safe f.seat next t.batch.commands answered.visits answered.all (subst AreApart (sym t.commands) (all_apart 0 t.visits)) in
+    let reads : Reads a.seat t.visits =
+    reads_from (λ (n : ℕ). length (view_at f.seat n).taken) 0 a.seat t.visits t.batch.commands (λ k n at. let same : k ≡ n = omega arith in ap (λ (i : ℕ). length (view_at a.seat i).taken) same ∙ e.same n)
+    t.takes t.commands t.notes says in
+    takes_then laws chooses any a b f safe given counts t some reads (omega (
+      arith,
+      length-append a.end.sent a.hand,
+      ap length (t.some some),
+      length-append b.end.sent b.hand,
+      length-append (a.end.sent ++ a.hand) (t.batch ∷ []),
+    )) p (each p.words cs e.heard)
   where
     each : (v : Words) (cs : List Command) → ((t : ℕ) → count_by (asks t) v.asked ≡ count_by (is_answer_to t) v.answered)
         → AllByRecursion (λ (c : Command). count_by (asks c.terminal) v.asked ≡ count_by (is_answer_to c.terminal) v.answered) cs
     each v [] e = tt
     each v (c ∷ cs) e = (e c.terminal, each v cs e)
+
+-- where the flusher answered all that was taken there before
+pub scanned_then : {D P : Type 0} (laws : RelayLaws) (chooses : P → Choice) (any : (policy : P) → RunsAreAny (chooses policy)) (a b : AllocatorState P) (f : FlusherState D) (safe : List Entry) (given : List Held)
+    (counts : Counts) (t : IsScanTurn (chooses a.policy) a b counts) → commands_of 0 t.visits ≢ [] → TakesNext a f t.visits → HasRoom b f → HasPast chooses a f safe given → HasPast chooses b f safe given
+scanned_then {D} {P} laws chooses any a b f safe given counts t some next room p =
+    takes_then laws chooses any a b f safe given counts t some next.reads room p (each (commands_of 0 t.visits) next.answered)
+  where
+    k : IsRunOfParts a f p.words safe given
+    k = run_of laws chooses any a f p.words safe given p.history
+
+    heard : (n : ℕ) → length (view_at a.seat n).taken ≡ length (view_at f.seat n).answered → count_by (asks n) p.words.asked ≡ count_by (is_answer_to n) p.words.answered
+    heard n same =
+        p.all_taken n ∙ same ∙ ap length (k.shows.words n).answered ∙ answers_count 1 (filter (is_answer_to n) k.world.answered) ∙ length-filter (is_answer_to n) k.world.answered
+        ∙ ap (λ (x : Words). count_by (is_answer_to n) x.answered) k.words_are
+
+    each : (cs : List Command) → AllByRecursion (λ (c : Command). length (view_at a.seat c.terminal).taken ≡ length (view_at f.seat c.terminal).answered) cs
+        → AllByRecursion (λ (c : Command). count_by (asks c.terminal) p.words.asked ≡ count_by (is_answer_to c.terminal) p.words.answered) cs
+    each [] e = tt
+    each (c ∷ cs) e = (heard c.terminal e.0, each cs e.1)

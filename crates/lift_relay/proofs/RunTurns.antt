@@ -30,12 +30,12 @@ use Rattle.lift_relay.specs.Pair.{AllocatorTurns, NoMore, OneMore, HandSent, IsS
 use Rattle.lift_relay.specs.Laws.{RelayLaws}
 use Rattle.lift_relay.specs.Tie.{held_as, command_of, entries_of, ReceivesSent, Flushes, FlushFails, FlushesBroken}
 use Rattle.lift_relay.specs.History.{Words, with_answers, RelayHistory, FoundFull, SentHand, TookNothing, FoundEmpty, Flushed, FlushFailed, FlushedWhileBroken}
-use Rattle.lift_relay.specs.Runs.{AllTaken, HasPast, Adds, Advances, RunsAreHistories}
+use Rattle.lift_relay.specs.Runs.{AllTaken, HasPast, Adds, Advances, RunsAreHistories, ScansGoOn, FlushesGoOn}
 use Rattle.lift_relay.proofs.Paired.{same_allocator}
 use Rattle.lift_relay.proofs.TiedScan.{same_behind, nothing_seen}
 use Rattle.lift_relay.proofs.TiedTurns.{flushes_of, fails_of, rests_of}
 use Rattle.lift_relay.proofs.TiedHistory.{run_of}
-use Rattle.lift_relay.proofs.RunPast.{took_then}
+use Rattle.lift_relay.proofs.RunPast.{took_then, scanned_then}
 
 -- all that was sent, with a batch in hand
 abbrev pub all_of : {P : Type 0} → AllocatorState P → List BatchState
@@ -364,9 +364,56 @@ module _ (D : Type 0) {P : Type 0} (laws : RelayLaws) (chooses : P → Choice) (
     both y b turns x h none last is (OneFlush {g = g} {first = first} {answer = answer} more flush same) le near front begins =
         flush_step y b turns g h (step_of state g h answer flush) le near front begins (λ z c k l n u v. both z c k x g none first is more l n u v)
 
+  -- ---- one turn by hand
+  pub scans_go_on : ScansGoOn D P chooses
+  scans_go_on a b f counts safe given p t next room = by_taken (commands_of 0 t.visits) refl
+    where
+      by_taken : (cs : List Command) → commands_of 0 t.visits ≡ cs → HasPast chooses b f safe given
+      by_taken [] none = (quiet_scan a b counts t none).goes f safe given p
+      by_taken (c ∷ cs) is = scanned_then laws chooses any a b f safe given counts t (λ none. let wrong = sym is ∙ none in absurd (cc)) next room p
+
+  none_added : (f : FlusherState D) → Adds f f [] [] []
+  none_added f = record { received = sym (append-nil f.end.received); begins = ([], refl); commands = refl; whole = λ e. (refl, refl) }
+
+  flushed_once : (a : AllocatorState P) (f g : FlusherState D) (safe : List Entry) (given : List Held) → HasPast chooses a f safe given → ReceivesSent a g → Step f g → Advances chooses a f g safe given
+  flushed_once a f g safe given p sent (NoBatch e) = record {
+    batches = [];
+    more = [];
+    told = [];
+    adds = adds_none f f g [] [] [] (none_added f) e.same;
+    past = subst (λ (x : List Entry × List Held). HasPast chooses a g x.0 x.1) (λ i. (sym (append-nil safe) i, sym (append-nil given) i))
+        (record { words = p.words; history = FoundEmpty p.history e; all_taken = p.all_taken });
+  }
+  flushed_once a f g safe given p sent (MadeSafe {batch = batch} t) = record {
+    batches = batch ∷ [];
+    more = batch.entries;
+    told = map held_as batch.commands;
+    adds = adds_safe f f g [] [] [] (none_added f) batch t.turn.receives t.was_whole;
+    past = record { words = with_answers p.words (map held_as batch.commands); history = Flushed p.history t sent; all_taken = p.all_taken };
+  }
+  flushed_once a f g safe given p sent (NotMade {batch = batch} t) = record {
+    batches = batch ∷ [];
+    more = [];
+    told = map unknown_to (map held_as batch.commands);
+    adds = adds_unknown f f g [] [] [] (none_added f) batch t.turn.receives t.breaks;
+    past = subst (λ (x : List Entry). HasPast chooses a g x (given ++ map unknown_to (map held_as batch.commands))) (sym (append-nil safe))
+        (record { words = with_answers p.words (map unknown_to (map held_as batch.commands)); history = FlushFailed p.history t sent; all_taken = p.all_taken });
+  }
+  flushed_once a f g safe given p sent (WhileBroken {batch = batch} t) = record {
+    batches = batch ∷ [];
+    more = [];
+    told = map unknown_to (map held_as batch.commands);
+    adds = adds_unknown f f g [] [] [] (none_added f) batch t.turn.receives (ap (λ (x : WriterView D). x.is_broken) t.rests ∙ t.was_broken);
+    past = subst (λ (x : List Entry). HasPast chooses a g x (given ++ map unknown_to (map held_as batch.commands))) (sym (append-nil safe))
+        (record { words = with_answers p.words (map unknown_to (map held_as batch.commands)); history = FlushedWhileBroken p.history t sent; all_taken = p.all_taken });
+  }
+
+  pub flushes_go_on : (state : D → DiskState) → FlushesGoOn D P chooses state
+  flushes_go_on state a f g answer safe given p flush sent = flushed_once a f g safe given p sent (step_of state f g answer flush)
+
   pub runs_are_histories : (state : D → DiskState) → RunsAreHistories D P chooses state
-  runs_are_histories state a b f g fault safe given start r same =
-      let long : length (all_of b) ≡ length g.end.received = ap (λ (l : List BatchState). length (b.end.sent ++ l)) r.nothing_in_hand ∙ ap length (append-nil b.end.sent ∙ same) in
-      let is : all_of b ≡ g.end.received = ap (λ (l : List BatchState). b.end.sent ++ l) r.nothing_in_hand ∙ append-nil b.end.sent ∙ same in
-      both state (chooses a.policy) a f refl safe given start (all_of b) a b (refl, r.allocator) f g None r.first refl r.flusher (omega arith) (inl (omega arith))
+  runs_are_histories state a b f g last safe given start turns flushes none same =
+      let is : all_of b ≡ g.end.received = ap (λ (l : List BatchState). b.end.sent ++ l) none ∙ append-nil b.end.sent ∙ same in
+      let long : length (all_of b) ≡ length g.end.received = ap length is in
+      both state (chooses a.policy) a f refl safe given start (all_of b) a b (refl, turns) f g None last refl flushes (omega arith) (inl (omega arith))
       ([], sym (append-nil (all_of b))) ([], is ∙ sym (append-nil g.end.received))

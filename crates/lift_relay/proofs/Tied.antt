@@ -18,7 +18,7 @@ use Rattle.lift_world.specs.declared.event.Event.{Event}
 use Rattle.lift_world.specs.declared.event.Taken.{Taken as Held}
 use Rattle.lift_world.specs.World.{World, Batch, start, asks, is_answer_to, register_after, state_of, state_at, safe_list, batch_of, may_keep}
 use Rattle.lift_world.specs.Next.{next, run, goes, unanswered}
-use Rattle.lift_world.specs.Headline.{HearsInOrder, AllAskOneByOne}
+use Rattle.lift_world.specs.Headline.{HearsInOrder, QueuesFew, AllAskOneByOne}
 use Rattle.lift_world.specs.Relay.{IsQueueInOrder, IsBetweenScans, IsBetweenFlushes, IsBrokenBetween}
 use Rattle.lift_world.specs.Turns.{IsAtRest, IsBrokenAtRest}
 use Rattle.lift_clerk.specs.Clerk.{ClerkState}
@@ -40,6 +40,9 @@ module _ (laws : RelayLaws) (w : World) (reached : IsReached w) where
 
   pub hears : HearsInOrder w
   hears = subst HearsInOrder reached.1 (laws.hears w.building reached.0)
+
+  pub few_queued : QueuesFew w
+  few_queued = subst QueuesFew reached.1 (laws.few_queued w.building reached.0)
 
   pub one_by_one : AllAskOneByOne w
   one_by_one = subst AllAskOneByOne reached.1 (laws.one_by_one w.building reached.0)

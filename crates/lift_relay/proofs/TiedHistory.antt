@@ -11,12 +11,10 @@ use Rattle.lift_policy.specs.declared.command.Command.{Command}
 use Rattle.lift_world.specs.declared.event.Answer.{Answer}
 use Rattle.lift_world.specs.declared.event.Event.{Event}
 use Rattle.lift_world.specs.declared.event.Event.TheVariants.{Ask, Hear}
-use Rattle.lift_world.specs.declared.event.Phase.TheVariants.{GateWritten}
 use Rattle.lift_world.specs.declared.event.Taken.{Taken as Held}
 use Rattle.lift_world.specs.World.{World, Batch, asks, is_answer_to, safe_list, acknowledged, register_after}
 use Rattle.lift_world.specs.Next.{next, answer_of, unknown_to, asking, hearing}
 use Rattle.lift_world.specs.Headline.{StillNames}
-use Rattle.lift_world.specs.Relay.{flusher_events, failing_flush, broken_flush}
 use Rattle.lift_world.specs.Policies.{RunsAreAny}
 use Rattle.lift_clerk.specs.declared.counts.Counts.{Counts}
 use Rattle.lift_clerk.specs.Clerk.{ClerkState}
@@ -30,15 +28,15 @@ use Rattle.lift_relay.specs.Allocator.{AllocatorState, IsScanTurn}
 use Rattle.lift_relay.specs.Flusher.{FlusherState}
 use Rattle.lift_relay.specs.Relay.{IsRejoined}
 use Rattle.lift_relay.specs.Laws.{RelayLaws}
-use Rattle.lift_relay.specs.Tie.{held_as, IsRelayOf, LeadsOn, AllTakesAsked, Reads, AllAskNext, HasRoom, ReceivesSent, all_found, Flushes, FlushFails, FlushesBroken}
-use Rattle.lift_relay.specs.Amid.{Amid}
-use Rattle.lift_relay.specs.History.{Words, words_in, with_ask, with_hearing, with_answers, RelayHistory, ClerkSplit, TerminalAsked, TerminalHeard, FoundFull, SentHand, TookNothing, Allocated, AllocatedNext, PartsTold, JoinedAndSplit, FoundEmpty, Flushed, FlushFailed, FlushedWhileBroken, FlushedAmid, FlushFailedAmid, FlushedBrokenAmid}
+use Rattle.lift_relay.specs.Tie.{held_as, IsRelayOf, LeadsOn, AllTakesAsked, Reads, AllAskNext, HasRoom, ReceivesSent, Flushes, FlushFails, FlushesBroken}
+use Rattle.lift_relay.specs.Amid.{Amid, HadRoom, Flushings, events_with}
+use Rattle.lift_relay.specs.History.{Words, words_in, with_ask, with_hearing, with_answers, RelayHistory, ClerkSplit, TerminalAsked, TerminalHeard, FoundFull, SentHand, TookNothing, Allocated, AllocatedNext, PartsTold, JoinedAndSplit, FoundEmpty, Flushed, FlushFailed, FlushedWhileBroken, FlushedAmid}
 use Rattle.lift_relay.specs.History.{IsRunOfParts, RelayHistoriesAreRuns, RejoiningsGoOn, RelayCrashesShowGiven, RelayCrashesInTurnsShowGiven, RelayCrashesInFailuresShowGiven}
 use Rattle.lift_relay.proofs.Tied.{splits_are_no_events, rejoinings, full_turns, empty_turns, sendings, tellings}
 use Rattle.lift_relay.proofs.TiedScan.{is_queued, nothing_taken}
 use Rattle.lift_relay.proofs.TiedTake.{scans_are_allocations, nexts_are_allocations}
 use Rattle.lift_relay.proofs.TiedFlush.{flushes_are_flushes, failed_flushes, broken_flushes_are_broken}
-use Rattle.lift_relay.proofs.Amid.{flushes_amid_scans, failures_amid_scans, broken_amid_scans}
+use Rattle.lift_relay.proofs.Amid.{flushings_lead, turns_amid_scans}
 use Rattle.lift_relay.proofs.TiedTerminals.{terminals_keep_parts}
 use Rattle.lift_relay.proofs.TiedCrash.{crashes_of_parts, crashes_in_flushes, crashes_in_failures}
 
@@ -115,13 +113,13 @@ module _ {D P : Type 0} (laws : RelayLaws) where
       }
 
   allocated_then : (choice : Choice) → RunsAreAny choice → (a b : AllocatorState P) (f : FlusherState D) (v : Words) (safe : List Entry) (given : List Held) (counts : Counts) → IsRunOfParts a f v safe given
-      → (t : IsScanTurn choice a b counts) → commands_of 0 t.visits ≢ [] → AllTakesAsked v.asked b.seat → HasRoom a f → IsRunOfParts b f v safe given
+      → (t : IsScanTurn choice a b counts) → commands_of 0 t.visits ≢ [] → AllTakesAsked v.asked b.seat → HasRoom b f → IsRunOfParts b f v safe given
   allocated_then choice any a b f v safe given counts k t some takes room =
       let l = scans_are_allocations laws choice any k.world a b f counts t some (subst (λ (x : Words). AllTakesAsked x.asked b.seat) (sym k.words_are) takes) room k.shows in
       with_nothing b f v safe given (led_on a b f f v safe given [] (λ (xs : List Entry). xs) _ k l.1)
 
   next_then : (choice : Choice) → RunsAreAny choice → (a b : AllocatorState P) (f : FlusherState D) (v : Words) (safe : List Entry) (given : List Held) (counts : Counts) → IsRunOfParts a f v safe given
-      → (t : IsScanTurn choice a b counts) → commands_of 0 t.visits ≢ [] → Reads a.seat t.visits → AllAskNext v.asked a.seat (commands_of 0 t.visits) → HasRoom a f → IsRunOfParts b f v safe given
+      → (t : IsScanTurn choice a b counts) → commands_of 0 t.visits ≢ [] → Reads a.seat t.visits → AllAskNext v.asked a.seat (commands_of 0 t.visits) → HasRoom b f → IsRunOfParts b f v safe given
   next_then choice any a b f v safe given counts k t some reads asked room =
       let l = nexts_are_allocations laws choice any k.world a b f counts t some reads
       (subst (λ (x : Words). AllAskNext x.asked a.seat (commands_of 0 t.visits)) (sym k.words_are) asked) room k.shows in
@@ -145,30 +143,17 @@ module _ {D P : Type 0} (laws : RelayLaws) where
       let l = broken_flushes_are_broken laws k.world a f g batch t sent k.shows in
       led_on a a f g v safe given (map unknown_to (map held_as batch.commands)) (λ (xs : List Entry). xs) _ k l.1
 
-  -- a turn of the flusher amid a scan
-  flushed_amid_then : (choice : Choice) → RunsAreAny choice → (a b : AllocatorState P) (f g : FlusherState D) (v : Words) (safe : List Entry) (given : List Held) (batch : BatchState) (counts : Counts) (flushed : FlushCounts)
-      → IsRunOfParts a f v safe given → (t : IsScanTurn choice a b counts) → commands_of 0 t.visits ≢ [] → AllTakesAsked v.asked b.seat → HasRoom a f → Flushes f g batch flushed → ReceivesSent a g
-      → (folds : ℕ) → ((q : Batch) → Amid (flusher_events all_found q folds (length batch.entries)) (commands_of 0 t.visits))
-      → IsRunOfParts b g (with_answers v (map held_as batch.commands)) (safe ++ batch.entries) (given ++ map held_as batch.commands)
-  flushed_amid_then choice any a b f g v safe given batch counts flushed k t some takes room flush sent folds amid =
-      let l = flushes_amid_scans laws choice any k.world a b f g counts batch flushed t some (subst (λ (x : Words). AllTakesAsked x.asked b.seat) (sym k.words_are) takes) room flush sent k.shows in
-      led_on a b f g v safe given (map held_as batch.commands) (λ (xs : List Entry). xs ++ batch.entries) _ k (l.1 folds (amid l.0)).1
-
-  failed_amid_then : (choice : Choice) → RunsAreAny choice → (a b : AllocatorState P) (f g : FlusherState D) (v : Words) (safe : List Entry) (given : List Held) (batch : BatchState) (counts : Counts)
-      → IsRunOfParts a f v safe given → (t : IsScanTurn choice a b counts) → commands_of 0 t.visits ≢ [] → AllTakesAsked v.asked b.seat → HasRoom a f → FlushFails f g batch → ReceivesSent a g
-      → (folds : ℕ) → ((q : Batch) → Amid (failing_flush all_found q folds GateWritten (length batch.entries)) (commands_of 0 t.visits))
-      → IsRunOfParts b g (with_answers v (map unknown_to (map held_as batch.commands))) safe (given ++ map unknown_to (map held_as batch.commands))
-  failed_amid_then choice any a b f g v safe given batch counts k t some takes room fails sent folds amid =
-      let l = failures_amid_scans laws choice any k.world a b f g counts batch t some (subst (λ (x : Words). AllTakesAsked x.asked b.seat) (sym k.words_are) takes) room fails sent k.shows in
-      led_on a b f g v safe given (map unknown_to (map held_as batch.commands)) (λ (xs : List Entry). xs) _ k (l.1 folds (amid l.0)).1
-
-  broken_amid_then : (choice : Choice) → RunsAreAny choice → (a b : AllocatorState P) (f g : FlusherState D) (v : Words) (safe : List Entry) (given : List Held) (batch : BatchState) (counts : Counts)
-      → IsRunOfParts a f v safe given → (t : IsScanTurn choice a b counts) → commands_of 0 t.visits ≢ [] → AllTakesAsked v.asked b.seat → HasRoom a f → FlushesBroken f g batch → ReceivesSent a g
-      → ((q : Batch) → Amid (broken_flush all_found q) (commands_of 0 t.visits))
-      → IsRunOfParts b g (with_answers v (map unknown_to (map held_as batch.commands))) safe (given ++ map unknown_to (map held_as batch.commands))
-  broken_amid_then choice any a b f g v safe given batch counts k t some takes room rests sent amid =
-      let l = broken_amid_scans laws choice any k.world a b f g counts batch t some (subst (λ (x : Words). AllTakesAsked x.asked b.seat) (sym k.words_are) takes) room rests sent k.shows in
-      led_on a b f g v safe given (map unknown_to (map held_as batch.commands)) (λ (xs : List Entry). xs) _ k (l.1 (amid l.0)).1
+  -- turns of the flusher amid a scan
+  flushed_amid_then : (choice : Choice) → RunsAreAny choice → (a b : AllocatorState P) (f g : FlusherState D) (v : Words) (safe more : List Entry) (given told : List Held) (counts : Counts) (events : List (Batch → List Event))
+      → IsRunOfParts a f v safe given → (t : IsScanTurn choice a b counts) → commands_of 0 t.visits ≢ [] → AllTakesAsked v.asked b.seat → HasRoom b g → Flushings a f g told more events
+      → ((batches : List Batch) → (amid : Amid (events_with events batches) (commands_of 0 t.visits)) × HadRoom a f amid.looks)
+      → IsRunOfParts b g (with_answers v told) (safe ++ more) (given ++ told)
+  flushed_amid_then choice any a b f g v safe more given told counts events k t some takes room turns amid =
+      let lead = flushings_lead laws a k.world f g told more events turns k.shows in
+      let placed = amid lead.batches in
+      let l = turns_amid_scans laws choice any k.world a b f g counts (events_with events lead.batches) told (safe_list k.world ++ more) t some
+      (subst (λ (x : Words). AllTakesAsked x.asked b.seat) (sym k.words_are) takes) room lead.his lead.still lead.leads k.shows placed.0 placed.1 in
+      led_on a b f g v safe given told (λ (xs : List Entry). xs ++ more) _ k l.1
 
   module _ (chooses : P → Choice) (any : (policy : P) → RunsAreAny (chooses policy)) where
     pub run_of : (a : AllocatorState P) (f : FlusherState D) (v : Words) (safe : List Entry) (given : List Held) → RelayHistory chooses a f v safe given → IsRunOfParts a f v safe given
@@ -190,12 +175,8 @@ module _ {D P : Type 0} (laws : RelayLaws) where
     run_of a g v safe given (Flushed {f = f} {v = u} {safe = old} {given = before} {batch = batch} {counts = counts} h t sent) = flushed_then a f g u old before batch counts (run_of a f u old before h) t sent
     run_of a g v safe given (FlushFailed {f = f} {v = u} {given = before} {batch = batch} h t sent) = failed_then a f g u safe before batch (run_of a f u safe before h) t sent
     run_of a g v safe given (FlushedWhileBroken {f = f} {v = u} {given = before} {batch = batch} h t sent) = broken_then a f g u safe before batch (run_of a f u safe before h) t sent
-    run_of b g v safe given (FlushedAmid {a = a} {f = f} {v = u} {safe = old} {given = before} {batch = batch} {counts = counts} {flushed = flushed} h t some takes room flush sent folds amid) =
-        flushed_amid_then (chooses a.policy) (any a.policy) a b f g u old before batch counts flushed (run_of a f u old before h) t some takes room flush sent folds amid
-    run_of b g v safe given (FlushFailedAmid {a = a} {f = f} {v = u} {given = before} {batch = batch} {counts = counts} h t some takes room fails sent folds amid) =
-        failed_amid_then (chooses a.policy) (any a.policy) a b f g u safe before batch counts (run_of a f u safe before h) t some takes room fails sent folds amid
-    run_of b g v safe given (FlushedBrokenAmid {a = a} {f = f} {v = u} {given = before} {batch = batch} {counts = counts} h t some takes room rests sent amid) =
-        broken_amid_then (chooses a.policy) (any a.policy) a b f g u safe before batch counts (run_of a f u safe before h) t some takes room rests sent amid
+    run_of b g v safe given (FlushedAmid {a = a} {f = f} {v = u} {safe = old} {more = more} {given = before} {told = told} {counts = counts} {events = events} h t some takes room turns amid) =
+        flushed_amid_then (chooses a.policy) (any a.policy) a b f g u old more before told counts events (run_of a f u old before h) t some takes room turns amid
 
     pub histories_are_runs : RelayHistoriesAreRuns D P chooses
     histories_are_runs a f v safe given h = run_of a f v safe given h

@@ -1,14 +1,14 @@
 -- A scan is the machine's.
 use Rattle.std.proofs.Common.{ℕ, zero, suc, ◌≡◌, ◌≢◌, ◌+◌, ◌-◌, ◌*◌, ◌^◌, ◌<◌, ◌≤◌, Bool, true, false, cond, eqb, List, [], ◌∷◌, ◌++◌, length, map, take, drop, Option, Some, None, refl, sym, ap, subst, ◌∙◌, arith, append_assoc, add-zero, zero-add}
-use Rattle.std.specs.Prelude.{filter, find, reverse, count_by, All, IsTrue}
+use Rattle.std.specs.Prelude.{filter, find, reverse, count_by, All, Contains, IsTrue}
 use Rattle.std.specs.List.{AllByRecursion, flat_map}
 use Rattle.std.proofs.Math.Seq.{take-length, drop-length, take-append_seam}
 use Rattle.std.proofs.lemmas.Bool.{ne_eqb, eq-eqb, eqb-true, false≢true}
-use Rattle.std.proofs.lemmas.List.{append-nil, length-append, append_cancel_left, length-map, take-append-le, length-take-le, drop-append-le, length-drop}
+use Rattle.std.proofs.lemmas.List.{append-nil, length-append, length-map, take-append-le, length-take-le, drop-append-le, length-drop}
 use Rattle.std.proofs.lemmas.List.Elements.{filter-append, filter_passes}
 use Rattle.std.proofs.lemmas.List.Concat.{flat_map-append}
 use Rattle.std.proofs.lemmas.List.Sums.{length-filter}
-use mathlib.Core.List.{IsPrefix, map-append}
+use mathlib.Core.List.{map-append}
 use Rattle.lift_base.specs.declared.command.Body.{Body}
 use Rattle.lift_base.specs.declared.command.Reply.{Reply}
 use Rattle.lift_base.specs.declared.history.Entry.{Entry}
@@ -17,10 +17,12 @@ use Rattle.lift_building.specs.Plan.{Plan}
 use Rattle.lift_register.specs.Register.{RegisterState}
 use Rattle.lift_desk.specs.declared.view.ClerkView.{ClerkView}
 use Rattle.lift_desk.specs.declared.words.Ask.{Ask}
-use Rattle.lift_desk.specs.Words.{turn_of, body_bits, ask_word, IsBody}
+use Rattle.lift_desk.specs.Rule.{CountTurns, IsAhead}
+use Rattle.lift_desk.specs.Words.{turn_of, last_of, body_bits, ask_word}
 use Rattle.lift_desk.specs.Spelled.{ask_words, IsAsk}
 use Rattle.lift_desk.specs.Steps.{is_new, with_taking}
 use Rattle.lift_desk.specs.Seats.{ClerkPlace, no_table, placed_at, view_at, TakesOf, TakesAheadOf}
+use Rattle.lift_desk.specs.lemmas.WordLists.{last_of-push, turn_of-last_of, CountTurns-front, turn_at_most, turn_is_last}
 use Rattle.lift_policy.specs.Eligible.{Choice, any_eligible}
 use Rattle.lift_policy.specs.Step.{State}
 use Rattle.lift_policy.specs.Run.{Run}
@@ -52,8 +54,9 @@ use Rattle.lift_relay.specs.Scan.{TakesAt, TakesEach}
 use Rattle.lift_relay.specs.Allocator.{AllocatorState, IsScanTurn}
 use Rattle.lift_relay.specs.Flusher.{FlusherState}
 use Rattle.lift_relay.specs.Laws.{RelayLaws}
-use Rattle.lift_relay.specs.Tie.{held_as, command_of, entries_of, queued_in, on_way, AreQueued, AreDecided, ShowsBoth, RunsWhole, RunsBroken, IsRelayOf, LeadsOn, TakesAsked, AllTakesAsked, Reads, AsksNext, AllAskNext, HasRoom, NothingTakenIsNoEvent, ScansAreAllocations}
-use Rattle.lift_relay.proofs.OneAsk.{one_ask}
+use Rattle.lift_relay.specs.Tie.{held_as, command_of, entries_of, queued_in, on_way, AreQueued, AreDecided, ShowsBoth, RunsWhole, RunsBroken, IsRelayOf, LeadsOn, TakesAsked, AllTakesAsked, Reads, AsksNext, AllAskNext, QueuedHaveRoom, NothingTakenIsNoEvent, ScansAreAllocations}
+use Rattle.lift_relay.proofs.Turns.{below_is}
+use Rattle.lift_relay.proofs.OneAsk.{bits_small, word_turn, one_ask}
 use Rattle.lift_relay.proofs.Tied.{order, hears, one_by_one, reaches, shown_same, nothing_gathered}
 
 -- ---- what is on its way of a terminal
@@ -113,8 +116,12 @@ pub last_has : {A : Type 0} (Q : A → Type 0) (xs : List A) (x : A) (ys : List 
 last_has Q [] x ys h = h 0 x (omega arith)
 last_has Q (y ∷ xs) x ys h = last_has Q xs x ys (λ k d below. h (suc k) d (omega arith))
 
-cons-head : (x y : ℕ) (xs ys : List ℕ) → x ∷ xs ≡ y ∷ ys → x ≡ y
-cons-head x y xs ys e = cc
+-- the words of asks have the turns from the first on
+turns_count : (first : ℕ) (asks : List Ask) → All IsAsk asks → CountTurns first (ask_words first asks)
+turns_count first [] in_range = tt
+turns_count first (a ∷ asks) in_range =
+    let one : IsAsk a = in_range 0 a (omega arith) in
+    (word_turn first a.number (body_bits a.body) one.0 (bits_small a.body one.1), turns_count (suc first) asks (λ k d below. in_range (suc k) d (omega arith)))
 
 -- the ask of a command stands, which is the only one that waits
 pub record Stands (w : World) (t : ℕ) (waiting : List Command) (c : Command) : Type 0 where
@@ -186,28 +193,56 @@ module _ (laws : RelayLaws) (w : World) (reached : IsReached w) (only : OnlyQueu
     abbrev command : Command
     command = record { terminal = t; number = ask.number; body = ask.body }
 
-    begins : word ∷ asked.front.0 ≡ ask_words (1 + length (map ask_of fa)) (map ask_of s.waiting)
-    begins =
-        append_cancel_left (ask_words 1 (map ask_of fa)) (word ∷ asked.front.0) (ask_words (1 + length (map ask_of fa)) (map ask_of s.waiting))
-        (ap (λ (xs : List ℕ). xs ++ word ∷ asked.front.0) (sym s.taken) ∙ sym (append_assoc p.view.taken (word ∷ []) asked.front.0)
-        ∙ ap (λ (xs : List ℕ). xs ++ asked.front.0) (sym (taken-new p.view word at.reads.0)) ∙ asked.front.1 ∙ ap (ask_words 1) all_asks
-        ∙ asks_both 1 (map ask_of fa) (map ask_of s.waiting))
+    abbrev all_words : List ℕ
+    all_words = ask_words 1 (map ask_of (filter (asks t) w.asked))
+
+    words_are : all_words ≡ ask_words 1 (map ask_of fa) ++ ask_words (1 + length (map ask_of fa)) (map ask_of s.waiting)
+    words_are = ap (ask_words 1) all_asks ∙ asks_both 1 (map ask_of fa) (map ask_of s.waiting)
+
+    -- its turn is behind those of all that was taken, and no later than that of the last ask
+    was_asked : Contains all_words word
+    was_asked = last_has (Contains all_words) p.view.taken word [] (subst (All (Contains all_words)) (taken-new p.view word at.reads.0) asked.ahead.asked_all)
+
+    counted : CountTurns 1 all_words
+    counted = turns_count 1 (map ask_of (filter (asks t) w.asked)) asked.in_range
+
+    long : length all_words ≡ length fa + length s.waiting
+    long = asks_count 1 (map ask_of (filter (asks t) w.asked)) ∙ length-map (filter (asks t) w.asked) ask_of ∙ ap length s.asked ∙ length-append fa s.waiting
+
+    taken_turn : turn_of (last_of p.view.taken) ≡ length fa
+    taken_turn =
+        turn_of-last_of p.view.taken (subst (CountTurns 1) (sym s.taken) (CountTurns-front 1 (ask_words 1 (map ask_of fa)) (ask_words (1 + length (map ask_of fa)) (map ask_of s.waiting)) (subst (CountTurns 1) words_are counted)))
+        ∙ ap length s.taken ∙ asks_count 1 (map ask_of fa) ∙ length-map fa ask_of
+
+    above : length fa < turn_of word
+    above = subst (λ (n : ℕ). n < turn_of word) taken_turn (below_is (turn_of (last_of p.view.taken)) (turn_of word) at.reads.0)
+
+    most : turn_of word ≤ length all_words
+    most = turn_at_most all_words word counted was_asked
+
+    -- where one waits it is that one's
+    last_word : (d : Command) → s.waiting ≡ d ∷ [] → word ≡ ask_word (1 + length (map ask_of fa)) d.number d.body
+    last_word d e =
+        let up = above in
+        let le = most in
+        let all = long in
+        turn_is_last all_words word counted was_asked (omega (arith, ap length e)) ∙ ap last_of words_are
+        ∙ ap (λ (cs : List Command). last_of (ask_words 1 (map ask_of fa) ++ ask_words (1 + length (map ask_of fa)) (map ask_of cs))) e
+        ∙ last_of-push (ask_words 1 (map ask_of fa)) (ask_word (1 + length (map ask_of fa)) d.number d.body)
 
     -- the word is the next ask's
     pub record Next (d : Command) : Type 0 where
       pub is : d ≡ command
       pub turn : word ≡ ask_word (suc (length p.view.taken)) ask.number ask.body
 
-    next_is : (d : Command) (more : List Command) → s.waiting ≡ d ∷ more → Next d
-    next_is d more e =
-        let split : filter (asks t) w.asked ≡ fa ++ d ∷ more = s.asked ∙ ap (λ (cs : List Command). fa ++ cs) e in
+    next_is : (d : Command) → s.waiting ≡ d ∷ [] → Next d
+    next_is d e =
+        let split : filter (asks t) w.asked ≡ fa ++ d ∷ [] = s.asked ∙ ap (λ (cs : List Command). fa ++ cs) e in
         let own : d.terminal ≡ t =
-        eqb-true d.terminal t (last_has (λ (x : Command). asks t x ≡ true) fa d more (subst (All (λ (x : Command). asks t x ≡ true)) split (filter_passes (asks t) w.asked))) in
-        let spelled : IsAsk (ask_of d) = last_has IsAsk (map ask_of fa) (ask_of d) (map ask_of more) (subst (All IsAsk) (all_asks ∙ ap (λ (cs : List Command). map ask_of fa ++ map ask_of cs) e) asked.in_range) in
+        eqb-true d.terminal t (last_has (λ (x : Command). asks t x ≡ true) fa d [] (subst (All (λ (x : Command). asks t x ≡ true)) split (filter_passes (asks t) w.asked))) in
+        let spelled : IsAsk (ask_of d) = last_has IsAsk (map ask_of fa) (ask_of d) [] (subst (All IsAsk) (all_asks ∙ ap (λ (cs : List Command). map ask_of fa ++ map ask_of cs) e) asked.in_range) in
         let count : suc (length p.view.taken) ≡ 1 + length (map ask_of fa) = omega (arith, ap length s.taken, asks_count 1 (map ask_of fa)) in
-        let first : word ≡ ask_word (suc (length p.view.taken)) d.number d.body =
-        cons-head word (ask_word (1 + length (map ask_of fa)) d.number d.body) asked.front.0 (ask_words (suc (1 + length (map ask_of fa))) (map ask_of more))
-        (begins ∙ ap (λ (cs : List Command). ask_words (1 + length (map ask_of fa)) (map ask_of cs)) e) ∙ ap (λ (n : ℕ). ask_word n d.number d.body) (sym count) in
+        let first : word ≡ ask_word (suc (length p.view.taken)) d.number d.body = last_word d e ∙ ap (λ (n : ℕ). ask_word n d.number d.body) (sym count) in
         let same = one_ask (turn_of word) (suc (length p.view.taken)) ask (ask_of d) at.in_range spelled (sym at.reads.1 ∙ first) in
         let says : word ≡ ask_word (suc (length p.view.taken)) ask.number ask.body = at.reads.1 ∙ ap (λ (n : ℕ). ask_word n ask.number ask.body) same.0 in
         record { is = λ i. record { terminal = own i; number = sym same.1 i; body = sym same.2 i }; turn = says }
@@ -217,8 +252,8 @@ module _ (laws : RelayLaws) (w : World) (reached : IsReached w) (only : OnlyQueu
         (stands_where command (e ∙ ap (λ (x : Command). x ∷ []) n.is), n.turn)
 
     by_waiting : (waiting : List Command) → s.waiting ≡ waiting → Stands w t s.waiting command × (word ≡ ask_word (suc (length p.view.taken)) ask.number ask.body)
-    by_waiting [] e = let wrong : word ∷ asked.front.0 ≡ [] = begins ∙ ap (λ (cs : List Command). ask_words (1 + length (map ask_of fa)) (map ask_of cs)) e in absurd (cc)
-    by_waiting (d ∷ []) e = one d e (next_is d [] e)
+    by_waiting [] e = let up = above in let le = most in let all = long in absurd (omega (arith, ap length e))
+    by_waiting (d ∷ []) e = one d e (next_is d e)
     by_waiting (d ∷ x ∷ more) e = let le = few in absurd (omega (arith, ap length e))
 
     pub stands : Stands w t s.waiting command × (word ≡ ask_word (suc (length p.view.taken)) ask.number ask.body)
@@ -243,7 +278,7 @@ served_behind place places word None visits k = refl
 served_behind place places word (Some ask) visits k = refl
 
 asked_same : (w : World) (t : ℕ) (u v : ClerkView) → u.taken ≡ v.taken → TakesAsked w.asked t u → TakesAsked w.asked t v
-asked_same w t u v e k = record { front = subst (λ (xs : List ℕ). IsPrefix xs (ask_words 1 (map ask_of (filter (asks t) w.asked)))) e k.front; in_range = k.in_range }
+asked_same w t u v e k = record { ahead = subst (λ (xs : List ℕ). IsAhead (ask_words 1 (map ask_of (filter (asks t) w.asked))) xs) e k.ahead; in_range = k.in_range }
 
 module _ (laws : RelayLaws) (w : World) (reached : IsReached w) (only : OnlyQueued w) (ahead later : ℕ → ClerkView) (s : (t : ℕ) → ShowsBoth w t (ahead t) (later t)) where
   abbrev pub AllStand : List Command → Type 0
@@ -368,6 +403,13 @@ nothing_read [] (u ∷ visits) first takes none = absurd takes
 nothing_read (p ∷ places) (u ∷ visits) first takes none =
     let k = nothing_at p u.word u.found first (commands_of (suc first) visits) takes.0 none in
     (k.0, nothing_read places visits (suc first) takes.1 k.1)
+
+-- what the line holds
+pub have_room : {D P : Type 0} → QueuedHaveRoom D P
+have_room a f q = (
+  (let four = q.four in omega (arith, ap length q.in_order, length-append f.end.received q.items)),
+  (q.items ++ a.hand, ap (λ (xs : List BatchState). xs ++ a.hand) q.in_order ∙ append_assoc f.end.received q.items a.hand),
+)
 
 length-served : (places : List ClerkPlace) (visits : List Visit) → length (served places visits []) ≡ length places
 length-served places visits = Rattle.lift_clerk.specs.lemmas.Visiting.length-served places visits []

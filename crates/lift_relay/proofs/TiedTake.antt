@@ -125,7 +125,7 @@ allocates laws w (c ∷ cs) [] state some k are r = absurd r
 allocates laws w (c ∷ cs) (reply ∷ rs) state some k are r = laws.allocations w c cs reply rs state k are r
 
 module _ {D P : Type 0} (laws : RelayLaws) (choice : Choice) (any : RunsAreAny choice) (w : World) (a b : AllocatorState P) (f : FlusherState D) (counts : Counts) (t : IsScanTurn choice a b counts)
-    (some : commands_of 0 t.visits ≢ []) (room : HasRoom a f) (m : IsRelayOf w a f)
+    (some : commands_of 0 t.visits ≢ []) (room : HasRoom b f) (m : IsRelayOf w a f)
     (looks : Reads a.seat t.visits × AllStand laws w m.reached (is_queued w a f m) (λ (n : ℕ). view_at a.seat n) (λ (n : ℕ). view_at f.seat n) m.words (commands_of 0 t.visits)) where
   abbrev cs : List Command
   cs = commands_of 0 t.visits
@@ -136,13 +136,13 @@ module _ {D P : Type 0} (laws : RelayLaws) (choice : Choice) (any : RunsAreAny c
   abbrev later : ℕ → ClerkView
   later n = view_at f.seat n
 
-  pub few : length w.queue ≤ 4
+  few : length w.queue ≤ 4
   few =
       let long = queued_long (length f.seat) m.waiting w.queue m.queue in
       let much = room in
-      omega (arith, ap length m.line, length-append f.end.received m.waiting)
+      omega (arith, ap length m.line, length-append f.end.received m.waiting, ap length t.sent.1, length-append (a.end.sent ++ a.hand) t.sent.0)
 
-  pub are_found : AreFound w cs
+  are_found : AreFound w cs
   are_found = found laws w m.reached (is_queued w a f m) ahead later m.words cs few looks.1 (all_apart 0 t.visits)
 
   -- the words then
@@ -282,7 +282,7 @@ module _ {D P : Type 0} (laws : RelayLaws) (choice : Choice) (any : RunsAreAny c
   allocation = by_state f.writer.is_broken refl
 
 -- by the desk's rule each look finds what was asked
-looks_asked : {D P : Type 0} (laws : RelayLaws) (choice : Choice) (w : World) (a b : AllocatorState P) (f : FlusherState D) (counts : Counts) (t : IsScanTurn choice a b counts)
+pub looks_asked : {D P : Type 0} (laws : RelayLaws) (choice : Choice) (w : World) (a b : AllocatorState P) (f : FlusherState D) (counts : Counts) (t : IsScanTurn choice a b counts)
     (m : IsRelayOf w a f) → AllTakesAsked w.asked b.seat
     → Reads a.seat t.visits × AllStand laws w m.reached (is_queued w a f m) (λ (n : ℕ). view_at a.seat n) (λ (n : ℕ). view_at f.seat n) m.words (commands_of 0 t.visits)
 looks_asked laws choice w a b f counts t m asked =
@@ -295,13 +295,7 @@ scans_are_allocations laws choice any w a b f counts t some asked room m =
     allocation laws choice any w a b f counts t some room m (looks_asked laws choice w a b f counts t m asked)
 
 module _ {D P : Type 0} (laws : RelayLaws) (choice : Choice) (any : RunsAreAny choice) (w : World) (a b : AllocatorState P) (f : FlusherState D) (counts : Counts) (t : IsScanTurn choice a b counts)
-    (some : commands_of 0 t.visits ≢ []) (room : HasRoom a f) (m : IsRelayOf w a f) (asked : AllTakesAsked w.asked b.seat) where
-  pub found_at : (length w.queue ≤ 4) × AreFound w (commands_of 0 t.visits)
-  found_at = let looks = looks_asked laws choice w a b f counts t m asked in (
-    few laws choice any w a b f counts t some room m looks,
-    are_found laws choice any w a b f counts t some room m looks,
-  )
-
+    (some : commands_of 0 t.visits ≢ []) (room : HasRoom b f) (m : IsRelayOf w a f) (asked : AllTakesAsked w.asked b.seat) where
   -- the world behind the scan, whoever was among it
   pub stands_behind : f.writer.is_broken ≡ false
       → (safe_list (allocated w (commands_of 0 t.visits) (replies_in t.batch.commands) t.decided) ≡ safe_list w) × IsRelayOf (allocated w (commands_of 0 t.visits) (replies_in t.batch.commands) t.decided) b f

@@ -77,6 +77,7 @@ pub record IsScanTurn {P : Type 0} (choice : Choice) (old new : AllocatorState P
   pub after : new.state ≡ settled decided
   pub nothing : commands_of 0 visits ≡ [] → (new.end.sent ++ new.hand ≡ old.end.sent ++ old.hand) × (new.hand ≡ [])
   pub some : commands_of 0 visits ≢ [] → new.end.sent ++ new.hand ≡ (old.end.sent ++ old.hand) ++ batch ∷ []
+  pub sent : Begins (old.end.sent ++ old.hand) new.end.sent
   pub full : new.hand ≢ [] → WasFull new.end
   pub same_place : (new.desk ≡ old.desk) × (new.plan ≡ old.plan) × (new.policy ≡ old.policy) × (new.start ≡ old.start) × (new.end.line ≡ old.end.line)
   pub taken : counts.taken ≡ length (commands_of 0 visits)

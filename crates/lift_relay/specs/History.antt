@@ -8,11 +8,10 @@ use Rattle.lift_keeper.specs.declared.fault.KeeperFault.{KeeperFault}
 use Rattle.lift_policy.specs.Eligible.{Choice}
 use Rattle.lift_policy.specs.declared.command.Command.{Command}
 use Rattle.lift_world.specs.declared.event.Answer.{Answer}
-use Rattle.lift_world.specs.declared.event.Phase.TheVariants.{GateWritten}
+use Rattle.lift_world.specs.declared.event.Event.{Event}
 use Rattle.lift_world.specs.declared.event.Taken.{Taken as Held}
 use Rattle.lift_world.specs.World.{World, Batch, asks, is_answer_to, safe_list}
 use Rattle.lift_world.specs.Next.{answer_of, unknown_to}
-use Rattle.lift_world.specs.Relay.{flusher_events, failing_flush, broken_flush}
 use Rattle.lift_clerk.specs.declared.counts.Counts.{Counts}
 use Rattle.lift_clerk.specs.Clerk.{ClerkState}
 use Rattle.lift_clerk.specs.Turn.{IsEither}
@@ -25,8 +24,8 @@ use Rattle.lift_relay.specs.Allocator.{AllocatorState, IsFullTurn, IsScanTurn}
 use Rattle.lift_relay.specs.Flusher.{FlusherState, IsFlusher, IsEmptyTurn}
 use Rattle.lift_relay.specs.Pair.{IsSending, IsTelling}
 use Rattle.lift_relay.specs.Relay.{AreParts, IsRejoined}
-use Rattle.lift_relay.specs.Tie.{held_as, IsRelayOf, AllTakesAsked, Reads, AllAskNext, HasRoom, ReceivesSent, all_found, Flushes, FlushFails, FlushesBroken}
-use Rattle.lift_relay.specs.Amid.{Amid}
+use Rattle.lift_relay.specs.Tie.{held_as, IsRelayOf, AllTakesAsked, Reads, AllAskNext, HasRoom, ReceivesSent, Flushes, FlushFails, FlushesBroken}
+use Rattle.lift_relay.specs.Amid.{Amid, HadRoom, Flushings, events_with}
 
 -- what terminals asked and heard, and what was answered them
 pub record Words : Type 0 where
@@ -68,10 +67,10 @@ pub data RelayHistory {D P : Type 0} (chooses : P → Choice) : AllocatorState P
       → (t : IsScanTurn (chooses a.policy) a b counts) → commands_of 0 t.visits ≡ [] → RelayHistory chooses b f v safe given
   -- It takes what by the desk's rule was asked, while by the line's rule at most four batches wait.
   Allocated : {a b : AllocatorState P} {f : FlusherState D} {v : Words} {safe : List Entry} {given : List Held} {counts : Counts} → RelayHistory chooses a f v safe given
-      → (t : IsScanTurn (chooses a.policy) a b counts) → commands_of 0 t.visits ≢ [] → AllTakesAsked v.asked b.seat → HasRoom a f → RelayHistory chooses b f v safe given
+      → (t : IsScanTurn (chooses a.policy) a b counts) → commands_of 0 t.visits ≢ [] → AllTakesAsked v.asked b.seat → HasRoom b f → RelayHistory chooses b f v safe given
   -- It takes the next turn of each terminal that it takes of, which asked that behind all that was taken there.
   AllocatedNext : {a b : AllocatorState P} {f : FlusherState D} {v : Words} {safe : List Entry} {given : List Held} {counts : Counts} → RelayHistory chooses a f v safe given
-      → (t : IsScanTurn (chooses a.policy) a b counts) → commands_of 0 t.visits ≢ [] → Reads a.seat t.visits → AllAskNext v.asked a.seat (commands_of 0 t.visits) → HasRoom a f
+      → (t : IsScanTurn (chooses a.policy) a b counts) → commands_of 0 t.visits ≢ [] → Reads a.seat t.visits → AllAskNext v.asked a.seat (commands_of 0 t.visits) → HasRoom b f
       → RelayHistory chooses b f v safe given
   -- Each part is told where the other stands.
   PartsTold : {a b : AllocatorState P} {f g : FlusherState D} {v : Words} {safe : List Entry} {given : List Held} → RelayHistory chooses a f v safe given
@@ -93,22 +92,12 @@ pub data RelayHistory {D P : Type 0} (chooses : P → Choice) : AllocatorState P
   FlushedWhileBroken : {a : AllocatorState P} {f g : FlusherState D} {v : Words} {safe : List Entry} {given : List Held} {batch : BatchState} → RelayHistory chooses a f v safe given
       → FlushesBroken f g batch → ReceivesSent a g
       → RelayHistory chooses a g (with_answers v (map unknown_to (map held_as batch.commands))) safe (given ++ map unknown_to (map held_as batch.commands))
-  -- Its turn stands amid a scan, which takes what was asked before: the flusher's events stand so among the looks, whichever batch the
-  -- machine has for this one.
-  FlushedAmid : {a b : AllocatorState P} {f g : FlusherState D} {v : Words} {safe : List Entry} {given : List Held} {batch : BatchState} {counts : Counts} {flushed : FlushCounts} → RelayHistory chooses a f v safe given
-      → (t : IsScanTurn (chooses a.policy) a b counts) → commands_of 0 t.visits ≢ [] → AllTakesAsked v.asked b.seat → HasRoom a f → Flushes f g batch flushed → ReceivesSent a g
-      → (folds : ℕ) → ((q : Batch) → Amid (flusher_events all_found q folds (length batch.entries)) (commands_of 0 t.visits))
-      → RelayHistory chooses b g (with_answers v (map held_as batch.commands)) (safe ++ batch.entries) (given ++ map held_as batch.commands)
-  -- So may one that the device fails,
-  FlushFailedAmid : {a b : AllocatorState P} {f g : FlusherState D} {v : Words} {safe : List Entry} {given : List Held} {batch : BatchState} {counts : Counts} → RelayHistory chooses a f v safe given
-      → (t : IsScanTurn (chooses a.policy) a b counts) → commands_of 0 t.visits ≢ [] → AllTakesAsked v.asked b.seat → HasRoom a f → FlushFails f g batch → ReceivesSent a g
-      → (folds : ℕ) → ((q : Batch) → Amid (failing_flush all_found q folds GateWritten (length batch.entries)) (commands_of 0 t.visits))
-      → RelayHistory chooses b g (with_answers v (map unknown_to (map held_as batch.commands))) safe (given ++ map unknown_to (map held_as batch.commands))
-  -- and one after a fault.
-  FlushedBrokenAmid : {a b : AllocatorState P} {f g : FlusherState D} {v : Words} {safe : List Entry} {given : List Held} {batch : BatchState} {counts : Counts} → RelayHistory chooses a f v safe given
-      → (t : IsScanTurn (chooses a.policy) a b counts) → commands_of 0 t.visits ≢ [] → AllTakesAsked v.asked b.seat → HasRoom a f → FlushesBroken f g batch → ReceivesSent a g
-      → ((q : Batch) → Amid (broken_flush all_found q) (commands_of 0 t.visits))
-      → RelayHistory chooses b g (with_answers v (map unknown_to (map held_as batch.commands))) safe (given ++ map unknown_to (map held_as batch.commands))
+  -- Its turns stand amid a scan, one or several, which takes what was asked before: the flusher's events stand so among the looks,
+  -- whichever batches the machine has for these turns. Where the line was full, they begin before the first look.
+  FlushedAmid : {a b : AllocatorState P} {f g : FlusherState D} {v : Words} {safe more : List Entry} {given told : List Held} {counts : Counts} {events : List (Batch → List Event)} → RelayHistory chooses a f v safe given
+      → (t : IsScanTurn (chooses a.policy) a b counts) → commands_of 0 t.visits ≢ [] → AllTakesAsked v.asked b.seat → HasRoom b g → Flushings a f g told more events
+      → ((batches : List Batch) → (amid : Amid (events_with events batches) (commands_of 0 t.visits)) × HadRoom a f amid.looks)
+      → RelayHistory chooses b g (with_answers v told) (safe ++ more) (given ++ told)
 
 -- Some run of the machine leads to a world of these parts, with just these words, these entries safe and these commands answered.
 pub record IsRunOfParts {D P : Type 0} (a : AllocatorState P) (f : FlusherState D) (v : Words) (safe : List Entry) (given : List Held) : Type 0 where

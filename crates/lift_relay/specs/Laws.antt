@@ -9,7 +9,7 @@ use Rattle.lift_world.specs.World.{World, start}
 use Rattle.lift_world.specs.Next.{run}
 use Rattle.lift_world.specs.Among.{LooksFindAsks, AsksStandOn, SealsAloneQueue, AllocationsGoAmong}
 use Rattle.lift_world.specs.Beside.{GoesAreRuns, RunsJoin}
-use Rattle.lift_world.specs.Headline.{HearsInOrder, AllAskOneByOne, RecoversAcknowledged, RecoversLetters}
+use Rattle.lift_world.specs.Headline.{HearsInOrder, QueuesFew, AllAskOneByOne, RecoversAcknowledged, RecoversLetters}
 use Rattle.lift_world.specs.Possible.{AsksOnceHeard, HearsTheNext, PullsInTurn, CallsInOrder}
 use Rattle.lift_world.specs.Relay.{IsQueueInOrder, AllocationsAreEvents, FlushesAreEvents, FailedFlushesAreEvents, BrokenFlushesAreEvents, PartsMeet}
 use Rattle.lift_world.specs.Stays.{StaysBetweenScans, StaysBetweenFlushes, StaysBrokenBetween}
@@ -28,6 +28,7 @@ pub record RelayLaws : Type 0 where
   pub decided : (building : Plan) (state : State) (commands : List Command) → HasRun building state commands
   pub in_order : (building : Plan) (events : List Event) → IsQueueInOrder (run events (start building))
   pub hears : (building : Plan) (events : List Event) → HearsInOrder (run events (start building))
+  pub few_queued : (building : Plan) (events : List Event) → QueuesFew (run events (start building))
   pub one_by_one : (building : Plan) (events : List Event) → AllAskOneByOne (run events (start building))
   pub possible : (w : World) → GoesAreRuns w
   pub joined : (w : World) → RunsJoin w

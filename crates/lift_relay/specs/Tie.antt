@@ -1,7 +1,6 @@
 -- What the machine of events is while the two parts run, and which of its events their turns are.
 use Rattle.std.specs.Prelude.{ℕ, ◌≡◌, ◌≢◌, ◌≤◌, ◌+◌, Bool, true, false, List, [], ◌∷◌, ◌++◌, length, map, filter, count_by, All, IsTrue, Some, Option, Result, Ok, Err}
 use Rattle.std.specs.List.{AllByRecursion, flat_map}
-use mathlib.Core.List.{IsPrefix}
 use Rattle.lift_base.specs.declared.command.Reply.{Reply}
 use Rattle.lift_base.specs.declared.history.Entry.{Entry}
 use Rattle.lift_building.specs.Plan.{IsBuilding}
@@ -9,6 +8,7 @@ use Rattle.lift_disk.specs.Disk.{Image}
 use Rattle.lift_keeper.specs.Images.{IsInDoubt}
 use Rattle.lift_journal.specs.declared.fault.JournalFault.TheVariants.{Disk, Broken}
 use Rattle.lift_desk.specs.declared.view.ClerkView.{ClerkView}
+use Rattle.lift_desk.specs.Rule.{IsAhead}
 use Rattle.lift_desk.specs.Spelled.{ask_words, IsAsk}
 use Rattle.lift_desk.specs.Seats.{ClerkPlace, TakesOf, view_at}
 use Rattle.lift_policy.specs.Eligible.{Choice}
@@ -32,6 +32,7 @@ use Rattle.lift_relay.specs.declared.batch.Taken.{Taken}
 use Rattle.lift_relay.specs.declared.flusher.FlushCounts.{FlushCounts}
 use Rattle.lift_relay.specs.Batch.{BatchState, AreBelow, commands_in}
 use Rattle.lift_relay.specs.Line.{Begins}
+use Rattle.lift_relay.specs.Queued.{Queued}
 use Rattle.lift_relay.specs.Allocator.{AllocatorState, IsFullTurn, IsScanTurn}
 use Rattle.lift_relay.specs.Flusher.{FlusherState, IsFlusher, IsEmptyTurn, IsBatchTurn}
 use Rattle.lift_relay.specs.Pair.{IsSending, IsTelling}
@@ -160,22 +161,31 @@ abbrev pub TerminalsKeepParts : (D P : Type 0) → Type 0
 TerminalsKeepParts D P = (w end : World) (a : AllocatorState P) (f : FlusherState D) (event : Event) → IsTrue (is_of_terminals event) → next w event ≡ Some end
     → IsRelayOf w a f → IsRelayOf end a f
 
--- By the desk's rule what the allocator took of a terminal is a front of what was asked there, and a word can spell each of these asks.
+-- By the desk's rule each word that the allocator took of a terminal was asked there, in rising turns, and a word can spell each of
+-- these asks.
 pub record TakesAsked (asked : List Command) (terminal : ℕ) (view : ClerkView) : Type 0 where
-  pub front : IsPrefix view.taken (ask_words 1 (map ask_of (filter (asks terminal) asked)))
+  pub ahead : IsAhead (ask_words 1 (map ask_of (filter (asks terminal) asked))) view.taken
   pub in_range : All IsAsk (map ask_of (filter (asks terminal) asked))
 
 abbrev pub AllTakesAsked : List Command → List ClerkPlace → Type 0
 AllTakesAsked asked places = (terminal : ℕ) → TakesAsked asked terminal (view_at places terminal)
 
--- The line holds at most four batches: so once the batch in hand was sent, at most four weren't received.
+-- The line holds at most four batches: of those that were sent at most so many weren't received.
 abbrev pub HasRoom : {D P : Type 0} → AllocatorState P → FlusherState D → Type 0
-HasRoom a f = length (a.end.sent ++ a.hand) ≤ length f.end.received + 4
+HasRoom a f = length a.end.sent ≤ length f.end.received + 4
+
+-- By the line's rule what the flusher has received begins what was sent.
+abbrev pub ReceivesSent : {D P : Type 0} → AllocatorState P → FlusherState D → Type 0
+ReceivesSent a f = Begins f.end.received (a.end.sent ++ a.hand)
+
+-- Both are so of parts of which `tell`, `rejoin` or `run` said what the line holds.
+abbrev pub QueuedHaveRoom : (D P : Type 0) → Type 0
+QueuedHaveRoom D P = (a : AllocatorState P) (f : FlusherState D) → Queued a.end f.end → HasRoom a f × ReceivesSent a f
 
 -- A scan that took something is the machine's, and its batch joins the queue.
 abbrev pub ScansAreAllocations : (D P : Type 0) → Choice → Type 0
 ScansAreAllocations D P choice = (w : World) (a b : AllocatorState P) (f : FlusherState D) (counts : Counts) (t : IsScanTurn choice a b counts) → commands_of 0 t.visits ≢ []
-    → AllTakesAsked w.asked b.seat → HasRoom a f → IsRelayOf w a f
+    → AllTakesAsked w.asked b.seat → HasRoom b f → IsRelayOf w a f
     → (letters : List (Option ℕ)) × LeadsOn w (allocator_events (commands_of 0 t.visits) letters) [] (safe_list w) b f
 
 -- each look takes the word of its place's next turn, or nothing
@@ -196,12 +206,8 @@ AllAskNext asked places commands = AllByRecursion (λ (c : Command). AsksNext as
 -- So it is where each look took the word of the next turn, and what that says was asked next.
 abbrev pub NextsAreAllocations : (D P : Type 0) → Choice → Type 0
 NextsAreAllocations D P choice = (w : World) (a b : AllocatorState P) (f : FlusherState D) (counts : Counts) (t : IsScanTurn choice a b counts) → commands_of 0 t.visits ≢ []
-    → Reads a.seat t.visits → AllAskNext w.asked a.seat (commands_of 0 t.visits) → HasRoom a f → IsRelayOf w a f
+    → Reads a.seat t.visits → AllAskNext w.asked a.seat (commands_of 0 t.visits) → HasRoom b f → IsRelayOf w a f
     → (letters : List (Option ℕ)) × LeadsOn w (allocator_events (commands_of 0 t.visits) letters) [] (safe_list w) b f
-
--- By the line's rule what the flusher has received begins what was sent.
-abbrev pub ReceivesSent : {D P : Type 0} → AllocatorState P → FlusherState D → Type 0
-ReceivesSent a f = Begins f.end.received (a.end.sent ++ a.hand)
 
 -- each ask is found by the flusher's own look
 abbrev pub all_found : ℕ → Bool

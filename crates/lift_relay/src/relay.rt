@@ -1,13 +1,16 @@
 //! A clerk in two parts, and the parts together again.
 
-ghost use Rattle.std.specs.Prelude.{◌≡◌, ◌≢◌, ◌⊎◌, List, [], length, IfOk, IfErr, OnErr};
+ghost use Rattle.std.specs.Prelude.{◌≡◌, ◌≢◌, ◌⊎◌, List, [], length, Option, None, IfOk, IfErr, OnErr};
 ghost use Rattle.lift_base.specs.declared.history.Entry.{Entry};
+ghost use Rattle.lift_keeper.specs.declared.fault.KeeperFault.{KeeperFault};
 ghost use Rattle.lift_world.specs.declared.event.Taken.{Taken};
-ghost use Rattle.lift_clerk.specs.History.{IsRunOf};
-ghost use Rattle.lift_relay.specs.Flusher.{IsFlusher};
+ghost use Rattle.lift_clerk.specs.History.{History};
+ghost use Rattle.lift_relay.specs.Allocator.{AllocatorState};
+ghost use Rattle.lift_relay.specs.Flusher.{FlusherState, IsFlusher};
+ghost use Rattle.lift_relay.specs.Pair.{AllocatorTurns, FlusherTurns};
 ghost use Rattle.lift_relay.specs.Queued.{Queued};
 ghost use Rattle.lift_relay.specs.Relay.{AreParts, AreOfOne, IsRejoined, CannotJoin};
-ghost use Rattle.lift_relay.specs.Runs.{HasPast};
+ghost use Rattle.lift_relay.specs.Runs.{HasPast, ClerkAdvances};
 
 use crate::allocator::Allocator;
 use crate::batch::Batch;
@@ -33,8 +36,8 @@ pub fn split<'d, 'b, D: Disk, P: Policy + Drop>(
     ensures of_one { IfOk result (λ parts. AreOfOne parts.0 parts.1) }
     ensures refused { IfErr result (λ back. back.0 ≡ clerk.entry) }
     ensures flusher { IfOk result (λ parts. IsFlusher parts.1) }
-    // Where a run of the machine leads to the clerk, what has happened to it has happened to its parts.
-    ensures history { IfOk result (λ parts. (safe : List Entry) (given : List Taken) → IsRunOf clerk.entry safe given → HasPast P.chooses parts.0 parts.1 safe given) }
+    // What has happened to the clerk has happened to its parts.
+    ensures history { IfOk result (λ parts. (safe : List Entry) (given : List Taken) → History P.chooses clerk.entry safe given → HasPast P.chooses parts.0 parts.1 safe given) }
 {
     runs_are_histories::<D, P>();
     let desk = clerk.desk();
@@ -93,8 +96,11 @@ pub fn rejoin<'d, 'b, D: Disk, P: Policy + Drop>(
     ensures waits { OnErr result ((length allocator.entry.end.sent ≢ length flusher.entry.end.received) ⊎ (allocator.entry.hand ≢ [])) }
     // What was received, and then what the line holds, is what was sent.
     ensures queued { Queued allocator.entry.end flusher.entry.end }
-    // What has happened to the parts has happened to the clerk: a run of the machine leads to it.
-    ensures history { IfOk result (λ clerk. (safe : List Entry) (given : List Taken) → HasPast P.chooses allocator.entry flusher.entry safe given → IsRunOf clerk safe given) }
+    // What has happened to the parts has happened to the clerk.
+    ensures history { IfOk result (λ clerk. (safe : List Entry) (given : List Taken) → HasPast P.chooses allocator.entry flusher.entry safe given → History P.chooses clerk safe given) }
+    // So it goes on with what the parts' turns added, by hand or in a run, since something had happened to both.
+    ensures turned { IfOk result (λ clerk. (a : AllocatorState P) (f : FlusherState D) (last : Option KeeperFault) (safe : List Entry) (given : List Taken) → HasPast P.chooses a f safe given
+        → AllocatorTurns (P.chooses a.policy) a allocator.entry → FlusherTurns D.state f None flusher.entry last → ClerkAdvances P.chooses clerk f flusher.entry safe given) }
 {
     runs_are_histories::<D, P>();
     flusher.compare(&mut allocator);

@@ -7,14 +7,14 @@ ghost use Rattle.lift_relay.specs.Tie.{Flushes, FlushFails, FlushesBroken};
 ghost use Rattle.lift_relay.specs.Pair.{IsFlush};
 ghost use Rattle.lift_relay.specs.Laws.{RelayLaws};
 ghost use Rattle.lift_relay.specs.Tie.{SplitsAreNoEvents, RejoiningsAreNoEvents, FullTurnsAreNoEvents, EmptyTurnsAreNoEvents, SendingsAreNoEvents, TellingsAreNoEvents, NothingTakenIsNoEvent, TerminalsKeepParts};
-ghost use Rattle.lift_relay.specs.Tie.{ScansAreAllocations, NextsAreAllocations, FlushesAreFlushes, FailedFlushesAreFailures, BrokenFlushesAreBroken};
-ghost use Rattle.lift_relay.specs.Amid.{FlushesAmidScans, FailuresAmidScans, BrokenFlushesAmidScans};
+ghost use Rattle.lift_relay.specs.Tie.{QueuedHaveRoom, ScansAreAllocations, NextsAreAllocations, FlushesAreFlushes, FailedFlushesAreFailures, BrokenFlushesAreBroken};
+ghost use Rattle.lift_relay.specs.Amid.{TurnsAmidScans, TurnsJoin, FlushesAmidScans, FailuresAmidScans, BrokenFlushesAmidScans};
 ghost use Rattle.lift_relay.specs.Tie.{CrashesOfPartsShow, CrashesInFlushesShow, CrashesInFailuresShow};
-ghost use Rattle.lift_relay.specs.Runs.{RunsAreHistories, TurnsStand, TurnsRest, SplitsHavePasts, JoinedGoOn, CutsGoOn, CutsInTurnsGoOn, CutsInFailuresGoOn};
+ghost use Rattle.lift_relay.specs.Runs.{RunsAreHistories, ScansGoOn, FlushesGoOn, TurnsLead, ReceivedGrows, TurnsStand, TurnsRest, SplitsHavePasts, JoinedGoOn, CutsGoOn, CutsInTurnsGoOn, CutsInFailuresGoOn};
 ghost use Rattle.lift_relay.specs.History.{RelayHistoriesAreRuns, RejoiningsGoOn, RelayCrashesShowGiven, RelayCrashesInTurnsShowGiven, RelayCrashesInFailuresShowGiven};
 
 use crate::flusher::{FlushCounts, Flusher};
-use lift_clerk::crashes_are_the_machines;
+use lift_clerk::{crashes_are_the_machines, histories_are_runs};
 use lift_disk::Disk;
 use lift_journal::JournalFault;
 use lift_keeper::KeeperFault;
@@ -44,7 +44,7 @@ fn relay_laws()
 /// terminals ask and hear leads to a world of the parts too. So does each turn, by possible events alone, where by the desk's rule what
 /// was taken was asked, and by the line's what was received was sent: a scan is the machine's, and its batch joins the queue; a
 /// flusher's turn makes the first batch of the queue safe and answers its commands, or the device fails it, or it answers Unknown after
-/// a fault; and so it is wherever a flusher's turn stands amid a scan that took something. Whatever has happened so, each image that a
+/// a fault; and so it is wherever a flusher's turn, or several, stand amid a scan that took something. Whatever has happened so, each image that a
 /// crash may leave, also at any moment of a flusher's turn, reads as the register of the safe entries or of these with the batch, holds
 /// every entry that was acknowledged, and still names the car of each letter.
 pub fn relays_are_the_machines<D: Disk, P: Policy>()
@@ -56,11 +56,14 @@ pub fn relays_are_the_machines<D: Disk, P: Policy>()
     ensures told { TellingsAreNoEvents D P }
     ensures nothing { (policy : P) → NothingTakenIsNoEvent D P (P.chooses policy) }
     ensures terminals { TerminalsKeepParts D P }
+    ensures queued { QueuedHaveRoom D P }
     ensures scans { (policy : P) → ScansAreAllocations D P (P.chooses policy) }
     ensures nexts { (policy : P) → NextsAreAllocations D P (P.chooses policy) }
     ensures flushes { FlushesAreFlushes D P }
     ensures failures { FailedFlushesAreFailures D P }
     ensures broken { BrokenFlushesAreBroken D P }
+    ensures turns_amid { (policy : P) → TurnsAmidScans D P (P.chooses policy) }
+    ensures turns_join { TurnsJoin D P }
     ensures amid { (policy : P) → FlushesAmidScans D P (P.chooses policy) }
     ensures amid_failed { (policy : P) → FailuresAmidScans D P (P.chooses policy) }
     ensures amid_broken { (policy : P) → BrokenFlushesAmidScans D P (P.chooses policy) }
@@ -77,11 +80,16 @@ pub fn relays_are_the_machines<D: Disk, P: Policy>()
     relay_laws();
 }
 
-/// A run of both parts is a history, where nothing was asked before it that wasn't taken: `run` tells only which turns each part
-/// had, and these read one behind another, each scan behind the answers to what was taken before it, and each batch made safe
-/// behind its scan. Terminals ask just what is taken. So all that is shown of a history holds behind a run.
+/// Turns of both parts, by hand or in a run, are a history, where nothing was asked before them that wasn't taken: each part's turns
+/// alone are known, and these read one behind another, each scan behind the answers to what was taken before it, and each batch made
+/// safe behind its scan. Terminals ask just what is taken. So all that is shown of a history holds behind a run, and at any moment
+/// amid one; and a clerk's history goes on over its parts, whether they are joined again or a power cut ends them.
 pub fn runs_are_histories<D: Disk, P: Policy>()
     ensures runs { RunsAreHistories D P P.chooses D.state }
+    ensures scans { ScansGoOn D P P.chooses }
+    ensures flushes { FlushesGoOn D P P.chooses D.state }
+    ensures leads { TurnsLead D P P.chooses D.state }
+    ensures grows { ReceivedGrows D D.state }
     ensures turns { TurnsStand D P P.chooses D.state }
     ensures turns_broken { TurnsRest D P P.chooses D.state }
     ensures split { SplitsHavePasts D P P.chooses }
@@ -90,6 +98,7 @@ pub fn runs_are_histories<D: Disk, P: Policy>()
     ensures cuts_within { CutsInTurnsGoOn D P P.chooses }
     ensures cuts_within_failed { CutsInFailuresGoOn D P P.chooses }
 {
+    histories_are_runs::<D, P>();
     crashes_are_the_machines::<D, P>();
     policies_are_covered::<P>();
     relay_laws();

@@ -3,6 +3,7 @@ use Rattle.lift_relay.specs.Allocator.{AllocatorState}
 use Rattle.lift_relay.specs.Flusher.{FlusherState}
 use Rattle.lift_relay.specs.Relay.{IsRejoined}
 use Rattle.lift_relay.proofs.Queues.{all_received}
+use Rattle.lift_relay.proofs.RunJoins.{turns_join}
 use Rattle.lift_relay.proofs.relay.rejoin.Goals as goal
 
 pub returns-clause-joined : goal.returns-clause-joined
@@ -27,3 +28,8 @@ returns-clause-joined g c =
 
 pub returns-clause-history : goal.returns-clause-history
 returns-clause-history g c = λ safe given start. c.runs_are_histories.ensures.joined c.args.allocator c.args.flusher c.new.result safe given start (returns-clause-joined g c)
+
+pub returns-clause-turned : goal.returns-clause-turned
+returns-clause-turned g c = λ a f last safe given start turns flushes.
+    turns_join g.P.Policy.chooses g.D.Disk.state c.runs_are_histories.ensures.runs c.runs_are_histories.ensures.joined a c.args.allocator f c.args.flusher c.new.result last safe given start turns flushes
+    (returns-clause-joined g c)

@@ -1,6 +1,6 @@
 use Rattle.lift_relay.proofs.Tied.{splits_are_no_events, rejoinings, full_turns, empty_turns, sendings, tellings}
-use Rattle.lift_relay.proofs.TiedScan.{nothing_taken}
-use Rattle.lift_relay.proofs.Amid.{flushes_amid_scans, failures_amid_scans, broken_amid_scans}
+use Rattle.lift_relay.proofs.TiedScan.{have_room, nothing_taken}
+use Rattle.lift_relay.proofs.Amid.{turns_amid_scans, turns_join, flushes_amid_scans, failures_amid_scans, broken_amid_scans}
 use Rattle.lift_relay.proofs.TiedTerminals.{terminals_keep_parts}
 use Rattle.lift_relay.proofs.TiedTake.{scans_are_allocations, nexts_are_allocations}
 use Rattle.lift_relay.proofs.TiedFlush.{flushes_are_flushes, failed_flushes, broken_flushes_are_broken}
@@ -32,6 +32,9 @@ returns-clause-nothing g c policy = nothing_taken (g.P.Policy.chooses policy)
 pub returns-clause-terminals : goal.returns-clause-terminals
 returns-clause-terminals g c = terminals_keep_parts c.relay_laws.ensures
 
+pub returns-clause-queued : goal.returns-clause-queued
+returns-clause-queued g c = λ a f q. have_room a f q
+
 pub returns-clause-scans : goal.returns-clause-scans
 returns-clause-scans g c policy = scans_are_allocations c.relay_laws.ensures (g.P.Policy.chooses policy) (c.policies_are_covered.ensures.runs policy)
 
@@ -46,6 +49,12 @@ returns-clause-failures g c = failed_flushes c.relay_laws.ensures
 
 pub returns-clause-broken : goal.returns-clause-broken
 returns-clause-broken g c = broken_flushes_are_broken c.relay_laws.ensures
+
+pub returns-clause-turns_amid : goal.returns-clause-turns_amid
+returns-clause-turns_amid g c policy = turns_amid_scans c.relay_laws.ensures (g.P.Policy.chooses policy) (c.policies_are_covered.ensures.runs policy)
+
+pub returns-clause-turns_join : goal.returns-clause-turns_join
+returns-clause-turns_join g c = turns_join
 
 pub returns-clause-amid : goal.returns-clause-amid
 returns-clause-amid g c policy = flushes_amid_scans c.relay_laws.ensures (g.P.Policy.chooses policy) (c.policies_are_covered.ensures.runs policy)

@@ -75,6 +75,7 @@ returns-in-Err g c =
     many (c.len-2.ensures.value ∙ ap length c.seal-entries.ensures.batch)
     (λ none. absurd (omega arith))
     (λ some. ap (λ (e : SendState). e.sent ++ c.in-Err.batch ∷ []) back.1)
+    (subst (λ (e : SendState). Begins a.end.sent e.sent) (sym back.1) ([], sym (append-nil a.end.sent)))
     (λ held. subst WasFull (sym back.1) back.2)
     (subst (λ (e : SendState). Begins a.end.gone e.gone) (sym back.1) ([], sym (append-nil a.end.gone))) in
     let all : IsAllocation (g.P.Policy.chooses old.policy) old new counts = subst (λ (p : g.row.P.Denot). IsAllocation (g.P.Policy.chooses p) old new counts) (ap (λ (v : AllocatorState g.row.P.Denot). v.policy) same) (inr turn) in
@@ -141,5 +142,6 @@ returns-in-Ok g c =
     many (c.len-2.ensures.value ∙ ap length c.seal-entries.ensures.batch)
     (λ nothing. absurd (omega arith))
     (λ some. ap (λ l. c.send.new.self.sent ++ l) none ∙ append-nil c.send.new.self.sent ∙ one.sends)
+    (c.new-batch.result ∷ [], one.sends)
     (λ held. absurd (held none)) one.later in
     subst (λ (p : g.row.P.Denot). IsAllocation (g.P.Policy.chooses p) old new counts) (ap (λ (v : AllocatorState g.row.P.Denot). v.policy) same) (inr turn)
