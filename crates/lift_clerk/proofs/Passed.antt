@@ -1,20 +1,13 @@
 -- Whatever has happened to a group, the machine has a world for it.
-use Rattle.std.proofs.Common.{ℕ, ◌≡◌, ◌⊎◌, inl, inr, true, List, ap}
-use Rattle.std.specs.Prelude.{Result, Ok, Err, IfOk, IfErr}
+use Rattle.std.proofs.Common.{ℕ, List}
 use Rattle.lift_base.specs.declared.history.Entry.{Entry}
-use Rattle.lift_journal.specs.declared.fault.JournalFault.TheVariants.{Disk, Broken}
-use Rattle.lift_keeper.specs.declared.fault.KeeperFault.{KeeperFault}
-use Rattle.lift_keeper.specs.declared.fault.KeeperFault.TheVariants.{Journal}
 use Rattle.lift_desk.specs.declared.view.TerminalView.{TerminalView}
 use Rattle.lift_policy.specs.Eligible.{Choice}
 use Rattle.lift_world.specs.declared.event.Taken.{Taken}
 use Rattle.lift_world.specs.World.{World, start}
 use Rattle.lift_clerk.specs.Clerk.{ClerkState}
-use Rattle.lift_clerk.specs.declared.counts.Counts.{Counts}
-use Rattle.lift_clerk.specs.Turn.{IsBrokenTurn}
-use Rattle.lift_clerk.specs.Machine.{Turns, Fails}
-use Rattle.lift_clerk.specs.Group.{IsPastOf, GroupLaws, PastsGoOnOverTurns, PastsGoOnOverFailures, PastsGoOnOverBrokenTurns}
-use Rattle.lift_clerk.specs.Past.{Past, PastsAreRuns, TurnGoesOn, Opened, TerminalAsked, TerminalHeard, TerminalRead, ClerkTold, ClerkTurned, ClerkFailed, BrokenClerkTurned, ClerkReopened, ClerkStayed, PowerCut, PowerCutInTurn, PowerCutInFailure}
+use Rattle.lift_clerk.specs.Group.{IsPastOf, GroupLaws}
+use Rattle.lift_clerk.specs.Past.{Past, PastsAreRuns, Opened, TerminalAsked, TerminalHeard, TerminalRead, ClerkTold, ClerkTurned, ClerkFailed, BrokenClerkTurned, ClerkReopened, ClerkStayed, PowerCut, PowerCutInTurn, PowerCutInFailure}
 use Rattle.lift_clerk.proofs.Pasts.{begin, go_on_over_asks, go_on_over_hears, stay_over_reads, stay_over_tells, go_on_over_turns, go_on_over_failures, go_on_over_broken_turns}
 use Rattle.lift_clerk.proofs.Pasts.{go_on_over_reopenings, go_on_over_refusals, go_on_over_cuts, go_on_over_cut_turns, go_on_over_cut_failures}
 
@@ -33,11 +26,11 @@ module _ {D P : Type 0} (chooses : P → Choice) (laws : GroupLaws D P chooses) 
   world_of clerk terminals safe given (ClerkTold p t words is) =
       let v = world_of _ terminals safe given p in (v.0, stay_over_tells chooses laws v.0 _ clerk terminals safe given t words v.1 is)
   world_of clerk terminals safe given (ClerkTurned p t takes) =
-      let v = world_of _ terminals _ _ p in let k = go_on_over_turns chooses laws v.0 _ clerk terminals _ _ _ v.1 t takes in let g = k.1 0 in (g.end, g.past)
+      let v = world_of _ terminals _ _ p in let k = go_on_over_turns chooses laws _ clerk _ v.0 terminals _ _ v.1 t takes in let g = k.1 0 in (g.end, g.past)
   world_of clerk terminals safe given (ClerkFailed p t takes) =
-      let v = world_of _ terminals _ _ p in let k = go_on_over_failures chooses laws v.0 _ clerk terminals _ _ v.1 t takes in let g = k.1 0 in (g.end, g.past)
+      let v = world_of _ terminals _ _ p in let k = go_on_over_failures chooses laws _ clerk v.0 terminals _ _ v.1 t takes in let g = k.1 0 in (g.end, g.past)
   world_of clerk terminals safe given (BrokenClerkTurned p t was takes) =
-      let v = world_of _ terminals _ _ p in let k = go_on_over_broken_turns chooses laws v.0 _ clerk terminals _ _ v.1 t was takes in (k.1.end, k.1.past)
+      let v = world_of _ terminals _ _ p in let k = go_on_over_broken_turns chooses laws _ clerk v.0 terminals _ _ v.1 t was takes in (k.1.end, k.1.past)
   world_of clerk terminals safe given (ClerkReopened p r) =
       let v = world_of _ terminals _ given p in let k = go_on_over_reopenings chooses laws v.0 _ clerk terminals _ given v.1 r in (k.1.end, k.1.past)
   world_of clerk terminals safe given (ClerkStayed p s one) =
@@ -51,25 +44,3 @@ module _ {D P : Type 0} (chooses : P → Choice) (laws : GroupLaws D P chooses) 
 
   pub pasts_are_runs : PastsAreRuns D P chooses
   pasts_are_runs clerk terminals safe given p = world_of clerk terminals safe given p
-
--- one turn, however it ends
-module _ {D P : Type 0} (chooses : P → Choice) (turns : PastsGoOnOverTurns D P chooses) (failures : PastsGoOnOverFailures D P chooses) (broken : PastsGoOnOverBrokenTurns D P chooses)
-    (before after : ClerkState D P) where
-  on_ok : (counts : Counts) → Turns (chooses before.policy) before after counts → TurnGoesOn chooses before after
-  on_ok counts t w terminals safe given p takes =
-      let k = turns w before after terminals safe given counts p t takes in (_, _, _, k.1 0)
-
-  on_fault : (fault : KeeperFault) → (fault ≡ Journal Disk → Fails (chooses before.policy) before after) → (fault ≡ Journal Broken → IsBrokenTurn before after)
-      → (fault ≡ Journal Broken → before.keeper.writer.is_broken ≡ true) → (fault ≡ Journal Disk) ⊎ (fault ≡ Journal Broken) → TurnGoesOn chooses before after
-  on_fault fault f r b (inl e) w terminals safe given p takes =
-      let k = failures w before after terminals safe given p (f e) takes in (_, _, _, k.1 0)
-  on_fault fault f r b (inr e) w terminals safe given p takes =
-      let k = broken w before after terminals safe given p (r e) (b e) takes in (_, _, _, k.1)
-
-  pub turn_goes_on : (result : Result Counts KeeperFault) → IfOk result (λ counts. Turns (chooses before.policy) before after counts)
-      → (result ≡ Err (Journal Disk) → Fails (chooses before.policy) before after) → (result ≡ Err (Journal Broken) → IsBrokenTurn before after)
-      → (result ≡ Err (Journal Broken) → before.keeper.writer.is_broken ≡ true) → IfErr result (λ fault. (fault ≡ Journal Disk) ⊎ (fault ≡ Journal Broken))
-      → TurnGoesOn chooses before after
-  turn_goes_on (Ok counts) t f r b causes = on_ok counts t
-  turn_goes_on (Err fault) t f r b causes =
-      on_fault fault (λ e. f (ap (λ (x : KeeperFault). Err x) e)) (λ e. r (ap (λ (x : KeeperFault). Err x) e)) (λ e. b (ap (λ (x : KeeperFault). Err x) e)) causes

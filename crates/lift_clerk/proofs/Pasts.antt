@@ -172,7 +172,7 @@ module _ {D P : Type 0} (chooses : P → Choice) (laws : GroupLaws D P chooses) 
   }
 
   pub go_on_over_turns : PastsGoOnOverTurns D P chooses
-  go_on_over_turns w before after terminals safe given counts p t takes =
+  go_on_over_turns before after counts w terminals safe given p t takes =
       let cs : List Command = commands_of 0 t.turn.visits in
       let stand = stood w before after terminals t.turn.visits t.turn.replies p.group t.turn.serves takes in
       let k = laws.calls.turn before.policy w before after counts t p.group.clerks (stand_agree w cs stand) in (
@@ -182,7 +182,7 @@ module _ {D P : Type 0} (chooses : P → Choice) (laws : GroupLaws D P chooses) 
       )
 
   pub go_on_over_failures : PastsGoOnOverFailures D P chooses
-  go_on_over_failures w before after terminals safe given p t takes =
+  go_on_over_failures before after w terminals safe given p t takes =
       let cs : List Command = commands_of 0 t.turn.visits in
       let stand = stood w before after terminals t.turn.visits t.turn.replies p.group t.turn.serves takes in
       let k = laws.calls.failure before.policy w before after t p.group.clerks (stand_agree w cs stand) in (
@@ -191,7 +191,7 @@ module _ {D P : Type 0} (chooses : P → Choice) (laws : GroupLaws D P chooses) 
       )
 
   pub go_on_over_broken_turns : PastsGoOnOverBrokenTurns D P chooses
-  go_on_over_broken_turns w before after terminals safe given p t was takes =
+  go_on_over_broken_turns before after w terminals safe given p t was takes =
       let cs : List Command = commands_of 0 t.visits in
       let stand = stood w before after terminals t.visits t.replies p.group t.serves takes in
       let k = laws.calls.broken w before after t was p.group.clerks (stand_agree w cs stand) in (

@@ -140,26 +140,36 @@ abbrev pub PastsStayOverTells : (D P : Type 0) → (P → Choice) → Type 0
 PastsStayOverTells D P chooses = (w : World) (before after : ClerkState D P) (terminals : ℕ → TerminalView) (safe : List Entry) (given : List Taken) (terminal : ℕ) (words : List ℕ)
     → IsPastOf chooses w before terminals safe given → IsToldAt before after terminal words → IsPastOf chooses w after terminals safe given
 
--- A turn answers Ok. Its own events alone lead there, since each ask that it took was asked before: no terminal does anything.
-abbrev pub PastsGoOnOverTurns : (D P : Type 0) → (P → Choice) → Type 0
-PastsGoOnOverTurns D P chooses = (w : World) (before after : ClerkState D P) (terminals : ℕ → TerminalView) (safe : List Entry) (given : List Taken) (counts : Counts)
+-- A turn answers Ok: what was accepted is safe behind the rest, and each command has its reply. Its own events alone lead there,
+-- since each ask that it took was asked before: no terminal does anything.
+abbrev pub TurnGoesOn : {D P : Type 0} → (P → Choice) → ClerkState D P → ClerkState D P → Counts → Type 0
+TurnGoesOn chooses before after counts = (w : World) (terminals : ℕ → TerminalView) (safe : List Entry) (given : List Taken)
     → IsPastOf chooses w before terminals safe given → (t : Turns (chooses before.policy) before after counts) → TakesAsks after terminals
     → (letters : List (Option ℕ)) × ((folds : ℕ) → GoesOn chooses w (events_of_turn (commands_of 0 t.turn.visits) letters folds (length t.turn.decided.batch)) after terminals
     (safe ++ t.turn.decided.batch) (given ++ with_replies (commands_of 0 t.turn.visits) t.turn.replies))
 
--- The device fails one.
-abbrev pub PastsGoOnOverFailures : (D P : Type 0) → (P → Choice) → Type 0
-PastsGoOnOverFailures D P chooses = (w : World) (before after : ClerkState D P) (terminals : ℕ → TerminalView) (safe : List Entry) (given : List Taken)
+abbrev pub PastsGoOnOverTurns : (D P : Type 0) → (P → Choice) → Type 0
+PastsGoOnOverTurns D P chooses = (before after : ClerkState D P) (counts : Counts) → TurnGoesOn chooses before after counts
+
+-- The device fails one: nothing more is safe.
+abbrev pub FailureGoesOn : {D P : Type 0} → (P → Choice) → ClerkState D P → ClerkState D P → Type 0
+FailureGoesOn chooses before after = (w : World) (terminals : ℕ → TerminalView) (safe : List Entry) (given : List Taken)
     → IsPastOf chooses w before terminals safe given → (t : Fails (chooses before.policy) before after) → TakesAsks after terminals
     → (letters : List (Option ℕ)) × ((folds : ℕ) → GoesOn chooses w (failed_events (commands_of 0 t.turn.visits) letters folds GateWritten (length after.keeper.state.batch)) after terminals
     safe (given ++ with_replies (commands_of 0 t.turn.visits) t.turn.replies))
 
--- A broken clerk turns.
-abbrev pub PastsGoOnOverBrokenTurns : (D P : Type 0) → (P → Choice) → Type 0
-PastsGoOnOverBrokenTurns D P chooses = (w : World) (before after : ClerkState D P) (terminals : ℕ → TerminalView) (safe : List Entry) (given : List Taken)
+abbrev pub PastsGoOnOverFailures : (D P : Type 0) → (P → Choice) → Type 0
+PastsGoOnOverFailures D P chooses = (before after : ClerkState D P) → FailureGoesOn chooses before after
+
+-- A broken clerk turns: nothing more is safe either.
+abbrev pub BrokenTurnGoesOn : {D P : Type 0} → (P → Choice) → ClerkState D P → ClerkState D P → Type 0
+BrokenTurnGoesOn chooses before after = (w : World) (terminals : ℕ → TerminalView) (safe : List Entry) (given : List Taken)
     → IsPastOf chooses w before terminals safe given → (t : IsBrokenTurn before after) → before.keeper.writer.is_broken ≡ true → TakesAsks after terminals
     → (letters : List (Option ℕ)) × GoesOn chooses w (events_while_broken (commands_of 0 t.visits) letters) after terminals
     safe (given ++ with_replies (commands_of 0 t.visits) t.replies)
+
+abbrev pub PastsGoOnOverBrokenTurns : (D P : Type 0) → (P → Choice) → Type 0
+PastsGoOnOverBrokenTurns D P chooses = (before after : ClerkState D P) → BrokenTurnGoesOn chooses before after
 
 -- It is opened again.
 abbrev pub PastsGoOnOverReopenings : (D P : Type 0) → (P → Choice) → Type 0

@@ -10,7 +10,6 @@ use Rattle.lift_desk.specs.declared.words.Ask.{Ask}
 use Rattle.lift_desk.specs.Rule.{no_asks}
 use Rattle.lift_policy.specs.Eligible.{Choice}
 use Rattle.lift_keeper.specs.Images.{IsInDoubt}
-use Rattle.lift_world.specs.declared.event.Event.{Event}
 use Rattle.lift_world.specs.declared.event.Taken.{Taken}
 use Rattle.lift_world.specs.World.{World}
 use Rattle.lift_world.specs.Turns.{with_replies}
@@ -20,7 +19,7 @@ use Rattle.lift_clerk.specs.Turn.{IsBrokenTurn, IsEither}
 use Rattle.lift_clerk.specs.Visits.{commands_of}
 use Rattle.lift_clerk.specs.Machine.{Turns, Fails, Reopens, Stays, Begins, kept_of}
 use Rattle.lift_clerk.specs.History.{BeginsOver}
-use Rattle.lift_clerk.specs.Group.{ChangesAt, Asks, Hears, IsRead, HearsAnswers, TakesAsks, IsPastOf, GoesOn}
+use Rattle.lift_clerk.specs.Group.{ChangesAt, Asks, Hears, IsRead, HearsAnswers, TakesAsks, IsPastOf}
 
 -- What can have happened by now: the group's clerk as it is, what each terminal knows of its words, the entries that are safe,
 -- and each command that was ever answered. Terminals ask and hear between any two calls of the clerk. At each step the desk's
@@ -78,9 +77,3 @@ pub data Past {D P : Type 0} (chooses : P → Choice) : ClerkState D P → (ℕ 
 abbrev pub PastsAreRuns : (D P : Type 0) → (P → Choice) → Type 0
 PastsAreRuns D P chooses = (clerk : ClerkState D P) (terminals : ℕ → TerminalView) (safe : List Entry) (given : List Taken) → Past chooses clerk terminals safe given
     → (w : World) × IsPastOf chooses w clerk terminals safe given
-
--- One turn, however it ends. From each world that has the clerk's past, possible events of the clerk alone lead to one that has it
--- then, where by the desk's rule what it took was asked.
-abbrev pub TurnGoesOn : {D P : Type 0} → (P → Choice) → ClerkState D P → ClerkState D P → Type 0
-TurnGoesOn chooses before after = (w : World) (terminals : ℕ → TerminalView) (safe : List Entry) (given : List Taken) → IsPastOf chooses w before terminals safe given → TakesAsks after terminals
-    → (events : List Event) × (now : List Entry) × (more : List Taken) × GoesOn chooses w events after terminals now (given ++ more)

@@ -1,13 +1,15 @@
 //! The clerk: its seats at the desk, its keeper, and its turns.
 
-ghost use Rattle.std.specs.Prelude.{◌≡◌, ◌<◌, ◌⊎◌, ◌↔◌, [], length, true, false, Ok, Err, IfOk, IfErr, OnOk, OnErr};
+ghost use Rattle.std.specs.Prelude.{◌≡◌, ◌<◌, ◌⊎◌, ◌↔◌, [], ◌∷◌, length, true, false, Ok, Err, IfOk, IfErr, OnOk, OnErr};
 ghost use Rattle.lift_disk.specs.Disk.{LeavesNow, LeavesOnly, RunsOn};
+ghost use Rattle.lift_disk.specs.Trace.Access.{Sync};
 ghost use Rattle.lift_register.specs.Register.{register_of};
 ghost use Rattle.lift_desk.specs.Rule.{IsInOrder};
 ghost use Rattle.lift_desk.specs.Seats.{IsClerkOf, IsSeatOf, OwesNothing, seat_with, view_at};
 ghost use Rattle.lift_desk.specs.Steps.{with_told_answers, lists_of};
 ghost use Rattle.lift_journal.specs.Steps.{Makes};
 ghost use Rattle.lift_journal.specs.Told.{NoneFails};
+ghost use Rattle.lift_keeper.specs.Calls.{ReadsBehind, SyncsBeforeReading};
 ghost use Rattle.lift_keeper.specs.Decider.{starting};
 ghost use Rattle.lift_keeper.specs.Images.{IsImageOf, IsInDoubt};
 ghost use Rattle.lift_keeper.specs.Reopening.{Reopens, RefusesReopening, FailsBy};
@@ -92,9 +94,9 @@ impl<'d, 'b, D: Disk, P: Policy + Drop> Clerk<'d, 'b, D, P> {
         self.desk.tell(seat, &mut self.seat)
     }
 
-    /// One turn: looks once at each terminal, in rising order, takes at most one command of each, decides each on the state
-    /// that the earlier ones left, makes all that was accepted safe as one batch, and only then stores the answers, refusals
-    /// too. Where the batch fails, and while the keeper is broken, each command taken is answered Unknown.
+    /// One turn: looks once at each terminal, takes at most one command of each, decides these in rising order of terminals,
+    /// each on the state that the earlier ones left, makes all that was accepted safe as one batch, and only then stores the
+    /// answers, refusals too. Where the batch fails, and while the keeper is broken, each command taken is answered Unknown.
     ///
     /// `Journal(Disk)` where a call of the device failed, `Journal(Broken)` while the keeper is broken, also where nothing
     /// was taken.
@@ -195,6 +197,9 @@ impl<'d, 'b, D: Disk, P: Policy + Drop> Clerk<'d, 'b, D, P> {
         ensures place { OnErr result ((self.new.keeper.writer.half ≡ self.old.keeper.writer.half) × (self.new.keeper.writer.is_second ≡ self.old.keeper.writer.is_second)
             × (self.new.keeper.writer.used ≡ self.old.keeper.writer.used)) }
         ensures plan { self.new.keeper.writer.plan ≡ self.old.keeper.writer.plan }
+        // One sync before all reads.
+        ensures calls { OnOk result (ReadsBehind (Sync ∷ []) (D.state self.old.keeper.writer.device) (D.state self.new.keeper.writer.device)) }
+        ensures calls_before { IfErr result (λ fault. SyncsBeforeReading fault (D.state self.old.keeper.writer.device) (D.state self.new.keeper.writer.device)) }
     {
         self.keeper.reopen()
     }

@@ -12,7 +12,8 @@ ghost use Rattle.lift_clerk.specs.Group.{PastsGoOnOverTurns, PastsGoOnOverFailur
 ghost use Rattle.lift_clerk.specs.Group.{PastsGoOnOverBrokenTurns, PastsGoOnOverReopenings};
 ghost use Rattle.lift_clerk.specs.Group.{PastsGoOnOverRefusals, PastsGoOnOverCuts};
 ghost use Rattle.lift_clerk.specs.Group.{PastsGoOnOverCutTurns, PastsGoOnOverCutFailures};
-ghost use Rattle.lift_clerk.specs.Past.{PastsAreRuns, TurnGoesOn};
+ghost use Rattle.lift_clerk.specs.Group.{TurnGoesOn, FailureGoesOn, BrokenTurnGoesOn};
+ghost use Rattle.lift_clerk.specs.Past.{PastsAreRuns};
 ghost use Rattle.lift_clerk.specs.Turn.{IsBrokenTurn};
 ghost use Rattle.lift_clerk.specs.Machine.{Turns, Fails};
 
@@ -82,8 +83,9 @@ pub fn pasts_are_runs<D: Disk, P: Policy>()
 }
 
 /// One turn, in the machine's world and the clerk's past at once. Where each ask that it took was
-/// asked, as the desk's rule has it, possible events of the clerk alone lead there from each world
-/// that has its past, with terminals as they are.
+/// asked, as the desk's rule has it, the turn's own events lead there from each world that has its
+/// past, with terminals as they are: on Ok the turn's batch is safe behind the rest, else nothing
+/// more is, and just its commands were answered.
 pub fn turn_goes_on<D: Disk, P: Policy + Drop>(
     clerk: &mut Clerk<'_, '_, D, P>,
 ) -> Result<Counts, KeeperFault>
@@ -97,7 +99,9 @@ pub fn turn_goes_on<D: Disk, P: Policy + Drop>(
     ensures causes { IfErr result (λ fault. (fault ≡ KeeperFault.Journal JournalFault.Disk)
         ⊎ (fault ≡ KeeperFault.Journal JournalFault.Broken)) }
     ensures kept { (clerk.new.desk ≡ clerk.old.desk) × (clerk.new.policy ≡ clerk.old.policy) }
-    ensures goes_on { TurnGoesOn P.chooses clerk.old clerk.new }
+    ensures goes_on { IfOk result (λ counts. TurnGoesOn P.chooses clerk.old clerk.new counts) }
+    ensures fails_on { result ≡ Err (KeeperFault.Journal JournalFault.Disk) → FailureGoesOn P.chooses clerk.old clerk.new }
+    ensures rests_on { result ≡ Err (KeeperFault.Journal JournalFault.Broken) → BrokenTurnGoesOn P.chooses clerk.old clerk.new }
 {
     pasts_go_on::<D, P>();
     turn_once(clerk)

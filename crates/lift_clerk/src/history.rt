@@ -1,10 +1,12 @@
 //! What every history of a group leads to, and what every crash then shows.
 
-ghost use Rattle.std.specs.Prelude.{◌≡◌, ◌⊎◌, true, false, List, [], Err, IfOk, IfErr, OnOk, OnErr};
+ghost use Rattle.std.specs.Prelude.{◌≡◌, ◌⊎◌, true, false, List, [], ◌∷◌, Err, IfOk, IfErr, OnOk, OnErr};
 ghost use Rattle.lift_base.specs.declared.history.Entry.{Entry};
 ghost use Rattle.lift_disk.specs.Disk.{MayLeave, LeavesNow};
+ghost use Rattle.lift_disk.specs.Trace.Access.{Sync};
 ghost use Rattle.lift_register.specs.Register.{empty};
 ghost use Rattle.lift_desk.specs.Seats.{IsClerkOf, OwesNothing, clerk_of};
+ghost use Rattle.lift_keeper.specs.Calls.{ReadsBehind, SyncsBeforeReading};
 ghost use Rattle.lift_keeper.specs.Decider.{starting};
 ghost use Rattle.lift_keeper.specs.Reopening.{Reopens as Recovers, RefusesReopening};
 ghost use Rattle.lift_world.specs.declared.event.Taken.{Taken};
@@ -67,12 +69,16 @@ pub fn begin_over<'d, 'b, D: Disk, P: Policy + Drop>(
     // No car has told where it is, nothing is in the batch, and nothing is in doubt.
     ensures state { IfOk result (λ clerk. clerk.keeper.state ≡ starting clerk.keeper.writer.register) }
     ensures whole { IfOk result (λ clerk. (clerk.keeper.writer.is_broken ≡ false) × (clerk.keeper.writer.doubt ≡ [])) }
+    ensures opened { IfOk result (λ clerk. clerk.keeper.writer.opened ≡ (D.state clerk.keeper.writer.device).failures) }
     ensures recovers { IfOk result (λ clerk. Recovers building.now (D.state disk) (D.state clerk.keeper.writer.device)
         clerk.keeper.writer.register clerk.keeper.writer.half clerk.keeper.writer.is_second clerk.keeper.writer.used) }
     ensures first { IfOk result (λ clerk. clerk.keeper.writer.register ≡ empty → History P.chooses clerk [] []) }
     ensures again { IfOk result (λ clerk. (D.state disk).is_honest → GoesOnOver P.chooses building.now (D.state clerk.keeper.writer.device).image clerk) }
     ensures seen { IfOk result (λ clerk. (D.state disk).is_honest → MayLeave (D.state disk) (D.state clerk.keeper.writer.device).image) }
     ensures refused { IfErr result (λ err. RefusesReopening building.now (D.state disk) (D.state err.0) err.1) }
+    // One sync before all reads.
+    ensures calls { IfOk result (λ clerk. ReadsBehind (Sync ∷ []) (D.state disk) (D.state clerk.keeper.writer.device)) }
+    ensures calls_before { IfErr result (λ err. SyncsBeforeReading err.1 (D.state disk) (D.state err.0)) }
 {
     let keeper = Keeper::open(disk, building)?;
     let _shown = keeper.register();

@@ -76,7 +76,7 @@ fn answer_to<D: Disk, P: Policy>(
     }
 }
 
-/// Looks once at each terminal, in rising order, and decides what is asked there, each on the state that the earlier ones left.
+/// Looks once at each terminal, and decides what is asked there, in rising order, each on the state that the earlier ones left.
 pub fn scan<D: Disk, P: Policy>(
     desk: &Desk,
     seat: &mut ClerkSeat,

@@ -12,7 +12,7 @@ use Rattle.atomic_table.proofs.Lists.{at_set, at_snoc}
 use Rattle.lift_desk.specs.declared.view.ClerkView.{ClerkView}
 use Rattle.lift_desk.specs.declared.view.View.{View}
 use Rattle.lift_desk.specs.Words.{turn_of, number_of, last_of, IsAskWord, IsReplyWord}
-use Rattle.lift_desk.specs.Rule.{blank, opening_view, united, terminal_part, clerk_part, note_of, ahead_of, told_by, ahead_note_of, noted_by, stamp_of, CountTurns, Lists, IsInOrder, IsAhead, Fits, IsKept}
+use Rattle.lift_desk.specs.Rule.{blank, opening_view, united, terminal_part, clerk_part, ahead_of, ahead_note_of, noted_by, stamp_of, CountTurns, Lists, IsInOrder, IsAhead, Fits, IsKept}
 use Rattle.lift_desk.specs.Steps.{with_ask, with_answer, with_hearing, with_look, with_taking, is_new, is_awaited, at_terminal, at_clerk, Asked, Answered, Looked, LookedAhead, Heard, Met, Compared}
 use Rattle.lift_desk.specs.lemmas.WordLists.{last_of-push, CountTurns-push, turn_of-last_of, CountTurns-prefix, CountTurns-stamped, prefix_length, stamped_length, prefix_whole, prefix_refl, prefix_nil, prefix_push, prefix_next, stamped_next, stamped_same, All-last_of, IsAhead-push, IsAhead-prefix, IsAhead-take, turn_at_most, turn_is_last}
 
@@ -61,7 +61,6 @@ asks_keep slots id me word may free turn spelled s r _ at _ =
       asks = λ _. (a.0, ap (λ z. z ++ word ∷ []) a.1, a.2);
       answers = mine.answers;
       looks_ahead = λ k. IsAhead-push l.asked v.clerk.taken word (mine.looks_ahead k);
-      told = mine.told;
       told_answers = mine.told_answers;
       told_asks = prefix_push v.clerk.told l.asked word mine.told_asks;
       noted = λ any. Contains-append_left l.asked (word ∷ []) v.noted (mine.noted any);
@@ -80,7 +79,6 @@ asks_keep slots id me word may free turn spelled s r _ at _ =
               asks = λ k. absurd (apart ((f.asks k).0 ∙ sym a.0));
               answers = f.answers;
               looks_ahead = λ k. IsAhead-push l.asked u.clerk.taken word (f.looks_ahead k);
-              told = f.told;
               told_answers = f.told_answers;
               told_asks = prefix_push u.clerk.told l.asked word f.told_asks;
               noted = λ any. Contains-append_left l.asked (word ∷ []) u.noted (f.noted any);
@@ -128,6 +126,7 @@ LooksSo s id v n b =
     IsKept record { words = set s.words 0 n; homes = s.homes; views = set s.views id (at_clerk v (record { taken = if b then v.clerk.taken ++ n ∷ [] else v.clerk.taken; answered = v.clerk.answered; looks = suc v.clerk.looks; last = n; told = v.clerk.told })) }
     × (b ≡ true → IsAskWord n × (turn_of n ≡ suc (length v.clerk.taken)) × (length v.clerk.answered ≡ length v.clerk.taken))
     × IsPrefix v.clerk.told (if b then v.clerk.taken ++ n ∷ [] else v.clerk.taken)
+    × (n ≡ last_of (if b then v.clerk.taken ++ n ∷ [] else v.clerk.taken))
 
 looks_so : (s : State (Unit {0}) View) (r : IsKept s) (id : ℕ) (v : View) → v.answers ≡ true → v.looks_ahead ≡ false → get_elem? s.views id ≡ some v
     → (b : Bool) → nat_lt (turn_of (last_of v.clerk.taken)) (turn_of (get_or s.words 0 0)) ≡ b → LooksSo s id v (get_or s.words 0 0) b
@@ -144,7 +143,7 @@ looks_so s r id v may not_ahead at false is =
     let below : turn_of n ≤ turn_of (last_of v.clerk.taken) = le_of _ _ is in
     let all : v.clerk.taken ≡ l.asked = a.1 ∙ prefix_whole l.taken l.asked o.taken (omega arith) in
     let w = at_clerk v (record { taken = v.clerk.taken; answered = v.clerk.answered; looks = suc v.clerk.looks; last = get_or s.words 0 0; told = v.clerk.told }) in
-    let mine : Fits r.terminal r.clerk l id w = record { asks = f.asks; answers = f.answers; looks_ahead = f.looks_ahead; told = f.told; told_answers = f.told_answers; told_asks = f.told_asks; noted = f.noted } in (
+    let mine : Fits r.terminal r.clerk l id w = record { asks = f.asks; answers = f.answers; looks_ahead = f.looks_ahead; told_answers = f.told_answers; told_asks = f.told_asks; noted = f.noted } in (
       record {
         terminal = r.terminal;
         clerk = r.clerk;
@@ -155,6 +154,7 @@ looks_so s r id v may not_ahead at false is =
       },
       λ e. off e,
       subst (IsPrefix v.clerk.told) (sym all) f.told_asks,
+      n_is ∙ ap last_of (sym all),
     )
 looks_so s r id v may not_ahead at true is =
     let l = r.lists in
@@ -184,7 +184,6 @@ looks_so s r id v may not_ahead at true is =
       asks = f.asks;
       answers = λ _. (a.0, ap (λ z. z ++ n ∷ []) a.1, a.2);
       looks_ahead = λ k. off (sym not_ahead ∙ k);
-      told = f.told;
       told_answers = f.told_answers;
       told_asks = f.told_asks;
       noted = f.noted;
@@ -202,7 +201,6 @@ looks_so s r id v may not_ahead at true is =
               asks = g.asks;
               answers = λ k. absurd (apart ((g.answers k).0 ∙ sym a.0));
               looks_ahead = g.looks_ahead;
-              told = g.told;
               told_answers = g.told_answers;
               told_asks = g.told_asks;
               noted = g.noted;
@@ -210,6 +208,7 @@ looks_so s r id v may not_ahead at true is =
       },
       λ _. (subst IsAskWord (sym n_is) (All-last_of IsAskWord l.asked o.asks_spelled (omega arith)), omega arith, omega arith),
       subst (IsPrefix v.clerk.told) (whole ∙ ap (λ z. z ++ n ∷ []) (sym a.1)) f.told_asks,
+      sym (last_of-push v.clerk.taken n),
     )
 
 pub looks_keep : (slots id : ℕ) (me : M) → me.0.answers ≡ true → me.0.looks_ahead ≡ false
@@ -230,7 +229,7 @@ looks_keep slots id me may not_ahead s r _ at _ =
     let there = f.noted (λ none. let zero : turn_of me.0.noted ≡ 0 = ap turn_of none in omega arith) in
     let at_most = turn_at_most l.asked me.0.noted r.in_order.turns there in
     n_is ∙ sym (turn_is_last l.asked me.0.noted r.in_order.turns there (omega arith)) in
-    (at_clerk me.0 (with_taking me.0.clerk n), keeps, tt, so.0, (refl, refl, so.1, so.2, found))
+    (at_clerk me.0 (with_taking me.0.clerk n), keeps, tt, so.0, (refl, refl, so.1, so.2, found, so.3))
 
 pub answers_keep : (slots id : ℕ) (me : M) (word : ℕ) → me.0.answers ≡ true → length me.0.clerk.taken ≡ suc (length me.0.clerk.answered)
     → stamp_of word ≡ stamp_of (last_of me.0.clerk.taken) → IsReplyWord word
@@ -259,7 +258,6 @@ answers_keep slots id me word may owed stamp spelled s r _ at _ =
       asks = f.asks;
       answers = λ _. (a.0, a.1, ap (λ z. z ++ word ∷ []) a.2);
       looks_ahead = f.looks_ahead;
-      told = prefix_push v.told l.answered word f.told;
       told_answers = prefix_push v.terminal.told l.answered word f.told_answers;
       told_asks = f.told_asks;
       noted = f.noted;
@@ -278,7 +276,6 @@ answers_keep slots id me word may owed stamp spelled s r _ at _ =
               asks = g.asks;
               answers = λ k. absurd (apart ((g.answers k).0 ∙ sym a.0));
               looks_ahead = g.looks_ahead;
-              told = prefix_push u.told l.answered word g.told;
               told_answers = prefix_push u.terminal.told l.answered word g.told_answers;
               told_asks = g.told_asks;
               noted = g.noted;
@@ -299,6 +296,7 @@ HearsSo s id v n b =
     IsKept record { words = set s.words 1 n; homes = s.homes; views = set s.views id (at_terminal v (record { asked = v.terminal.asked; heard = if b then v.terminal.heard ++ n ∷ [] else v.terminal.heard; looks = suc v.terminal.looks; last = n; told = v.terminal.told })) }
     × (b ≡ true → IsReplyWord n × (turn_of n ≡ length v.terminal.asked) × (number_of n ≡ number_of (last_of v.terminal.asked)))
     × IsPrefix v.terminal.told (if b then v.terminal.heard ++ n ∷ [] else v.terminal.heard)
+    × (n ≡ last_of (if b then v.terminal.heard ++ n ∷ [] else v.terminal.heard))
 
 hears_so : (s : State (Unit {0}) View) (r : IsKept s) (id : ℕ) (v : View) → v.asks ≡ true → get_elem? s.views id ≡ some v
     → (b : Bool) → is_awaited v.terminal (get_or s.words 1 0) ≡ b → HearsSo s id v (get_or s.words 1 0) b
@@ -316,7 +314,7 @@ hears_so s r id v may at false is =
     let below : turn_of n ≤ length v.terminal.heard = heard_all (length v.terminal.heard) (length v.terminal.asked) (turn_of n) is (omega arith) (omega arith) in
     let all : v.terminal.heard ≡ l.answered = a.2 ∙ prefix_whole l.heard l.answered o.heard (omega arith) in
     let w = at_terminal v (with_look v.terminal (get_or s.words 1 0)) in
-    let mine : Fits r.terminal r.clerk l id w = record { asks = f.asks; answers = f.answers; looks_ahead = f.looks_ahead; told = f.told; told_answers = f.told_answers; told_asks = f.told_asks; noted = f.noted } in (
+    let mine : Fits r.terminal r.clerk l id w = record { asks = f.asks; answers = f.answers; looks_ahead = f.looks_ahead; told_answers = f.told_answers; told_asks = f.told_asks; noted = f.noted } in (
       record {
         terminal = r.terminal;
         clerk = r.clerk;
@@ -327,6 +325,7 @@ hears_so s r id v may at false is =
       },
       λ e. off e,
       subst (IsPrefix v.terminal.told) (sym all) f.told_answers,
+      n_is ∙ ap last_of (sym all),
     )
 hears_so s r id v may at true is =
     let l = r.lists in
@@ -359,7 +358,6 @@ hears_so s r id v may at true is =
       asks = λ _. (a.0, a.1, ap (λ z. z ++ n ∷ []) a.2);
       answers = f.answers;
       looks_ahead = f.looks_ahead;
-      told = f.told;
       told_answers = f.told_answers;
       told_asks = f.told_asks;
       noted = f.noted;
@@ -375,7 +373,6 @@ hears_so s r id v may at true is =
               asks = λ k. absurd (apart ((g.asks k).0 ∙ sym a.0));
               answers = g.answers;
               looks_ahead = g.looks_ahead;
-              told = g.told;
               told_answers = g.told_answers;
               told_asks = g.told_asks;
               noted = g.noted;
@@ -387,6 +384,7 @@ hears_so s r id v may at true is =
         ap number_of n_is ∙ ap (λ (z : ℕ × ℕ). z.1) (stamped_last l.answered l.asked o.answered (taken_whole l o (omega arith)) (omega arith) (omega arith)) ∙ ap (λ z. number_of (last_of z)) (sym a.1),
       ),
       subst (IsPrefix v.terminal.told) (whole ∙ ap (λ z. z ++ n ∷ []) (sym a.2)) f.told_answers,
+      sym (last_of-push v.terminal.heard n),
     )
   where
     taken_whole : (l : Lists) (o : IsInOrder l) → length l.asked ≤ length l.taken → l.taken ≡ l.asked
@@ -399,20 +397,20 @@ pub hears_keep : (slots id : ℕ) (me : M) → me.0.asks ≡ true → Allows IsK
 hears_keep slots id me may s r _ at _ =
     let n : ℕ = get_or s.words 1 0 in
     let so = hears_so s r id me.0 may at (is_awaited me.0.terminal n) refl in
-    (at_terminal me.0 (with_hearing me.0.terminal n), keeps, tt, so.0, (refl, refl, so.1, so.2))
+    (at_terminal me.0 (with_hearing me.0.terminal n), keeps, tt, so.0, (refl, refl, so.1, so.2, so.3))
 
-pub meets_keep : (slots id : ℕ) (me : M) → me.0.asks ≡ true → Allows IsKept slots id me 1 (λ n. n) (Met (step slots 1 0 0 none) me)
-meets_keep slots id me may s r _ at _ =
+pub meets_keep : (slots id : ℕ) (me : M) → me.0.asks ≡ true → me.0.answers ≡ true → Allows IsKept slots id me 1 (λ n. n) (Met (step slots 1 0 0 none) me)
+meets_keep slots id me asks answers s r _ at _ =
     let v = me.0 in
     let l = r.lists in
     let o = r.in_order in
     let f = r.views id v at in
-    let a = f.asks may in
-    let c = counts l o in
+    let a = f.asks asks in
+    let b = f.answers answers in
     let n : ℕ = get_or s.words 1 0 in
     let n_is : n ≡ last_of l.answered = ap (λ z. get_or z 1 0) r.words in
     let w = at_terminal v (with_look v.terminal n) in
-    let mine : Fits r.terminal r.clerk l id w = record { asks = f.asks; answers = f.answers; looks_ahead = f.looks_ahead; told = f.told; told_answers = f.told_answers; told_asks = f.told_asks; noted = f.noted } in (
+    let mine : Fits r.terminal r.clerk l id w = record { asks = f.asks; answers = f.answers; looks_ahead = f.looks_ahead; told_answers = f.told_answers; told_asks = f.told_asks; noted = f.noted } in (
       w,
       keeps,
       tt,
@@ -424,14 +422,7 @@ meets_keep slots id me may s r _ at _ =
         in_order = o;
         views = fit_set r.terminal r.clerk l s.views id w mine (λ j u apart e. r.views j u e);
       },
-      (
-        refl,
-        refl,
-        λ as_long.
-            let long : length l.answered ≤ length v.told = let t : turn_of n ≡ length l.answered = ap turn_of n_is ∙ c.answered in omega arith in
-            let same : v.told ≡ l.answered = prefix_whole v.told l.answered f.told long in
-            subst (λ (z : List ℕ × List ℕ). IsPrefix z.0 z.1) (λ i. (sym a.2 i, sym same i)) o.heard,
-      ),
+      (refl, refl, n_is ∙ ap last_of (sym b.2), subst (λ (z : List ℕ × List ℕ). IsPrefix z.0 z.1) (λ i. (sym a.2 i, sym b.2 i)) o.heard),
     )
 
 -- the table at the start
@@ -454,7 +445,7 @@ begins = record {
 }
   where
     one : (seat : ℕ) (v : View) → get_elem? (opening_view ∷ []) seat ≡ some v → Fits 0 0 (record { asked = []; taken = []; answered = []; heard = [] }) seat v
-    one zero v e = subst (Fits 0 0 (record { asked = []; taken = []; answered = []; heard = [] }) 0) (some-injective opening_view v e) (record { asks = λ _. (refl, refl, refl); answers = λ _. (refl, refl, refl); looks_ahead = λ k. off k; told = prefix_nil []; told_answers = prefix_nil []; told_asks = prefix_nil []; noted = λ any. absurd (any refl) })
+    one zero v e = subst (Fits 0 0 (record { asked = []; taken = []; answered = []; heard = [] }) 0) (some-injective opening_view v e) (record { asks = λ _. (refl, refl, refl); answers = λ _. (refl, refl, refl); looks_ahead = λ k. off k; told_answers = prefix_nil []; told_asks = prefix_nil []; noted = λ any. absurd (any refl) })
     one (suc seat) v e = absurd (some-ne-none v (sym e))
 
 at_end : (l : List View) (a b : View) (j : ℕ) → get_elem? l j ≢ some b → get_elem? (l ++ a ∷ []) j ≡ some b → j ≡ length l
@@ -463,23 +454,27 @@ at_end [] a b (suc j) n e = absurd (some-ne-none b (sym e))
 at_end (x ∷ xs) a b zero n e = absurd (n e)
 at_end (x ∷ xs) a b (suc j) n e = ap suc (at_end xs a b j n e)
 
--- a seat with both rights becomes the terminal's, and the new one is the clerk's
-pub parts_split : (id : ℕ) (v : View) → v.asks ≡ true → v.answers ≡ true → Splits IsKept id v (terminal_part v) (clerk_part v)
-parts_split id v asks answers s r at =
+-- a seat with both rights becomes the terminal's, and the new one is the clerk's; these words were answered and asked
+parts_split : (id : ℕ) (v : View) (told_answers told_asks : List ℕ) → v.asks ≡ true → v.answers ≡ true
+    → ((terminal clerk : ℕ) (l : Lists) → Fits terminal clerk l id v → IsPrefix told_answers l.answered × IsPrefix told_asks l.asked)
+    → Splits IsKept id v (terminal_part v told_answers) (clerk_part v told_asks)
+parts_split id v told_answers told_asks asks answers told s r at =
     let l = r.lists in
     let f = r.views id v at in
     let a = f.asks asks in
     let b = f.answers answers in
-    let right = clerk_part v in
-    let vs = set s.views id (terminal_part v) in
+    let begun = told r.terminal r.clerk l f in
+    let left = terminal_part v told_answers in
+    let right = clerk_part v told_asks in
+    let vs = set s.views id left in
     let Old : ℕ → View → Type 0 = λ j u. (u.asks ≡ true → (j ≡ r.terminal) × (u.terminal.asked ≡ l.asked) × (u.terminal.heard ≡ l.heard)) × (u.answers ≢ true) × (u.looks_ahead ≡ true → IsAhead l.asked u.clerk.taken)
-    × IsPrefix u.told l.answered × IsPrefix u.terminal.told l.answered × IsPrefix u.clerk.told l.asked × (u.noted ≢ 0 → Contains l.asked u.noted) in
-    let left_fits : Old id (terminal_part v) = ((λ _. a), (λ k. off k), (λ k. off k), prefix_nil l.answered, subst (λ z. IsPrefix z l.answered) (sym b.2) (prefix_refl l.answered), prefix_nil l.asked, (λ any. absurd (any refl))) in
+    × IsPrefix u.terminal.told l.answered × IsPrefix u.clerk.told l.asked × (u.noted ≢ 0 → Contains l.asked u.noted) in
+    let left_fits : Old id left = ((λ _. a), (λ k. off k), (λ k. off k), begun.0, prefix_nil l.asked, (λ any. absurd (any refl))) in
     let old : (j : ℕ) (u : View) → get_elem? vs j ≡ some u → Old j u = λ j u e.
     ⊎_elim
-    (λ (x : (j ≡ id) × (terminal_part v ≡ u)). subst (λ (y : ℕ × View). Old y.0 y.1) (λ i. (sym x.0 i, x.1 i)) left_fits)
-    (λ (x : (j ≢ id) × (get_elem? s.views j ≡ some u)). let g = r.views j u x.1 in (g.asks, (λ k. x.0 ((g.answers k).0 ∙ sym b.0)), g.looks_ahead, g.told, g.told_answers, g.told_asks, g.noted))
-    (at_set s.views id j (terminal_part v) u e) in
+    (λ (x : (j ≡ id) × (left ≡ u)). subst (λ (y : ℕ × View). Old y.0 y.1) (λ i. (sym x.0 i, x.1 i)) left_fits)
+    (λ (x : (j ≢ id) × (get_elem? s.views j ≡ some u)). let g = r.views j u x.1 in (g.asks, (λ k. x.0 ((g.answers k).0 ∙ sym b.0)), g.looks_ahead, g.told_answers, g.told_asks, g.noted))
+    (at_set s.views id j left u e) in
     record {
       terminal = r.terminal;
       clerk = length vs;
@@ -487,18 +482,26 @@ parts_split id v asks answers s r at =
       words = r.words;
       in_order = r.in_order;
       views = λ j u e. ⊎_elim
-          (λ (x : get_elem? vs j ≡ some u). let g = old j u x in record { asks = g.0; answers = λ k. absurd (g.1 k); looks_ahead = g.2; told = g.3; told_answers = g.4; told_asks = g.5; noted = g.6 })
+          (λ (x : get_elem? vs j ≡ some u). let g = old j u x in record { asks = g.0; answers = λ k. absurd (g.1 k); looks_ahead = g.2; told_answers = g.3; told_asks = g.4; noted = g.5 })
           (λ (is : right ≡ u). record {
             asks = λ k. off (ap (λ (y : View). y.asks) is ∙ k);
             answers = λ k. (at_end vs right u j (λ x. (old j u x).1 k) e, ap (λ (y : View). y.clerk.taken) (sym is) ∙ b.1, ap (λ (y : View). y.clerk.answered) (sym is) ∙ b.2);
             looks_ahead = λ k. off (ap (λ (y : View). y.looks_ahead) is ∙ k);
-            told = subst (λ (z : View). IsPrefix z.told l.answered) is (prefix_nil l.answered);
             told_answers = subst (λ (z : View). IsPrefix z.terminal.told l.answered) is (prefix_nil l.answered);
-            told_asks = subst (λ (z : View). IsPrefix z.clerk.told l.asked) is (subst (λ z. IsPrefix z l.asked) (sym a.1) (prefix_refl l.asked));
+            told_asks = subst (λ (z : View). IsPrefix z.clerk.told l.asked) is begun.1;
             noted = subst (λ (z : View). z.noted ≢ 0 → Contains l.asked z.noted) is (λ any. absurd (any refl));
           })
           (at_snoc vs right u j e);
     }
+
+-- each is told what the other has stored
+pub seats_split : (id : ℕ) (v : View) → v.asks ≡ true → v.answers ≡ true → Splits IsKept id v (terminal_part v v.clerk.answered) (clerk_part v v.terminal.asked)
+seats_split id v asks answers = parts_split id v v.clerk.answered v.terminal.asked asks answers
+    (λ terminal clerk l f. (subst (λ z. IsPrefix z l.answered) (sym (f.answers answers).2) (prefix_refl l.answered), subst (λ z. IsPrefix z l.asked) (sym (f.asks asks).1) (prefix_refl l.asked)))
+
+-- neither is told anything new
+pub untold_split : (id : ℕ) (v : View) → v.asks ≡ true → v.answers ≡ true → Splits IsKept id v (terminal_part v v.terminal.told) (clerk_part v v.clerk.told)
+untold_split id v asks answers = parts_split id v v.terminal.told v.clerk.told asks answers (λ terminal clerk l f. (f.told_answers, f.told_asks))
 
 -- a new seat that may store nothing
 adds : (id : ℕ) (v w : View) (s : State (Unit {0}) View) (r : IsKept s) → get_elem? s.views id ≡ some v → ((j : ℕ) → Fits r.terminal r.clerk r.lists j w)
@@ -515,19 +518,6 @@ adds id v w s r at new = record {
       (at_snoc (set s.views id v) w u j e);
 }
 
-pub tells_split : (id : ℕ) (v : View) → v.answers ≡ true → Splits IsKept id v v (note_of v)
-tells_split id v may s r at =
-    let a = (r.views id v at).answers may in
-    adds id v (note_of v) s r at (λ j. record {
-      asks = λ k. off k;
-      answers = λ k. off k;
-      looks_ahead = λ k. off k;
-      told = subst (λ z. IsPrefix z r.lists.answered) (sym a.2) (prefix_refl r.lists.answered);
-      told_answers = prefix_nil r.lists.answered;
-      told_asks = prefix_nil r.lists.asked;
-      noted = λ any. absurd (any refl);
-    })
-
 pub ahead_split : (id : ℕ) (v : View) → v.answers ≡ true → Splits IsKept id v v (ahead_of v)
 ahead_split id v may s r at =
     let f = r.views id v at in
@@ -537,7 +527,6 @@ ahead_split id v may s r at =
       asks = λ k. off k;
       answers = λ k. off k;
       looks_ahead = λ _. subst (IsAhead r.lists.asked) (sym a.1) (IsAhead-prefix r.lists.asked r.lists.taken o.turns o.taken);
-      told = prefix_nil r.lists.answered;
       told_answers = prefix_nil r.lists.answered;
       told_asks = f.told_asks;
       noted = λ any. absurd (any refl);
@@ -548,7 +537,6 @@ blank_fits terminal clerk l seat = record {
   asks = λ k. off k;
   answers = λ k. off k;
   looks_ahead = λ k. off k;
-  told = prefix_nil l.answered;
   told_answers = prefix_nil l.answered;
   told_asks = prefix_nil l.asked;
   noted = λ any. absurd (any refl);
@@ -567,13 +555,6 @@ spends id v other u w s r mine = record {
       (λ j y apart e. fit_set r.terminal r.clerk r.lists s.views id w mine (λ i x _ e'. r.views i x e') j y e);
 }
 
-pub tells_join : (id : ℕ) (v : View) (other : ℕ) (u : View) → Joins IsKept id v other u (told_by v u) blank
-tells_join id v other u s r at apart there =
-    let f = r.views id v at in
-    let was : get_elem? s.views other ≡ some u = ⊎_elim (λ (x : (other ≡ id) × (told_by v u ≡ u)). absurd (apart x.0)) (λ (x : (other ≢ id) × (get_elem? s.views other ≡ some u)). x.1) (at_set s.views id other (told_by v u) u there) in
-    let g = r.views other u was in
-    spends id v other u (told_by v u) s r (record { asks = f.asks; answers = f.answers; looks_ahead = f.looks_ahead; told = g.told; told_answers = f.told_answers; told_asks = f.told_asks; noted = f.noted })
-
 -- a seat ahead notes the last ask that it took
 pub notes_split : (id : ℕ) (v : View) → v.looks_ahead ≡ true → Splits IsKept id v v (ahead_note_of v)
 notes_split id v may s r at =
@@ -581,7 +562,6 @@ notes_split id v may s r at =
       asks = λ k. off k;
       answers = λ k. off k;
       looks_ahead = λ k. off k;
-      told = prefix_nil r.lists.answered;
       told_answers = prefix_nil r.lists.answered;
       told_asks = prefix_nil r.lists.asked;
       noted = last_asked r.lists.asked v.clerk.taken ((r.views id v at).looks_ahead may);
@@ -596,7 +576,7 @@ notes_join id v other u s r at apart there =
     let f = r.views id v at in
     let was : get_elem? s.views other ≡ some u = ⊎_elim (λ (x : (other ≡ id) × (noted_by v u ≡ u)). absurd (apart x.0)) (λ (x : (other ≢ id) × (get_elem? s.views other ≡ some u)). x.1) (at_set s.views id other (noted_by v u) u there) in
     let g = r.views other u was in
-    spends id v other u (noted_by v u) s r (record { asks = f.asks; answers = f.answers; looks_ahead = f.looks_ahead; told = f.told; told_answers = f.told_answers; told_asks = f.told_asks; noted = g.noted })
+    spends id v other u (noted_by v u) s r (record { asks = f.asks; answers = f.answers; looks_ahead = f.looks_ahead; told_answers = f.told_answers; told_asks = f.told_asks; noted = g.noted })
 
 pub ahead_join : (id : ℕ) (v : View) (other : ℕ) (u : View) → Joins IsKept id v other u v blank
 ahead_join id v other u s r at apart there = spends id v other u v s r (r.views id v at)
@@ -615,7 +595,6 @@ unites_join id v other c asks answers s r at apart there =
       asks = λ _. a;
       answers = λ _. (refl, b.1, b.2);
       looks_ahead = λ k. off k;
-      told = prefix_nil l.answered;
       told_answers = f.told_answers;
       told_asks = g.told_asks;
       noted = λ any. absurd (any refl);
@@ -632,7 +611,6 @@ unites_join id v other c asks answers s r at apart there =
             asks = h.asks;
             answers = λ k. absurd (not_other ((h.answers k).0 ∙ sym b.0));
             looks_ahead = h.looks_ahead;
-            told = h.told;
             told_answers = h.told_answers;
             told_asks = h.told_asks;
             noted = h.noted;
@@ -666,6 +644,7 @@ abbrev AheadSo : State (Unit {0}) View → ℕ → View → ℕ → Bool → Typ
 AheadSo s id v n b =
     IsKept record { words = set s.words 0 n; homes = s.homes; views = set s.views id (at_clerk v (record { taken = if b then v.clerk.taken ++ n ∷ [] else v.clerk.taken; answered = v.clerk.answered; looks = suc v.clerk.looks; last = n; told = v.clerk.told })) }
     × (b ≡ true → IsAskWord n)
+    × (n ≡ last_of (if b then v.clerk.taken ++ n ∷ [] else v.clerk.taken))
 
 ahead_so : (s : State (Unit {0}) View) (r : IsKept s) (id : ℕ) (v : View) → v.looks_ahead ≡ true → v.answers ≡ false → get_elem? s.views id ≡ some v
     → (b : Bool) → nat_lt (turn_of (last_of v.clerk.taken)) (turn_of (get_or s.words 0 0)) ≡ b → AheadSo s id v (get_or s.words 0 0) b
@@ -682,7 +661,6 @@ ahead_so s r id v may no_answer at b is =
       asks = f.asks;
       answers = λ k. off (sym no_answer ∙ k);
       looks_ahead = λ k. taken_more l.asked v.clerk.taken n b n_is asked (f.looks_ahead k) is;
-      told = f.told;
       told_answers = f.told_answers;
       told_asks = f.told_asks;
       noted = f.noted;
@@ -696,8 +674,20 @@ ahead_so s r id v may no_answer at b is =
         views = fit_set r.terminal r.clerk l s.views id w mine (λ j u apart e. r.views j u e);
       },
       λ e. let above : turn_of (last_of v.clerk.taken) < turn_of n = lt_of _ _ (is ∙ e) in subst IsAskWord (sym n_is) (All-last_of IsAskWord l.asked o.asks_spelled (omega arith)),
+      taken_last l.asked v.clerk.taken n b o.turns n_is asked (f.looks_ahead may) is,
     )
   where
+    taken_last : (asked taken : List ℕ) (n : ℕ) (b : Bool) → CountTurns 1 asked → n ≡ last_of asked → turn_of n ≡ length asked → IsAhead asked taken → nat_lt (turn_of (last_of taken)) (turn_of n) ≡ b
+        → n ≡ last_of (if b then taken ++ n ∷ [] else taken)
+    taken_last asked taken n true turns n_is turn h is = sym (last_of-push taken n)
+    taken_last [] [] n false turns n_is turn h is = n_is
+    taken_last (x ∷ asked) [] n false turns n_is turn h is = let below : turn_of n ≤ 0 = le_of _ _ is in absurd (omega arith)
+    taken_last asked (x ∷ taken) n false turns n_is turn h is =
+        let there = All-last_of (Contains asked) (x ∷ taken) h.asked_all (omega arith) in
+        let below : turn_of n ≤ turn_of (last_of (x ∷ taken)) = le_of _ _ is in
+        let at_most = turn_at_most asked (last_of (x ∷ taken)) turns there in
+        n_is ∙ sym (turn_is_last asked (last_of (x ∷ taken)) turns there (omega arith))
+
     taken_more : (asked taken : List ℕ) (n : ℕ) (b : Bool) → n ≡ last_of asked → turn_of n ≡ length asked → IsAhead asked taken → nat_lt (turn_of (last_of taken)) (turn_of n) ≡ b
         → IsAhead asked (if b then taken ++ n ∷ [] else taken)
     taken_more asked taken n false n_is turn h is = h
@@ -719,7 +709,7 @@ looks_ahead_keep slots id me may none' s r _ at _ =
       keeps,
       tt,
       so.0,
-      (refl, refl, so.1, omega arith, λ same. n_is ∙ ap last_of (sym (prefix_whole me.0.clerk.told l.asked told (omega arith)))),
+      (refl, refl, so.1, omega arith, (λ same. n_is ∙ ap last_of (sym (prefix_whole me.0.clerk.told l.asked told (omega arith)))), so.2),
     )
 
 pub lt_true : (m n : ℕ) → m < n → nat_lt m n ≡ true

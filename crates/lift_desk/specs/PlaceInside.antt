@@ -2,7 +2,7 @@
 use Rattle.std.specs.Prelude.{◌≡◌, suc, ◌<◌, true, false, [], ◌∷◌, length}
 use Rattle.lift_desk.specs.declared.place.Place.TheInside.{Inside}
 use Rattle.lift_desk.specs.Words.{number_of, last_of, turn_of}
-use Rattle.lift_desk.specs.Seats.{ClerkPlace, is_seated, view_in}
+use Rattle.lift_desk.specs.Seats.{ClerkPlace, is_seated, view_in, loads_of}
 
 abbrev pub seen : Inside → ClerkPlace
 seen s = record { seated = is_seated s.badge.views; table = s.badge.table_id; view = (view_in s.badge.views).clerk }
@@ -11,6 +11,7 @@ pub record IsPlaced (s : Inside) : Type 0 where
   pub one : is_seated s.badge.views ≡ true → s.badge.views ≡ view_in s.badge.views ∷ []
   pub answers : is_seated s.badge.views ≡ true → (view_in s.badge.views).answers ≡ true
   pub in_order : (view_in s.badge.views).looks_ahead ≡ false
+  pub loads : s.loads ≡ loads_of (view_in s.badge.views)
   pub turn : s.turn ≡ length (view_in s.badge.views).clerk.taken
   pub last_taken : turn_of (last_of (view_in s.badge.views).clerk.taken) ≡ length (view_in s.badge.views).clerk.taken
   pub in_range : s.turn < 1048576
@@ -18,4 +19,3 @@ pub record IsPlaced (s : Inside) : Type 0 where
   pub owes : s.owes ≡ true → length (view_in s.badge.views).clerk.taken ≡ suc (length (view_in s.badge.views).clerk.answered)
   pub even : s.owes ≡ false → length (view_in s.badge.views).clerk.taken ≡ length (view_in s.badge.views).clerk.answered
   pub answered : s.answered ≡ last_of (view_in s.badge.views).clerk.answered
-  pub last_answered : turn_of (last_of (view_in s.badge.views).clerk.answered) ≡ length (view_in s.badge.views).clerk.answered

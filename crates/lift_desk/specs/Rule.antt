@@ -19,66 +19,56 @@ no_answers = record { taken = []; answered = []; looks = 0; last = 0; told = [] 
 
 -- a seat that may do nothing
 abbrev pub blank : View
-blank = record { asks = false; answers = false; looks_ahead = false; terminal = no_asks; clerk = no_answers; told = []; noted = 0 }
+blank = record { asks = false; answers = false; looks_ahead = false; terminal = no_asks; clerk = no_answers; noted = 0 }
 
 -- the first seat, before it is split into the terminal's and the clerk's
 abbrev pub opening_view : View
-opening_view = record { asks = true; answers = true; looks_ahead = false; terminal = no_asks; clerk = no_answers; told = []; noted = 0 }
+opening_view = record { asks = true; answers = true; looks_ahead = false; terminal = no_asks; clerk = no_answers; noted = 0 }
 
 abbrev pub terminal_view : View
-terminal_view = record { asks = true; answers = false; looks_ahead = false; terminal = no_asks; clerk = no_answers; told = []; noted = 0 }
+terminal_view = record { asks = true; answers = false; looks_ahead = false; terminal = no_asks; clerk = no_answers; noted = 0 }
 
 abbrev pub clerk_view : View
-clerk_view = record { asks = false; answers = true; looks_ahead = false; terminal = no_asks; clerk = no_answers; told = []; noted = 0 }
-
--- a note of what was answered
-abbrev pub note_of : View → View
-note_of v = record { asks = false; answers = false; looks_ahead = false; terminal = no_asks; clerk = no_answers; told = v.clerk.answered; noted = 0 }
+clerk_view = record { asks = false; answers = true; looks_ahead = false; terminal = no_asks; clerk = no_answers; noted = 0 }
 
 -- what a seat that looks ahead of the clerk begins with
 abbrev pub ahead_of : View → View
-ahead_of v = record { asks = false; answers = false; looks_ahead = true; terminal = no_asks; clerk = record { taken = v.clerk.taken; answered = []; looks = 0; last = 0; told = v.clerk.told }; told = []; noted = 0 }
-
--- the view of a seat that has read a note
-abbrev pub told_by : View → View → View
-told_by v note = record { asks = v.asks; answers = v.answers; looks_ahead = v.looks_ahead; terminal = v.terminal; clerk = v.clerk; told = note.told; noted = v.noted }
+ahead_of v = record { asks = false; answers = false; looks_ahead = true; terminal = no_asks; clerk = record { taken = v.clerk.taken; answered = []; looks = 0; last = 0; told = v.clerk.told }; noted = 0 }
 
 -- a note of the last ask that was taken ahead of the clerk
 abbrev pub ahead_note_of : View → View
-ahead_note_of v = record { asks = false; answers = false; looks_ahead = false; terminal = no_asks; clerk = no_answers; told = []; noted = last_of v.clerk.taken }
+ahead_note_of v = record { asks = false; answers = false; looks_ahead = false; terminal = no_asks; clerk = no_answers; noted = last_of v.clerk.taken }
 
 -- the view of a seat that has read a note of this ask
 abbrev pub with_note : View → ℕ → View
-with_note v word = record { asks = v.asks; answers = v.answers; looks_ahead = v.looks_ahead; terminal = v.terminal; clerk = v.clerk; told = v.told; noted = word }
+with_note v word = record { asks = v.asks; answers = v.answers; looks_ahead = v.looks_ahead; terminal = v.terminal; clerk = v.clerk; noted = word }
 
 abbrev pub noted_by : View → View → View
 noted_by v note = with_note v note.noted
 
 -- a seat with the rights of both
 abbrev pub united : View → View → View
-united v c = record { asks = v.asks; answers = c.answers; looks_ahead = false; terminal = v.terminal; clerk = c.clerk; told = []; noted = 0 }
+united v c = record { asks = v.asks; answers = c.answers; looks_ahead = false; terminal = v.terminal; clerk = c.clerk; noted = 0 }
 
--- the terminal's part of it, which is told what was answered
-abbrev pub terminal_part : View → View
-terminal_part v = record {
+-- the terminal's part of it, which is told that these words were answered
+abbrev pub terminal_part : View → List ℕ → View
+terminal_part v words = record {
   asks = true;
   answers = false;
   looks_ahead = false;
-  terminal = record { asked = v.terminal.asked; heard = v.terminal.heard; looks = v.terminal.looks; last = v.terminal.last; told = v.clerk.answered };
+  terminal = record { asked = v.terminal.asked; heard = v.terminal.heard; looks = v.terminal.looks; last = v.terminal.last; told = words };
   clerk = no_answers;
-  told = [];
   noted = 0;
 }
 
--- the clerk's part of it, which is told what was asked
-abbrev pub clerk_part : View → View
-clerk_part v = record {
+-- the clerk's part of it, which is told that these words were asked
+abbrev pub clerk_part : View → List ℕ → View
+clerk_part v words = record {
   asks = false;
   answers = true;
   looks_ahead = false;
   terminal = no_asks;
-  clerk = record { taken = v.clerk.taken; answered = v.clerk.answered; looks = v.clerk.looks; last = v.clerk.last; told = v.terminal.asked };
-  told = [];
+  clerk = record { taken = v.clerk.taken; answered = v.clerk.answered; looks = v.clerk.looks; last = v.clerk.last; told = words };
   noted = 0;
 }
 
@@ -118,7 +108,6 @@ pub record Fits (terminal clerk : ℕ) (l : Lists) (seat : ℕ) (v : View) : Typ
   pub asks : v.asks ≡ true → (seat ≡ terminal) × (v.terminal.asked ≡ l.asked) × (v.terminal.heard ≡ l.heard)
   pub answers : v.answers ≡ true → (seat ≡ clerk) × (v.clerk.taken ≡ l.taken) × (v.clerk.answered ≡ l.answered)
   pub looks_ahead : v.looks_ahead ≡ true → IsAhead l.asked v.clerk.taken
-  pub told : IsPrefix v.told l.answered
   pub told_answers : IsPrefix v.terminal.told l.answered
   pub told_asks : IsPrefix v.clerk.told l.asked
   pub noted : v.noted ≢ 0 → Contains l.asked v.noted

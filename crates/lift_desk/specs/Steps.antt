@@ -52,10 +52,10 @@ abbrev pub lists_of : TerminalView → ClerkView → Lists
 lists_of t c = record { asked = t.asked; taken = c.taken; answered = c.answered; heard = t.heard }
 
 abbrev pub at_terminal : View → TerminalView → View
-at_terminal v terminal = record { asks = v.asks; answers = v.answers; looks_ahead = v.looks_ahead; terminal = terminal; clerk = v.clerk; told = v.told; noted = v.noted }
+at_terminal v terminal = record { asks = v.asks; answers = v.answers; looks_ahead = v.looks_ahead; terminal = terminal; clerk = v.clerk; noted = v.noted }
 
 abbrev pub at_clerk : View → ClerkView → View
-at_clerk v clerk = record { asks = v.asks; answers = v.answers; looks_ahead = v.looks_ahead; terminal = v.terminal; clerk = clerk; told = v.told; noted = v.noted }
+at_clerk v clerk = record { asks = v.asks; answers = v.answers; looks_ahead = v.looks_ahead; terminal = v.terminal; clerk = clerk; noted = v.noted }
 
 abbrev pub Asked : Step (Unit {0}) → Seated → ℕ → Seated → Type 0
 Asked step before found after = after ≡ (at_terminal before.0 (with_ask before.0.terminal step.first), before.1)
@@ -63,7 +63,7 @@ Asked step before found after = after ≡ (at_terminal before.0 (with_ask before
 abbrev pub Answered : Step (Unit {0}) → Seated → ℕ → Seated → Type 0
 Answered step before found after = after ≡ (at_clerk before.0 (with_answer before.0.clerk step.first), before.1)
 
--- it is the ask word that is loaded; an ask that is taken is spelled, and all before it was answered; then all that the clerk was told of is taken; an ask that a note says is found, where it is new
+-- it is the ask word that is loaded; an ask that is taken is spelled, and all before it was answered; then all that the clerk was told of is taken; an ask that a note says is found, where it is new; what is loaded is the last ask of all, which is taken then
 abbrev pub Looked : Step (Unit {0}) → Seated → ℕ → Seated → Type 0
 Looked step before found after =
     (step.word ≡ 0)
@@ -71,8 +71,9 @@ Looked step before found after =
     × (is_new before.0.clerk found ≡ true → IsAskWord found × (turn_of found ≡ suc (length before.0.clerk.taken)) × (length before.0.clerk.answered ≡ length before.0.clerk.taken))
     × IsPrefix before.0.clerk.told (with_taking before.0.clerk found).taken
     × (is_new before.0.clerk before.0.noted ≡ true → found ≡ before.0.noted)
+    × (found ≡ last_of (with_taking before.0.clerk found).taken)
 
--- it is the ask word that is loaded; an ask that is taken ahead of the answers is spelled; its turn is no earlier than that of the last ask which the seat was told of, and that ask is the only one with its turn
+-- it is the ask word that is loaded; an ask that is taken ahead of the answers is spelled; its turn is no earlier than that of the last ask which the seat was told of, and that ask is the only one with its turn; what is loaded is the last ask of all, which is taken then
 abbrev pub LookedAhead : Step (Unit {0}) → Seated → ℕ → Seated → Type 0
 LookedAhead step before found after =
     (step.word ≡ 0)
@@ -80,21 +81,24 @@ LookedAhead step before found after =
     × (is_new before.0.clerk found ≡ true → IsAskWord found)
     × (length before.0.clerk.told ≤ turn_of found)
     × (turn_of found ≡ length before.0.clerk.told → found ≡ last_of before.0.clerk.told)
+    × (found ≡ last_of (with_taking before.0.clerk found).taken)
 
--- it is the answer word that is loaded; an answer that is heard is spelled, with the turn and the number of the last ask; then all that the terminal was told of is heard
+-- it is the answer word that is loaded; an answer that is heard is spelled, with the turn and the number of the last ask; then all that the terminal was told of is heard; what is loaded is the last answer of all, which is heard then
 abbrev pub Heard : Step (Unit {0}) → Seated → ℕ → Seated → Type 0
 Heard step before found after =
     (step.word ≡ 1)
     × (after ≡ (at_terminal before.0 (with_hearing before.0.terminal found), before.1))
     × (is_awaited before.0.terminal found ≡ true → IsReplyWord found × (turn_of found ≡ length before.0.terminal.asked) × (number_of found ≡ number_of (last_of before.0.terminal.asked)))
     × IsPrefix before.0.terminal.told (with_hearing before.0.terminal found).heard
+    × (found ≡ last_of (with_hearing before.0.terminal found).heard)
 
--- it is the answer word that is loaded; where it is the last of those that the terminal was told, these begin with what it has heard
+-- a seat with both rights loads the answer word, which is the last that was answered; what was answered begins with what was heard
 abbrev pub Met : Step (Unit {0}) → Seated → ℕ → Seated → Type 0
 Met step before found after =
     (step.word ≡ 1)
     × (after ≡ (at_terminal before.0 (with_look before.0.terminal found), before.1))
-    × (turn_of found ≡ length before.0.told → IsPrefix before.0.terminal.heard before.0.told)
+    × (found ≡ last_of before.0.clerk.answered)
+    × IsPrefix before.0.terminal.heard before.0.clerk.answered
 
 -- nothing changes, and the words of a seat with both rights are in order
 abbrev pub Compared : Step (Unit {0}) → Seated → ℕ → Seated → Type 0

@@ -6,6 +6,7 @@ ghost use Rattle.lift_desk.specs.Steps.{with_taking};
 ghost use Rattle.lift_desk.specs.Spelled.{IsAsk};
 ghost use Rattle.lift_desk.specs.Seats.{ClerkPlace, placed_at, TakesAheadOf, IsToldAhead};
 
+use crate::loads::{ASK, Loads};
 use crate::note::Note;
 use crate::seat::{Chair, DeskTable};
 use crate::view::{LooksAhead, Notes, View};
@@ -18,6 +19,7 @@ use std::mem;
 #[derive(Drop)]
 pub struct AheadPlace {
     badge: Badge<View>,
+    loads: Loads<ASK>,
     turn: u32,
 }
 
@@ -41,6 +43,7 @@ impl Default for AheadPlace {
     fn default() -> Self {
         AheadPlace {
             badge: Badge::blank(),
+            loads: Loads::new(),
             turn: 0,
         }
     }
@@ -50,11 +53,13 @@ impl AheadPlace {
     pub(crate) fn new(seat: Chair, turn: u32) -> AheadPlace
         requires held { seat.me.1 ≡ [] }
         requires ahead { (seat.me.0.looks_ahead ≡ true) × (seat.me.0.answers ≡ false) }
+        requires loads { (seat.me.0.clerk.looks ≡ 0) × (seat.me.0.clerk.last ≡ 0) }
         requires turn { turn ≡ turn_of (last_of seat.me.0.clerk.taken) }
         ensures { result ≡ placed_at seat.table_id seat.me.0.clerk }
     {
         AheadPlace {
             badge: seat.into_badge(),
+            loads: Loads::new(),
             turn,
         }
     }
@@ -67,13 +72,14 @@ impl AheadPlace {
         ensures in_range { IfSome result IsAsk }
         ensures last { IfSome result (λ ask. last_of self.new.view.taken ≡ ask_word (turn_of (last_of self.new.view.taken)) ask.number ask.body) }
         ensures turn { IsSome result → turn_of (last_of self.new.view.taken) < 2 ^ 20 }
+        ensures last_word { self.new.view.last ≡ last_of self.new.view.taken }
         ensures known { length self.old.view.told ≤ turn_of (last_of self.new.view.taken) }
         ensures finds { (ask : Ask) → IsToldAhead self.old.view ask
             → IsSome result × (turn_of (last_of self.new.view.taken) ≡ length self.old.view.told → result ≡ Some ask) }
     {
         let badge = mem::replace(&mut self.badge, Badge::blank());
         let mut seat = badge.into_seat::<()>();
-        let word = table.shared.load::<LooksAhead>(&mut seat, 0);
+        let word = self.loads.load::<LooksAhead>(table, &mut seat);
         self.badge = seat.into_badge();
         let turn = turn_of(word);
         if turn <= self.turn {
@@ -102,7 +108,11 @@ impl AheadPlace {
         requires { self.seated ≡ true }
         ensures { (result.table_id ≡ self.table) × (result.me.1 ≡ []) }
     {
-        let AheadPlace { badge, turn: _ } = self;
+        let AheadPlace {
+            badge,
+            loads: _,
+            turn: _,
+        } = self;
         badge.into_seat::<()>()
     }
 }

@@ -168,6 +168,8 @@ impl Desk {
         ensures looked { (word : ℕ) × (seat.new ≡ seat_with seat.old (with_hearing seat.old.view word))
             × HearsOf seat.old.view word result }
         ensures rests { IsSome result → ¬ (Waits seat.new.view) }
+        // The word loaded is the last that was answered, 0 for none; so all that was answered is heard then.
+        ensures last_word { seat.new.view.last ≡ last_of seat.new.view.heard }
         // All answers that the terminal was told of are heard then.
         ensures known { IsPrefix seat.old.view.told seat.new.view.heard }
         ensures finds { (reply : Reply) → IsToldAnswer seat.old.view reply → result ≡ Some reply }
@@ -189,6 +191,8 @@ impl Desk {
             → length (view_at clerk.old terminal).answered ≡ length (view_at clerk.old terminal).taken }
         ensures owes { IfSome result (λ ask. Owes (view_at clerk.new terminal)
             × (number_of (last_of (view_at clerk.new terminal).taken) ≡ ask.number)) }
+        // The word loaded is the last that was asked, 0 for none; so all that was asked is taken then.
+        ensures last_word { (view_at clerk.new terminal).last ≡ last_of (view_at clerk.new terminal).taken }
         // All asks that the clerk was told of are taken then.
         ensures known { IsPrefix (view_at clerk.old terminal).told (view_at clerk.new terminal).taken }
         ensures finds { (ask : Ask) → IsToldAsk (view_at clerk.old terminal) ask → result ≡ Some ask }
@@ -215,6 +219,7 @@ impl Desk {
             → length (view_at clerk.old terminal).answered ≡ length (view_at clerk.old terminal).taken }
         ensures owes { IfSome result (λ ask. Owes (view_at clerk.new terminal)
             × (number_of (last_of (view_at clerk.new terminal).taken) ≡ ask.number)) }
+        ensures last_word { (view_at clerk.new terminal).last ≡ last_of (view_at clerk.new terminal).taken }
         ensures known { IsPrefix (view_at clerk.old terminal).told (view_at clerk.new terminal).taken }
         ensures finds { (ask : Ask) → IsToldAsk (view_at clerk.old terminal) ask → result ≡ Some ask }
         // The ask that was noted, and no other, where none as late was taken here.
@@ -265,23 +270,22 @@ impl Desk {
         place.tell(table, seat)
     }
 
-    /// Looks once at the terminal's last answer, and says whether it is the last that the clerk stored there.
+    /// Looks once at the terminal's answer word, and says whether it is the last word that the clerk stored there, 0 for
+    /// none. It always is, since nobody else stores there.
     pub fn meet(&self, seat: &mut Seat, clerk: &mut ClerkSeat) -> bool
         requires seat { IsSeatOf self.now seat.old }
         requires clerk { IsClerkOf self.now clerk.old }
-        ensures looked { (word : ℕ) × (seat.new ≡ seat_with seat.old (with_look seat.old.view word))
-            × (IsTrue result ↔ (word ≡ last_of (view_at clerk.old seat.old.terminal).answered)) }
+        ensures looked { seat.new ≡ seat_with seat.old
+            (with_look seat.old.view (last_of (view_at clerk.old seat.old.terminal).answered)) }
+        ensures meets { IsTrue result }
         ensures stays { IsSeatOf self.now seat.new }
         ensures clerk { clerk.new ≡ clerk.old }
-        ensures heard { IsTrue result
-            → IsPrefix seat.old.view.heard (view_at clerk.old seat.old.terminal).answered }
+        ensures heard { IsPrefix seat.old.view.heard (view_at clerk.old seat.old.terminal).answered }
     {
         let at = usize::from(seat.terminal.get());
         let table = &self.tables[at];
         let place = &mut clerk.places[at];
-        let note = place.note(table);
-        let word = seat.meet(table, note);
-        place.is_last(word)
+        place.meet(table, seat)
     }
 
     /// Cuts off seats that take asks ahead of the answers. They begin with what the clerk took and was told of, and the clerk keeps the right to answer.
@@ -308,6 +312,8 @@ impl Desk {
         ensures looked { (word : ℕ)
             × (ahead.new ≡ clerk_with ahead.old terminal (with_taking (view_at ahead.old terminal) word))
             × TakesAheadOf (view_at ahead.old terminal) word result }
+        // The word loaded is the last that was asked, 0 for none, and it is taken, now or earlier.
+        ensures last_word { (view_at ahead.new terminal).last ≡ last_of (view_at ahead.new terminal).taken }
         // The last ask that the seats were told of, or a later one, is taken then.
         ensures known { length (view_at ahead.old terminal).told ≤ turn_of (last_of (view_at ahead.new terminal).taken) }
         ensures finds { (ask : Ask) → IsToldAhead (view_at ahead.old terminal) ask

@@ -4,6 +4,7 @@
 mod ahead;
 mod desk;
 mod laws;
+mod loads;
 mod note;
 mod place;
 mod seat;

@@ -4,14 +4,15 @@ ghost use mathlib.Core.List.{IsPrefix};
 ghost use Rattle.lift_desk.specs.Words.{turn_of, last_of, number_of, reply_word};
 ghost use Rattle.lift_desk.specs.declared.words.Ask.{Ask};
 ghost use Rattle.lift_desk.specs.Rule.{clerk_view, no_answers, with_note, IsInOrder};
-ghost use Rattle.lift_desk.specs.Steps.{with_answer, with_taking, with_told_answers, with_told_asks, lists_of};
+ghost use Rattle.lift_desk.specs.Steps.{with_answer, with_look, with_taking, with_told_answers, with_told_asks, lists_of};
 ghost use Rattle.lift_desk.specs.Spelled.{IsAsk};
 ghost use Rattle.lift_desk.specs.Seats.{ClerkPlace, placed_at, taken_only, Owes, TakesOf, IsToldAsk, Says, seat_with};
 
 use crate::ahead::AheadPlace;
+use crate::loads::{ASK, Loads};
 use crate::note::Note;
 use crate::seat::{Chair, DeskTable, Seat};
-use crate::view::{Ahead, Answers, Looks, Notes, Tells, View};
+use crate::view::{Ahead, Answers, Looks, Notes, View};
 use crate::words::{Ask, read_ask, reply_word, turn_of};
 use atomic_table::Badge;
 use lift_base::{Number, Reply};
@@ -22,6 +23,7 @@ use std::mem;
 #[derive(Drop)]
 pub struct Place {
     badge: Badge<View>,
+    loads: Loads<ASK>,
     turn: u32,
     number: Number,
     owes: bool,
@@ -48,6 +50,7 @@ impl Default for Place {
     fn default() -> Self {
         Place {
             badge: Badge::blank(),
+            loads: Loads::new(),
             turn: 0,
             number: Number::default(),
             owes: false,
@@ -76,6 +79,7 @@ impl Place {
     {
         Place {
             badge: seat.into_badge(),
+            loads: Loads::new(),
             turn: 0,
             number: Number::default(),
             owes: false,
@@ -93,6 +97,7 @@ impl Place {
         ensures even { IsSome result → length self.old.view.answered ≡ length self.old.view.taken }
         ensures owes { IfSome result (λ ask. Owes self.new.view × (number_of (last_of self.new.view.taken) ≡ ask.number)) }
         ensures in_range { IfSome result IsAsk }
+        ensures last_word { self.new.view.last ≡ last_of self.new.view.taken }
         ensures known { IsPrefix self.old.view.told self.new.view.taken }
         ensures finds { (ask : Ask) → IsToldAsk self.old.view ask → result ≡ Some ask }
         ensures noted { IfSome note (λ n. (ask : Ask) → Says self.old.view n.word ask
@@ -101,7 +106,7 @@ impl Place {
         let badge = mem::replace(&mut self.badge, Badge::blank());
         let mut seat = badge.into_seat::<()>();
         read_note(table, &mut seat, note);
-        let word = table.shared.load::<Looks>(&mut seat, 0);
+        let word = self.loads.load::<Looks>(table, &mut seat);
         self.badge = seat.into_badge();
         let turn = turn_of(word);
         if turn <= self.turn {
@@ -131,20 +136,6 @@ impl Place {
         self.answered = word;
     }
 
-    // A note of all that was answered.
-    pub(crate) fn note(&mut self, table: &DeskTable) -> Chair
-        requires table { (self.old.table ≡ table.now.shared.table_id) × (table.now.shared.table_id.words ≡ 2) }
-        requires seated { self.old.seated ≡ true }
-        ensures same { self.new ≡ self.old }
-        ensures note { (result.table_id ≡ self.old.table) × (result.me.0.told ≡ self.old.view.answered) × (result.me.1 ≡ []) }
-    {
-        let badge = mem::replace(&mut self.badge, Badge::blank());
-        let mut seat = badge.into_seat::<()>();
-        let note = table.shared.split_seat::<Tells>(&mut seat);
-        self.badge = seat.into_badge();
-        note
-    }
-
     // Tells this seat what the terminal asked, and the terminal what was answered.
     pub(crate) fn tell(&mut self, table: &DeskTable, seat: &mut Seat)
         requires table { (self.old.table ≡ table.now.shared.table_id) × (table.now.shared.table_id.words ≡ 2) }
@@ -165,11 +156,18 @@ impl Place {
         self.owes
     }
 
-    // Whether this is the last word that was answered.
-    pub(crate) fn is_last(&self, word: u64) -> bool
-        ensures last { IsTrue result ↔ (word ≡ last_of self.now.view.answered) }
-        ensures turn { turn_of (last_of self.now.view.answered) ≡ length self.now.view.answered }
+    // Whether the terminal's answer word, which it looks at once, is the last word that was answered.
+    pub(crate) fn meet(&mut self, table: &DeskTable, seat: &mut Seat) -> bool
+        requires table { (self.old.table ≡ table.now.shared.table_id) × (table.now.shared.table_id.words ≡ 2) }
+        requires seated { (self.old.seated ≡ true) × (seat.old.table ≡ self.old.table) }
+        ensures looked { seat.new ≡ seat_with seat.old (with_look seat.old.view (last_of self.old.view.answered)) }
+        ensures meets { IsTrue result }
+        ensures same { self.new ≡ self.old }
+        ensures heard { IsPrefix seat.old.view.heard self.old.view.answered }
     {
+        let badge = mem::replace(&mut self.badge, Badge::blank());
+        let (word, chair) = seat.meet(table, badge.into_seat::<()>());
+        self.badge = chair.into_badge();
         word == self.answered
     }
 

@@ -9,7 +9,8 @@ ghost use mathlib.Core.List.{IsPrefix};
 ghost use Rattle.lift_desk.specs.Seats.{TerminalSeat, seat_with, Waits, HearsOf, IsToldAnswer};
 ghost use Rattle.lift_desk.specs.Rule.{terminal_view, no_asks, IsInOrder};
 
-use crate::view::{Asks, Compares, DeskRule, Hears, Meets, Seats, Tells, View};
+use crate::loads::{ANSWER, Loads};
+use crate::view::{Asks, Compares, DeskRule, Hears, Meets, Parts, Seats, View};
 use crate::words::{ask_word, read_reply, turn_of};
 use atomic_table::Table;
 use lift_base::{Body, Number, Reply, Terminal};
@@ -40,6 +41,7 @@ pub struct Seat {
     turn: u32,
     number: Number,
     waits: bool,
+    loads: Loads<ANSWER>,
     chair: Chair,
 }
 
@@ -65,6 +67,7 @@ impl Seat {
             turn: 0,
             number: Number::default(),
             waits: false,
+            loads: Loads::new(),
             chair,
         }
     }
@@ -121,10 +124,11 @@ impl Seat {
             × HearsOf self.old.view word result }
         ensures rests { IsSome result → ¬ (Waits self.new.view) }
         ensures in_range { IfSome result IsReply }
+        ensures last_word { self.new.view.last ≡ last_of self.new.view.heard }
         ensures known { IsPrefix self.old.view.told self.new.view.heard }
         ensures finds { (reply : Reply) → IsToldAnswer self.old.view reply → result ≡ Some reply }
     {
-        let word = table.shared.load::<Hears>(&mut self.chair, 1);
+        let word = self.loads.load::<Hears>(table, &mut self.chair);
         if !self.waits || turn_of(word) != self.turn {
             return None;
         }
@@ -147,14 +151,19 @@ impl Seat {
         table.shared.split_seat::<Seats>(&mut self.chair)
     }
 
-    // One look, by a terminal that was told what was answered.
-    pub(crate) fn meet(&mut self, table: &DeskTable, note: Chair) -> u64
+    // One look, by a seat that has the clerk's rights for it and gives them back. Nobody is told anything.
+    pub(crate) fn meet(&mut self, table: &DeskTable, clerk: Chair) -> (u64, Chair)
         requires table { (self.old.table ≡ table.now.shared.table_id) × (table.now.shared.table_id.words ≡ 2) }
-        requires note { (note.table_id ≡ self.old.table) × (note.me.1 ≡ []) }
-        ensures looked { self.new ≡ seat_with self.old (with_look self.old.view result) }
-        ensures heard { turn_of result ≡ length note.me.0.told → IsPrefix self.old.view.heard note.me.0.told }
+        requires clerk { (clerk.table_id ≡ self.old.table) × (clerk.me.1 ≡ []) × (clerk.me.0.answers ≡ true) }
+        ensures looked { self.new ≡ seat_with self.old (with_look self.old.view result.0) }
+        ensures last { result.0 ≡ last_of clerk.me.0.clerk.answered }
+        ensures heard { IsPrefix self.old.view.heard clerk.me.0.clerk.answered }
+        ensures clerk { (result.1.table_id ≡ self.old.table) × (result.1.me.1 ≡ []) }
+        ensures rights { (result.1.me.0.answers ≡ true) × (result.1.me.0.looks_ahead ≡ false) }
+        ensures view { result.1.me.0.clerk ≡ clerk.me.0.clerk }
     {
-        table.shared.join_seat::<Tells>(&mut self.chair, note);
-        table.shared.load::<Meets>(&mut self.chair, 1)
+        table.shared.join_seat::<Seats>(&mut self.chair, clerk);
+        let word = self.loads.load::<Meets>(table, &mut self.chair);
+        (word, table.shared.split_seat::<Parts>(&mut self.chair))
     }
 }

@@ -1,8 +1,8 @@
 -- What a command without a cause is decided, and what that leaves of the world.
 use Rattle.std.proofs.Common.{ℕ, ◌≡◌, Bool, true, false, cond, List, [], ◌∷◌, ◌++◌, drop, Option, Some, None, refl, sym, ap, subst, ◌∙◌}
-use Rattle.std.specs.Prelude.{option_map}
+use Rattle.std.specs.Prelude.{option_map, IsSome, IsTrue}
 use Rattle.std.specs.Option.{option_to_list}
-use Rattle.std.proofs.lemmas.Bool.{not-false}
+use Rattle.std.proofs.lemmas.Bool.{not-false, false≢true}
 use Rattle.std.proofs.lemmas.List.{append-nil}
 use Rattle.lift_base.specs.declared.travel.Dir.{Dir}
 use Rattle.lift_base.specs.declared.travel.Position.{Position}
@@ -71,6 +71,11 @@ same_tail : (xs ys zs : List Entry) → xs ++ ys ≡ xs ++ zs → ys ≡ zs
 same_tail [] ys zs e = e
 same_tail (x ∷ xs) ys zs e = same_tail xs ys zs (let f : xs ++ ys ≡ xs ++ zs = cc in f)
 
+-- nothing moves where an event isn't possible
+pub no_move : (o : Option World) (old new : World) (is : Bool) → (IsSome o → IsTrue is) → is ≡ false → new ≡ old → MovesTo o old false new
+no_move None old new is possible e same = (refl, same)
+no_move (Some w) old new is possible e same = absurd (false≢true (sym e ∙ possible refl))
+
 -- a take in the code
 module _ (w : World) (register : RegisterState) (command : Command) (letter : Option ℕ) (tight : IsTight w.building register w.accepted) (result : Option Decided)
     (after : RegisterState) (positions : List (Option Position))
@@ -86,6 +91,15 @@ module _ (w : World) (register : RegisterState) (command : Command) (letter : Op
 
   pub undecided : result ≡ None → MovesTo (taking w letter command) w false (record w { positions = positions }) × (after ≡ register)
   undecided q = none_by (decided w.building (state_of w) command.terminal command.number command.body letter) carried q
+
+  both_by : (o : Option Decision) → Carries o register w.positions (drop w.sealed w.accepted) result after positions
+      → (IsSome result → IsSome (option_map (deciding w command) o)) × (IsSome (option_map (deciding w command) o) → IsSome result)
+  both_by None k = ((λ s. subst (λ (r : Option Decided). IsSome r) k.0 s), (λ s. absurd (false≢true s)))
+  both_by (Some d) k = ((λ _. refl), (λ _. subst (λ (r : Option Decided). IsSome r) (sym k.1) refl))
+
+  -- it is decided just where the take is possible
+  pub decided_both : (IsSome result → IsSome (taking w letter command)) × (IsSome (taking w letter command) → IsSome result)
+  decided_both = both_by (decided w.building (state_of w) command.terminal command.number command.body letter) carried
 
   some_is : (x y : Decided) → Some x ≡ Some y → x ≡ y
   some_is x y e = cc

@@ -14,7 +14,7 @@ use Rattle.lift_world.specs.declared.event.Answer.{Answer}
 use Rattle.lift_world.specs.declared.event.Event.{Event}
 use Rattle.lift_world.specs.declared.event.Event.TheVariants.{Ask, Take, Seal, Pull, Fold, Body as BodyWrite, FirstSync, Gate, SecondSync, Answer as Answering, Hear, Fault, Cut, Reopen}
 use Rattle.lift_world.specs.World.{World, Batch, register_after}
-use Rattle.lift_world.specs.Next.{next, may_take}
+use Rattle.lift_world.specs.Next.{next}
 
 -- each of these entries fits the register of those before it
 abbrev pub FitAfter : Plan → List Entry → List Entry → Type 0
@@ -55,11 +55,10 @@ MovesTo (Some w) old possible new = (possible ≡ true) × (new ≡ w)
 abbrev pub Moves : World → Event → Bool → World → Type 0
 Moves old event possible new = MovesTo (next old event) old possible new
 
--- Where memory may be wanting: only where the event is possible; of a take, where the terminal's ask may be looked at. The
--- device's calls before the second sync and a cut want none.
+-- Where memory may be wanting: only where the event is possible. The device's calls before the second sync and a cut want none.
 abbrev pub MayWant : World → Event → Type 0
 MayWant w (Ask terminal number body) = IsSome (next w (Ask terminal number body))
-MayWant w (Take terminal letter) = may_take w terminal ≡ true
+MayWant w (Take terminal letter) = IsSome (next w (Take terminal letter))
 MayWant w Seal = IsSome (next w Seal)
 MayWant w Pull = IsSome (next w Pull)
 MayWant w Fold = ⊥

@@ -147,7 +147,7 @@ fn replay(building: &Building, half: u32, entries: &[Entry]) -> Register
 }
 
 impl<'b> World<'b> {
-    ghost use Rattle.std.specs.Prelude.{◌≡◌, ℕ, List, IsOk, IfOk, OnErr, length, true, false};
+    ghost use Rattle.std.specs.Prelude.{◌≡◌, ◌↔◌, ℕ, List, IsOk, IsSome, IsTrue, IfOk, OnErr, length, true, false};
     ghost use Rattle.lift_base.specs.declared.history.Entry.{Entry as EntryValue};
     ghost use Rattle.std.specs.Prelude.{take, ◌||◌};
     ghost use Rattle.std.specs.List.{list_any};
@@ -298,11 +298,33 @@ impl<'b> World<'b> {
         }
     }
 
+    /// The letter fits the command.
+    fn is_decided(&self, command: &Command, letter: Option<Letter>) -> bool
+        ensures { IsTrue result ↔ IsSome (taking self.now letter command.now) }
+    {
+        prove!(self.building.cars() <= 16);
+        let mut register = replay(self.building, self.half, &self.accepted);
+        let mut positions = unplaced();
+        positions.copy_from_slice(&self.positions);
+        let decided = decide(
+            self.building,
+            &mut register,
+            &mut positions,
+            command,
+            letter,
+        );
+        decided.is_some()
+    }
+
     fn take_command(&mut self, command: Command, letter: Option<Letter>) -> Result<bool, Memory>
         ensures ok { IfOk result (λ possible. MovesTo (taking self.old letter command) self.old possible self.new) }
         ensures err { OnErr result (self.new ≡ self.old) }
+        ensures wants { OnErr result (IsSome (taking self.old letter command)) }
     {
         if self.accepted.reserve(1).is_err() || self.taken.reserve(1).is_err() {
+            if !self.is_decided(&command, letter) {
+                return Ok(false);
+            }
             return Err(Memory);
         }
         prove!(self.building.cars() <= 16);
@@ -595,8 +617,7 @@ impl<'b> World<'b> {
     }
 
     /// One event. False where it isn't possible, and then, as for want of memory, nothing changed. Memory is wanted
-    /// neither by the device's calls before the second sync nor by a cut, and by others only where they are possible; by a
-    /// take, where the terminal's ask may be looked at.
+    /// neither by the device's calls before the second sync nor by a cut, and by others only where they are possible.
     pub fn step(&mut self, event: &Event) -> Result<bool, Memory>
         ensures ok { IfOk result (λ possible. Moves self.old event.now possible self.new) }
         ensures err { OnErr result (self.new ≡ self.old) }

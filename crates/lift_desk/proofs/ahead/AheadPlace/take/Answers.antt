@@ -1,8 +1,8 @@
-use Rattle.std.proofs.Common.{◌≡◌, ℕ, ◌≤◌, [], ◌∷◌, ◌++◌, length, true, refl, sym, ap, ◌∙◌, arith}
+use Rattle.std.proofs.Common.{◌≡◌, ℕ, suc, ◌≤◌, [], ◌∷◌, ◌++◌, length, true, refl, sym, ap, ◌∙◌, arith}
 use Rattle.lift_desk.specs.declared.view.View.{View}
 use Rattle.lift_desk.specs.Words.{turn_of, last_of, ask_word}
 use Rattle.lift_desk.specs.Steps.{at_clerk, with_taking, is_new}
-use Rattle.lift_desk.specs.Seats.{ClerkPlace, is_seated, view_in}
+use Rattle.lift_desk.specs.Seats.{ClerkPlace, is_seated, view_in, loads_of}
 use Rattle.lift_desk.proofs.Keeps.{looks_ahead_keep, lt_true, taken_more}
 use Rattle.lift_desk.specs.lemmas.WordLists.{last_of-push}
 use Rattle.lift_desk.proofs.ahead.AheadPlace.take.Goals as goal
@@ -14,9 +14,11 @@ load-word-requires c =
     let is = c.self.view_is in
     let seated : is_seated c.self.inside.badge.views ≡ true = ap (λ p. p.seated) is ∙ c.requires.seated in
     let old : view_in c.self.inside.badge.views ≡ c.into_seat-seat.result.me.0 = ap (λ b. view_in b.views) (sym c.replace-badge.ensures.value) ∙ ap view_in s.2 in (
-      s.0 ∙ ap (λ b. b.table_id) c.replace-badge.ensures.value ∙ ap (λ p. p.table) is ∙ c.requires.table.0,
       omega arith,
-      looks_ahead_keep _ _ _ (ap (λ (v : View). v.looks_ahead) (sym old) ∙ i.ahead seated) (ap (λ (v : View). v.answers) (sym old) ∙ i.silent),
+      (
+        (s.0 ∙ ap (λ b. b.table_id) c.replace-badge.ensures.value ∙ ap (λ p. p.table) is ∙ c.requires.table.0, omega arith),
+        looks_ahead_keep _ _ _ (ap (λ (v : View). v.looks_ahead) (sym old) ∙ i.ahead seated) (ap (λ (v : View). v.answers) (sym old) ∙ i.silent),
+      ),
     )
 
 pub invariant_of-self-2 : goal.invariant_of-self-2
@@ -28,7 +30,7 @@ invariant_of-self-2 c =
     let word : ℕ = c.load-word.result in
     let old : view_in c.self.inside.badge.views ≡ m = ap (λ b. view_in b.views) (sym c.replace-badge.ensures.value) ∙ ap view_in s.2 in
     let b = c.into_badge.ensures in
-    let new : view_in c.into_badge.result.views ≡ at_clerk m (with_taking m.clerk word) = ap view_in b.2 ∙ ap (λ me. me.0) c.load-word.ensures.2.1 in
+    let new : view_in c.into_badge.result.views ≡ at_clerk m (with_taking m.clerk word) = ap view_in b.2 ∙ ap (λ me. me.0) c.load-word.ensures.tells.1 in
     let turn : c.turn_of-turn.result ≡ turn_of word = c.turn_of-turn.ensures.turn in
     let was_turn : c.self.inside.turn ≡ turn_of (last_of m.clerk.taken) = i.turn ∙ ap (λ (v : View). turn_of (last_of v.clerk.taken)) old in
     let later = c.if-turn-self.false in
@@ -37,6 +39,7 @@ invariant_of-self-2 c =
     let last_is : last_of (view_in c.into_badge.result.views).clerk.taken ≡ word = ap last_of taken ∙ last_of-push m.clerk.taken word in record {
       one = λ _. b.2 ∙ ap (λ v. v ∷ []) (sym (ap view_in b.2));
       ahead = λ _. ap (λ (v : View). v.looks_ahead) (new ∙ ap (λ (v : View). at_clerk v (with_taking m.clerk word)) (sym old)) ∙ i.ahead seated;
+      loads = c.load-word.ensures.counted ∙ (λ k. record { times = suc ((i.loads ∙ ap loads_of old) k).times; last = word }) ∙ ap loads_of (sym new);
       silent = ap (λ (v : View). v.answers) (new ∙ ap (λ (v : View). at_clerk v (with_taking m.clerk word)) (sym old)) ∙ i.silent;
       turn = turn ∙ ap turn_of (sym last_is);
     }
@@ -47,7 +50,7 @@ returns-clause-known c =
     let m : View = c.into_seat-seat.result.me.0 in
     let word : ℕ = c.load-word.result in
     let old : view_in c.self.inside.badge.views ≡ m = ap (λ b. view_in b.views) (sym c.replace-badge.ensures.value) ∙ ap view_in c.into_seat-seat.ensures.2 in
-    let load = c.load-word.ensures.2 in
+    let load = c.load-word.ensures.tells in
     let new : view_in c.into_badge.result.views ≡ at_clerk m (with_taking m.clerk word) = ap view_in c.into_badge.ensures.2 ∙ ap (λ me. me.0) load.1 in
     let turn : c.turn_of-turn.result ≡ turn_of word = c.turn_of-turn.ensures.turn in
     let was_turn : c.self.inside.turn ≡ turn_of (last_of m.clerk.taken) = i.turn ∙ ap (λ (v : View). turn_of (last_of v.clerk.taken)) old in
@@ -65,7 +68,7 @@ returns-clause-finds c ask h =
     let m : View = c.into_seat-seat.result.me.0 in
     let word : ℕ = c.load-word.result in
     let old : view_in c.self.inside.badge.views ≡ m = ap (λ b. view_in b.views) (sym c.replace-badge.ensures.value) ∙ ap view_in c.into_seat-seat.ensures.2 in
-    let load = c.load-word.ensures.2 in
+    let load = c.load-word.ensures.tells in
     let new : view_in c.into_badge.result.views ≡ at_clerk m (with_taking m.clerk word) = ap view_in c.into_badge.ensures.2 ∙ ap (λ me. me.0) load.1 in
     let turn : c.turn_of-turn.result ≡ turn_of word = c.turn_of-turn.ensures.turn in
     let was_turn : c.self.inside.turn ≡ turn_of (last_of m.clerk.taken) = i.turn ∙ ap (λ (v : View). turn_of (last_of v.clerk.taken)) old in
@@ -86,7 +89,7 @@ returns-clause-turn c some =
     let m : View = c.into_seat-seat.result.me.0 in
     let word : ℕ = c.load-word.result in
     let old : view_in c.self.inside.badge.views ≡ m = ap (λ b. view_in b.views) (sym c.replace-badge.ensures.value) ∙ ap view_in c.into_seat-seat.ensures.2 in
-    let new : view_in c.into_badge.result.views ≡ at_clerk m (with_taking m.clerk word) = ap view_in c.into_badge.ensures.2 ∙ ap (λ me. me.0) c.load-word.ensures.2.1 in
+    let new : view_in c.into_badge.result.views ≡ at_clerk m (with_taking m.clerk word) = ap view_in c.into_badge.ensures.2 ∙ ap (λ me. me.0) c.load-word.ensures.tells.1 in
     let turn : c.turn_of-turn.result ≡ turn_of word = c.turn_of-turn.ensures.turn in
     let limit = c.turn_of-turn.ensures.in_range in
     let was_turn : c.self.inside.turn ≡ turn_of (last_of m.clerk.taken) = i.turn ∙ ap (λ (v : View). turn_of (last_of v.clerk.taken)) old in
@@ -102,7 +105,7 @@ returns-clause-last c =
     let m : View = c.into_seat-seat.result.me.0 in
     let word : ℕ = c.load-word.result in
     let old : view_in c.self.inside.badge.views ≡ m = ap (λ b. view_in b.views) (sym c.replace-badge.ensures.value) ∙ ap view_in c.into_seat-seat.ensures.2 in
-    let new : view_in c.into_badge.result.views ≡ at_clerk m (with_taking m.clerk word) = ap view_in c.into_badge.ensures.2 ∙ ap (λ me. me.0) c.load-word.ensures.2.1 in
+    let new : view_in c.into_badge.result.views ≡ at_clerk m (with_taking m.clerk word) = ap view_in c.into_badge.ensures.2 ∙ ap (λ me. me.0) c.load-word.ensures.tells.1 in
     let turn : c.turn_of-turn.result ≡ turn_of word = c.turn_of-turn.ensures.turn in
     let was_turn : c.self.inside.turn ≡ turn_of (last_of m.clerk.taken) = i.turn ∙ ap (λ (v : View). turn_of (last_of v.clerk.taken)) old in
     let later = c.if-turn-self.false in

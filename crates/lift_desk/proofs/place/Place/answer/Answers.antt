@@ -3,7 +3,7 @@ use Rattle.std.proofs.lemmas.List.{length_push}
 use Rattle.lift_desk.specs.declared.view.View.{View}
 use Rattle.lift_desk.specs.Words.{turn_of, number_of, last_of}
 use Rattle.lift_desk.specs.Steps.{at_clerk, with_answer}
-use Rattle.lift_desk.specs.Seats.{is_seated, view_in}
+use Rattle.lift_desk.specs.Seats.{is_seated, view_in, loads_of}
 use Rattle.lift_desk.proofs.Keeps.{answers_keep, owes_one}
 use Rattle.lift_desk.specs.lemmas.WordLists.{last_of-push}
 use Rattle.lift_desk.proofs.place.Place.answer.Goals as goal
@@ -52,6 +52,7 @@ invariant_of-self c =
       one = λ _. b.2 ∙ ap (λ v. v ∷ []) (sym (ap view_in b.2));
       answers = λ _. ap (λ (v : View). v.answers) back ∙ i.answers seated;
       in_order = ap (λ (v : View). v.looks_ahead) back ∙ i.in_order;
+      loads = i.loads ∙ ap loads_of (sym back);
       turn = i.turn ∙ ap length (sym taken);
       last_taken = ap (λ l. turn_of (last_of l)) taken ∙ i.last_taken ∙ ap length (sym taken);
       in_range = i.in_range;
@@ -59,5 +60,4 @@ invariant_of-self c =
       owes = λ k. absurd (true≢false (sym k));
       even = λ _. omega arith;
       answered = sym last_is;
-      last_answered = ap turn_of last_is ∙ omega arith;
     }

@@ -27,6 +27,7 @@ invariant_of-self c =
       in_range = omega arith;
       number = sym c.ask_word-word.ensures.number ∙ ap number_of (sym (last_of-push old word)) ∙ ap (λ l. number_of (last_of l)) (sym asked);
       waits = λ _. omega arith;
+      loads = i.loads ∙ (λ k. record { times = sym (ap (λ m. m.0.terminal.looks) e) k; last = sym (ap (λ m. m.0.terminal.last) e) k });
       rests = λ k. absurd (true≢false k);
     }
 

@@ -1,5 +1,5 @@
 use Rattle.std.proofs.Common.{ap, ◌∙◌, arith}
-use Rattle.lift_desk.proofs.Keeps.{unites_join, compares_keep, parts_split}
+use Rattle.lift_desk.proofs.Keeps.{unites_join, compares_keep, seats_split}
 use Rattle.lift_desk.proofs.seat.Seat.share.Goals as goal
 
 pub join_seat-requires : goal.join_seat-requires
@@ -21,5 +21,5 @@ split_seat-requires c =
     let l = c.load.ensures in (
       l.0 ∙ j.0 ∙ ap (λ s. s.table) c.self.view_is ∙ c.requires.table.0,
       omega arith,
-      parts_split _ _ (ap (λ m. m.0.asks) (l.2.0 ∙ j.2) ∙ c.self.invariant.asks) (ap (λ m. m.0.answers) (l.2.0 ∙ j.2) ∙ c.requires.clerk.2),
+      seats_split _ _ (ap (λ m. m.0.asks) (l.2.0 ∙ j.2) ∙ c.self.invariant.asks) (ap (λ m. m.0.answers) (l.2.0 ∙ j.2) ∙ c.requires.clerk.2),
     )

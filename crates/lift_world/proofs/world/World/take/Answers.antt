@@ -13,3 +13,11 @@ returns-in-Some-clause-ok c =
     let found : find (asks c.args.terminal) (reverse c.args.self.now.asked) ≡ Some c.in-Some.command =
     sym (c.in-Some.ensures ∙ ap (λ (xs : List Command). find (asks c.args.terminal) (reverse xs)) asked) in
     simp (taken_next c.args.self.now c.args.terminal c.args.letter c.in-Some.command may found) c.take_command.ensures.ok
+
+pub returns-in-Some-clause-wants : goal.returns-in-Some-clause-wants
+returns-in-Some-clause-wants c =
+    let may : may_take c.args.self.now c.args.terminal ≡ true = sym c.may_take.ensures ∙ c.if-not-may_take.false in
+    let asked = c.deref.ensures.value ∙ ap (λ (x : World). x.asked) c.self.view_is in
+    let found : find (asks c.args.terminal) (reverse c.args.self.now.asked) ≡ Some c.in-Some.command =
+    sym (c.in-Some.ensures ∙ ap (λ (xs : List Command). find (asks c.args.terminal) (reverse xs)) asked) in
+    simp (taken_next c.args.self.now c.args.terminal c.args.letter c.in-Some.command may found) c.take_command.ensures.wants

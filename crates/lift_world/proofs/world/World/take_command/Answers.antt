@@ -1,8 +1,10 @@
-use Rattle.std.proofs.Common.{sym, subst}
+use Rattle.std.proofs.Common.{rules, ◌≡◌, sym, subst}
+use Rattle.std.specs.Prelude.{IsSome}
 use Rattle.lift_register.specs.Register.{RegisterState}
 use Rattle.lift_world.specs.World.{World}
 use Rattle.lift_world.specs.Replays.{view_of, IsTight}
-use Rattle.lift_world.proofs.Carried.{undecided, taken_on}
+use Rattle.lift_world.specs.Next.{taking}
+use Rattle.lift_world.proofs.Carried.{no_move, undecided, taken_on}
 use Rattle.lift_world.proofs.world.World.take_command.Goals as goal
 
 pub invariant_of-self-in_default : goal.invariant_of-self-in_default
@@ -32,3 +34,14 @@ returns-clause-ok c =
     let w : World = view_of i.building.now i.accepted.items i.safe i.sealed i.flight i.phase i.queue.items i.power i.positions i.taken.items i.due.items i.asked.items i.answered.items i.heard.items i.given.items in
     rw (c.in-Ok.ensures.items, c.push_entry.ensures.items, c.reserve.ensures.items, c.reserve-else-is_err.ensures.items, ← c.self.view_is)
     (taken_on w i.register c.args.command c.args.letter c.self.invariant c.decide.result c.decide.new.register c.decide.new.positions c.decide.ensures.carries c.in-Some.decided c.in-Some.is c.cars.ensures.lawful).0
+
+pub returns-then-not-is_decided-clause-ok : goal.returns-then-not-is_decided-clause-ok
+returns-then-not-is_decided-clause-ok c =
+    let same : c.then-is_err.self ≡ c.args.self.now = search rules in
+    no_move (taking c.args.self.now c.args.letter c.args.command) c.args.self.now c.then-is_err.self c.is_decided.result
+    (λ possible. c.is_decided.ensures.1 (subst (λ (w : World). IsSome (taking w c.args.letter c.args.command)) (sym same) possible)) c.if-not-is_decided.true same
+
+pub returns-then-is_err-clause-wants : goal.returns-then-is_err-clause-wants
+returns-then-is_err-clause-wants c =
+    let same : c.then-is_err.self ≡ c.args.self.now = search rules in
+    subst (λ (w : World). IsSome (taking w c.args.letter c.args.command)) same (c.is_decided.ensures.0 c.if-not-is_decided.false)
