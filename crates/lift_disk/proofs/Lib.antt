@@ -3,3 +3,4 @@ pub mod Cuts
 mod Traces
 mod Walks
 pub mod Waiting
+pub mod MemoryRuns

@@ -1,15 +1,26 @@
 -- One call more of a device on a file, and of the file.
-use Rattle.std.proofs.Common.{◌≡◌, ◌++◌, ◌*◌, [], ◌∷◌, ℕ, List, refl, sym, ◌∙◌, ap}
-use Rattle.lift_disk.specs.Trace.{Access, in_bytes}
-use Rattle.lift_disk.specs.Trace.Access.{Read, Write, Sync}
+use Rattle.std.proofs.Common.{◌≡◌, ◌++◌, ◌*◌, [], ◌∷◌, List, refl, sym, ◌∙◌, ap}
+use Rattle.lift_disk.specs.Trace.{Access}
+use Rattle.lift_disk.specs.Trace.Access.{Read as ReadSector, Write as WriteSector, Sync as SyncSectors}
+use Rattle.lift_disk.specs.FileCalls.{FileCall, in_bytes, without_given}
+use Rattle.lift_disk.specs.FileCalls.FileCall.{Read, Write, SyncData, SetLength, SyncAll}
 
 in_bytes-push : (calls : List Access) (call : Access) → in_bytes (calls ++ call ∷ []) ≡ in_bytes calls ++ in_bytes (call ∷ [])
 in_bytes-push [] call = refl
-in_bytes-push (Read sector ∷ calls) call = ap (λ (l : List Access). Read (sector * 512) ∷ l) (in_bytes-push calls call)
-in_bytes-push (Write sector bytes ∷ calls) call = ap (λ (l : List Access). Write (sector * 512) bytes ∷ l) (in_bytes-push calls call)
-in_bytes-push (Sync ∷ calls) call = ap (λ (l : List Access). Sync ∷ l) (in_bytes-push calls call)
+in_bytes-push (ReadSector sector ∷ calls) call = ap (λ (l : List FileCall). Read (sector * 512) [] ∷ l) (in_bytes-push calls call)
+in_bytes-push (WriteSector sector bytes ∷ calls) call = ap (λ (l : List FileCall). Write (sector * 512) bytes ∷ l) (in_bytes-push calls call)
+in_bytes-push (SyncSectors ∷ calls) call = ap (λ (l : List FileCall). SyncData ∷ l) (in_bytes-push calls call)
 
-pub one_more : (calls after file filed : List Access) (call of_file : Access) → file ≡ in_bytes calls → after ≡ calls ++ call ∷ [] → filed ≡ file ++ of_file ∷ []
-    → of_file ∷ [] ≡ in_bytes (call ∷ []) → filed ≡ in_bytes after
-one_more calls after file filed call of_file same more filed_more is =
-    filed_more ∙ ap (λ (l : List Access). l ++ of_file ∷ []) same ∙ ap (λ (l : List Access). in_bytes calls ++ l) is ∙ sym (in_bytes-push calls call) ∙ ap in_bytes (sym more)
+without_given-push : (calls : List FileCall) (call : FileCall) → without_given (calls ++ call ∷ []) ≡ without_given calls ++ without_given (call ∷ [])
+without_given-push [] call = refl
+without_given-push (Read offset bytes ∷ calls) call = ap (λ (l : List FileCall). Read offset [] ∷ l) (without_given-push calls call)
+without_given-push (Write offset bytes ∷ calls) call = ap (λ (l : List FileCall). Write offset bytes ∷ l) (without_given-push calls call)
+without_given-push (SyncData ∷ calls) call = ap (λ (l : List FileCall). SyncData ∷ l) (without_given-push calls call)
+without_given-push (SetLength bytes ∷ calls) call = ap (λ (l : List FileCall). SetLength bytes ∷ l) (without_given-push calls call)
+without_given-push (SyncAll ∷ calls) call = ap (λ (l : List FileCall). SyncAll ∷ l) (without_given-push calls call)
+
+pub one_more : (calls after : List Access) (of_files filed : List FileCall) (call : Access) (of_file : FileCall) → without_given of_files ≡ in_bytes calls → after ≡ calls ++ call ∷ [] → filed ≡ of_files ++ of_file ∷ []
+    → without_given (of_file ∷ []) ≡ in_bytes (call ∷ []) → without_given filed ≡ in_bytes after
+one_more calls after of_files filed call of_file same more filed_more is =
+    ap without_given filed_more ∙ without_given-push of_files of_file ∙ ap (λ (l : List FileCall). l ++ without_given (of_file ∷ [])) same ∙ ap (λ (l : List FileCall). in_bytes calls ++ l) is
+    ∙ sym (in_bytes-push calls call) ∙ ap in_bytes (sym more)

@@ -152,15 +152,15 @@ get_behind (first ∷ run) bytes = get_behind run bytes
 
 module _ (old new : DiskState) (from from2 sector : ℕ) (pending pending2 : List (List ℕ)) (bytes : List ℕ)
     (opens : Opens sector (waiting old from pending) (waiting new from2 pending2)) (keeps : KeepsWrites (waiting old from pending) (waiting new from2 pending2))
-    (next : from2 + length pending2 ≡ sector) (waits : Waits new from2 pending2) (failures failures2 calls calls2 writes writes2 : ℕ) (trace trace2 : List Access) where
+    (next : from2 + length pending2 ≡ sector) (waits : Waits new from2 pending2) (calls calls2 writes writes2 : ℕ) (trace trace2 : List Access) where
   abbrev more : List (List ℕ)
   more = pending2 ++ bytes ∷ []
 
   abbrev before : DiskState
-  before = buffered old from pending failures calls writes trace
+  before = buffered old from pending calls writes trace
 
   abbrev behind : DiskState
-  behind = buffered new from2 more failures2 calls2 writes2 trace2
+  behind = buffered new from2 more calls2 writes2 trace2
 
   waits_now : Waits new from2 more
   waits_now = waits_more new from2 sector pending2 bytes waits (λ honest. ((opens.touched (opens.honest.0 honest)).loose sector).1 (inr refl)) next
@@ -168,11 +168,11 @@ module _ (old new : DiskState) (from from2 sector : ℕ) (pending pending2 : Lis
   pushed : new.is_honest → ChangesWithin new.is_loose (image_of new from2 pending2) (image_of new from2 more)
   pushed honest = left_with new.is_loose new.image (image_of new from2 pending2) (image_of new from2 more) (within_of new from2 pending2 waits honest) (within_of new from2 more waits_now honest)
 
-  pub push_goes_on : calls2 ≡ calls + 1 → failures ≤ failures2 → GoesOn before behind
-  push_goes_on one rising = record {
+  pub push_goes_on : calls2 ≡ calls + 1 → new.failures ≡ old.failures → GoesOn before behind
+  push_goes_on one same = record {
     size = opens.size;
     calls = one;
-    failures = rising;
+    failures = omega (arith, same);
     honest = opens.honest;
     inert = (λ h. h, λ h. h);
     told = λ call later. (λ h. h, λ h. h);

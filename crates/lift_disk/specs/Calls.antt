@@ -1,5 +1,5 @@
 -- The calls of a device in memory by which its sectors were changed or made safe.
-use Rattle.std.specs.Prelude.{◌≡◌, ◌⊎◌, ℕ, Bool, List, refl}
+use Rattle.std.specs.Prelude.{◌≡◌, ◌⊎◌, ◌+◌, ℕ, Bool, List, [], ◌∷◌, refl}
 use Rattle.std.specs.Coded.{Coded, code_by, coded×, coded⊎, coded_ℕ, coded_bool, coded_list}
 use mathlib.Core.Logic.{inl, inr}
 use Rattle.lift_disk.specs.Disk.{Image}
@@ -29,3 +29,8 @@ calls_code = coded_list (code_by ((ℕ × List ℕ) ⊎ List Bool) (coded⊎ (co
 
 abbrev pub image_code : Coded Image
 image_code = coded_list (coded_list coded_ℕ)
+
+-- the writes of these sectors, from that one on
+abbrev pub writes_of : ℕ → List (List ℕ) → List Call
+writes_of from [] = []
+writes_of from (bytes ∷ run) = Write from bytes ∷ writes_of (from + 1) run

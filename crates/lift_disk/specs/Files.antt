@@ -1,6 +1,7 @@
 -- What is said of a device on a real file.
 use Rattle.std.specs.Prelude.{ℕ, ◌/◌, if◌then◌else◌, nat_lt, List, [], false}
-use Rattle.lift_disk.specs.Trace.{Access}
+use Rattle.lift_disk.specs.FileCalls.{FileCall}
+use Rattle.lift_disk.specs.Traced.{making_of, calls_of, failures_of}
 use Rattle.lift_disk.specs.Disk.{DiskState}
 use Rattle.lift_disk.specs.declared.sectors.SectorFile.{SectorFile}
 use Rattle.lift_disk.specs.declared.file.FileDisk.{FileDisk}
@@ -9,11 +10,11 @@ use Rattle.lift_disk.specs.declared.file.FileDisk.{FileDisk}
 abbrev pub sectors_in : ℕ → ℕ
 sectors_in bytes = if nat_lt (bytes / 512) 4294967295 then bytes / 512 else 4294967295
 
--- Its sectors, its counts and its calls. Nothing shows that it is honest, so nothing is said of what it holds.
+-- Its sectors, its counts and its calls: a failed one is one of its file. Nothing shows that it is honest, so nothing is said of what it holds.
 abbrev pub sector_file_state_of : {F : Type 0} → SectorFile F → DiskState
 sector_file_state_of d = record {
   size = d.sectors;
-  failures = d.failures.count;
+  failures = failures_of d.file;
   calls = d.calls.count;
   writes = d.writes.count;
   trace = d.trace.calls;
@@ -30,6 +31,20 @@ sector_file_state_of d = record {
   left_since = λ _ _. ⊥;
 }
 
+-- the calls of its file by which that was made, before those of the device
+abbrev pub making_below : {F : Type 0} → SectorFile F → List FileCall
+making_below d = making_of d.file
+
+-- the calls of its file that the device has made, but for those that failed
+abbrev pub calls_below : {F : Type 0} → SectorFile F → List FileCall
+calls_below d = calls_of d.file
+
 -- the same of a file of the system
 abbrev pub file_state_of : FileDisk → DiskState
 file_state_of d = sector_file_state_of d.device
+
+abbrev pub file_making_of : FileDisk → List FileCall
+file_making_of d = making_below d.device
+
+abbrev pub file_calls_of : FileDisk → List FileCall
+file_calls_of d = calls_below d.device

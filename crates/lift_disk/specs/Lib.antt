@@ -1,4 +1,6 @@
 pub mod Trace
+pub mod FileCalls
+pub mod Traced
 pub mod Disk
 pub mod Calls
 pub mod Noted
@@ -7,4 +9,5 @@ pub mod Outcomes
 pub mod Faults
 pub mod Files
 pub mod Runs
+pub mod Below
 pub mod lemmas

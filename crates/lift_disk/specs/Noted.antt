@@ -2,12 +2,16 @@
 use Rattle.std.specs.Prelude.{◌++◌, [], ◌∷◌, List}
 use Rattle.lift_disk.specs.declared.trace.Made.{Made}
 use Rattle.lift_disk.specs.declared.trace.Made.TheVariants as made
+use Rattle.lift_disk.specs.declared.file_calls.Called.{Called}
+use Rattle.lift_disk.specs.declared.file_calls.Called.TheVariants as called
 use Rattle.lift_disk.specs.declared.call.Change.{Change}
 use Rattle.lift_disk.specs.declared.call.Change.TheVariants as change
 use Rattle.lift_disk.specs.Trace.{Access}
 use Rattle.lift_disk.specs.Trace.Access.{Read, Write, Sync}
+use Rattle.lift_disk.specs.FileCalls.{FileCall}
+use Rattle.lift_disk.specs.FileCalls.FileCall.{Read as ReadBytes, Write as WriteBytes, SyncData, SetLength, SyncAll}
 use Rattle.lift_disk.specs.Disk.{Image}
-use Rattle.lift_disk.specs.Calls.{Call}
+use Rattle.lift_disk.specs.Calls.{Call, writes_of}
 use Rattle.lift_disk.specs.Calls.Call.{Write as Written, Sync as Synced}
 
 abbrev pub access_of : Made → Access
@@ -16,12 +20,21 @@ access_of (made.Write place bytes) = Write place bytes.now
 access_of (made.WriteRun place bytes) = Write place bytes.now
 access_of made.Sync = Sync
 
+abbrev pub file_call_of : Called → FileCall
+file_call_of (called.Read offset bytes) = ReadBytes offset bytes.now
+file_call_of (called.Write offset bytes) = WriteBytes offset bytes.now
+file_call_of called.SyncData = SyncData
+file_call_of (called.SetLength bytes) = SetLength bytes
+file_call_of called.SyncAll = SyncAll
+
 abbrev pub first_after : Change → Image → Image
 first_after (change.First image) first = image.now
 first_after (change.Write sector bytes) first = first
+first_after (change.WriteRun sector run) first = first
 first_after (change.Sync loose) first = first
 
 abbrev pub calls_after : Change → List Call → List Call
 calls_after (change.First image) calls = []
 calls_after (change.Write sector bytes) calls = calls ++ Written sector bytes.now ∷ []
+calls_after (change.WriteRun sector run) calls = calls ++ writes_of sector run.now
 calls_after (change.Sync loose) calls = calls ++ Synced loose.now ∷ []

@@ -31,7 +31,7 @@ IsLeftBy Keep old left = left ≡ old.image
 IsLeftBy Lose old left = left ≡ old.synced
 IsLeftBy (Fill byte) old left = IsFilled byte old left
 
--- The power was cut: a crash may have left what is read now, and all else that is said of the device stays.
+-- The power was cut: a crash may have left what is read now, and all else that is said of the device stays, but for its moments.
 pub record IsCut (old new : DiskState) : Type 0 where
   pub left : MayLeave old new.image
   pub size : new.size ≡ old.size
@@ -46,3 +46,6 @@ pub record IsCut (old new : DiskState) : Type 0 where
   pub steady : new.is_steady ↔ old.is_steady
   pub short : new.is_short ≡ old.is_short
   pub again : (left : Image) → MayLeave new left → MayLeave old left
+  -- Time begins anew: what a crash might have left before is no longer asked.
+  pub moment : new.moment ≡ 0
+  pub left_since : (t : ℕ) (left : Image) → new.left_since t left ↔ MayLeave new left

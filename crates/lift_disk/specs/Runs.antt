@@ -1,5 +1,5 @@
 -- Calls on neighbouring sectors at once, and a device that holds writes back until they can be made as one.
-use Rattle.std.specs.Prelude.{◌≡◌, ◌≢◌, ◌↔◌, ◌⊎◌, ◌≤◌, ◌<◌, ◌+◌, ◌-◌, ℕ, zero, suc, List, [], ◌∷◌, length, false, slice_get, slice_set, Some, refl}
+use Rattle.std.specs.Prelude.{◌≡◌, ◌≢◌, ◌↔◌, ◌⊎◌, ◌≤◌, ◌<◌, ◌+◌, ◌-◌, ℕ, zero, suc, List, [], ◌∷◌, length, false, slice_get, slice_set, flat_map, Some, Result, OnOk, OnErr, refl}
 use Rattle.std.proofs.Common.{arith, sym, ap, ◌∙◌}
 use Rattle.std.proofs.lemmas.List.{length-set}
 use Rattle.lift_disk.specs.Trace.{Access}
@@ -8,6 +8,10 @@ use Rattle.lift_disk.specs.Disk.{DiskState, Image, ChangesWithin, Elapses, Touch
 -- one of so many sectors from that one on
 abbrev pub IsInRun : ℕ → ℕ → ℕ → Type 0
 IsInRun from count i = (from ≤ i) × (i < from + count)
+
+-- the bytes of these sectors, one behind the other
+abbrev pub joined : List (List ℕ) → List ℕ
+joined run = flat_map (λ bytes. bytes) run
 
 -- the image with these sectors from that one on
 abbrev pub with_run : ℕ → List (List ℕ) → Image → Image
@@ -31,6 +35,9 @@ pub record Announces (sector : ℕ) (old new : DiskState) : Type 0 where
   pub writes : new.writes ≡ old.writes
   pub trace : new.trace ≡ old.trace
   pub honest : new.is_honest ↔ old.is_honest
+  pub inert : new.is_inert ↔ old.is_inert
+  pub short : new.is_short ≡ old.is_short
+  pub told : (call : ℕ) → new.fails_at call ↔ old.fails_at call
   pub image : new.image ≡ old.image
   pub synced : new.synced ≡ old.synced
   pub loose : old.is_honest → (i : ℕ) → new.is_loose i ↔ (old.is_loose i ⊎ (i ≡ sector))
@@ -39,11 +46,11 @@ pub record Announces (sector : ℕ) (old new : DiskState) : Type 0 where
   pub time : old.is_honest → Elapses old new
 
 -- What is said of a device over another one, where these sectors, from that one on, are still to be written. They are read as if they were.
--- How it may fail isn't said.
-abbrev pub buffered : DiskState → ℕ → List (List ℕ) → ℕ → ℕ → ℕ → List Access → DiskState
-buffered disk from pending failures calls writes trace = record {
+-- Its failed calls are those of the other one. How that may fail isn't said.
+abbrev pub buffered : DiskState → ℕ → List (List ℕ) → ℕ → ℕ → List Access → DiskState
+buffered disk from pending calls writes trace = record {
   size = disk.size;
-  failures = failures;
+  failures = disk.failures;
   calls = calls;
   writes = writes;
   trace = trace;
@@ -62,7 +69,12 @@ buffered disk from pending failures calls writes trace = record {
 
 -- the same, but for its counts
 abbrev pub waiting : DiskState → ℕ → List (List ℕ) → DiskState
-waiting disk from pending = buffered disk from pending 0 0 0 []
+waiting disk from pending = buffered disk from pending 0 0 []
+
+-- One failure more if it failed, else none.
+pub record CountsFault {T E : Type 0} (result : Result T E) (old new : DiskState) : Type 0 where
+  pub ok : OnOk result (new.failures ≡ old.failures)
+  pub err : OnErr result (new.failures ≡ old.failures + 1)
 
 -- No sector more or less is loose, and nothing but loose sectors has changed.
 pub record Rests (old new : DiskState) : Type 0 where

@@ -1,5 +1,5 @@
 -- The calls of a device, or of a file, that have succeeded, in their order.
-use Rattle.std.specs.Prelude.{◌≡◌, ◌++◌, ◌*◌, ◌==◌, [], ◌∷◌, ℕ, List, Result, OnOk, OnErr, refl, cond}
+use Rattle.std.specs.Prelude.{◌≡◌, ◌++◌, ◌==◌, [], ◌∷◌, ℕ, List, Result, OnOk, OnErr, refl, cond}
 use Rattle.std.specs.Coded.{Coded, code_by, coded×, coded_ℕ, coded_list}
 
 -- a call, by its place: the sector of a device, the offset in bytes of a file
@@ -27,13 +27,6 @@ access_code = code_by (ℕ × (ℕ × List ℕ)) (coded× coded_ℕ (coded× cod
 
 abbrev pub trace_code : Coded (List Access)
 trace_code = coded_list access_code
-
--- the calls of a file that stand for these of a device: a sector is 512 bytes
-abbrev pub in_bytes : List Access → List Access
-in_bytes [] = []
-in_bytes (Read sector ∷ calls) = Read (sector * 512) ∷ in_bytes calls
-in_bytes (Write sector bytes ∷ calls) = Write (sector * 512) bytes ∷ in_bytes calls
-in_bytes (Sync ∷ calls) = Sync ∷ in_bytes calls
 
 -- one call more if it succeeded, else none
 pub record Records {T E : Type 0} (result : Result T E) (call : Access) (old new : List Access) : Type 0 where

@@ -1,6 +1,7 @@
 //! A device that reads ahead, and holds neighbouring writes back until it makes them as one.
 ghost use Rattle.std.specs.Prelude.{◌≡◌, ◌≤◌, ◌<◌, ◌+◌, [], ℕ, length, slice_get, Some, IsTrue, OnOk, IfOk, IfSome, IfNone};
-ghost use Rattle.lift_disk.specs.Runs.{HoldsRun, IsInRun, KeepsWrites, Opens, Rests, left_with, left_without, run_loose, run_whole, waiting, with_run};
+ghost use Rattle.lift_disk.specs.Disk.{MayLeave};
+ghost use Rattle.lift_disk.specs.Runs.{CountsFault, HoldsRun, IsInRun, KeepsWrites, Opens, Rests, left_with, left_without, run_loose, run_whole, waiting, with_run};
 
 use crate::runs::{MOST_AHEAD, RunDisk};
 use crate::trace::{Made, ProofTrace};
@@ -23,7 +24,6 @@ pub struct Buffered<R: RunDisk + Drop> {
     ahead_from: u32,
     ahead_count: usize,
     ahead: [[u8; 512]; MOST_AHEAD],
-    failures: ProofCount,
     calls: ProofCount,
     writes: ProofCount,
     trace: ProofTrace,
@@ -34,10 +34,14 @@ pub struct Buffered<R: RunDisk + Drop> {
 }
 
 impl<R: RunDisk + Drop> Buffered<R> {
-    /// A device of which nothing was read or written yet.
+    ghost use Rattle.lift_disk.specs.Below.{below, held_back};
+
+    /// A device of which nothing was read or written yet. It makes no call of the other one and announces nothing.
     pub fn over(device: R) -> Buffered<R>
+        ensures below { below result ≡ device }
+        ensures none_held { held_back result ≡ [] }
         ensures size { (⟦<Buffered<R> as Disk>⟧.state result).size ≡ (R.state device).size }
-        ensures failures { (⟦<Buffered<R> as Disk>⟧.state result).failures ≡ 0 }
+        ensures failures { (⟦<Buffered<R> as Disk>⟧.state result).failures ≡ (R.state device).failures }
         ensures calls { (⟦<Buffered<R> as Disk>⟧.state result).calls ≡ 0 }
         ensures writes { (⟦<Buffered<R> as Disk>⟧.state result).writes ≡ 0 }
         ensures trace { (⟦<Buffered<R> as Disk>⟧.state result).trace ≡ [] }
@@ -51,11 +55,19 @@ impl<R: RunDisk + Drop> Buffered<R> {
             ahead_from: 0,
             ahead_count: 0,
             ahead: [[0; 512]; MOST_AHEAD],
-            failures: ProofCount::new(),
             calls: ProofCount::new(),
             writes: ProofCount::new(),
             trace: ProofTrace::new(),
         }
+    }
+
+    /// The other device. What is still held back is not written: a crash might have left the same.
+    pub fn into_inner(self) -> R
+        ensures below { result ≡ below self }
+        ensures left { (R.state result).is_honest → MayLeave (⟦<Buffered<R> as Disk>⟧.state self) (R.state result).image }
+    {
+        let Buffered { device, .. } = self;
+        device
     }
 
     /// What is still to be written to a sector.
@@ -94,7 +106,8 @@ impl<R: RunDisk + Drop> Buffered<R> {
         ensures keeps { OnOk result (KeepsWrites (waiting (R.state self.old.device) self.old.from self.old.pending.items) (waiting (R.state self.new.device) self.new.from self.new.pending.items)) }
         ensures none { self.new.pending.items ≡ [] }
         ensures forgets { self.new.ahead_count ≡ 0 }
-        ensures counts { (self.new.failures ≡ self.old.failures) × (self.new.calls ≡ self.old.calls) × (self.new.writes ≡ self.old.writes) }
+        ensures faults { CountsFault result (R.state self.old.device) (R.state self.new.device) }
+        ensures counts { (self.new.calls ≡ self.old.calls) × (self.new.writes ≡ self.old.writes) }
         ensures trace { self.new.trace ≡ self.old.trace }
     {
         self.ahead_count = 0;
@@ -121,7 +134,8 @@ impl<R: RunDisk + Drop> Buffered<R> {
         ensures keeps { OnOk result (KeepsWrites (waiting (R.state self.old.device) self.old.from self.old.pending.items) (waiting (R.state self.new.device) self.new.from self.new.pending.items)) }
         ensures next { OnOk result (self.new.from + length self.new.pending.items ≡ sector) }
         ensures room { OnOk result (length self.new.pending.items < 16) }
-        ensures counts { (self.new.failures ≡ self.old.failures) × (self.new.calls ≡ self.old.calls) × (self.new.writes ≡ self.old.writes) }
+        ensures faults { CountsFault result (R.state self.old.device) (R.state self.new.device) }
+        ensures counts { (self.new.calls ≡ self.old.calls) × (self.new.writes ≡ self.old.writes) }
         ensures trace { self.new.trace ≡ self.old.trace }
     {
         self.device.announce(sector);
@@ -140,7 +154,8 @@ impl<R: RunDisk + Drop> Buffered<R> {
         ensures keeps { OnOk result (KeepsWrites (waiting (R.state self.old.device) self.old.from self.old.pending.items) (waiting (R.state self.new.device) self.new.from self.new.pending.items)) }
         ensures gives { OnOk result ((R.state self.old.device).is_honest → slice_get (R.state self.new.device).image sector ≡ slice_get self.new.ahead 0) }
         ensures pending { (self.new.from ≡ self.old.from) × (self.new.pending ≡ self.old.pending) }
-        ensures counts { (self.new.failures ≡ self.old.failures) × (self.new.calls ≡ self.old.calls) × (self.new.writes ≡ self.old.writes) }
+        ensures faults { CountsFault result (R.state self.old.device) (R.state self.new.device) }
+        ensures counts { (self.new.calls ≡ self.old.calls) × (self.new.writes ≡ self.old.writes) }
         ensures trace { self.new.trace ≡ self.old.trace }
     {
         let left = (self.device.sectors() - sector) as usize;
@@ -158,7 +173,8 @@ impl<R: RunDisk + Drop> Buffered<R> {
         ensures rests { Rests (waiting (R.state self.old.device) self.old.from self.old.pending.items) (waiting (R.state self.new.device) self.new.from self.new.pending.items) }
         ensures keeps { OnOk result (KeepsWrites (waiting (R.state self.old.device) self.old.from self.old.pending.items) (waiting (R.state self.new.device) self.new.from self.new.pending.items)) }
         ensures gives { IfOk result (λ bytes. (R.state self.old.device).is_honest → slice_get (waiting (R.state self.new.device) self.new.from self.new.pending.items).image sector ≡ Some bytes) }
-        ensures counts { (self.new.failures ≡ self.old.failures) × (self.new.calls ≡ self.old.calls) × (self.new.writes ≡ self.old.writes) }
+        ensures faults { CountsFault result (R.state self.old.device) (R.state self.new.device) }
+        ensures counts { (self.new.calls ≡ self.old.calls) × (self.new.writes ≡ self.old.writes) }
         ensures trace { self.new.trace ≡ self.old.trace }
     {
         if let Some(bytes) = self.held_back(sector) {
@@ -175,7 +191,7 @@ impl<R: RunDisk + Drop> Buffered<R> {
 impl<R: RunDisk + Drop> Disk for Buffered<R> {
     ghost use Rattle.lift_disk.specs.Runs.{buffered};
 
-    ghost state = { λ d. buffered (R.state d.device) d.from d.pending.items d.failures.count d.calls.count d.writes.count d.trace.calls };
+    ghost state = { λ d. buffered (R.state d.device) d.from d.pending.items d.calls.count d.writes.count d.trace.calls };
 
     ghost whole = { λ d honest. run_whole d.pending.items d.from (R.state d.device).image (R.state d.device).size (R.whole d.device honest) };
 
@@ -195,26 +211,15 @@ impl<R: RunDisk + Drop> Disk for Buffered<R> {
 
     fn read(&mut self, sector: u32, buffer: &mut [u8; 512]) -> Result<(), DiskFault> {
         self.calls = ProofCount::next(&self.calls);
-        match self.fetch(sector) {
-            Ok(bytes) => {
-                *buffer = bytes;
-                self.trace = self.trace.then(&Made::Read(u64::from(sector)));
-                Ok(())
-            }
-            Err(fault) => {
-                self.failures = ProofCount::next(&self.failures);
-                Err(fault)
-            }
-        }
+        *buffer = self.fetch(sector)?;
+        self.trace = self.trace.then(&Made::Read(u64::from(sector)));
+        Ok(())
     }
 
     fn write(&mut self, sector: u32, bytes: &[u8; 512]) -> Result<(), DiskFault> {
         self.calls = ProofCount::next(&self.calls);
         self.writes = ProofCount::next(&self.writes);
-        if self.make_room(sector).is_err() {
-            self.failures = ProofCount::next(&self.failures);
-            return Err(DiskFault);
-        }
+        self.make_room(sector)?;
         self.pending.push(*bytes);
         self.trace = self.trace.then(&Made::Write(u64::from(sector), bytes));
         Ok(())
@@ -222,10 +227,8 @@ impl<R: RunDisk + Drop> Disk for Buffered<R> {
 
     fn sync(&mut self) -> Result<(), DiskFault> {
         self.calls = ProofCount::next(&self.calls);
-        if self.flush().is_err() || self.device.sync().is_err() {
-            self.failures = ProofCount::next(&self.failures);
-            return Err(DiskFault);
-        }
+        self.flush()?;
+        self.device.sync()?;
         self.trace = self.trace.then(&Made::Sync);
         Ok(())
     }

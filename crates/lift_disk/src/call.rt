@@ -2,7 +2,7 @@
 ghost use Rattle.std.specs.Prelude.{◌≡◌, ◌++◌, [], ◌∷◌, List};
 ghost use Rattle.std.specs.Borrow.{ftrue};
 ghost use Rattle.lift_disk.specs.Disk.{Image};
-ghost use Rattle.lift_disk.specs.Calls.{Call, calls_code, image_code};
+ghost use Rattle.lift_disk.specs.Calls.{Call, calls_code, image_code, writes_of};
 ghost use Rattle.lift_disk.specs.Calls.Call.{Write, Sync};
 
 use std::marker::Model;
@@ -14,6 +14,8 @@ enum Change<'a> {
     First(&'a [[u8; 512]]),
     /// These bytes are written to the sector.
     Write(u32, &'a [u8; 512]),
+    /// These are written, from the sector on.
+    WriteRun(u32, &'a [[u8; 512]]),
     /// A sync, and whether each sector was loose until then.
     Sync(&'a [bool]),
 }
@@ -61,6 +63,14 @@ impl ProofHistory {
         ensures { (self.new.first ≡ self.old.first) × (self.new.calls ≡ self.old.calls ++ Write sector bytes.now ∷ []) }
     {
         *self = self.then(&Change::Write(sector, bytes));
+    }
+
+    /// Records the writes of these sectors, from that one on.
+    #[inline(always)]
+    pub(crate) fn note_run(&mut self, sector: u32, run: &[[u8; 512]])
+        ensures { (self.new.first ≡ self.old.first) × (self.new.calls ≡ self.old.calls ++ writes_of sector run.now) }
+    {
+        *self = self.then(&Change::WriteRun(sector, run));
     }
 
     /// Records a sync, with the sectors that were loose until then.

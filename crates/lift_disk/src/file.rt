@@ -1,12 +1,19 @@
 //! A device on a file of the operating system.
-ghost use Rattle.std.specs.Prelude.{◌≡◌, [], IfOk};
+ghost use Rattle.std.specs.Prelude.{◌≡◌, ◌+◌, ◌*◌, ◌++◌, [], ◌∷◌, IfOk, OnOk, OnErr};
+ghost use Rattle.lift_disk.specs.Disk.{FailsAsTold, GoesOn, HasCause};
+ghost use Rattle.lift_disk.specs.Trace.{Records};
+ghost use Rattle.lift_disk.specs.Trace.Access.{Read};
+ghost use Rattle.lift_disk.specs.FileCalls.FileCall.{Read as ReadBytes};
 ghost use Rattle.lift_disk.specs.Files.{sectors_in};
+ghost use Rattle.lift_disk.specs.FileCalls.FileCall.{SetLength, SyncAll};
+ghost use Rattle.lift_disk.specs.Traced.{calls_of, failures_of, making_of};
 
 use crate::buffered::Buffered;
 use crate::runs::{MOST_AHEAD, RunDisk};
 use crate::sectors::{SECTOR_BYTES, SectorFile, offset_of};
+use crate::traced::TracedFile;
 use crate::{Disk, DiskFault};
-use std::fs::{File, Files, OpenFile, OpenOptions};
+use std::fs::{File, Files};
 use std::{fs, io};
 
 /// Why a file can't be a device.
@@ -35,10 +42,12 @@ pub struct FileDisk {
 pub type BufferedFile = Buffered<FileDisk>;
 
 impl FileDisk {
-    ghost use Rattle.lift_disk.specs.Files.{file_state_of};
+    ghost use Rattle.lift_disk.specs.Files.{file_state_of, file_making_of, file_calls_of};
 
     /// Opens a file that is there. Its whole sectors count, 4,294,967,295 at most; the end that is less than one doesn't. A pipe or a terminal isn't opened, so that nothing waits for its other end.
     pub fn open<R: Files<File = File>>(rt: &R, path: &str) -> Result<FileDisk, FileFault>
+        ensures making { IfOk result (λ disk. file_making_of disk ≡ []) }
+        ensures uncalled { IfOk result (λ disk. file_calls_of disk ≡ []) }
         ensures failures { IfOk result (λ disk. (file_state_of disk).failures ≡ 0) }
         ensures calls { IfOk result (λ disk. (file_state_of disk).calls ≡ 0) }
         ensures writes { IfOk result (λ disk. (file_state_of disk).writes ≡ 0) }
@@ -47,12 +56,8 @@ impl FileDisk {
         if !fs::metadata(rt, path).map_err(FileFault::System)?.is_file() {
             return Err(FileFault::NotAFile);
         }
-        let file = OpenOptions::new()
-            .read(true)
-            .write(true)
-            .open(rt, path)
-            .map_err(FileFault::System)?;
-        let bytes = file.metadata().map_err(FileFault::System)?.len();
+        let file = TracedFile::open(rt, path).map_err(FileFault::System)?;
+        let bytes = file.length().map_err(FileFault::System)?;
         Ok(FileDisk::over(file, whole_sectors(bytes)))
     }
 
@@ -62,6 +67,8 @@ impl FileDisk {
         path: &str,
         sectors: u32,
     ) -> Result<FileDisk, FileFault>
+        ensures making { IfOk result (λ disk. file_making_of disk ≡ SetLength (sectors * 512) ∷ SyncAll ∷ []) }
+        ensures uncalled { IfOk result (λ disk. file_calls_of disk ≡ []) }
         ensures size { IfOk result (λ disk. (file_state_of disk).size ≡ sectors) }
         ensures failures { IfOk result (λ disk. (file_state_of disk).failures ≡ 0) }
         ensures calls { IfOk result (λ disk. (file_state_of disk).calls ≡ 0) }
@@ -73,21 +80,16 @@ impl FileDisk {
                 return Err(FileFault::NotAFile);
             }
         }
-        let file = OpenOptions::new()
-            .read(true)
-            .write(true)
-            .create(true)
-            .truncate(true)
-            .open(rt, path)
-            .map_err(FileFault::System)?;
-        file.set_len(offset_of(sectors)).map_err(FileFault::System)?;
-        file.sync_all().map_err(FileFault::System)?;
+        let file = TracedFile::create(rt, path, offset_of(sectors)).map_err(FileFault::System)?;
         Ok(FileDisk::over(file, sectors))
     }
 
-    fn over(file: File, sectors: u32) -> FileDisk
+    fn over(file: TracedFile<File>, sectors: u32) -> FileDisk
+        requires { calls_of file ≡ [] }
+        ensures making { file_making_of result ≡ making_of file }
+        ensures uncalled { file_calls_of result ≡ [] }
         ensures size { (file_state_of result).size ≡ sectors }
-        ensures failures { (file_state_of result).failures ≡ 0 }
+        ensures failures { (file_state_of result).failures ≡ failures_of file }
         ensures calls { (file_state_of result).calls ≡ 0 }
         ensures writes { (file_state_of result).writes ≡ 0 }
         ensures trace { (file_state_of result).trace ≡ [] }
@@ -99,7 +101,7 @@ impl FileDisk {
 }
 
 impl Disk for FileDisk {
-    ghost use Rattle.lift_disk.specs.Files.{file_state_of};
+    ghost use Rattle.lift_disk.specs.Files.{file_state_of, file_calls_of};
 
     ghost state = { λ d. file_state_of d };
 
@@ -115,7 +117,16 @@ impl Disk for FileDisk {
         self.device.sectors()
     }
 
-    fn read(&mut self, sector: u32, buffer: &mut [u8; 512]) -> Result<(), DiskFault> {
+    fn read(&mut self, sector: u32, buffer: &mut [u8; 512]) -> Result<(), DiskFault>
+        // beside what each device promises: these are the bytes that its file gave
+        ensures given { OnOk result (file_calls_of self.new ≡ file_calls_of self.old ++ ReadBytes (sector * 512) buffer.new ∷ []) }
+        ensures goes_on { GoesOn (file_state_of self.old) (file_state_of self.new) }
+        ensures cause { HasCause result (file_state_of self.old) (file_state_of self.new) }
+        ensures counted { OnErr result ((file_state_of self.new).failures ≡ (file_state_of self.old).failures + 1) }
+        ensures told { FailsAsTold result (file_state_of self.old) (file_state_of self.new) }
+        ensures writes { (file_state_of self.new).writes ≡ (file_state_of self.old).writes }
+        ensures recorded { Records result (Read sector) (file_state_of self.old).trace (file_state_of self.new).trace }
+    {
         self.device.read(sector, buffer)
     }
 

@@ -5,7 +5,8 @@ ghost use Rattle.lift_disk.specs.Disk.{ChangesWithin, IsSynced, IsUnarmed};
 ghost use Rattle.lift_disk.specs.Memory.{IsFlagged, IsWithin, image_after, no_other};
 
 use crate::call::ProofHistory;
-use crate::record::{clear, copy_flagged, leave, no_flags, zeros};
+use crate::record::{clear, copy_flagged, leave, no_flags, read_sectors, write_sectors, zeros};
+use crate::runs::{MOST_AHEAD, RunDisk};
 use crate::span::Span;
 use crate::trace::{Made, ProofTrace};
 use crate::{Disk, DiskFault, Outcome};
@@ -157,6 +158,36 @@ impl Disk for MemDisk {
         clear(&mut self.loose, self.span);
         self.span = Span::none();
         self.is_steady = true;
+        Ok(())
+    }
+}
+
+impl RunDisk for MemDisk {
+    fn announce(&mut self, sector: u32) {
+        self.loose[sector as usize] = true;
+        self.span = self.span.with(sector);
+    }
+
+    fn read_run(
+        &mut self,
+        sector: u32,
+        count: usize,
+        buffer: &mut [[u8; 512]; MOST_AHEAD],
+    ) -> Result<(), DiskFault> {
+        self.calls = ProofCount::next(&self.calls);
+        self.trace = self.trace.then(&Made::Read(u64::from(sector)));
+        read_sectors(&self.image, sector as usize, count, buffer);
+        Ok(())
+    }
+
+    fn write_run(&mut self, sector: u32, run: &[[u8; 512]]) -> Result<(), DiskFault> {
+        self.history.note_run(sector, run);
+        self.calls = ProofCount::next(&self.calls);
+        self.writes = ProofCount::next(&self.writes);
+        self.trace = self
+            .trace
+            .then(&Made::WriteRun(u64::from(sector), run.as_flattened()));
+        write_sectors(&mut self.image, sector as usize, run);
         Ok(())
     }
 }

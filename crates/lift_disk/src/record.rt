@@ -1,9 +1,11 @@
 //! The work on the fields of a device in memory.
-ghost use Rattle.std.specs.Prelude.{◌≡◌, ◌≤◌, ℕ, length, replicate, slice_get, Some, false, IfOk};
+ghost use Rattle.std.specs.Prelude.{◌≡◌, ◌≤◌, ◌+◌, ℕ, length, replicate, slice_get, Some, false, IfOk};
 ghost use Rattle.lift_disk.specs.Disk.{ChangesWithin};
 ghost use Rattle.lift_disk.specs.Memory.{IsFlagged, IsWithin, LeavesBy};
+ghost use Rattle.lift_disk.specs.Runs.{HoldsRun, with_run};
 
 use crate::Outcome;
+use crate::runs::MOST_AHEAD;
 use crate::span::Span;
 use std::alloc::{AllocError, Global};
 
@@ -39,6 +41,32 @@ pub(crate) fn copy(from: &[[u8; 512]], to: &mut Vec<[u8; 512]>)
     ensures { to.new.items ≡ from.now }
 {
     to.copy_from_slice(from);
+}
+
+/// Copies so many sectors from this place on to the front of the buffer.
+pub(crate) fn read_sectors(
+    sectors: &[[u8; 512]],
+    from: usize,
+    count: usize,
+    buffer: &mut [[u8; 512]; MOST_AHEAD],
+)
+    requires count { count ≤ 16 }
+    requires inside { from + count ≤ length sectors.now }
+    ensures { HoldsRun from count buffer.new sectors.now }
+{
+    for i in 0..count {
+        buffer[i] = sectors[from + i];
+    }
+}
+
+/// Writes these sectors over those from this place on.
+pub(crate) fn write_sectors(sectors: &mut Vec<[u8; 512]>, from: usize, run: &[[u8; 512]])
+    requires inside { from + length run.now ≤ length sectors.old.items }
+    ensures { sectors.new.items ≡ with_run from run.now sectors.old.items }
+{
+    for i in 0..run.len() {
+        sectors[from + i] = run[i];
+    }
 }
 
 /// Fills the loose sectors with this byte.

@@ -1,7 +1,9 @@
 //! Devices that take several neighbouring sectors in one call.
-ghost use Rattle.std.specs.Prelude.{◌≡◌, ◌≤◌, ◌<◌, ◌+◌, ℕ, OnOk, length};
-ghost use Rattle.lift_disk.specs.Disk.{StaysWritten, GoesOn, HasCause, TouchesNothing, StaysLoose, KeepsSynced, IsSteadyAt};
-ghost use Rattle.lift_disk.specs.Runs.{Announces, HoldsRun, IsInRun, SettlesRun, with_run};
+ghost use Rattle.std.specs.Prelude.{◌≡◌, ◌≤◌, ◌<◌, ◌+◌, ℕ, OnOk, OnErr, length};
+ghost use Rattle.lift_disk.specs.Disk.{StaysWritten, GoesOn, HasCause, FailsAsTold, FailsAsToldOrShort, TouchesNothing, StaysLoose, KeepsSynced, IsSteadyAt};
+ghost use Rattle.lift_disk.specs.Runs.{Announces, HoldsRun, IsInRun, SettlesRun, joined, with_run};
+ghost use Rattle.lift_disk.specs.Trace.{Records};
+ghost use Rattle.lift_disk.specs.Trace.Access.{Read, Write};
 
 use crate::{Disk, DiskFault};
 
@@ -27,6 +29,10 @@ pub trait RunDisk: Disk {
         requires inside { sector + count ≤ (Self.state self.old).size }
         ensures goes_on { GoesOn (Self.state self.old) (Self.state self.new) }
         ensures cause { HasCause result (Self.state self.old) (Self.state self.new) }
+        ensures counted { OnErr result ((Self.state self.new).failures ≡ (Self.state self.old).failures + 1) }
+        ensures told { FailsAsTold result (Self.state self.old) (Self.state self.new) }
+        ensures writes { (Self.state self.new).writes ≡ (Self.state self.old).writes }
+        ensures recorded { Records result (Read sector) (Self.state self.old).trace (Self.state self.new).trace }
         ensures written { OnOk result (StaysWritten (Self.state self.old) (Self.state self.new)) }
         ensures touched { (Self.state self.old).is_honest → TouchesNothing (Self.state self.old) (Self.state self.new) }
         ensures loose { (Self.state self.old).is_honest → StaysLoose (Self.state self.old) (Self.state self.new) }
@@ -42,6 +48,10 @@ pub trait RunDisk: Disk {
         requires announced { (Self.state self.old).is_honest → (i : ℕ) → ¬ (Self.state self.old).is_loose i → ¬ IsInRun sector (length run.now) i }
         ensures goes_on { GoesOn (Self.state self.old) (Self.state self.new) }
         ensures cause { HasCause result (Self.state self.old) (Self.state self.new) }
+        ensures counted { OnErr result ((Self.state self.new).failures ≡ (Self.state self.old).failures + 1) }
+        ensures told { FailsAsToldOrShort result (Self.state self.old) (Self.state self.new) }
+        ensures writes { (Self.state self.new).writes ≡ (Self.state self.old).writes + 1 }
+        ensures recorded { Records result (Write sector (joined run.now)) (Self.state self.old).trace (Self.state self.new).trace }
         ensures settles { OnOk result ((Self.state self.old).is_honest → SettlesRun sector run.now (Self.state self.old) (Self.state self.new)) }
         ensures touched { (Self.state self.old).is_honest → TouchesNothing (Self.state self.old) (Self.state self.new) }
         ensures loose { (Self.state self.old).is_honest → StaysLoose (Self.state self.old) (Self.state self.new) }

@@ -1,6 +1,11 @@
 //! Sectors on a file, by its calls alone.
-ghost use Rattle.std.specs.Prelude.{◌≡◌, ◌*◌, [], OnOk};
-ghost use Rattle.lift_disk.specs.Trace.{in_bytes};
+ghost use Rattle.std.specs.Prelude.{◌≡◌, ◌+◌, ◌*◌, ◌++◌, [], ◌∷◌, OnOk, OnErr};
+ghost use Rattle.lift_disk.specs.Disk.{FailsAsTold, GoesOn, HasCause};
+ghost use Rattle.lift_disk.specs.Trace.{Records};
+ghost use Rattle.lift_disk.specs.Trace.Access.{Read};
+ghost use Rattle.lift_disk.specs.FileCalls.FileCall.{Read as ReadBytes};
+ghost use Rattle.lift_disk.specs.FileCalls.{in_bytes, without_given};
+ghost use Rattle.lift_disk.specs.Traced.{calls_of, failures_of, making_of};
 
 use crate::runs::{MOST_AHEAD, RunDisk};
 use crate::trace::{Made, ProofTrace};
@@ -24,28 +29,29 @@ pub(crate) fn offset_of(sector: u32) -> u64
 pub struct SectorFile<F: Drop> {
     file: TracedFile<F>,
     sectors: u32,
-    failures: ProofCount,
     calls: ProofCount,
     writes: ProofCount,
     trace: ProofTrace,
-    ghost at_offsets: { file.trace.calls ≡ in_bytes trace.calls },
+    ghost at_offsets: { without_given file.calls.calls ≡ in_bytes trace.calls },
 }
 
 impl<F: FileExt + OpenFile + Drop> SectorFile<F> {
-    ghost use Rattle.lift_disk.specs.Files.{sector_file_state_of};
+    ghost use Rattle.lift_disk.specs.Files.{sector_file_state_of, making_below, calls_below};
 
-    /// So many sectors of the file, which was opened to be read and written.
-    pub fn over(file: F, sectors: u32) -> SectorFile<F>
+    /// So many sectors of a file that was not called yet. It makes no call of it.
+    pub fn over(file: TracedFile<F>, sectors: u32) -> SectorFile<F>
+        requires { calls_of file ≡ [] }
+        ensures making { making_below result ≡ making_of file }
+        ensures uncalled { calls_below result ≡ [] }
         ensures size { (sector_file_state_of result).size ≡ sectors }
-        ensures failures { (sector_file_state_of result).failures ≡ 0 }
+        ensures failures { (sector_file_state_of result).failures ≡ failures_of file }
         ensures calls { (sector_file_state_of result).calls ≡ 0 }
         ensures writes { (sector_file_state_of result).writes ≡ 0 }
         ensures trace { (sector_file_state_of result).trace ≡ [] }
     {
         SectorFile {
-            file: TracedFile::over(file),
+            file,
             sectors,
-            failures: ProofCount::new(),
             calls: ProofCount::new(),
             writes: ProofCount::new(),
             trace: ProofTrace::new(),
@@ -54,7 +60,7 @@ impl<F: FileExt + OpenFile + Drop> SectorFile<F> {
 }
 
 impl<F: FileExt + OpenFile + Drop> Disk for SectorFile<F> {
-    ghost use Rattle.lift_disk.specs.Files.{sector_file_state_of};
+    ghost use Rattle.lift_disk.specs.Files.{sector_file_state_of, calls_below};
 
     ghost state = { λ d. sector_file_state_of d };
 
@@ -70,10 +76,18 @@ impl<F: FileExt + OpenFile + Drop> Disk for SectorFile<F> {
         self.sectors
     }
 
-    fn read(&mut self, sector: u32, buffer: &mut [u8; 512]) -> Result<(), DiskFault> {
+    fn read(&mut self, sector: u32, buffer: &mut [u8; 512]) -> Result<(), DiskFault>
+        // beside what each device promises: these are the bytes that its file gave
+        ensures given { OnOk result (calls_below self.new ≡ calls_below self.old ++ ReadBytes (sector * 512) buffer.new ∷ []) }
+        ensures goes_on { GoesOn (sector_file_state_of self.old) (sector_file_state_of self.new) }
+        ensures cause { HasCause result (sector_file_state_of self.old) (sector_file_state_of self.new) }
+        ensures counted { OnErr result ((sector_file_state_of self.new).failures ≡ (sector_file_state_of self.old).failures + 1) }
+        ensures told { FailsAsTold result (sector_file_state_of self.old) (sector_file_state_of self.new) }
+        ensures writes { (sector_file_state_of self.new).writes ≡ (sector_file_state_of self.old).writes }
+        ensures recorded { Records result (Read sector) (sector_file_state_of self.old).trace (sector_file_state_of self.new).trace }
+    {
         self.calls = ProofCount::next(&self.calls);
         if self.file.read(buffer, offset_of(sector)).is_err() {
-            self.failures = ProofCount::next(&self.failures);
             return Err(DiskFault);
         }
         self.trace = self.trace.then(&Made::Read(u64::from(sector)));
@@ -84,7 +98,6 @@ impl<F: FileExt + OpenFile + Drop> Disk for SectorFile<F> {
         self.calls = ProofCount::next(&self.calls);
         self.writes = ProofCount::next(&self.writes);
         if self.file.write(bytes, offset_of(sector)).is_err() {
-            self.failures = ProofCount::next(&self.failures);
             return Err(DiskFault);
         }
         self.trace = self.trace.then(&Made::Write(u64::from(sector), bytes));
@@ -94,7 +107,6 @@ impl<F: FileExt + OpenFile + Drop> Disk for SectorFile<F> {
     fn sync(&mut self) -> Result<(), DiskFault> {
         self.calls = ProofCount::next(&self.calls);
         if self.file.sync().is_err() {
-            self.failures = ProofCount::next(&self.failures);
             return Err(DiskFault);
         }
         self.trace = self.trace.then(&Made::Sync);
@@ -113,8 +125,7 @@ impl<F: FileExt + OpenFile + Drop> RunDisk for SectorFile<F> {
     ) -> Result<(), DiskFault> {
         self.calls = ProofCount::next(&self.calls);
         let bytes = buffer[..count].as_flattened_mut();
-        if self.file.read_run(bytes, offset_of(sector)).is_err() {
-            self.failures = ProofCount::next(&self.failures);
+        if self.file.read(bytes, offset_of(sector)).is_err() {
             return Err(DiskFault);
         }
         self.trace = self.trace.then(&Made::Read(u64::from(sector)));
@@ -124,12 +135,13 @@ impl<F: FileExt + OpenFile + Drop> RunDisk for SectorFile<F> {
     fn write_run(&mut self, sector: u32, run: &[[u8; 512]]) -> Result<(), DiskFault> {
         self.calls = ProofCount::next(&self.calls);
         self.writes = ProofCount::next(&self.writes);
-        let bytes = run.as_flattened();
-        if self.file.write_run(bytes, offset_of(sector)).is_err() {
-            self.failures = ProofCount::next(&self.failures);
+        let flattened = run.as_flattened();
+        if self.file.write(flattened, offset_of(sector)).is_err() {
             return Err(DiskFault);
         }
-        self.trace = self.trace.then(&Made::WriteRun(u64::from(sector), bytes));
+        self.trace = self
+            .trace
+            .then(&Made::WriteRun(u64::from(sector), flattened));
         Ok(())
     }
 }

@@ -1,84 +1,130 @@
 //! A file whose calls are listed.
-ghost use Rattle.std.specs.Prelude.{◌≡◌, []};
-ghost use Rattle.lift_disk.specs.Trace.{Records};
-ghost use Rattle.lift_disk.specs.Trace.Access.{Read, Write, Sync};
+ghost use Rattle.std.specs.Prelude.{◌≡◌, [], ◌∷◌, IfOk};
+ghost use Rattle.lift_disk.specs.FileCalls.{MakesCall};
+ghost use Rattle.lift_disk.specs.FileCalls.FileCall.{Read, Write, SyncData, SetLength, SyncAll};
 
 use crate::DiskFault;
-use crate::trace::{Made, ProofTrace};
-use std::fs::OpenFile;
+use crate::file_calls::{Called, ProofFileCalls};
+use lift_base::ProofCount;
+use std::fs::{File, Files, OpenFile, OpenOptions};
+use std::io;
 use std::os::unix::fs::FileExt;
 
-/// A file with the list of its calls that have succeeded, which only proofs read. The only way to the file is by these
-/// three, so the list binds.
+/// A file with the list of its calls that have succeeded and the count of those that have failed, which only proofs
+/// read. The only way to the file is by the calls below, so both bind.
 #[derive(Drop)]
-pub(crate) struct TracedFile<F: Drop> {
+pub struct TracedFile<F: Drop> {
     file: F,
-    pub trace: ProofTrace,
+    making: ProofFileCalls,
+    calls: ProofFileCalls,
+    failures: ProofCount,
+}
+
+impl TracedFile<File> {
+    ghost use Rattle.lift_disk.specs.Traced.{calls_of, failures_of, making_of};
+
+    /// Opens a file that is there, to be read and written.
+    pub(crate) fn open<R: Files<File = File>>(rt: &R, path: &str) -> io::Result<TracedFile<File>>
+        ensures making { IfOk result (λ file. making_of file ≡ []) }
+        ensures calls { IfOk result (λ file. calls_of file ≡ []) }
+        ensures failures { IfOk result (λ file. failures_of file ≡ 0) }
+    {
+        let file = OpenOptions::new().read(true).write(true).open(rt, path)?;
+        Ok(TracedFile::over(file))
+    }
+
+    /// Makes a file of so many bytes of zero, or makes one that is there into that.
+    pub(crate) fn create<R: Files<File = File>>(
+        rt: &R,
+        path: &str,
+        bytes: u64,
+    ) -> io::Result<TracedFile<File>>
+        ensures making { IfOk result (λ file. making_of file ≡ SetLength bytes ∷ SyncAll ∷ []) }
+        ensures calls { IfOk result (λ file. calls_of file ≡ []) }
+        ensures failures { IfOk result (λ file. failures_of file ≡ 0) }
+    {
+        let file = OpenOptions::new()
+            .read(true)
+            .write(true)
+            .create(true)
+            .truncate(true)
+            .open(rt, path)?;
+        TracedFile::sized(file, bytes)
+    }
 }
 
 impl<F: FileExt + OpenFile + Drop> TracedFile<F> {
-    /// A file that was not called yet.
-    pub(crate) fn over(file: F) -> TracedFile<F>
-        ensures { result.trace.calls ≡ [] }
+    ghost use Rattle.lift_disk.specs.Traced.{calls_of, failures_of, making_of};
+
+    /// A file that was opened to be read and written, and not called yet.
+    pub fn over(file: F) -> TracedFile<F>
+        ensures making { making_of result ≡ [] }
+        ensures calls { calls_of result ≡ [] }
+        ensures failures { failures_of result ≡ 0 }
     {
         TracedFile {
             file,
-            trace: ProofTrace::new(),
+            making: ProofFileCalls::new(),
+            calls: ProofFileCalls::new(),
+            failures: ProofCount::new(),
         }
     }
 
-    /// Reads 512 bytes from this offset on.
-    pub(crate) fn read(&mut self, buffer: &mut [u8; 512], offset: u64) -> Result<(), DiskFault>
-        ensures { Records result (Read offset) self.old.trace.calls self.new.trace.calls }
+    /// A file that was opened to be read and written, made into one of so many bytes.
+    pub fn sized(file: F, bytes: u64) -> io::Result<TracedFile<F>>
+        ensures making { IfOk result (λ file. making_of file ≡ SetLength bytes ∷ SyncAll ∷ []) }
+        ensures calls { IfOk result (λ file. calls_of file ≡ []) }
+        ensures failures { IfOk result (λ file. failures_of file ≡ 0) }
     {
-        if self.file.read_exact_at(buffer, offset).is_err() {
-            return Err(DiskFault);
-        }
-        self.trace = self.trace.then(&Made::Read(offset));
-        Ok(())
+        let mut traced = TracedFile::over(file);
+        traced.file.set_len(bytes)?;
+        traced.making = traced.making.then(&Called::SetLength(bytes));
+        traced.file.sync_all()?;
+        traced.making = traced.making.then(&Called::SyncAll);
+        Ok(traced)
     }
 
-    /// Writes 512 bytes from this offset on.
-    pub(crate) fn write(&mut self, bytes: &[u8; 512], offset: u64) -> Result<(), DiskFault>
-        ensures { Records result (Write offset bytes.now) self.old.trace.calls self.new.trace.calls }
-    {
-        if self.file.write_all_at(bytes, offset).is_err() {
-            return Err(DiskFault);
-        }
-        self.trace = self.trace.then(&Made::Write(offset, bytes));
-        Ok(())
+    /// How many bytes the file has.
+    pub(crate) fn length(&self) -> io::Result<u64> {
+        Ok(self.file.metadata()?.len())
     }
 
     /// Reads so many bytes as the buffer has from this offset on.
-    pub(crate) fn read_run(&mut self, buffer: &mut [u8], offset: u64) -> Result<(), DiskFault>
-        ensures { Records result (Read offset) self.old.trace.calls self.new.trace.calls }
+    pub(crate) fn read(&mut self, buffer: &mut [u8], offset: u64) -> Result<(), DiskFault>
+        ensures made { MakesCall result (Read offset buffer.new) (calls_of self.old) (calls_of self.new) (failures_of self.old) (failures_of self.new) }
+        ensures making { making_of self.new ≡ making_of self.old }
     {
         if self.file.read_exact_at(buffer, offset).is_err() {
+            self.failures = ProofCount::next(&self.failures);
             return Err(DiskFault);
         }
-        self.trace = self.trace.then(&Made::Read(offset));
+        self.calls = self.calls.then(&Called::Read(offset, buffer));
         Ok(())
     }
 
     /// Writes these bytes from this offset on.
-    pub(crate) fn write_run(&mut self, bytes: &[u8], offset: u64) -> Result<(), DiskFault>
-        ensures { Records result (Write offset bytes.now) self.old.trace.calls self.new.trace.calls }
+    pub(crate) fn write(&mut self, bytes: &[u8], offset: u64) -> Result<(), DiskFault>
+        ensures made { MakesCall result (Write offset bytes.now) (calls_of self.old) (calls_of self.new) (failures_of self.old) (failures_of self.new) }
+        ensures making { making_of self.new ≡ making_of self.old }
     {
         if self.file.write_all_at(bytes, offset).is_err() {
+            self.failures = ProofCount::next(&self.failures);
             return Err(DiskFault);
         }
-        self.trace = self.trace.then(&Made::WriteRun(offset, bytes));
+        self.calls = self.calls.then(&Called::Write(offset, bytes));
         Ok(())
     }
 
     /// By `fdatasync`: the bytes and what is needed to find them, without the file's times.
     pub(crate) fn sync(&mut self) -> Result<(), DiskFault>
-        ensures { Records result Sync self.old.trace.calls self.new.trace.calls }
+        ensures made { MakesCall result SyncData (calls_of self.old) (calls_of self.new) (failures_of self.old) (failures_of self.new) }
+        ensures making { making_of self.new ≡ making_of self.old }
     {
         if self.file.sync_data().is_err() {
+            self.failures = ProofCount::next(&self.failures);
             return Err(DiskFault);
         }
-        self.trace = self.trace.then(&Made::Sync);
+        self.calls = self.calls.then(&Called::SyncData);
         Ok(())
     }
 }

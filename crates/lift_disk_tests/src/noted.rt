@@ -1,18 +1,32 @@
 //! A device on a file that notes how it is called.
 use crate::calls::{get, put};
-use lift_disk::{Disk, SectorFile};
+use lift_disk::{Disk, SectorFile, TracedFile};
 use std::cell::Cell;
 use std::fs::{Metadata, OpenFile};
 use std::io;
 use std::os::unix::fs::FileExt;
 use std::test::Fail;
 
-/// Where the file was read and written last, and how often it was synced.
+/// Where the file was read and written last, how often it was synced, its length, and whether it was made safe with that.
 #[derive(Drop)]
 struct Notes {
     read: Cell<u64>,
     written: Cell<u64>,
     syncs: Cell<u32>,
+    length: Cell<u64>,
+    safe_length: Cell<u64>,
+}
+
+impl Notes {
+    fn new() -> Notes {
+        Notes {
+            read: Cell::new(1),
+            written: Cell::new(1),
+            syncs: Cell::new(0),
+            length: Cell::new(0),
+            safe_length: Cell::new(0),
+        }
+    }
 }
 
 /// Takes every call and keeps nothing.
@@ -38,11 +52,13 @@ impl OpenFile for NotedFile<'_> {
         Ok(Metadata::of_file(0))
     }
 
-    fn set_len(&self, _size: u64) -> io::Result<()> {
+    fn set_len(&self, size: u64) -> io::Result<()> {
+        self.notes.length.set(size);
         Ok(())
     }
 
     fn sync_all(&self) -> io::Result<()> {
+        self.notes.safe_length.set(self.notes.length.get());
         Ok(())
     }
 
@@ -57,17 +73,24 @@ impl OpenFile for NotedFile<'_> {
 /// Each call of the device is one of the file: at 512 times the sector, or a sync of its data.
 #[test]
 fn each_call_is_one_of_the_file(rt: HostRuntime) -> Result<(), Fail> {
-    let notes = Notes {
-        read: Cell::new(1),
-        written: Cell::new(1),
-        syncs: Cell::new(0),
-    };
-    let mut disk = SectorFile::over(NotedFile { notes: &notes }, 8);
+    let notes = Notes::new();
+    let mut disk = SectorFile::over(TracedFile::over(NotedFile { notes: &notes }), 8);
     assert!(rt; put(&mut disk, 3, 1) && notes.written.get() == 1536);
     assert!(rt; put(&mut disk, 0, 1) && notes.written.get() == 0);
     assert!(rt; get(&mut disk, 5) == Some(1) && notes.read.get() == 2560);
     assert!(rt; notes.written.get() == 0 && notes.syncs.get() == 0);
     assert!(rt; disk.sync().is_ok() && notes.syncs.get() == 1);
     assert!(rt; disk.sync().is_ok() && notes.syncs.get() == 2);
+    Ok(())
+}
+
+/// A file that is made has its length, and that is made safe; opened, it is as it was.
+#[test]
+fn a_file_is_made_with_its_length(rt: HostRuntime) -> Result<(), Fail> {
+    let notes = Notes::new();
+    let _opened = TracedFile::over(NotedFile { notes: &notes });
+    assert!(rt; notes.length.get() == 0 && notes.syncs.get() == 0 && notes.written.get() == 1);
+    let _made = TracedFile::sized(NotedFile { notes: &notes }, 4096)?;
+    assert!(rt; notes.length.get() == 4096 && notes.safe_length.get() == 4096);
     Ok(())
 }

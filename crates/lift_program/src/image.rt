@@ -1,7 +1,7 @@
 //! The device over the file of a journal that is there.
 ghost use Rattle.std.specs.Prelude.{◌≡◌, []};
 ghost use Rattle.lift_disk.specs.Files.{file_state_of};
-ghost use Rattle.lift_program.specs.Images.{image_state_of};
+ghost use Rattle.lift_program.specs.Images.{file_of, held_of, image_state_of};
 
 use lift_disk::{Buffered, BufferedFile, Disk, DiskFault, FileDisk};
 
@@ -13,8 +13,12 @@ pub struct ImageDisk {
 }
 
 impl ImageDisk {
-    /// A device of which nothing was read or written yet.
+    /// A device of which nothing was read or written yet, over a file of which no call has failed. It makes no call of the
+    /// file.
     pub fn over(file: FileDisk) -> ImageDisk
+        requires { (file_state_of file).failures ≡ 0 }
+        ensures file { file_of result ≡ file }
+        ensures none_held { held_of result ≡ [] }
         ensures size { (image_state_of result).size ≡ (file_state_of file).size }
         ensures failures { (image_state_of result).failures ≡ 0 }
         ensures calls { (image_state_of result).calls ≡ 0 }

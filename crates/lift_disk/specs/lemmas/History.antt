@@ -71,7 +71,7 @@ get_last : (calls : List Call) (call : Call) → slice_get (calls ++ call ∷ []
 get_last [] call = refl
 get_last (first ∷ calls) call = get_last calls call
 
-within_calls : (calls : List Call) (found : Call) (j : ℕ) → slice_get calls j ≡ Some found → j < length calls
+pub within_calls : (calls : List Call) (found : Call) (j : ℕ) → slice_get calls j ≡ Some found → j < length calls
 within_calls [] found j is = absurd (cc is)
 within_calls (first ∷ calls) found zero is = omega arith
 within_calls (first ∷ calls) found (suc j) is = omega (arith, within_calls calls found j is)
@@ -116,7 +116,7 @@ module _ (first : Image) (calls : List Call) (now synced : Image) (loose : List 
   old = memory_state first calls now synced loose steady failures made writes trace
 
   -- what is recorded is named by what it is
-  recorded_so : (begun : Image) (later more : List Call) → begun ≡ first → later ≡ more
+  pub recorded_so : (begun : Image) (later more : List Call) → begun ≡ first → later ≡ more
       → (read saved : Image) (flags : List Bool) (calm : Bool) (failures2 made2 writes2 : ℕ) (trace2 : List Access)
       → GoesOn old (memory_state first more read saved flags calm failures2 made2 writes2 trace2) → GoesOn old (memory_state begun later read saved flags calm failures2 made2 writes2 trace2)
   recorded_so begun later more same is read saved flags calm failures2 made2 writes2 trace2 goes_on =

@@ -1,5 +1,4 @@
-use Rattle.std.proofs.Common.{arith, ap, ◌∙◌}
-use Rattle.lift_disk.specs.lemmas.History.{ok_items}
+use Rattle.std.proofs.Common.{ap, ◌∙◌}
 use Rattle.lift_disk.proofs.Waiting.{push_goes_on, push_touched, push_settles, push_steady}
 use Rattle.lift_disk.proofs.buffered.BufferedDisk.write.Goals as goal
 
@@ -7,35 +6,27 @@ pub returns-clause-goes_on : goal.returns-clause-goes_on
 returns-clause-goes_on g c =
     let d = c.args.self.now in
     let m = c.make_room.new.self in
-    let keeps = ok_items c.make_room.result c.is_err.ensures.value c.if-is_err.false c.make_room.ensures.keeps in
-    let next = ok_items c.make_room.result c.is_err.ensures.value c.if-is_err.false c.make_room.ensures.next in
-    rw c.push.ensures.items (push_goes_on (g.R.Disk.state d.device) (g.R.Disk.state m.device) d.from m.from c.args.sector d.pending.items m.pending.items c.args.bytes.now c.make_room.ensures.opens keeps next m.announced
-    d.failures.count m.failures.count d.calls.count m.calls.count d.writes.count m.writes.count d.trace.calls c.then-self.result.calls
-    (ap (λ n. n.count) c.make_room.ensures.counts.1 ∙ c.next-self.ensures) (let same = ap (λ n. n.count) c.make_room.ensures.counts.0 in omega (arith, same)))
+    rw c.push.ensures.items (push_goes_on (g.R.Disk.state d.device) (g.R.Disk.state m.device) d.from m.from c.args.sector d.pending.items m.pending.items c.args.bytes.now c.in_ok-make_room.ensures.opens c.in_ok-make_room.ensures.keeps c.in_ok-make_room.ensures.next m.announced
+    d.calls.count m.calls.count d.writes.count m.writes.count d.trace.calls c.then-self.result.calls
+    (ap (λ n. n.count) c.make_room.ensures.counts.0 ∙ c.next-self.ensures) c.in_ok-make_room.ensures.faults.ok)
 
 pub returns-clause-settles : goal.returns-clause-settles
 returns-clause-settles g c honest =
     let d = c.args.self.now in
     let m = c.make_room.new.self in
-    let keeps = ok_items c.make_room.result c.is_err.ensures.value c.if-is_err.false c.make_room.ensures.keeps in
-    let next = ok_items c.make_room.result c.is_err.ensures.value c.if-is_err.false c.make_room.ensures.next in
-    rw c.push.ensures.items (push_settles (g.R.Disk.state d.device) (g.R.Disk.state m.device) d.from m.from c.args.sector d.pending.items m.pending.items c.args.bytes.now c.make_room.ensures.opens keeps next m.announced
-    d.failures.count m.failures.count d.calls.count m.calls.count d.writes.count m.writes.count d.trace.calls c.then-self.result.calls honest)
+    rw c.push.ensures.items (push_settles (g.R.Disk.state d.device) (g.R.Disk.state m.device) d.from m.from c.args.sector d.pending.items m.pending.items c.args.bytes.now c.in_ok-make_room.ensures.opens c.in_ok-make_room.ensures.keeps c.in_ok-make_room.ensures.next m.announced
+    d.calls.count m.calls.count d.writes.count m.writes.count d.trace.calls c.then-self.result.calls honest)
 
 pub returns-clause-touched : goal.returns-clause-touched
 returns-clause-touched g c honest =
     let d = c.args.self.now in
     let m = c.make_room.new.self in
-    let keeps = ok_items c.make_room.result c.is_err.ensures.value c.if-is_err.false c.make_room.ensures.keeps in
-    let next = ok_items c.make_room.result c.is_err.ensures.value c.if-is_err.false c.make_room.ensures.next in
-    rw c.push.ensures.items (push_touched (g.R.Disk.state d.device) (g.R.Disk.state m.device) d.from m.from c.args.sector d.pending.items m.pending.items c.args.bytes.now c.make_room.ensures.opens keeps next m.announced
-    d.failures.count m.failures.count d.calls.count m.calls.count d.writes.count m.writes.count d.trace.calls c.then-self.result.calls honest)
+    rw c.push.ensures.items (push_touched (g.R.Disk.state d.device) (g.R.Disk.state m.device) d.from m.from c.args.sector d.pending.items m.pending.items c.args.bytes.now c.in_ok-make_room.ensures.opens c.in_ok-make_room.ensures.keeps c.in_ok-make_room.ensures.next m.announced
+    d.calls.count m.calls.count d.writes.count m.writes.count d.trace.calls c.then-self.result.calls honest)
 
 pub returns-clause-steady : goal.returns-clause-steady
 returns-clause-steady g c honest steady =
     let d = c.args.self.now in
     let m = c.make_room.new.self in
-    let keeps = ok_items c.make_room.result c.is_err.ensures.value c.if-is_err.false c.make_room.ensures.keeps in
-    let next = ok_items c.make_room.result c.is_err.ensures.value c.if-is_err.false c.make_room.ensures.next in
-    rw c.push.ensures.items (push_steady (g.R.Disk.state d.device) (g.R.Disk.state m.device) d.from m.from c.args.sector d.pending.items m.pending.items c.args.bytes.now c.make_room.ensures.opens keeps next m.announced
-    d.failures.count m.failures.count d.calls.count m.calls.count d.writes.count m.writes.count d.trace.calls c.then-self.result.calls honest steady)
+    rw c.push.ensures.items (push_steady (g.R.Disk.state d.device) (g.R.Disk.state m.device) d.from m.from c.args.sector d.pending.items m.pending.items c.args.bytes.now c.in_ok-make_room.ensures.opens c.in_ok-make_room.ensures.keeps c.in_ok-make_room.ensures.next m.announced
+    d.calls.count m.calls.count d.writes.count m.writes.count d.trace.calls c.then-self.result.calls honest steady)

@@ -1,0 +1,61 @@
+-- The calls of a file that have succeeded, in their order, and the calls of a device that they stand for.
+use Rattle.std.specs.Prelude.{◌≡◌, ◌++◌, ◌+◌, ◌*◌, ◌==◌, [], ◌∷◌, ℕ, List, Result, OnOk, OnErr, refl, cond}
+use Rattle.std.specs.Coded.{Coded, code_by, coded×, coded_ℕ, coded_list}
+use Rattle.lift_disk.specs.Trace.{Access}
+use Rattle.lift_disk.specs.Trace.Access.{Read as ReadSector, Write as WriteSector, Sync as SyncSectors}
+
+pub data FileCall : Type 0 where
+  -- the offset in bytes, and the bytes that it gave
+  Read : ℕ → List ℕ → FileCall
+  -- the offset in bytes, and the bytes that it took
+  Write : ℕ → List ℕ → FileCall
+  -- what was written is made safe, without the file's times
+  SyncData : FileCall
+  -- the file's length in bytes is set
+  SetLength : ℕ → FileCall
+  -- all of the file is made safe
+  SyncAll : FileCall
+
+-- how the logic stores a call
+abbrev pub to_parts : FileCall → ℕ × (ℕ × List ℕ)
+to_parts (Read offset bytes) = (0, (offset, bytes))
+to_parts (Write offset bytes) = (1, (offset, bytes))
+to_parts SyncData = (2, (0, []))
+to_parts (SetLength bytes) = (3, (bytes, []))
+to_parts SyncAll = (4, (0, []))
+
+abbrev pub of_parts : ℕ × (ℕ × List ℕ) → FileCall
+of_parts p = cond (p.0 == 0) (Read p.1.0 p.1.1) (cond (p.0 == 1) (Write p.1.0 p.1.1) (cond (p.0 == 2) SyncData (cond (p.0 == 3) (SetLength p.1.0) SyncAll)))
+
+pub there_and_back : (call : FileCall) → of_parts (to_parts call) ≡ call
+there_and_back (Read offset bytes) = refl
+there_and_back (Write offset bytes) = refl
+there_and_back SyncData = refl
+there_and_back (SetLength bytes) = refl
+there_and_back SyncAll = refl
+
+abbrev pub file_calls_code : Coded (List FileCall)
+file_calls_code = coded_list (code_by (ℕ × (ℕ × List ℕ)) (coded× coded_ℕ (coded× coded_ℕ (coded_list coded_ℕ))) to_parts of_parts there_and_back)
+
+-- the calls of a file that stand for these of a device, but for the bytes that reads gave: a sector is 512 bytes
+abbrev pub in_bytes : List Access → List FileCall
+in_bytes [] = []
+in_bytes (ReadSector sector ∷ calls) = Read (sector * 512) [] ∷ in_bytes calls
+in_bytes (WriteSector sector bytes ∷ calls) = Write (sector * 512) bytes ∷ in_bytes calls
+in_bytes (SyncSectors ∷ calls) = SyncData ∷ in_bytes calls
+
+-- these calls, but for the bytes that reads gave
+abbrev pub without_given : List FileCall → List FileCall
+without_given [] = []
+without_given (Read offset bytes ∷ calls) = Read offset [] ∷ without_given calls
+without_given (Write offset bytes ∷ calls) = Write offset bytes ∷ without_given calls
+without_given (SyncData ∷ calls) = SyncData ∷ without_given calls
+without_given (SetLength bytes ∷ calls) = SetLength bytes ∷ without_given calls
+without_given (SyncAll ∷ calls) = SyncAll ∷ without_given calls
+
+-- One call more if it succeeded, else one failure more.
+pub record MakesCall {T E : Type 0} (result : Result T E) (call : FileCall) (old_calls new_calls : List FileCall) (old_failures new_failures : ℕ) : Type 0 where
+  pub listed : OnOk result (new_calls ≡ old_calls ++ call ∷ [])
+  pub unfailed : OnOk result (new_failures ≡ old_failures)
+  pub unlisted : OnErr result (new_calls ≡ old_calls)
+  pub failed : OnErr result (new_failures ≡ old_failures + 1)
