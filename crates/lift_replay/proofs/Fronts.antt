@@ -1,5 +1,5 @@
 -- A front of what the lines tell.
-use Rattle.std.proofs.Common.{◌≡◌, ℕ, false, List, [], ◌++◌, take, drop, take-append-drop, refl, sym, ap, ◌∙◌, subst}
+use Rattle.std.proofs.Common.{◌≡◌, ℕ, List, [], ◌++◌, take, drop, take-append-drop, refl, sym, ap, ◌∙◌, subst}
 use Rattle.std.specs.Prelude.{Option, Some, None, Result, Ok, Err, OnOk, OnErr, IfErr}
 use Rattle.std.proofs.lemmas.List.{append_assoc, append-nil}
 use Rattle.std.specs.Io.KnownBytes.{Appends}
@@ -18,7 +18,7 @@ use Rattle.lift_replay.specs.Replaying.{IsTextReport, WritesFront, ReportsFront}
 use Rattle.lift_replay.specs.Report.{AppendsFront, Reports, ReportsPart, cut_text}
 use Rattle.lift_replay.specs.Running.{TellsLines, TellsPart, Continues, LinesEnd}
 use Rattle.lift_replay.specs.Shows.{Shows}
-use Rattle.lift_replay.specs.Told.{ScriptClerk, device_of}
+use Rattle.lift_replay.specs.Told.{ScriptClerk}
 use Rattle.lift_replay.proofs.Total.{lines_total, text_total, report_total}
 
 pub on_err : {T E P Q : Type 0} (result : Result T E) → (P → Q) → OnErr result P → OnErr result Q
@@ -159,7 +159,7 @@ longer_part old new piece after all more part = record {
 -- a power cut ended the lines at a desk, and what stands behind it failed
 pub cut_part : (plan : Plan) (count later : ℕ) (g : GroupState) (script rest : List (List ℕ)) (outcome : Outcome) (clerk : ScriptClerk) (seats : List TerminalSeat) (end : End) (old mid new : Option (List ℕ)) (piece next after : List ℕ)
     → end ≡ Power outcome → (added : List ℕ) × LinesEnd plan count g script added later rest clerk seats end × Reports old mid piece next added
-    → ((h : GroupState) → Shows plan h clerk seats → (device_of clerk).is_short ≡ false → ReportsPart mid new next after (cut_text (open_count (left_by outcome h).register)))
+    → ((h : GroupState) → Shows plan h clerk seats → ReportsPart mid new next after (cut_text (open_count (left_by outcome h).register)))
     → TellsPart plan count g script old new piece after
 cut_part plan count later g script rest outcome clerk seats end old mid new piece next after is (added, ends, reports) part =
     let power = subst (LinesEnd plan count g script added later rest clerk seats) is ends in
@@ -168,8 +168,8 @@ cut_part plan count later g script rest outcome clerk seats end old mid new piec
     let told = lines_total plan later behind rest in (
       added ++ (cut ++ told.0),
       told.1,
-      subst (λ t. TellsLines plan count g script t told.1) (append_assoc added cut told.0) (power.3 told.0 told.1 told.2),
-      more_part old mid new piece next after added (cut ++ told.0) reports (longer_part mid new next after cut told.0 (part power.0 power.1 power.2)),
+      subst (λ t. TellsLines plan count g script t told.1) (append_assoc added cut told.0) (power.2 told.0 told.1 told.2),
+      more_part old mid new piece next after added (cut ++ told.0) reports (longer_part mid new next after cut told.0 (part power.0 power.1)),
     )
 
 -- what a put came to, a front of the piece was written

@@ -285,7 +285,7 @@ module _ (computed : StepsAreDecisions IsEtdChoice etd_pick) (plan : Plan) (g : 
           let cut : List ℕ = cut_text (open_count (left_by outcome g).register) in
           let all : before ++ cut ≡ (before ++ told) ++ cut = ap (λ t. t ++ cut) (sym (append-nil before) ∙ ap (λ t. before ++ t) (sym c.0)) in
           subst (LinesEnd plan so_far first script (before ++ told) number behind new after) (sym power)
-          (g, c.1, long, subst (λ t. Continues plan so_far first script t number (after_line plan g (Cut outcome)) behind) all (carries (Cut outcome) cut sp kn other refl))
+          (g, c.1, subst (λ t. Continues plan so_far first script t number (after_line plan g (Cut outcome)) behind) all (carries (Cut outcome) cut sp kn other refl))
       by_line (Place car floor dir) sp kn te en = absurd (cc)
       by_line (Call kiosk n floor party) sp kn te en = absurd (cc)
       by_line (Stop car n floor dir) sp kn te en = absurd (cc)

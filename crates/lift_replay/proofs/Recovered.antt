@@ -1,48 +1,62 @@
 -- What a power cut leaves, and what an empty journal gives.
-use Rattle.std.proofs.Common.{◌≡◌, ◌∙◌, ℕ, zero, suc, ◌+◌, List, [], ◌∷◌, length, take, drop, replicate, Option, Some, None, false, refl, sym, ap, subst, arith, length-append}
+use Rattle.std.proofs.Common.{◌≡◌, ◌∙◌, ℕ, zero, suc, ◌+◌, List, [], ◌∷◌, length, take, drop, replicate, Option, Some, None, Bool, true, false, inl, inr, refl, sym, ap, subst, arith, length-append}
+use Rattle.std.proofs.lemmas.Bool.{false≢true}
 use Rattle.std.proofs.lemmas.List.{length-map, length-replicate}
 use Rattle.std.proofs.lemmas.List.Concat.{flat_map-cons}
 use Rattle.atomic_table.specs.Seated.{TableId}
-use Rattle.std.specs.Prelude.{Result, Ok, Err, IfOk, slice_get}
+use Rattle.std.specs.Prelude.{slice_get}
 use Rattle.lift_base.specs.declared.history.Shape.{Shape}
 use Rattle.lift_desk.specs.Rule.{no_asks, no_answers}
 use Rattle.lift_desk.specs.Seats.{TerminalSeat, seats_from, clerk_of, view_at, placed_at}
 use Rattle.lift_journal.specs.Layout.{Batch, Holds, IsChain, Picks, records_of, used, start_of}
 use Rattle.lift_keeper.specs.Decider.{starting}
-use Rattle.lift_keeper.specs.Images.{IsImageIn}
-use Rattle.lift_keeper.specs.Reopening.{Reopens}
+use Rattle.lift_journal.specs.Told.{LastFails}
+use Rattle.lift_journal.specs.declared.fault.JournalFault.TheVariants.{Disk}
+use Rattle.lift_keeper.specs.declared.fault.KeeperFault.{KeeperFault}
+use Rattle.lift_keeper.specs.declared.fault.KeeperFault.TheVariants.{Journal}
+use Rattle.lift_keeper.specs.Images.{IsImageOf, IsInDoubt, IsImageIn}
+use Rattle.lift_keeper.specs.Reopening.{Reopens, RefusesReopening, FailsBy}
 use Rattle.lift_replay.specs.Group.{GroupState, Found, Stopped, half, left_by, recovered, asking_at, unasked, new_terminals}
 use Rattle.lift_replay.specs.Group.{left_of as left_as}
 use Rattle.lift_replay.specs.Shows.{IsFound, IsInStep, AreInStep, Stands, IsKept, Shows}
-use Rattle.lift_replay.specs.Told.{ScriptClerk, device_of}
+use Rattle.lift_replay.specs.Told.{ScriptClerk}
 use Rattle.lift_replay.specs.Terminals.{seat_at}
 use Rattle.lift_replay.proofs.Hearing.{count_from, own_from}
-use Rattle.lift_base.specs.declared.memory.Memory.{Memory}
 use Rattle.lift_building.specs.Plan.{Plan, shape_of}
 use Rattle.lift_disk.specs.Disk.{Image, DiskState, IsUnchanged, IsUnarmed, MayLeave, LeavesNow}
 use Rattle.lift_disk.specs.Faults.{fuse_state_of}
-use Rattle.lift_disk.specs.Outcomes.{IsLeftBy}
+use Rattle.lift_disk.specs.Outcomes.{IsLeftBy, IsCut, state_of}
+use Rattle.lift_disk.specs.declared.memory.MemDisk.{MemDisk}
 use Rattle.lift_disk.specs.declared.fuse.FuseDisk.{FuseDisk}
 use Rattle.lift_disk.specs.declared.outcome.Outcome.{Outcome}
 use Rattle.lift_disk.specs.declared.outcome.Outcome.TheVariants.{Keep, Lose, Fill}
 use Rattle.lift_journal.specs.Journal.{ReadsAs}
 use Rattle.lift_keeper.specs.Keeper.{KeeperView}
-use Rattle.lift_register.specs.Register.{empty, cars, terminals}
-use Rattle.lift_replay.specs.Recovering.{Recovers}
+use Rattle.lift_register.specs.Register.{RegisterState, empty, register_of, cars, terminals}
 
-pub empty_read : (plan : Plan) (image : Image) → ReadsAs (shape_of plan 64) [] [] image → (result : Result (KeeperView FuseDisk) Memory)
-    → IfOk result (λ keeper. (fuse_state_of keeper.writer.device).image ≡ image)
-    → IfOk result (λ keeper. Recovers plan (fuse_state_of keeper.writer.device).image keeper.writer.register)
-    → IfOk result (λ keeper. keeper.writer.register ≡ empty)
+pub empty_reads : (plan : Plan) (image : Image) → ReadsAs (shape_of plan 64) [] [] image → IsImageOf plan empty image
 unfolding cars terminals
-empty_read plan image reads (Ok keeper) same recovers = sym (recovers.only empty (rw same (record {
+empty_reads plan image reads = record {
   half = 64;
   base = [];
   entries = [];
   reads = reads;
   is = record { base_fits = tt; entries_fit = tt; is = refl };
-})))
-empty_read plan image reads (Err refused) same recovers = tt
+}
+
+-- a device in memory that was not told to fail does not
+pub never_fails : (old new : FuseDisk) → IsUnarmed (fuse_state_of old) → LastFails (fuse_state_of old) (fuse_state_of new) → ⊥
+never_fails old new unarmed last = elim (last.last tt) [
+  | inl fails ↦ unarmed (fuse_state_of new).calls last.some fails.0
+  | inr short ↦ false≢true short.1
+]
+
+-- so an opening over it is not refused where it reads as a register
+pub never_refused : (plan : Plan) (old new : FuseDisk) (fault : KeeperFault) → IsUnarmed (fuse_state_of old)
+    → (register : RegisterState) × IsImageOf plan register (fuse_state_of old).image → RefusesReopening plan (fuse_state_of old) (fuse_state_of new) fault → ⊥
+never_refused plan old new fault unarmed (register, reads) refuses =
+    let of_disk : fault ≡ Journal Disk = refuses.good tt register (subst (IsImageOf plan register) (sym (refuses.image tt tt)) reads) in
+    never_fails old new unarmed (subst (λ f. FailsBy f (fuse_state_of old) (fuse_state_of new)) of_disk refuses.told)
 
 pub left_unchanged : (outcome : Outcome) (old new : DiskState) (left : Image) → IsUnchanged old new → IsLeftBy outcome new left → IsLeftBy outcome old left
 left_unchanged Keep old new left same is = is ∙ same.image
@@ -53,35 +67,40 @@ left_unchanged (Fill byte) old new left same is = record {
   others = λ i firm. rw (sym same.image) (is.others i (λ loose. firm ((same.loose i).0 loose)));
 }
 
-pub left_read : (outcome : Outcome) (old new : DiskState) (left : Image) → IsUnchanged old new → IsLeftBy outcome new left
-    → (result : Result (KeeperView FuseDisk) Memory) → IfOk result (λ keeper. (fuse_state_of keeper.writer.device).image ≡ left)
-    → IfOk result (λ keeper. IsLeftBy outcome old (fuse_state_of keeper.writer.device).image)
-left_read outcome old new left same is (Ok keeper) read = rw read (left_unchanged outcome old new left same is)
-left_read outcome old new left same is (Err refused) read = tt
-
-pub stays_unarmed : (given : Type 0) → given → (result : Result (KeeperView FuseDisk) Memory)
-    → IfOk result (λ keeper. given → IsUnarmed (fuse_state_of keeper.writer.device)) → IfOk result (λ keeper. IsUnarmed (fuse_state_of keeper.writer.device))
-stays_unarmed given is (Ok keeper) stays = stays is
-stays_unarmed given is (Err refused) stays = tt
-
 pub may_unchanged : (old new : DiskState) (image : Image) → IsUnchanged old new → MayLeave new image → MayLeave old image
 may_unchanged old new image same may = record {
   size = may.size ∙ ap length same.image;
   others = λ i firm. may.others i (λ loose. firm ((same.loose i).0 loose)) ∙ ap (λ l. slice_get l i) same.image;
 }
 
+-- a crash might have left what a cut leaves
+pub cut_may : (device taken fused : FuseDisk) (inner left : MemDisk) → taken ≡ device → IsUnchanged (fuse_state_of taken) (state_of inner) → IsCut (state_of inner) (state_of left)
+    → (fuse_state_of fused).image ≡ (state_of left).image → MayLeave (fuse_state_of device) (fuse_state_of fused).image
+cut_may device taken fused inner left is same cut image =
+    subst (λ d. MayLeave (fuse_state_of d) (fuse_state_of fused).image) is
+    (may_unchanged (fuse_state_of taken) (state_of inner) (fuse_state_of fused).image same (subst (λ i. MayLeave (state_of inner) i) (sym image) cut.left))
+
+-- it reads as a register: as what is safe, or as that with the batch in doubt
+pub left_reads : (keeper : KeeperView FuseDisk) (plan : Plan) (register : RegisterState) (image : Image) → keeper.writer.plan ≡ plan
+    → (keeper.writer.is_broken ≡ false → LeavesNow (fuse_state_of keeper.writer.device) (IsImageOf keeper.writer.plan register))
+    → (keeper.writer.is_broken ≡ true → LeavesNow (fuse_state_of keeper.writer.device) (IsInDoubt keeper.writer.plan register keeper.writer.doubt))
+    → MayLeave (fuse_state_of keeper.writer.device) image → (other : RegisterState) × IsImageOf plan other image
+left_reads keeper plan register image is safe in_doubt may = subst (λ p. (other : RegisterState) × IsImageOf p other image) is (cases keeper.writer.is_broken refl)
+  where
+    cases : (b : Bool) → keeper.writer.is_broken ≡ b → (other : RegisterState) × IsImageOf keeper.writer.plan other image
+    cases false whole = (register, safe whole tt image may)
+    cases true broken = elim (in_doubt broken tt image may) [
+      | inl before ↦ (register, before)
+      | inr behind ↦ (register_of register keeper.writer.doubt, behind)
+    ]
+
 -- the keeper that recovers what was found shows just that
-pub kept_of : (plan : Plan) (f : Found) (disk : DiskState) → disk.is_honest → IsFound plan f disk.image → disk.is_short ≡ false → IsUnarmed disk → (result : Result (KeeperView FuseDisk) Memory)
-    → IfOk result (λ keeper. Reopens plan disk (fuse_state_of keeper.writer.device) keeper.writer.register keeper.writer.half keeper.writer.is_second keeper.writer.used)
-    → IfOk result (λ keeper. (fuse_state_of keeper.writer.device).image ≡ disk.image)
-    → IfOk result (λ keeper. IsUnarmed disk → IsUnarmed (fuse_state_of keeper.writer.device))
-    → IfOk result (λ keeper. keeper.state ≡ starting keeper.writer.register)
-    → IfOk result (λ keeper. keeper.writer.plan ≡ plan)
-    → IfOk result (λ keeper. (keeper.writer.is_broken ≡ false) × (keeper.writer.doubt ≡ []))
-    → IfOk result (λ keeper. IsKept plan (recovered plan f) keeper)
-kept_of plan f disk honest found long unarmed (Err refused) opens image arms state of_plan whole = tt
-kept_of plan f disk honest found long unarmed (Ok keeper) opens image arms state of_plan whole =
-    let is = opens.found honest half f.is_second f.used f.register (subst (IsFound plan f) (sym image) found) in
+pub kept_of : (plan : Plan) (f : Found) (disk : FuseDisk) (keeper : KeeperView FuseDisk) → IsFound plan f (fuse_state_of disk).image
+    → Reopens plan (fuse_state_of disk) (fuse_state_of keeper.writer.device) keeper.writer.register keeper.writer.half keeper.writer.is_second keeper.writer.used
+    → (fuse_state_of keeper.writer.device).image ≡ (fuse_state_of disk).image → IsUnarmed (fuse_state_of keeper.writer.device) → keeper.state ≡ starting keeper.writer.register
+    → keeper.writer.plan ≡ plan → (keeper.writer.is_broken ≡ false) × (keeper.writer.doubt ≡ []) → IsKept plan (recovered plan f) keeper
+kept_of plan f disk keeper found opens image unarmed state of_plan whole =
+    let is = opens.found tt half f.is_second f.used f.register (subst (IsFound plan f) (sym image) found) in
     record {
       same_plan = of_plan;
       half_is = sym is.0;
@@ -91,7 +110,7 @@ kept_of plan f disk honest found long unarmed (Ok keeper) opens image arms state
         state ∙ ap starting (sym is.3),
         sym is.2,
         sym is.1,
-        record { told = λ call past. ((λ fails. arms unarmed call past fails), (λ fails. absurd fails)); short = opens.told.short ∙ long },
+        record { told = λ call past. ((λ fails. unarmed call past fails), (λ fails. absurd fails)); short = refl },
       );
     }
 
@@ -159,13 +178,6 @@ new_in_step plan desk count =
           (subst (λ v. IsInStep unasked v (view_at (clerk_of desk) t)) (sym (first_seats 0 desk t))
           (subst (λ v. IsInStep unasked no_asks v) (sym (first_places desk t)) (record { turns = refl; told = refl; heard = refl; even = refl; waits = refl })));
     }
-
--- whichever group it is
-pub kept_all : (plan : Plan) (outcome : Outcome) (clerk : ScriptClerk) (seats : List TerminalSeat) (result : Result (KeeperView FuseDisk) Memory)
-    → ((g : GroupState) → Shows plan g clerk seats → (device_of clerk).is_short ≡ false → IfOk result (λ keeper. IsKept plan (recovered plan (left_by outcome g)) keeper))
-    → IfOk result (λ keeper. (g : GroupState) → Shows plan g clerk seats → (device_of clerk).is_short ≡ false → IsKept plan (recovered plan (left_by outcome g)) keeper)
-kept_all plan outcome clerk seats (Ok keeper) each = each
-kept_all plan outcome clerk seats (Err refused) each = tt
 
 pub new_shows : (plan : Plan) (g : GroupState) (keeper : KeeperView FuseDisk) (clerk : ScriptClerk) (seats : List TerminalSeat) (desk : List TableId) → IsKept plan g keeper → g.terminals ≡ new_terminals plan
     → clerk.keeper ≡ keeper → clerk.seat ≡ clerk_of desk → seats ≡ seats_from 0 desk → length desk ≡ 16 + length plan.kiosks → Shows plan g clerk seats

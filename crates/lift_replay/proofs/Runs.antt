@@ -1,5 +1,5 @@
 -- From line to line of a script.
-use Rattle.std.proofs.Common.{◌≡◌, ℕ, List, [], ◌++◌, sym, ap, ◌∙◌, subst, refl, false}
+use Rattle.std.proofs.Common.{◌≡◌, ℕ, List, [], ◌++◌, sym, ap, ◌∙◌, subst, refl}
 use Rattle.std.specs.Prelude.{Option}
 use Rattle.std.proofs.lemmas.List.{append_assoc, append-nil}
 use Rattle.std.specs.Io.KnownBytes.{Appends}
@@ -19,7 +19,7 @@ use Rattle.lift_register.specs.Balanced.{open_count}
 use Rattle.lift_replay.specs.Group.{GroupState, new_terminals, left_by, recovered}
 use Rattle.lift_replay.specs.Running.{TellsLines, Continues, LinesEnd, SegmentEnds}
 use Rattle.lift_replay.specs.Shows.{Shows, IsKept}
-use Rattle.lift_replay.specs.Told.{ScriptClerk, device_of}
+use Rattle.lift_replay.specs.Told.{ScriptClerk}
 use Rattle.lift_replay.specs.Report.{Reports, cut_text}
 
 pub reports_none : (old : Option (List ℕ)) (piece : List ℕ) → Reports old old piece piece []
@@ -51,15 +51,15 @@ report_put old mid new piece after added none first last =
 -- lines that ended at a desk, with what a power cut leaves, and its report
 pub cut_goes_on : (plan : Plan) (count later : ℕ) (g : GroupState) (script rest : List (List ℕ)) (outcome : Outcome) (clerk : ScriptClerk) (seats : List TerminalSeat) (end : End) (keeper : KeeperView FuseDisk) (calls : ℕ) (old mid new : Option (List ℕ)) (piece next after : List ℕ)
     → end ≡ Power outcome → (added : List ℕ) × LinesEnd plan count g script added later rest clerk seats end × Reports old mid piece next added
-    → ((h : GroupState) → Shows plan h clerk seats → (device_of clerk).is_short ≡ false → IsKept plan (recovered plan (left_by outcome h)) keeper)
+    → ((h : GroupState) → Shows plan h clerk seats → IsKept plan (recovered plan (left_by outcome h)) keeper)
     → calls ≡ open_count keeper.state.register → Reports mid new next after (cut_text calls)
     → (added : List ℕ) × SegmentEnds plan count g script added later rest (Cut keeper) × Reports old new piece after added
 cut_goes_on plan count later g script rest outcome clerk seats end keeper calls old mid new piece next after is (added, ends, reports) kept calls_is cut =
     let power = subst (LinesEnd plan count g script added later rest clerk seats) is ends in
-    let now = kept power.0 power.1 power.2 in
+    let now = kept power.0 power.1 in
     let text : cut_text (open_count (left_by outcome power.0).register) ≡ cut_text calls = sym (ap cut_text (calls_is ∙ ap (λ (s : State). open_count s.register) now.stands.1)) in (
       added ++ cut_text calls,
-      (recovered plan (left_by outcome power.0), now, refl, subst (λ t. Continues plan count g script (added ++ t) later (recovered plan (left_by outcome power.0)) rest) text power.3),
+      (recovered plan (left_by outcome power.0), now, refl, subst (λ t. Continues plan count g script (added ++ t) later (recovered plan (left_by outcome power.0)) rest) text power.2),
       reports_on old mid new piece next after added (cut_text calls) reports cut,
     )
 

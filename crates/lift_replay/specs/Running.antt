@@ -1,5 +1,5 @@
 -- What the lines of a script tell, from one to the next: the report as a function of the script.
-use Rattle.std.specs.Prelude.{ℕ, suc, ◌≡◌, ◌⊎◌, false, Option, List, [], ◌∷◌, ◌++◌}
+use Rattle.std.specs.Prelude.{ℕ, suc, ◌≡◌, ◌⊎◌, Option, List, [], ◌∷◌, ◌++◌}
 use Rattle.lift_building.specs.Plan.{Plan}
 use Rattle.lift_desk.specs.Seats.{TerminalSeat}
 use Rattle.lift_register.specs.Balanced.{open_count}
@@ -16,7 +16,7 @@ use Rattle.lift_replay.specs.Known.{IsKnown}
 use Rattle.lift_replay.specs.Report.{ReportsPart, bad_text, cut_text}
 use Rattle.lift_replay.specs.Script.{IsBadLine}
 use Rattle.lift_replay.specs.Shows.{Shows, IsKept}
-use Rattle.lift_replay.specs.Told.{ScriptClerk, device_of}
+use Rattle.lift_replay.specs.Told.{ScriptClerk}
 
 -- These lines, behind `count` others, tell this of a group, and the run of them has this verdict: skipped ones tell
 -- nothing, a malformed one ends the run, and each other tells what it asks for and leaves the group to the next.
@@ -38,11 +38,11 @@ abbrev pub TellsPart : Plan → (count : ℕ) → GroupState → List (List ℕ)
 TellsPart plan count g script old new before after =
     (all : List ℕ) × (verdict : Verdict) × TellsLines plan count g script all verdict × ReportsPart old new before after all
 
--- Where lines end at a desk: all are told, or a power cut is left to do, on a device in which no growth was refused.
+-- Where lines end at a desk: all are told, or a power cut is left to do.
 abbrev pub LinesEnd : Plan → (count : ℕ) → GroupState → List (List ℕ) → List ℕ → (later : ℕ) → List (List ℕ) → ScriptClerk → List TerminalSeat → End → Type 0
 LinesEnd plan count g script text later rest clerk seats (Over verdict) = TellsLines plan count g script text verdict
 LinesEnd plan count g script text later rest clerk seats (Power outcome) =
-    (next : GroupState) × Shows plan next clerk seats × ((device_of clerk).is_short ≡ false)
+    (next : GroupState) × Shows plan next clerk seats
     × Continues plan count g script (text ++ cut_text (open_count (left_by outcome next).register)) later (recovered plan (left_by outcome next)) rest
 
 -- where a segment ends: all lines are told, or a keeper goes on

@@ -61,9 +61,6 @@ fn add_lines<W: Write>(
         };
         report.clear();
         let end = push_line(&mut report, station, line, number)?;
-        if station.is_short() {
-            return Err(ReplayFault::Memory);
-        }
         piece.push_str(&report)?;
         if let Some(end) = end {
             return Ok(end);
@@ -120,7 +117,7 @@ pub fn add_segment<'b, W: Write>(
     match add_lines(alloc, &mut station, lines, piece, writer)? {
         End::Run(verdict) => Ok(SegmentEnd::Run(verdict)),
         End::Cut(outcome) => {
-            let keeper = station.cut(outcome)?;
+            let keeper = station.cut(outcome);
             add_cut(alloc, keeper.register().open_count(), piece, writer)?;
             Ok(SegmentEnd::Cut(keeper))
         }

@@ -4,9 +4,10 @@ ghost use Rattle.std.specs.Prelude.{◌≡◌, ◌+◌, length, false, [], IfOk}
 ghost use Rattle.lift_disk.specs.Disk.{IsUnarmed};
 ghost use Rattle.lift_disk.specs.Faults.{fuse_state_of};
 ghost use Rattle.lift_disk.specs.Outcomes.{IsLeftBy};
-ghost use Rattle.lift_register.specs.Register.{empty};
+ghost use Rattle.lift_register.specs.Register.{RegisterState, empty};
 ghost use Rattle.lift_desk.specs.Seats.{AreSeatsOf, IsClerkOf, OwesNothing, seats_from};
 ghost use Rattle.lift_keeper.specs.Decider.{starting};
+ghost use Rattle.lift_keeper.specs.Images.{IsImageOf};
 ghost use Rattle.lift_keeper.specs.Reopening.{Reopens};
 ghost use Rattle.lift_replay.specs.Group.{GroupState, first_group, left_by, recovered};
 ghost use Rattle.lift_replay.specs.Recovering.{Recovers};
@@ -36,25 +37,27 @@ pub struct Station<'d, 'b> {
     ghost count: { length terminals.seats.items ≡ 16 + length building.now.kiosks },
 }
 
-/// The keeper over a device in memory that is honest, unarmed and formatted for the building: there an opening fails only
-/// where a growth was refused, which no clause says. Each refusal is told so.
-fn keeper_over(disk: FuseDisk, building: &Building) -> Result<Keeper<'_, FuseDisk>, Memory>
-    ensures opens { IfOk result (λ keeper. Reopens building.now (fuse_state_of disk) (fuse_state_of keeper.writer.device)
-        keeper.writer.register keeper.writer.half keeper.writer.is_second keeper.writer.used) }
-    ensures image { IfOk result (λ keeper. (fuse_state_of keeper.writer.device).image ≡ (fuse_state_of disk).image) }
-    ensures recovers { IfOk result (λ keeper. Recovers building.now (fuse_state_of keeper.writer.device).image keeper.writer.register) }
-    ensures unarmed { IfOk result (λ keeper. IsUnarmed (fuse_state_of disk) → IsUnarmed (fuse_state_of keeper.writer.device)) }
-    ensures state { IfOk result (λ keeper. keeper.state ≡ starting keeper.writer.register) }
-    ensures plan { IfOk result (λ keeper. keeper.writer.plan ≡ building.now) }
-    ensures whole { IfOk result (λ keeper. (keeper.writer.is_broken ≡ false) × (keeper.writer.doubt ≡ [])) }
+/// The keeper over a device in memory that fails no call by itself, and reads as a register of the building: there an opening
+/// isn't refused.
+fn keeper_over(disk: FuseDisk, building: &Building) -> Keeper<'_, FuseDisk>
+    requires unarmed { IsUnarmed (fuse_state_of disk) }
+    requires readable { (register : RegisterState) × IsImageOf building.now register (fuse_state_of disk).image }
+    ensures opens { Reopens building.now (fuse_state_of disk) (fuse_state_of result.writer.device)
+        result.writer.register result.writer.half result.writer.is_second result.writer.used }
+    ensures image { (fuse_state_of result.writer.device).image ≡ (fuse_state_of disk).image }
+    ensures recovers { Recovers building.now (fuse_state_of result.writer.device).image result.writer.register }
+    ensures unarmed { IsUnarmed (fuse_state_of result.writer.device) }
+    ensures state { result.state ≡ starting result.writer.register }
+    ensures plan { result.writer.plan ≡ building.now }
+    ensures whole { (result.writer.is_broken ≡ false) × (result.writer.doubt ≡ []) }
 {
     match Keeper::open(disk, building) {
-        Ok(keeper) => Ok(keeper),
-        Err(_) => Err(Memory),
+        Ok(keeper) => keeper,
+        Err(_) => unreachable!(),
     }
 }
 
-/// The keeper over a formatted device in memory: nobody has called.
+/// The keeper over a formatted device in memory: nobody has called. It is refused only where the device takes its memory.
 pub fn first_keeper(alloc: Global, building: &Building) -> Result<Keeper<'_, FuseDisk>, Memory>
     ensures empty { IfOk result (λ keeper. keeper.writer.register ≡ empty) }
     ensures unarmed { IfOk result (λ keeper. IsUnarmed (fuse_state_of keeper.writer.device)) }
@@ -65,8 +68,8 @@ pub fn first_keeper(alloc: Global, building: &Building) -> Result<Keeper<'_, Fus
 {
     let mut disk = FuseDisk::new(MemDisk::new(alloc, 2 * HALF + 2)?);
     match format(&mut disk, building.shape(HALF)) {
-        Ok(()) => keeper_over(disk, building),
-        Err(_) => Err(Memory),
+        Ok(()) => Ok(keeper_over(disk, building)),
+        Err(_) => unreachable!(),
     }
 }
 
@@ -98,25 +101,17 @@ impl<'d, 'b> Station<'d, 'b> {
         }
     }
 
-    /// Whether a growth inside the device was refused.
-    pub fn is_short(&self) -> bool
-        ensures { result ≡ (fuse_state_of self.now.clerk.keeper.writer.device).is_short }
-    {
-        self.clerk.short()
-    }
-
     /// The power is cut, and comes back: the keeper that recovers what is left, over a device that fails no call by itself.
-    pub fn cut(self, outcome: Outcome) -> Result<Keeper<'b, FuseDisk>, Memory>
-        ensures left { IfOk result (λ keeper. IsLeftBy outcome (fuse_state_of self.entry.clerk.keeper.writer.device) (fuse_state_of keeper.writer.device).image) }
-        ensures recovers { IfOk result (λ keeper. Recovers self.entry.building.now (fuse_state_of keeper.writer.device).image keeper.writer.register) }
-        ensures unarmed { IfOk result (λ keeper. IsUnarmed (fuse_state_of keeper.writer.device)) }
-        ensures state { IfOk result (λ keeper. keeper.state ≡ starting keeper.writer.register) }
-        ensures plan { IfOk result (λ keeper. keeper.writer.plan ≡ self.entry.building.now) }
-        ensures whole { IfOk result (λ keeper. (keeper.writer.is_broken ≡ false) × (keeper.writer.doubt ≡ [])) }
+    pub fn cut(self, outcome: Outcome) -> Keeper<'b, FuseDisk>
+        ensures left { IsLeftBy outcome (fuse_state_of self.entry.clerk.keeper.writer.device) (fuse_state_of result.writer.device).image }
+        ensures recovers { Recovers self.entry.building.now (fuse_state_of result.writer.device).image result.writer.register }
+        ensures unarmed { IsUnarmed (fuse_state_of result.writer.device) }
+        ensures state { result.state ≡ starting result.writer.register }
+        ensures plan { result.writer.plan ≡ self.entry.building.now }
+        ensures whole { (result.writer.is_broken ≡ false) × (result.writer.doubt ≡ []) }
         // It is the keeper of the group that the cut leaves, of whichever group the station shows.
-        ensures kept { IfOk result (λ keeper. (g : GroupState) → Shows self.entry.building.now g self.entry.clerk self.entry.terminals.seats.items
-            → (fuse_state_of self.entry.clerk.keeper.writer.device).is_short ≡ false
-            → IsKept self.entry.building.now (recovered self.entry.building.now (left_by outcome g)) keeper) }
+        ensures kept { (g : GroupState) → Shows self.entry.building.now g self.entry.clerk self.entry.terminals.seats.items
+            → IsKept self.entry.building.now (recovered self.entry.building.now (left_by outcome g)) result }
     {
         let _placed = self.clerk.keeper().safe_register();
         let (_seat, keeper, _policy) = self.clerk.into_parts();

@@ -26,7 +26,7 @@ loop-preserved g c =
           (subst (λ p. LineTells p c.loop.station.clerk c.push_line.new.station.clerk c.loop.station.terminals.seats.items c.push_line.new.station.terminals.seats.items c.in-Some.line.now c.in-Some.number None tells.0) same
           (subst (λ end. LineTells c.loop.station.building.now c.loop.station.clerk c.push_line.new.station.clerk c.loop.station.terminals.seats.items c.push_line.new.station.terminals.seats.items c.in-Some.line.now c.in-Some.number end tells.0) c.in_default-end.is tells.1)) in
           let more = line_goes_on c.decisions_are_computed.ensures.etd plan before.1 c.loop.station.clerk c.push_line.new.station.clerk c.loop.station.terminals.seats.items c.push_line.new.station.terminals.seats.items
-          before.2 (subst (λ (p : Plan). length c.loop.station.terminals.seats.items ≡ 16 + length p.kiosks) same c.loop.station.count) (sym c.is_short.ensures ∙ c.if-is_short.false)
+          before.2 (subst (λ (p : Plan). length c.loop.station.terminals.seats.items ≡ 16 + length p.kiosks) same c.loop.station.count) refl
           c.args.lines.now.count c.loop.lines.count group (lines_in c.args.lines.now.rest.now) (lines_in c.loop.lines.rest.now) (lines_in c.next.new.self.rest.now) c.in-Some.line.now before.0 tells.0 number
           c.in-Some.ensures.first (c.in-Some.ensures.counted ∙ c.in-Some.ensures.number) before.3 line in (
             before.0 ++ tells.0,
@@ -54,7 +54,7 @@ returns-in-Some-end-clause-tells g c = λ group shows.
     (subst (λ p. LineTells p c.loop.station.clerk c.push_line.new.station.clerk c.loop.station.terminals.seats.items c.push_line.new.station.terminals.seats.items c.in-Some.line.now c.in-Some.number (Some c.in-Some-end.end) tells.0) same
     (subst (λ end. LineTells c.loop.station.building.now c.loop.station.clerk c.push_line.new.station.clerk c.loop.station.terminals.seats.items c.push_line.new.station.terminals.seats.items c.in-Some.line.now c.in-Some.number end tells.0) c.in-Some-end.is tells.1)) in
     let more = line_ends c.decisions_are_computed.ensures.etd plan before.1 c.loop.station.clerk c.push_line.new.station.clerk c.loop.station.terminals.seats.items c.push_line.new.station.terminals.seats.items
-    before.2 (subst (λ (p : Plan). length c.loop.station.terminals.seats.items ≡ 16 + length p.kiosks) same c.loop.station.count) (sym c.is_short.ensures ∙ c.if-is_short.false)
+    before.2 (subst (λ (p : Plan). length c.loop.station.terminals.seats.items ≡ 16 + length p.kiosks) same c.loop.station.count) refl
     c.args.lines.now.count c.loop.lines.count group (lines_in c.args.lines.now.rest.now) (lines_in c.loop.lines.rest.now) (lines_in c.next.new.self.rest.now) c.in-Some.line.now before.0 tells.0 number
     c.in-Some.ensures.first (c.in-Some.ensures.counted ∙ c.in-Some.ensures.number) before.3 c.in-Some-end.end line in (
       before.0 ++ tells.0,
@@ -76,11 +76,6 @@ pub returns-in_err-end-clause-front : goal.returns-in_err-end-clause-front
 returns-in_err-end-clause-front g c = err_so c.from_residual.result (λ group shows.
     let before = c.loop.invariant.tells group shows in
     tells_so_far c.args.station.now.building.now c.args.lines.now.count c.loop.lines.count group before.1 (lines_in c.args.lines.now.rest.now) (lines_in c.loop.lines.rest.now) _ _ _ _ before.0 before.3 before.4)
-
-pub returns-then-is_short-clause-front : goal.returns-then-is_short-clause-front
-returns-then-is_short-clause-front g c = λ group shows.
-    let before = c.loop.invariant.tells group shows in
-    tells_so_far c.args.station.now.building.now c.args.lines.now.count c.loop.lines.count group before.1 (lines_in c.args.lines.now.rest.now) (lines_in c.loop.lines.rest.now) _ _ _ _ before.0 before.3 before.4
 
 pub returns-in_err-push_str-clause-front : goal.returns-in_err-push_str-clause-front
 returns-in_err-push_str-clause-front g c = err_so c.from_residual-in_err-push_str.result (λ group shows.
@@ -104,7 +99,7 @@ returns-in_err-put_large_piece-clause-front g c =
     (subst (λ p. LineTells p c.loop.station.clerk c.push_line.new.station.clerk c.loop.station.terminals.seats.items c.push_line.new.station.terminals.seats.items c.in-Some.line.now c.in-Some.number None tells.0) same
     (subst (λ end. LineTells c.loop.station.building.now c.loop.station.clerk c.push_line.new.station.clerk c.loop.station.terminals.seats.items c.push_line.new.station.terminals.seats.items c.in-Some.line.now c.in-Some.number end tells.0) c.in_default-end.is tells.1)) in
     let more = line_goes_on c.decisions_are_computed.ensures.etd plan before.1 c.loop.station.clerk c.push_line.new.station.clerk c.loop.station.terminals.seats.items c.push_line.new.station.terminals.seats.items
-    before.2 (subst (λ (p : Plan). length c.loop.station.terminals.seats.items ≡ 16 + length p.kiosks) same c.loop.station.count) (sym c.is_short.ensures ∙ c.if-is_short.false)
+    before.2 (subst (λ (p : Plan). length c.loop.station.terminals.seats.items ≡ 16 + length p.kiosks) same c.loop.station.count) refl
     c.args.lines.now.count c.loop.lines.count group (lines_in c.args.lines.now.rest.now) (lines_in c.loop.lines.rest.now) (lines_in c.next.new.self.rest.now) c.in-Some.line.now before.0 tells.0 number
     c.in-Some.ensures.first (c.in-Some.ensures.counted ∙ c.in-Some.ensures.number) before.3 line in
     tells_more plan c.args.lines.now.count number group more.0 (lines_in c.args.lines.now.rest.now) (lines_in c.next.new.self.rest.now) _ _ _ _ _ _ (before.0 ++ tells.0) more.2
