@@ -292,7 +292,7 @@ fn a_seat_ahead_takes_and_the_clerk_answers(rt: HostRuntime) -> Result<(), Fail>
     Ok(())
 }
 
-// One of the two answers, whichever growth is refused.
+// All of it, where memory is not wanting.
 #[test]
 fn memory_or_the_whole_desk(rt: HostRuntime) {
     match Desk::open(rt.alloc(), 3) {

@@ -70,7 +70,7 @@ fn a_failed_write_spoils_its_sector(rt: HostRuntime) {
     assert!(rt; holds(&mut inner.cut(Outcome::Fill(4)), [4, 4, 8, 4]));
 }
 
-/// Run with each allocation refused in turn: a device that was made takes no memory, so no call fails for want of it.
+/// Twenty rounds of calls on a device that was made: each succeeds, and it is never short of memory.
 #[test]
 fn a_call_takes_no_memory(rt: HostRuntime) {
     let Ok(inner) = MemDisk::new(rt.alloc(), 4) else {

@@ -230,47 +230,31 @@ fn stop_at<D: Failing + Drop>(
     journal.into_disk().into_memory().cut(Outcome::Keep)
 }
 
-/// The same by one of both devices, which differ in what they do behind the first failure.
-fn stop_by_turns(
-    rt: &impl Abort,
-    disk: MemDisk,
-    work: &Work,
-    failures: &Failures,
-    turn: usize,
-) -> MemDisk {
-    if turn % 2 == 0 {
-        stop_at::<FuseDisk>(rt, disk, work, failures)
-    } else {
-        stop_at::<FlakyDisk>(rt, disk, work, failures)
-    }
+/// The same by a device that fails from then on, and by one that fails once.
+fn stop_both(rt: &impl Abort, disk: MemDisk, work: &Work, failures: &Failures) -> MemDisk {
+    let disk = stop_at::<FuseDisk>(rt, disk, work, failures);
+    stop_at::<FlakyDisk>(rt, disk, work, failures)
 }
 
 /// Each call of the recovery fails in turn, and none where it is one behind the last. After the first of them, the sync,
 /// loose sectors end in each way.
-fn stop_recoveries(
-    rt: &impl Abort,
-    mut disk: MemDisk,
-    work: &Work,
-    first: &Failures,
-    mut turn: usize,
-) -> MemDisk {
+fn stop_recoveries(rt: &impl Abort, mut disk: MemDisk, work: &Work, first: &Failures) -> MemDisk {
     for cut_again in CUTS {
-        turn = turn.wrapping_add(1);
         let failures = Failures {
             cut_again,
             ..*first
         };
-        disk = stop_by_turns(rt, disk, work, &failures, turn);
+        disk = stop_both(rt, disk, work, &failures);
     }
     let calls = work.calls_before.max(work.calls_after);
     for recovery in 2..calls.wrapping_add(2) {
-        turn = turn.wrapping_add(1);
+        let turn = first.work.wrapping_add(recovery);
         let failures = Failures {
             recovery,
-            cut_again: CUTS[turn % 6],
+            cut_again: CUTS[turn as usize % 6],
             ..*first
         };
-        disk = stop_by_turns(rt, disk, work, &failures, turn);
+        disk = stop_both(rt, disk, work, &failures);
     }
     disk
 }
@@ -279,15 +263,14 @@ fn stop_recoveries(
 fn stop_all<R: AllocGlobal + Abort>(rt: &R, work: &Work) {
     let mut disk = MemDisk::new(rt.alloc(), 130).ok().expect(rt, "memory");
     for failed in 1..work.calls.wrapping_add(2) {
-        for (place, cut) in CUTS.into_iter().enumerate() {
+        for cut in CUTS {
             let first = Failures {
                 work: failed,
                 cut,
                 recovery: 1,
                 cut_again: None,
             };
-            let turn = place.wrapping_add(failed as usize);
-            disk = stop_recoveries(rt, disk, work, &first, turn);
+            disk = stop_recoveries(rt, disk, work, &first);
         }
     }
 }

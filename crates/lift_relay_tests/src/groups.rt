@@ -2,7 +2,7 @@
 ghost use Rattle.std.specs.Prelude.{◌≡◌, ◌<◌, ◌≤◌, ◌+◌, length, vec_len, IfOk};
 ghost use Rattle.lift_desk.specs.Seats.{IsSeatOf, IsClerkOf, AreSeatsOf, OwesNothing};
 
-use lift_base::{Body, Dir, Floor, Letter, Memory, Number, Party, Reply};
+use lift_base::{Body, Dir, Floor, Letter, Memory, Number, Party, Reply, Terminal};
 use lift_building::Building;
 use lift_desk::{Desk, DeskParts, Seat};
 use lift_disk::MemDisk;
@@ -56,6 +56,10 @@ pub(crate) fn call(to: u8) -> Body {
 
 pub(crate) fn car(index: u8) -> Option<Reply> {
     Some(Reply::Car(Letter::new(index).unwrap_or_default()))
+}
+
+pub(crate) fn kiosk(index: u8) -> Terminal {
+    Terminal::of_kiosk(index).unwrap_or_default()
 }
 
 /// A device with an empty journal for a building.
@@ -120,6 +124,7 @@ impl<'d> Terminals<'d> {
     pub(crate) fn of(desk: &'d Desk, seats: Vec<Seat>) -> Self
         requires seats { AreSeatsOf desk.now seats.items }
         requires count { vec_len seats ≡ 19 }
+        ensures { result.desk.now ≡ desk.now }
     {
         let mut seats = seats;
         let kiosk_2 = last_seat(desk, &mut seats);
@@ -141,7 +146,9 @@ impl<'d> Terminals<'d> {
     }
 
     /// Whether its ask was stored.
-    pub(crate) fn ask(&mut self, who: Who, told: u32, body: Body) -> bool {
+    pub(crate) fn ask(&mut self, who: Who, told: u32, body: Body) -> bool
+        ensures { self.new.desk.now ≡ self.old.desk.now }
+    {
         let desk = self.desk;
         match who {
             Who::CarA => desk.ask(&mut self.car_a, number(told), body).is_ok(),
@@ -150,6 +157,22 @@ impl<'d> Terminals<'d> {
             Who::Kiosk1 => desk.ask(&mut self.kiosk_1, number(told), body).is_ok(),
             Who::Kiosk2 => desk.ask(&mut self.kiosk_2, number(told), body).is_ok(),
         }
+    }
+
+    /// The seats of kiosks 0 and 1.
+    pub(crate) fn into_kiosks(self) -> (Seat, Seat)
+        ensures first { IsSeatOf self.entry.desk.now result.0 }
+        ensures second { IsSeatOf self.entry.desk.now result.1 }
+    {
+        let Terminals {
+            desk: _,
+            car_a: _,
+            car_b: _,
+            kiosk_0,
+            kiosk_1,
+            kiosk_2: _,
+        } = self;
+        (kiosk_0, kiosk_1)
     }
 
     /// What it hears at one look.

@@ -1,4 +1,5 @@
 //! Both parts of one split, held together.
+ghost use Rattle.std.specs.Prelude.{◌≡◌, IfOk};
 ghost use Rattle.lift_desk.specs.Seats.{IsClerkOf, OwesNothing};
 ghost use Rattle.lift_relay.specs.Relay.{AreOfOne};
 
@@ -23,7 +24,9 @@ pub struct Relay<'d, 'b, D: Disk + Drop, P: Policy + Drop> {
 }
 
 impl<'d, 'b, D: Disk + Drop, P: Policy + Drop> Relay<'d, 'b, D, P> {
-    pub(crate) fn of(alloc: Global, clerk: Clerk<'d, 'b, D, P>) -> Result<Self, Fail> {
+    pub(crate) fn of(alloc: Global, clerk: Clerk<'d, 'b, D, P>) -> Result<Self, Fail>
+        ensures { IfOk result (λ relay. relay.allocator.desk ≡ clerk.entry.desk) }
+    {
         match split(alloc, clerk) {
             Ok((allocator, flusher)) => Ok(Relay { allocator, flusher }),
             Err(_) => Err("memory".into()),
@@ -77,6 +80,7 @@ impl<'d, 'b, D: Disk + Drop, P: Policy + Drop> Relay<'d, 'b, D, P> {
     ) -> Option<RunFault>
     where
         P: Send,
+        ensures { self.new.allocator.desk ≡ self.old.allocator.desk }
     {
         run(rt, &mut self.allocator, &mut self.flusher, gate)
     }
@@ -89,7 +93,9 @@ impl<'d, 'b, D: Disk + Drop, P: Policy + Drop> Relay<'d, 'b, D, P> {
         }
     }
 
-    pub(crate) fn rejoined(self) -> Result<Clerk<'d, 'b, D, P>, Self> {
+    pub(crate) fn rejoined(self) -> Result<Clerk<'d, 'b, D, P>, Self>
+        ensures { IfOk result (λ clerk. clerk.desk ≡ self.entry.allocator.desk) }
+    {
         match rejoin(self.allocator, self.flusher) {
             Ok(clerk) => Ok(clerk),
             Err((allocator, flusher)) => Err(Relay { allocator, flusher }),

@@ -1,13 +1,17 @@
-//! Both parts on two threads: the disk holds the first batch's last sync until the policy was asked for the second batch.
+//! Both parts on two threads: the disk holds the first sync of the first batch until the policy was asked for the second batch, or
+//! it fails, and the parts go on.
 use crate::groups::{Terminals, Who, call, formatted, group, open, place};
 use crate::relays::Relay;
 use lift_base::{Dir, Letter, Reply};
 use lift_building::Building;
+use lift_clerk::Clerk;
 use lift_cost::NewCall;
 use lift_desk::DeskParts;
-use lift_disk::{Disk, DiskFault, MemDisk};
+use lift_disk::{Disk, DiskFault, FlakyDisk, MemDisk};
+use lift_journal::JournalFault;
+use lift_keeper::{Keeper, KeeperFault};
 use lift_policy::{Eligible, Etd, Policy, View};
-use lift_relay::Gate;
+use lift_relay::{Gate, RunFault};
 use std::process::Abort;
 use std::sync::Wait;
 use std::sync::atomic::{AtomicU64, Ordering};
@@ -117,12 +121,12 @@ impl<'a> Disk for Holding<'a> {
 /// Goes on until it is closed.
 #[derive(Drop)]
 struct Open<'a> {
-    shared: &'a Shared,
+    closed: &'a AtomicU64,
 }
 
 impl<'a> Gate for Open<'a> {
     fn go_on(&self) -> bool {
-        self.shared.closed.load(Ordering::SeqCst) == 0
+        self.closed.load(Ordering::SeqCst) == 0
     }
 }
 
@@ -174,11 +178,52 @@ fn second_batch_is_decided_while_the_first_is_synced(rt: HostRuntime) -> Result<
     let mut relay = Relay::begin(rt.alloc(), &desk, clerk, disk, &building, policy)?;
     placed(&rt, &mut terminals, &mut relay);
     shared.armed.store(1, Ordering::SeqCst);
-    let gate = Open { shared: &shared };
+    let gate = Open {
+        closed: &shared.closed,
+    };
     let (heard, fault) = thread::join(&rt, || kiosks(terminals, &shared), || relay.run(&rt, &gate));
     assert!(rt; fault.is_none() && shared.held.load(Ordering::SeqCst) == 1);
     assert!(rt; relay.sent() == 3 && relay.received() == 3);
     assert!(rt; matches!(heard, (Some(Reply::Car(_)), Some(Reply::Car(_)))));
     assert!(rt; relay.open_calls() == Some(2));
+    Ok(())
+}
+
+/// Three calls, each once the one before it was answered, and the gate is closed. Whether each was asked and answered Unknown.
+fn are_unknown(mut terminals: Terminals, closed: &AtomicU64) -> bool {
+    let mut are_unknown = true;
+    for who in [Who::Kiosk0, Who::Kiosk1, Who::Kiosk0] {
+        let is_asked = terminals.ask(who, 1, call(9));
+        let is_unknown = terminals.wait_for(who, LIMIT) == Some(Reply::Unknown);
+        are_unknown = are_unknown && is_asked && is_unknown;
+    }
+    closed.store(1, Ordering::SeqCst);
+    are_unknown
+}
+
+/// The device fails the first batch's first call, while the gate is open. The later batches are answered too, and the run tells the
+/// first fault.
+#[test]
+fn a_run_goes_on_behind_a_fault(rt: HostRuntime) -> Result<(), Fail> {
+    let building = group(rt.alloc())?;
+    let DeskParts { desk, seats, clerk } = open(rt.alloc())?;
+    let mut terminals = Terminals::of(&desk, seats);
+    let disk = FlakyDisk::new(formatted(rt.alloc(), &building)?);
+    let keeper = Keeper::open(disk, &building).ok().ok_or("refused")?;
+    let mut clerk = Clerk::new(&desk, clerk, keeper, Etd);
+    clerk.arm(1);
+    let mut relay = Relay::of(rt.alloc(), clerk)?;
+    placed(&rt, &mut terminals, &mut relay);
+    let closed = AtomicU64::new(0);
+    let gate = Open { closed: &closed };
+    let (heard, fault) = thread::join(
+        &rt,
+        || are_unknown(terminals, &closed),
+        || relay.run(&rt, &gate),
+    );
+    let failed = KeeperFault::Journal(JournalFault::Disk);
+    assert!(rt; heard && fault == Some(RunFault::Keeper(failed)));
+    assert!(rt; relay.sent() == 4 && relay.received() == 4);
+    assert!(rt; relay.rejoined().is_ok());
     Ok(())
 }

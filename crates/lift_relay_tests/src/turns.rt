@@ -1,7 +1,8 @@
 //! Both parts turned by one thread, and drained.
 ghost use Rattle.lift_desk.specs.Seats.{IsClerkOf, OwesNothing};
 
-use crate::groups::{Terminals, Who, call, car, formatted, group, open, place};
+use crate::devices::CountingDisk;
+use crate::groups::{Terminals, Who, call, car, formatted, group, kiosk, open, place};
 use crate::relays::Relay;
 use lift_base::{Dir, Reply};
 use lift_building::Building;
@@ -15,6 +16,7 @@ use lift_relay::{FlushCounts, Gate, RunFault};
 use std::alloc::Global;
 use std::process::Abort;
 use std::sync::Wait;
+use std::sync::atomic::{AtomicU64, Ordering};
 use std::test::Fail;
 
 const ONE: Result<FlushCounts, KeeperFault> = Ok(FlushCounts {
@@ -83,6 +85,22 @@ fn failing<'d, 'b>(
     Relay::of(alloc, clerk)
 }
 
+/// The line has room again for the batch in hand, and nothing is taken.
+fn sends_the_fifth<R: Wait + Abort, D: Disk + Drop>(rt: &R, relay: &mut Relay<'_, '_, D, Etd>) {
+    assert!(rt; relay.allocate(rt) == counts(0, 0) && !relay.has_batch_in_hand());
+    assert!(rt; relay.sent() == 5 && relay.received() == 1);
+}
+
+/// The numbers of the kiosks' last calls.
+fn last_numbers<D: Disk>(clerk: &Clerk<D, Etd>) -> (u32, u32, u32) {
+    let register = clerk.keeper().register();
+    (
+        register.last_number(kiosk(0)),
+        register.last_number(kiosk(1)),
+        register.last_number(kiosk(2)),
+    )
+}
+
 /// What the kiosks hear.
 fn heard(terminals: &mut Terminals) -> (Option<Reply>, Option<Reply>, Option<Reply>) {
     (
@@ -92,32 +110,31 @@ fn heard(terminals: &mut Terminals) -> (Option<Reply>, Option<Reply>, Option<Rep
     )
 }
 
-/// The fifth batch waits in hand until the flusher has received one.
+/// Five batches wait, the fifth in hand until the flusher has received one. A batch without entries is no call of the device, and
+/// each of the three calls is five.
 #[test]
 fn four_are_queued_and_one_is_in_hand(rt: HostRuntime) -> Result<(), Fail> {
     let building = group(rt.alloc())?;
     let DeskParts { desk, seats, clerk } = open(rt.alloc())?;
     let mut terminals = Terminals::of(&desk, seats);
-    let disk = formatted(rt.alloc(), &building)?;
+    let calls = AtomicU64::new(0);
+    let disk = CountingDisk::new(formatted(rt.alloc(), &building)?, &calls);
     let mut relay = Relay::begin(rt.alloc(), &desk, clerk, disk, &building, Etd)?;
     five_batches(&rt, &mut terminals, &mut relay);
-    let mut relay = match relay.rejoined() {
-        Err(relay) => relay,
-        Ok(_) => return Err("rejoined".into()),
-    };
-    assert!(rt; relay.flush(&rt) == ONE);
-    relay.tell();
-    assert!(rt; relay.allocate(&rt) == counts(0, 0) && !relay.has_batch_in_hand());
+    let begun = calls.load(Ordering::SeqCst);
+    assert!(rt; relay.flush(&rt) == ONE && calls.load(Ordering::SeqCst) == begun);
+    sends_the_fifth(&rt, &mut relay);
     for _ in 0..4u8 {
         assert!(rt; relay.flush(&rt) == ONE);
     }
-    assert!(rt; relay.flush(&rt) == NONE);
+    assert!(rt; calls.load(Ordering::SeqCst).saturating_sub(begun) == 15);
     assert!(rt; heard(&mut terminals) == (car(0), car(1), car(0)));
     assert!(rt; relay.open_calls() == Some(3));
     Ok(())
 }
 
-/// The same over a device whose sixth call fails: what was safe is answered, all later batches Unknown.
+/// The same over a device whose sixth call fails: what was safe is answered, all later batches Unknown, and only the first
+/// call is in.
 #[test]
 fn a_fault_between(rt: HostRuntime) -> Result<(), Fail> {
     let building = group(rt.alloc())?;
@@ -125,23 +142,41 @@ fn a_fault_between(rt: HostRuntime) -> Result<(), Fail> {
     let mut terminals = Terminals::of(&desk, seats);
     let mut relay = failing(rt.alloc(), &desk, clerk, &building)?;
     five_batches(&rt, &mut terminals, &mut relay);
-    for expected in [ONE, ONE, ONE, Err(FAILED), Err(BROKEN)] {
+    assert!(rt; relay.flush(&rt) == ONE);
+    sends_the_fifth(&rt, &mut relay);
+    for expected in [ONE, ONE, Err(FAILED), Err(BROKEN)] {
         assert!(rt; relay.flush(&rt) == expected);
     }
-    assert!(rt; relay.allocate(&rt) == counts(0, 0) && relay.flush(&rt) == Err(BROKEN));
     assert!(rt; heard(&mut terminals) == (car(0), Some(Reply::Unknown), Some(Reply::Unknown)));
-    match relay.rejoined() {
-        Ok(mut clerk) => {
-            assert!(rt; clerk.keeper().is_broken() && clerk.reopen() == Ok(()));
-            assert!(rt; clerk.keeper().register().open_count() == 1);
-        }
-        Err(_) => return Err("handed back".into()),
-    }
+    let Ok(mut clerk) = relay.rejoined() else {
+        return Err("handed back".into());
+    };
+    assert!(rt; clerk.keeper().is_broken() && clerk.reopen() == Ok(()));
+    assert!(rt; last_numbers(&clerk) == (1, 0, 0) && clerk.keeper().register().open_count() == 1);
     Ok(())
 }
 
-/// A batch in the line keeps the parts apart. A run through a gate that is closed turns nothing, and drains what is in hand and in
-/// the line.
+/// With a batch in the line, and none in hand, both parts come back, and go on.
+#[test]
+fn a_batch_in_the_line_keeps_the_parts_apart(rt: HostRuntime) -> Result<(), Fail> {
+    let building = group(rt.alloc())?;
+    let DeskParts { desk, seats, clerk } = open(rt.alloc())?;
+    let mut terminals = Terminals::of(&desk, seats);
+    let disk = formatted(rt.alloc(), &building)?;
+    let mut relay = Relay::begin(rt.alloc(), &desk, clerk, disk, &building, Etd)?;
+    assert!(rt; terminals.ask(Who::CarA, 0, place(0, Dir::Up)));
+    assert!(rt; relay.allocate(&rt) == counts(1, 0) && !relay.has_batch_in_hand());
+    let Err(mut relay) = relay.rejoined() else {
+        return Err("rejoined".into());
+    };
+    assert!(rt; relay.flush(&rt) == ONE && relay.flush(&rt) == NONE);
+    assert!(rt; terminals.hear(Who::CarA) == Some(Reply::Placed(None)));
+    assert!(rt; relay.open_calls() == Some(0));
+    Ok(())
+}
+
+/// A run through a gate that is closed turns nothing, and drains what is in hand and in the line. What the parts tell each other
+/// before it changes nothing.
 #[test]
 fn a_closed_gate_drains(rt: HostRuntime) -> Result<(), Fail> {
     let building = group(rt.alloc())?;
@@ -150,6 +185,7 @@ fn a_closed_gate_drains(rt: HostRuntime) -> Result<(), Fail> {
     let disk = formatted(rt.alloc(), &building)?;
     let mut relay = Relay::begin(rt.alloc(), &desk, clerk, disk, &building, Etd)?;
     five_batches(&rt, &mut terminals, &mut relay);
+    relay.tell();
     assert!(rt; relay.run(&rt, &Closed).is_none());
     assert!(rt; relay.sent() == 5 && relay.received() == 5 && !relay.has_batch_in_hand());
     assert!(rt; heard(&mut terminals) == (car(0), car(1), car(0)));

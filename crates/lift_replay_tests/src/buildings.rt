@@ -1,5 +1,4 @@
-//! Buildings' texts. Run with each allocation refused in turn, the answer is Memory or the right
-//! one.
+//! Buildings' texts: the right answer, where memory is not wanting.
 use lift_building::{Building, BuildingFault};
 
 /// Whether the text comes to this fault, or to none, or to want of memory.

@@ -1,6 +1,5 @@
-//! Tests of `lift_replay` that can't stand in text files: readers and writers that end, fail or
-//! never end, memory that is refused, and a call's way through the layers below. Its scripts and
-//! lines stand in `lift_script_cases`.
+//! Tests of `lift_replay`: readers and writers that end, fail or never end, a building's text, and a
+//! call's way through the layers below. Its scripts stand in `examples/cases`.
 #![tactic(auto)]
 
 #[cfg(test)]

@@ -1,24 +1,24 @@
-//! Tests: a call is decided while the device holds the sync of another.
+//! Tests: a call is decided, and the last connection that counts ends, while the device holds the sync of a call.
 ghost use Rattle.std.specs.Prelude.{◌≡◌, []};
-ghost use Rattle.std.specs.Thread.{IsSync};
 
 use crate::callers::{address, connected, end_server, follows, follows_step};
 use crate::group::{demo, formatted, opened};
+use crate::serving::serve_beside;
 use lift_base::Letter;
 use lift_building::Building;
 use lift_cost::NewCall;
 use lift_disk::{Disk, DiskFault, MemDisk};
-use lift_keeper::Keeper;
 use lift_policy::{Eligible, Etd, Policy, View};
-use lift_serve::{ServeFault, Served, serve};
+use lift_serve::Served;
 use std::alloc::Global;
 use std::net::{Net, TcpListener, TcpStream};
+use std::process::Abort;
 use std::sync::Wait;
 use std::sync::atomic::{AtomicU64, Ordering};
 use std::test::Fail;
 use std::thread;
 use std::thread::Threads;
-use std::time::Clock;
+use std::time::{Clock, Duration};
 
 /// How often a thread looks for what another does.
 const LIMIT: u64 = 20_000_000;
@@ -46,8 +46,12 @@ struct Shared {
     asked: AtomicU64,
     /// 1 where a sync was held.
     held: AtomicU64,
+    /// 1 where it is to be held no longer.
+    released: AtomicU64,
     /// 1 where all was heard.
     heard: AtomicU64,
+    /// 1 where the serving has ended.
+    ended: AtomicU64,
 }
 
 /// Whether a word comes to be so much at least, within so many looks.
@@ -62,16 +66,26 @@ fn comes_to(word: &AtomicU64, least: u64) -> bool {
 }
 
 impl Shared {
-    /// Holds the first sync behind a call until the policy was asked for a second one. True where it wasn't.
+    fn new() -> Self {
+        Shared {
+            asked: AtomicU64::new(0),
+            held: AtomicU64::new(0),
+            released: AtomicU64::new(0),
+            heard: AtomicU64::new(0),
+            ended: AtomicU64::new(0),
+        }
+    }
+
+    /// Holds the first sync behind a call until it is released, as by a second call. True where it wasn't.
     fn is_held_in_vain(&self) -> bool {
         if self.asked.load(Ordering::SeqCst) == 0 || self.held.swap(1, Ordering::SeqCst) == 1 {
             return false;
         }
-        !comes_to(&self.asked, 2)
+        !comes_to(&self.released, 1)
     }
 }
 
-/// Names cars as `Etd` does, and counts how often it was asked.
+/// Names cars as `Etd` does, and counts how often it was asked. The second time releases the sync.
 #[derive(Drop)]
 struct Counting<'a> {
     shared: &'a Shared,
@@ -89,7 +103,9 @@ impl<'a> Policy for Counting<'a> {
         call: NewCall,
         eligible: Eligible,
     ) -> Letter {
-        self.shared.asked.fetch_add(1, Ordering::SeqCst);
+        if self.shared.asked.fetch_add(1, Ordering::SeqCst) == 1 {
+            self.shared.released.store(1, Ordering::SeqCst);
+        }
         Etd.choose(building, view, call, eligible)
     }
 
@@ -164,81 +180,89 @@ fn both_call<R: Net<Listener = TcpListener, Stream = TcpStream>>(
     Some(have_heard)
 }
 
-/// The callers.
-fn call<R: Net<Listener = TcpListener, Stream = TcpStream>>(
+/// Kiosk 0 calls, and the sync for its call is held when the last connection that counts ends. It is released behind that; the
+/// kiosk hears its letter, and is closed then.
+fn one_calls<R: Clock + Net<Listener = TcpListener, Stream = TcpStream>>(
+    rt: &R,
+    port: u16,
+    shared: &Shared,
+) -> Option<bool> {
+    let kiosk = connected(rt, port)?;
+    let last = connected(rt, port)?;
+    let is_over = follows_step(&kiosk, ">KIOSK 0")
+        && follows_step(&kiosk, "<READY 0")
+        && follows_step(&kiosk, ">CALL 1 5")
+        && comes_to(&shared.held, 1)
+        && follows_step(&last, "-");
+    // Its end is counted just behind its closing.
+    thread::sleep(rt, Duration::from_millis(100));
+    shared.released.store(1, Ordering::SeqCst);
+    Some(is_over && follows_step(&kiosk, "<CAR A") && follows_step(&kiosk, "."))
+}
+
+/// The callers, of whom either both kiosks call or one.
+fn call<R: Clock + Net<Listener = TcpListener, Stream = TcpStream>>(
     rt: &R,
     alloc: Global,
     port: u16,
     shared: &Shared,
+    are_both: bool,
 ) {
-    if !follows(rt, alloc, port, PLACED) {
-        return;
-    }
-    if both_call(rt, port, shared) == Some(true) {
+    let is_placed = follows(rt, alloc, port, &shared.ended, PLACED);
+    let have_heard = if !is_placed {
+        None
+    } else if are_both {
+        both_call(rt, port, shared)
+    } else {
+        one_calls(rt, port, shared)
+    };
+    if have_heard == Some(true) {
         shared.heard.store(1, Ordering::SeqCst);
     } else {
-        end_server(rt, port);
+        end_server(rt, port, &shared.ended);
     }
 }
 
-/// Serves on a socket until four connections have ended, while a thread calls.
+/// Serves until so many connections have ended, while one kiosk calls or both do: how many calls are open behind it.
 fn serve_callers<
-    'a,
-    'b,
-    R: Threads + Wait + Clock + Net<Listener = TcpListener, Stream = TcpStream> + Sync,
->(
-    rt: &R,
-    alloc: Global,
-    listener: &TcpListener,
-    port: u16,
-    shared: &'a Shared,
-    building: &Building,
-    keeper: Keeper<'b, Holding<'a>>,
-) -> Result<Served<'b, Holding<'a>>, ServeFault>
-    requires { keeper.state.batch ≡ [] }
-{
-    thread::scope(
-        thread::scope_env(),
-        rt,
-        move |scope| -> Result<Served<Holding>, ServeFault>
-            requires sync { IsSync R.row }
-            requires settled { keeper.state.batch ≡ [] }
-        {
-            if scope.spawn(move || call(rt, alloc, port, shared)).is_err() {
-                return Err(ServeFault::Thread);
-            }
-            let policy = Counting { shared };
-            serve(rt, alloc, listener, 4, building, keeper, policy)
-        },
-    )
-}
-
-#[test]
-fn a_call_is_decided_while_a_sync_is_held(rt: HostRuntime) -> Result<(), Fail> {
-    let building = demo(rt.alloc())?;
-    let shared = Shared {
-        asked: AtomicU64::new(0),
-        held: AtomicU64::new(0),
-        heard: AtomicU64::new(0),
-    };
+    R: Threads + Wait + Clock + Abort + Net<Listener = TcpListener, Stream = TcpStream> + Sync,
+>(rt: &R, alloc: Global, shared: &Shared, sessions: u32, are_both: bool) -> Result<u32, Fail> {
+    let building = demo(alloc)?;
     let disk = Holding {
-        inner: formatted(rt.alloc(), &building)?.into_inner(),
-        shared: &shared,
+        inner: formatted(alloc, &building)?.into_inner(),
+        shared,
     };
     let keeper = opened(disk, &building)?;
-    let listener = TcpListener::bind(&rt, address(0))?;
+    let listener = TcpListener::bind(rt, address(0))?;
     let port = listener.local_addr()?.port();
-    match serve_callers(&rt, rt.alloc(), &listener, port, &shared, &building, keeper) {
+    let policy = Counting { shared };
+    let calls = move || call(rt, alloc, port, shared, are_both);
+    let ended = &shared.ended;
+    match serve_beside(
+        rt, alloc, &listener, sessions, &building, keeper, policy, ended, calls,
+    ) {
         Ok(
             Served {
                 keeper,
                 fault: None,
             },
-        ) => assert!(rt; !keeper.is_broken() && keeper.register().open_count() == 2),
-        _ => return Err("a fault of serving".into()),
+        ) if !keeper.is_broken() => Ok(keeper.register().open_count()),
+        _ => Err("a fault of serving".into()),
     }
-    assert!(rt;
-        shared.held.load(Ordering::SeqCst) == 1 && shared.heard.load(Ordering::SeqCst) == 1
-    );
+}
+
+#[test]
+fn a_call_is_decided_while_a_sync_is_held(rt: HostRuntime) -> Result<(), Fail> {
+    let shared = Shared::new();
+    assert!(rt; serve_callers(&rt, rt.alloc(), &shared, 4, true)? == 2);
+    assert!(rt; shared.heard.load(Ordering::SeqCst) == 1);
+    Ok(())
+}
+
+#[test]
+fn a_letter_comes_behind_the_last_end(rt: HostRuntime) -> Result<(), Fail> {
+    let shared = Shared::new();
+    assert!(rt; serve_callers(&rt, rt.alloc(), &shared, 3, false)? == 1);
+    assert!(rt; shared.heard.load(Ordering::SeqCst) == 1);
     Ok(())
 }

@@ -10,4 +10,4 @@ mod group;
 #[cfg(test)]
 mod loopback;
 #[cfg(test)]
-mod side_by_side;
+mod serving;

@@ -1,20 +1,20 @@
 //! Tests: `serve`, called over sockets.
 ghost use Rattle.std.specs.Prelude.{◌≡◌, []};
-ghost use Rattle.std.specs.Thread.{IsSync};
 
-use crate::callers::{address, follows};
+use crate::callers::{address, end_server, follows};
 use crate::group::{demo, formatted, opened};
+use crate::serving::serve_beside;
 use lift_building::Building;
 use lift_disk::{FuseDisk, Outcome};
 use lift_keeper::Keeper;
 use lift_policy::{Etd, FewestOpen, Shipped, ShortestWait};
-use lift_serve::{ServeFault, Served, serve};
+use lift_serve::Served;
 use std::alloc::Global;
 use std::net::{Net, TcpListener, TcpStream};
+use std::process::Abort;
 use std::sync::Wait;
 use std::sync::atomic::{AtomicU64, Ordering};
 use std::test::Fail;
-use std::thread;
 use std::thread::Threads;
 use std::time::Clock;
 
@@ -183,57 +183,51 @@ const BEHIND: &str = "\
 1.
 ";
 
-/// Follows a script, and counts one where it went as it has it.
-fn follow<R: Net<Listener = TcpListener, Stream = TcpStream>>(
+/// A kiosk is reset while its letter waits to be read. It comes back, and has it.
+const RESET: &str = "\
+1+
+1>CAR A
+1<READY 0
+1>PLACE 0 up
+1<IDLE
+2+
+2>KIOSK 0
+2<READY 0
+2>CALL 1 5
+2!
+2*KIOSK 0
+2<READY 1 A
+2>CALL 1 5
+2<CAR A
+2-
+1-
+0=
+";
+
+/// The connections that may end while that kiosk comes back.
+const ENOUGH: u32 = 80;
+
+/// Follows a script, and counts one where it went as it has it; else it ends the server.
+fn follow<R: Clock + Net<Listener = TcpListener, Stream = TcpStream>>(
     rt: &R,
     alloc: Global,
     port: u16,
     script: &str,
     count: &AtomicU64,
+    ended: &AtomicU64,
 ) {
-    if follows(rt, alloc, port, script) {
+    if follows(rt, alloc, port, ended, script) {
         count.fetch_add(1, Ordering::SeqCst);
+    } else {
+        end_server(rt, port, ended);
     }
 }
 
-/// Serves on a socket until so many connections have ended, while a thread follows a script.
-fn serve_callers<
-    'b,
-    R: Threads + Wait + Clock + Net<Listener = TcpListener, Stream = TcpStream> + Sync,
->(
-    rt: &R,
-    alloc: Global,
-    listener: &TcpListener,
-    port: u16,
-    script: &str,
-    count: &AtomicU64,
-    sessions: u32,
-    building: &Building,
-    keeper: Keeper<'b, FuseDisk>,
-    policy: Shipped,
-) -> Result<Served<'b, FuseDisk>, ServeFault>
-    requires { keeper.state.batch ≡ [] }
-{
-    thread::scope(
-        thread::scope_env(),
-        rt,
-        move |scope| -> Result<Served<FuseDisk>, ServeFault>
-            requires sync { IsSync R.row }
-            requires settled { keeper.state.batch ≡ [] }
-        {
-            if scope
-                .spawn(move || follow(rt, alloc, port, script, count))
-                .is_err()
-            {
-                return Err(ServeFault::Thread);
-            }
-            serve(rt, alloc, listener, sessions, building, keeper, policy)
-        },
-    )
-}
-
 /// The keeper behind the serving, where the script was followed and nothing but the device failed.
-fn served<'b, R: Threads + Wait + Clock + Net<Listener = TcpListener, Stream = TcpStream> + Sync>(
+fn served<
+    'b,
+    R: Threads + Wait + Clock + Abort + Net<Listener = TcpListener, Stream = TcpStream> + Sync,
+>(
     rt: &R,
     alloc: Global,
     building: &Building,
@@ -246,9 +240,11 @@ fn served<'b, R: Threads + Wait + Clock + Net<Listener = TcpListener, Stream = T
 {
     let listener = TcpListener::bind(rt, address(0))?;
     let port = listener.local_addr()?.port();
-    let count = AtomicU64::new(0);
-    match serve_callers(
-        rt, alloc, &listener, port, script, &count, sessions, building, keeper, policy,
+    let (followed, end) = (AtomicU64::new(0), AtomicU64::new(0));
+    let (count, ended) = (&followed, &end);
+    let calls = move || follow(rt, alloc, port, script, count, ended);
+    match serve_beside(
+        rt, alloc, &listener, sessions, building, keeper, policy, ended, calls,
     ) {
         Ok(
             Served {
@@ -290,6 +286,16 @@ fn a_day_and_the_next(rt: HostRuntime) -> Result<(), Fail> {
         THE_NEXT_DAY,
     )?;
     assert!(rt; !keeper.is_broken());
+    Ok(())
+}
+
+#[test]
+fn a_kiosk_is_reset(rt: HostRuntime) -> Result<(), Fail> {
+    let building = demo(rt.alloc())?;
+    let keeper = opened(formatted(rt.alloc(), &building)?, &building)?;
+    let policy = Shipped::Etd(Etd);
+    let keeper = served(&rt, rt.alloc(), &building, keeper, policy, ENOUGH, RESET)?;
+    assert!(rt; keeper.register().open_count() == 1);
     Ok(())
 }
 

@@ -208,6 +208,30 @@ fn limits_end_a_session(rt: HostRuntime) -> Result<(), Fail> {
     Ok(())
 }
 
+/// A line without an end, lines without end, and commands without end: its limits end the session.
+#[test]
+fn endless_readers(rt: HostRuntime) -> Result<(), Fail> {
+    let limits = Limits {
+        lines: 3,
+        looks: 2,
+        reads: 100,
+    };
+    for (text, wanted) in [
+        (b"#".as_slice(), b"READY 0\n".as_slice()),
+        (b"\n", b"READY 0\nBAD\nBAD\nBAD\n"),
+        (b"PLACE 0 up\n", b"READY 0\nNEXT 0 up\nIDLE\nUNKNOWN\n"),
+    ] {
+        let reader = Endless {
+            text,
+            given: 0,
+            calls: u64::MAX,
+        };
+        let (output, end) = talk_over(rt.alloc(), reader, Vec::new(rt.alloc()), limits)?;
+        assert!(rt; output.as_slice() == wanted && end.end == End::Limit);
+    }
+    Ok(())
+}
+
 /// What a session of a car with so few looks writes, and how it ends.
 pub(crate) fn impatient(
     alloc: Global,

@@ -1,0 +1,72 @@
+//! Serving beside threads that call.
+ghost use Rattle.std.specs.Prelude.{◌≡◌, []};
+ghost use Rattle.std.specs.Thread.{IsSync};
+
+use lift_building::Building;
+use lift_disk::Disk;
+use lift_keeper::Keeper;
+use lift_policy::Policy;
+use lift_serve::{ServeFault, Served, serve};
+use std::alloc::Global;
+use std::net::TcpListener;
+use std::process::Abort;
+use std::sync::Wait;
+use std::sync::atomic::{AtomicU64, Ordering};
+use std::thread;
+use std::thread::Threads;
+use std::time::{Clock, Duration};
+
+/// How long serving may take, in seconds.
+const LIMIT: u64 = 45;
+
+/// Ends the test where serving has not ended in time, as where nobody is accepted.
+fn watch<R: Clock + Abort>(rt: &R, ended: &AtomicU64) {
+    for _ in 0..LIMIT * 100 {
+        if ended.load(Ordering::SeqCst) == 1 {
+            return;
+        }
+        thread::sleep(rt, Duration::from_millis(10));
+    }
+    panic!(rt; "serving has not ended");
+}
+
+/// Serves on a socket until so many connections have ended, while a thread calls and another one watches.
+pub(crate) fn serve_beside<'b, R, D, P, C>(
+    rt: &R,
+    alloc: Global,
+    listener: &TcpListener,
+    sessions: u32,
+    building: &Building,
+    keeper: Keeper<'b, D>,
+    policy: P,
+    ended: &AtomicU64,
+    calls: C,
+) -> Result<Served<'b, D>, ServeFault>
+where
+    R: Threads + Wait + Clock + Abort + Sync,
+    D: Disk + Drop,
+    P: Policy + Drop + Send,
+    C: FnOnce() + Send + Drop,
+    requires settled { keeper.state.batch ≡ [] }
+    requires calls { C.pre calls }
+{
+    thread::scope(
+        thread::scope_env(),
+        rt,
+        move |scope| -> Result<Served<D>, ServeFault>
+            requires sync { IsSync R.row }
+            requires settled { keeper.state.batch ≡ [] }
+            requires calls { C.pre calls }
+        {
+            if scope.spawn(move || watch(rt, ended)).is_err() {
+                return Err(ServeFault::Thread);
+            }
+            let answer = match scope.spawn(calls) {
+                Ok(_) => serve(rt, alloc, listener, sessions, building, keeper, policy),
+                Err(_) => Err(ServeFault::Thread),
+            };
+            ended.store(1, Ordering::SeqCst);
+            answer
+        },
+    )
+}
