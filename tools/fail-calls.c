@@ -5,8 +5,9 @@
  *     LD_PRELOAD=$PWD/fail-calls.so REFUSE_AT=7 REFUSE_HOW=fail liftd replay <a.script
  *
  * REFUSE_AT is the number of the call, counted from 1; with REFUSE_ON set each later one is meant too. REFUSE_HOW: `fail`, it
- * fails and does nothing; `interrupt`, it says that a signal came; `short`, it moves a single byte; `nothing`, it moves none. The
- * last two leave calls alone that move no bytes. With REFUSE_COUNT, a path, the number of calls is written there at the end.
+ * fails and does nothing; `interrupt`, it says that a signal came; `short`, it moves a single byte; `nothing`, it moves none;
+ * `pretend`, it writes nothing and says that it wrote all. `short` and `nothing` leave calls alone that move no bytes, `pretend`
+ * those that write none. With REFUSE_COUNT, a path, the number of calls is written there at the end.
  * Counted are the calls that read, write and synchronize files and connections, open files, and take connections in.
  */
 #include <errno.h>
@@ -22,6 +23,7 @@
 static unsigned long calls, meant;
 static int goes_on, is_begun;
 static char how;
+static __thread int is_meant; /* whether this thread's last call is */
 
 __attribute__((constructor)) static void begin(void) {
     const char *at = getenv("REFUSE_AT"), *named = getenv("REFUSE_HOW");
@@ -44,7 +46,8 @@ void _exit(int status) {
 /* Whether this call fails. What it moves may become less. */
 static int fails(size_t *moved) {
     unsigned long call = is_begun ? __atomic_add_fetch(&calls, 1, __ATOMIC_RELAXED) : 0;
-    if (!meant || call < meant || (call > meant && !goes_on)) return 0;
+    is_meant = meant && call >= meant && (call == meant || goes_on);
+    if (!is_meant || how == 'p') return 0;
     if (how == 's' || how == 'n') {
         if (moved && *moved > 1) *moved = how == 's';
         return 0;
@@ -53,12 +56,15 @@ static int fails(size_t *moved) {
     return 1;
 }
 
+/* Whether this call only says that it wrote. */
+static int pretends(void) { return is_meant && how == 'p'; }
+
 ssize_t read(int fd, void *bytes, size_t count) {
     return fails(&count) ? -1 : syscall(SYS_read, fd, bytes, count);
 }
 
 ssize_t write(int fd, const void *bytes, size_t count) {
-    return fails(&count) ? -1 : syscall(SYS_write, fd, bytes, count);
+    return fails(&count) ? -1 : pretends() ? (ssize_t)count : syscall(SYS_write, fd, bytes, count);
 }
 
 ssize_t pread(int fd, void *bytes, size_t count, off_t offset) {
@@ -66,7 +72,7 @@ ssize_t pread(int fd, void *bytes, size_t count, off_t offset) {
 }
 
 ssize_t pwrite(int fd, const void *bytes, size_t count, off_t offset) {
-    return fails(&count) ? -1 : syscall(SYS_pwrite64, fd, bytes, count, offset);
+    return fails(&count) ? -1 : pretends() ? (ssize_t)count : syscall(SYS_pwrite64, fd, bytes, count, offset);
 }
 
 ssize_t recv(int fd, void *bytes, size_t count, int flags) {
@@ -74,7 +80,7 @@ ssize_t recv(int fd, void *bytes, size_t count, int flags) {
 }
 
 ssize_t send(int fd, const void *bytes, size_t count, int flags) {
-    return fails(&count) ? -1 : syscall(SYS_sendto, fd, bytes, count, flags, NULL, 0);
+    return fails(&count) ? -1 : pretends() ? (ssize_t)count : syscall(SYS_sendto, fd, bytes, count, flags, NULL, 0);
 }
 
 int fsync(int fd) { return fails(NULL) ? -1 : (int)syscall(SYS_fsync, fd); }
