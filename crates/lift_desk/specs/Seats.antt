@@ -7,7 +7,7 @@ use Rattle.lift_desk.specs.declared.view.ClerkView.{ClerkView}
 use Rattle.lift_desk.specs.declared.view.View.{View}
 use Rattle.lift_desk.specs.declared.words.Ask.{Ask}
 use Rattle.lift_desk.specs.Words.{turn_of, number_of, last_of, ask_word, reply_word, IsReply}
-use Rattle.lift_desk.specs.Loads.{Loaded}
+use Rattle.lift_desk.specs.Loads.{Loaded, is_odd}
 use Rattle.lift_desk.specs.Rule.{blank, no_asks, no_answers}
 use Rattle.lift_desk.specs.Spelled.{IsAsk}
 use Rattle.lift_desk.specs.Steps.{is_awaited, is_new}
@@ -136,6 +136,6 @@ IsNoteOf desk terminal note = (note.seated ≡ true) × (slice_index_or desk ter
 abbrev pub Says : ClerkView → ℕ → Ask → Type 0
 Says v word ask = IsAsk ask × TakesAheadOf v word (Some ask)
 
--- the looks that the clerk's view counts, and what was read last
+-- whether the looks that the clerk's view counts are odd, and what was read last
 abbrev pub loads_of : View → Loaded
-loads_of v = record { times = v.clerk.looks; last = v.clerk.last }
+loads_of v = record { odd = is_odd v.clerk.looks; last = v.clerk.last }

@@ -39,8 +39,8 @@ has_building plan text short described = record { text = text; short = short; de
 
 pub has_keeper : (plan : Plan) (opened : ImageDisk) (keeper : KeeperView ImageDisk) → (image_state_of opened).calls ≡ 0 → (image_state_of opened).failures ≡ 0
     → Reopens plan (image_state_of opened) (image_state_of keeper.writer.device) keeper.writer.register keeper.writer.half keeper.writer.is_second keeper.writer.used
-    → keeper.writer.is_broken ≡ false → HasKeeperOf plan keeper
-has_keeper plan opened keeper uncalled unhurt recovers whole = record { opened = opened; uncalled = uncalled; unhurt = unhurt; recovers = recovers; whole = whole }
+    → keeper.writer.is_broken ≡ false → keeper.writer.plan ≡ plan → HasKeeperOf plan keeper
+has_keeper plan opened keeper uncalled unhurt recovers whole own = record { opened = opened; uncalled = uncalled; unhurt = unhurt; recovers = recovers; whole = whole; own = own }
 
 pub has_no_keeper : (plan : Plan) (opened left : ImageDisk) (fault : KeeperFault) → (image_state_of opened).calls ≡ 0 → (image_state_of opened).failures ≡ 0
     → RefusesReopening plan (image_state_of opened) (image_state_of left) fault → HasNoKeeperOf ImageDisk image_state_of plan fault

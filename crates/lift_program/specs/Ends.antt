@@ -1,5 +1,5 @@
 -- How the program ends, and what it says of it.
-use Rattle.std.specs.Prelude.{ℕ, ◌≡◌, ◌⊎◌, ◌+◌, ◌*◌, List, [], ◌∷◌, ◌++◌, Option, Some, None, IfSome, true, false, codes}
+use Rattle.std.specs.Prelude.{ℕ, ◌≡◌, ◌⊎◌, ◌+◌, ◌*◌, List, [], ◌∷◌, ◌++◌, Option, Some, None, IfSome, true, false, codes, take}
 use Rattle.std.specs.Fmt.{decimal}
 use Rattle.std.specs.Io.KnownBytes.{Appends}
 use Rattle.clap.specs.Words.{Text}
@@ -188,10 +188,27 @@ IsEndFor request (Served port fault) = IsServedFor request port fault × IfSome 
 IsEndFor request (Failed fault) = IsFaultOf request fault
 IsEndFor request OtherWords = ⊥
 
--- What these words come to: an end of what they ask for, want of memory, or, where they ask for nothing, other words.
-abbrev pub IsEndOf : List Text → End → Type 0
-IsEndOf words OtherWords = (request : Request) → Asks words request → ⊥
-IsEndOf words end = (end ≡ Failed Memory) ⊎ ((request : Request) × Asks words request × IsEndFor request end)
+-- what is said where a port is served
+abbrev pub serving_text : ℕ → List ℕ
+serving_text port = codes "serving " ++ decimal port ++ 10 ∷ []
+
+-- what says that a port is served was written, or a front of it
+abbrev pub SaysFront : ℕ → (before after : Option (List ℕ)) → Type 0
+SaysFront port before after = (count : ℕ) × Appends before after (take count (serving_text port))
+
+-- where a port is to be served nothing is written but what says so
+abbrev pub WritesFor : Request → (before after : Option (List ℕ)) → Type 0
+WritesFor Replay before after = Unit {0}
+WritesFor (Format image building half) before after = Unit {0}
+WritesFor (Show image building) before after = Unit {0}
+WritesFor (Serve image building port sessions policy) before after = SaysFront port before after
+
+-- What these words come to: an end of what they ask for; want of memory for them, with nothing written; or, where they ask for nothing,
+-- other words.
+abbrev pub IsEndOf : List Text → (before after : Option (List ℕ)) → End → Type 0
+IsEndOf words before after OtherWords = (request : Request) → Asks words request → ⊥
+IsEndOf words before after end = ((end ≡ Failed Memory) × (after ≡ before))
+    ⊎ ((request : Request) × Asks words request × IsEndFor request end × WritesFor request before after)
 
 -- What was written of a fault: nothing of a building's, an image's, a journal's, or the port's.
 abbrev pub IsReportOfFault : Fault → (before after : Option (List ℕ)) → Type 0
@@ -204,10 +221,6 @@ IsReportOfFault (File Output) before after = Unit {0}
 IsReportOfFault Memory before after = Unit {0}
 IsReportOfFault Network before after = after ≡ before
 IsReportOfFault Thread before after = Unit {0}
-
--- what is said where a port is served
-abbrev pub serving_text : ℕ → List ℕ
-serving_text port = codes "serving " ++ decimal port ++ 10 ∷ []
 
 -- what was written is the report of a script, with this verdict
 abbrev pub IsReplayed : Verdict → (before after : Option (List ℕ)) → Type 0
@@ -225,7 +238,7 @@ IsReport OtherWords before after = after ≡ before
 -- the status of an end that these words come to, with its report, and whose line was told, if it has one
 pub record IsStatusFor {E : Type 0} (contents : E → Option (List ℕ)) (words : List Text) (before after : Option (List ℕ)) (old new : OutputState E) (status : ℕ) : Type 0 where
   pub end : End
-  pub is_end : IsEndOf words end
+  pub is_end : IsEndOf words before after end
   pub reported : IsReport end before after
   pub is_status : status ≡ status_of end
   pub told : IfSome (line_of end) (IsTold contents old new)

@@ -1,5 +1,5 @@
 -- The serving of a group.
-use Rattle.std.specs.Prelude.{ℕ, ◌≡◌, ◌⊎◌, false, List, Option, Some}
+use Rattle.std.specs.Prelude.{ℕ, ◌≡◌, false, List, Option}
 use Rattle.lift_building.specs.Describes.{IsTextOf}
 use Rattle.lift_building.specs.Plan.{Plan}
 use Rattle.lift_program.specs.Images.{image_state_of}
@@ -8,14 +8,14 @@ use Rattle.lift_keeper.specs.Keeper.{KeeperView}
 use Rattle.lift_keeper.specs.Reopening.{Reopens}
 use Rattle.lift_policy.specs.Choices.{IsShipped}
 use Rattle.lift_policy.specs.declared.shipped.Shipped.{Shipped}
-use Rattle.lift_serve.specs.Relaying.{IsRelayedKeeper}
+use Rattle.lift_serve.specs.Relaying.{ComesTo}
 use Rattle.lift_serve.specs.declared.serving.ServeFault.{ServeFault}
 use Rattle.lift_program.specs.Faults.{served_fault}
 use Rattle.lift_program.specs.declared.fault.Fault.{Fault}
 
--- The recovery opened a journal on a file, of a building that a text describes, and both parts of a clerk with this policy ran over it.
--- What is told is that the device failed, exactly where it did, and else the first fault of the rest.
-pub record TurnedOver (policy : Shipped) (fault : Option Fault) : Type 0 where
+-- The recovery opened a journal on a file, of a building that a text describes, and that building was served over it with this policy.
+-- What is told is that the device failed, exactly where it did, and else what the serving told.
+pub record IsServing (policy : Shipped) (fault : Option Fault) : Type 0 where
   pub text : List ℕ
   pub plan : Plan
   pub described : IsTextOf text plan
@@ -25,11 +25,8 @@ pub record TurnedOver (policy : Shipped) (fault : Option Fault) : Type 0 where
   pub keeper : KeeperView ImageDisk
   pub recovers : Reopens plan (image_state_of opened) (image_state_of keeper.writer.device) keeper.writer.register keeper.writer.half keeper.writer.is_second keeper.writer.used
   pub whole : keeper.writer.is_broken ≡ false
+  pub own : keeper.writer.plan ≡ plan
   pub last : KeeperView ImageDisk
-  pub relayed : IsRelayedKeeper (IsShipped policy) image_state_of policy keeper last
   pub other : Option ServeFault
+  pub comes : ComesTo (IsShipped policy) image_state_of policy keeper last other
   pub told : fault ≡ served_fault last.writer.is_broken other
-
--- what a serving with this policy came to; where it could not begin, its fault alone
-abbrev pub IsServing : Shipped → Option Fault → Type 0
-IsServing policy fault = TurnedOver policy fault ⊎ ((other : ServeFault) × (fault ≡ served_fault false (Some other)))

@@ -42,6 +42,7 @@ pub record HasKeeperOf (plan : Plan) (keeper : KeeperView ImageDisk) : Type 0 wh
   pub unhurt : (image_state_of opened).failures ≡ 0
   pub recovers : Reopens plan (image_state_of opened) (image_state_of keeper.writer.device) keeper.writer.register keeper.writer.half keeper.writer.is_second keeper.writer.used
   pub whole : keeper.writer.is_broken ≡ false
+  pub own : keeper.writer.plan ≡ plan
 
 -- an image was opened as such a device, and the recovery from it, of this building, was refused for this
 pub record HasNoKeeperOf (D : Type 0) (state : D → DiskState) (plan : Plan) (fault : KeeperFault) : Type 0 where

@@ -2,7 +2,7 @@
 
 ghost use Rattle.std.specs.Prelude.{◌≡◌, ◌≤◌, OnOk, IfOk, IfErr, IfSome};
 ghost use Rattle.std.specs.Io.KnownBytes.{Appends};
-ghost use Rattle.lift_program.specs.Ends.{IsFileFault, IsReportOfFault, IsServeFault, IsServingFault, serving_text};
+ghost use Rattle.lift_program.specs.Ends.{IsFileFault, IsReportOfFault, IsServeFault, IsServingFault, SaysFront, serving_text};
 ghost use Rattle.lift_program.specs.Faults.{served_fault};
 ghost use Rattle.lift_program.specs.Serving.{IsServing};
 ghost use Rattle.lift_program.specs.declared.fault.Role.TheVariants.{Output};
@@ -42,6 +42,7 @@ fn fault_of(is_broken: bool, fault: Option<ServeFault>) -> Option<Fault>
 /// Says which port is served.
 fn say<W: Write>(port: u16, writer: &mut W) -> Result<(), Fault>
     ensures said { OnOk result (Appends (W.contents writer.old) (W.contents writer.new) (serving_text port)) }
+    ensures front { SaysFront port (W.contents writer.old) (W.contents writer.new) }
     ensures fault { IfErr result (IsFileFault Output) }
 {
     let mut digits = Buffer::new();
@@ -60,7 +61,7 @@ fn say<W: Write>(port: u16, writer: &mut W) -> Result<(), Fault>
 
 /// Serves the building in the file `building` on a port of this machine, with the journal in the file `image`, until so many
 /// connections have ended. The answer is the fault that did not end it, if there was one.
-#[tactic(auto, using(crate::proofs::Stages::building_serves, crate::proofs::Stages::keeper_serves, crate::proofs::Stages::nothing_written, crate::proofs::Stages::opens_journal, crate::proofs::Stages::output_serves))]
+#[tactic(auto, using(crate::proofs::Stages::building_serves, crate::proofs::Stages::keeper_serves, crate::proofs::Stages::nothing_written, crate::proofs::Stages::opens_journal, crate::proofs::Stages::output_serves, crate::proofs::Writing::nothing_said, crate::proofs::Writing::said_front))]
 pub fn serve<
     R: Files<File = File>
         + Threads
@@ -84,6 +85,7 @@ pub fn serve<
     ensures serving { IfOk result (λ fault. IfSome fault IsServingFault) }
     ensures fault { IfErr result IsServeFault }
     ensures report { IfErr result (λ fault. IsReportOfFault fault (W.contents writer.old) (W.contents writer.new)) }
+    ensures front { SaysFront port (W.contents writer.old) (W.contents writer.new) }
 {
     let building = building_in(rt, alloc, building)?;
     let keeper = keeper_in(rt, image, &building)?;
@@ -92,8 +94,6 @@ pub fn serve<
         return Err(Fault::Network);
     };
     say(port, writer)?;
-    match lift_serve::serve(rt, alloc, &listener, sessions, &building, keeper, policy) {
-        Ok(served) => Ok(fault_of(served.keeper.is_broken(), served.fault)),
-        Err(fault) => Ok(fault_of(false, Some(fault))),
-    }
+    let served = lift_serve::serve(rt, alloc, &listener, sessions, keeper, policy);
+    Ok(fault_of(served.keeper.is_broken(), served.fault))
 }

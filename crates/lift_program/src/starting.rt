@@ -5,7 +5,7 @@ ghost use Rattle.std.specs.IoError.{error_kind};
 ghost use Rattle.lift_replay.specs.Reading.{IsRead};
 ghost use Rattle.lift_replay.specs.declared.lines.Verdict.TheVariants.{Good};
 ghost use Rattle.lift_program.specs.declared.fault.Role.TheVariants.{Input, Output};
-ghost use Rattle.lift_program.specs.Ends.{IsEndFor, IsEndOf, IsReport, IsStatusFor, IsUnread, IsUnwritten, line_of};
+ghost use Rattle.lift_program.specs.Ends.{IsEndFor, IsEndOf, IsReport, IsStatusFor, IsUnread, IsUnwritten, WritesFor, line_of};
 ghost use Rattle.lift_program.specs.Output.{IsTold};
 ghost use Rattle.lift_program.specs.Words.{Asks, IsInRange};
 ghost use Rattle.lift_program.specs.declared.words.Request.{Request as Wanted};
@@ -45,6 +45,7 @@ fn done<
     requires unhurt { input.old.failed ≡ false }
     requires before_end { input.old.ended ≡ false }
     ensures end { IsEndFor request.entry result }
+    ensures only { WritesFor request.entry (W.contents writer.old) (W.contents writer.new) }
     ensures report { IsReport result (W.contents writer.old) (W.contents writer.new) }
     ensures unwritten { IsUnwritten request.entry → W.contents writer.new ≡ W.contents writer.old }
     ensures good { result ≡ End.Replayed Good → input.new.ended ≡ true }
@@ -121,8 +122,8 @@ fn carry_out<
     requires fresh { input.old.calls ≡ 0 }
     requires unhurt { input.old.failed ≡ false }
     requires before_end { input.old.ended ≡ false }
-    // It ends as the words ask,
-    ensures end { IsEndOf (map S.text words.now) result }
+    // It ends as the words ask, and where they ask for serving nothing is written but what says so,
+    ensures end { IsEndOf (map S.text words.now) (W.contents writer.old) (W.contents writer.new) result }
     // a fault and other words are told by their line,
     ensures told { IfSome (line_of result) (IsTold E.contents errors.old errors.new) }
     // and what was done tells nothing.

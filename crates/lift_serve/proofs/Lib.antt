@@ -1,5 +1,6 @@
 pub mod FirstLines
 pub mod Numbers
+pub mod Pagers
 pub mod Places
 pub mod Relayings
 pub mod Sessions

@@ -1,13 +1,14 @@
 -- Places of which nobody's seat is taken.
 use Rattle.std.proofs.Common.{◌≡◌, ℕ, suc, zero, List, [], ◌∷◌, ◌++◌, ap, ap₂, sym, refl, ◌∙◌, inl, inr, length, length-set, set, subst, take, drop, arith}
-use Rattle.std.specs.Prelude.{Option, Some, None, slice_get, slice_set, ◌⊎◌, ◌+◌}
+use Rattle.std.specs.Prelude.{Option, Some, None, slice_get, slice_set, ◌⊎◌, ◌+◌, ◌≤◌}
 use Rattle.std.specs.List.{refill}
+use Rattle.std.proofs.lemmas.List.{append-nil}
 use Rattle.atomic_table.specs.Seated.{TableId}
 use Rattle.lift_desk.specs.Rule.{no_asks}
 use Rattle.lift_desk.specs.Seats.{TerminalSeat, seats_from}
 use Rattle.lift_register.specs.Register.{RegisterState, last_of}
-use Rattle.lift_serve.specs.Lobby.{all_found, found_at}
-use Rattle.lift_serve.specs.Visits.{AreAsFound, AreAtTheirPlaces, AreEmpty, HeldState, known_of}
+use Rattle.lift_serve.specs.Lobby.{IsLobbyOf, all_found, found_at}
+use Rattle.lift_serve.specs.Visits.{AreAsFound, AreAtTheirPlaces, HeldState, known_of}
 
 -- a list that is written back whole
 refill_all : {A : Type 0} (xs ws : List A) → length ws ≡ length xs → take (length ws) (ws ++ drop (length ws) xs) ≡ ws
@@ -20,33 +21,6 @@ refill_set xs ys i a e =
     let same : length (set xs i a) ≡ length xs = length-set xs i a in
     subst (λ zs. refill (length xs) xs (set zs i a) ≡ set xs i a) (sym e)
     (subst (λ n. take n (set xs i a ++ drop (length (set xs i a)) xs) ≡ set xs i a) same (refill_all xs (set xs i a) same))
-
-pub nobody_is_there : AreAtTheirPlaces []
-nobody_is_there zero held is = absurd (cc)
-nobody_is_there (suc place) held is = absurd (cc)
-
-pub nothing_is_empty : AreEmpty []
-nothing_is_empty zero held is = absurd (cc)
-nothing_is_empty (suc place) held is = absurd (cc)
-
--- what is found behind one place more was there before, or is the last one
-found_behind : (places : List (Option HeldState)) (last : HeldState) (place : ℕ) (held : HeldState) → slice_get (places ++ Some last ∷ []) place ≡ Some (Some held)
-    → (slice_get places place ≡ Some (Some held)) ⊎ ((place ≡ length places) × (last ≡ held))
-found_behind [] last zero held is = inr (refl, cc)
-found_behind [] last (suc place) held is = absurd (cc)
-found_behind (first ∷ places) last zero held is = inl is
-found_behind (first ∷ places) last (suc place) held is = behind (found_behind places last place held is)
-  where
-    behind : (slice_get places place ≡ Some (Some held)) ⊎ ((place ≡ length places) × (last ≡ held)) → (slice_get places place ≡ Some (Some held)) ⊎ ((suc place ≡ suc (length places)) × (last ≡ held))
-    behind (inl before) = inl before
-    behind (inr at) = inr (ap suc at.0, at.1)
-
-pub one_place_more : (places : List (Option HeldState)) (last : HeldState) → AreAtTheirPlaces places → last.seat.terminal ≡ length places → AreAtTheirPlaces (places ++ Some last ∷ [])
-one_place_more places last are next place held is = go (found_behind places last place held is)
-  where
-    go : (slice_get places place ≡ Some (Some held)) ⊎ ((place ≡ length places) × (last ≡ held)) → held.seat.terminal ≡ place
-    go (inl before) = are place held before
-    go (inr at) = sym (ap (λ (h : HeldState). h.seat.terminal) at.1) ∙ (next ∙ sym at.0)
 
 -- what is found behind a place's setting was there before, or is what was set
 found_in : (places : List (Option HeldState)) (at place : ℕ) (seat : Option HeldState) (held : HeldState) → slice_get (slice_set places at seat) place ≡ Some (Some held)
@@ -62,22 +36,40 @@ found_in (first ∷ places) (suc at) (suc place) seat held is = behind (found_in
     behind (inl before) = inl before
     behind (inr set) = inr (ap suc set.0, set.1)
 
-pub own_place : (places : List (Option HeldState)) (at : ℕ) (held : HeldState) → AreAtTheirPlaces places → held.seat.terminal ≡ at → AreAtTheirPlaces (slice_set places at (Some held))
-own_place places at held are own place other is = go (found_in places at place (Some held) other is)
+stays_own : (places : List (Option HeldState)) (at : ℕ) (held : HeldState) → AreAtTheirPlaces places → held.seat.terminal ≡ at → AreAtTheirPlaces (slice_set places at (Some held))
+stays_own places at held are own place other is = go (found_in places at place (Some held) other is)
   where
     go : (slice_get places place ≡ Some (Some other)) ⊎ ((place ≡ at) × (Some held ≡ Some other)) → other.seat.terminal ≡ place
     go (inl before) = are place other before
     go (inr set) = let same : held ≡ other = (let e = set.1 in cc) in sym (ap (λ (h : HeldState). h.seat.terminal) same) ∙ (own ∙ sym set.0)
 
-pub vacant_place : (places : List (Option HeldState)) (at : ℕ) → AreAtTheirPlaces places → AreAtTheirPlaces (slice_set places at None)
-vacant_place places at are place held is = go (found_in places at place None held is)
+stays_vacant : (places : List (Option HeldState)) (at : ℕ) → AreAtTheirPlaces places → AreAtTheirPlaces (slice_set places at None)
+stays_vacant places at are place held is = go (found_in places at place None held is)
   where
     go : (slice_get places place ≡ Some (Some held)) ⊎ ((place ≡ at) × (None ≡ Some held)) → held.seat.terminal ≡ place
     go (inl before) = are place held before
     go (inr set) = absurd (let e = set.1 in cc)
 
-pub is_at_its_place : (places : List (Option HeldState)) (at : ℕ) (held : HeldState) → AreAtTheirPlaces places → slice_get places at ≡ Some (Some held) → held.seat.terminal ≡ at
-is_at_its_place places at held are is = are at held is
+pub own_place : (desk : List TableId) (places : List (Option HeldState)) (at : ℕ) (held : HeldState) → IsLobbyOf desk places → held.seat.terminal ≡ at
+    → IsLobbyOf desk (slice_set places at (Some held))
+own_place desk places at held lobby own =
+    record { own = stays_own places at held lobby.own own; all = length-set places at (Some held) ∙ lobby.all }
+
+pub vacant_place : (desk : List TableId) (places : List (Option HeldState)) (at : ℕ) → IsLobbyOf desk places → IsLobbyOf desk (slice_set places at None)
+vacant_place desk places at lobby = record { own = stays_vacant places at lobby.own; all = length-set places at None ∙ lobby.all }
+
+pub is_at_its_place : (desk : List TableId) (places : List (Option HeldState)) (at : ℕ) (held : HeldState) → IsLobbyOf desk places → slice_get places at ≡ Some (Some held)
+    → held.seat.terminal ≡ at
+is_at_its_place desk places at held lobby is = lobby.own at held is
+
+past : (places : List (Option HeldState)) (at : ℕ) → slice_get places at ≡ None → length places ≤ at
+past [] at is = omega arith
+past (first ∷ places) zero is = absurd (cc)
+past (first ∷ places) (suc at) is = let behind = past places at is in omega (arith, behind)
+
+-- a terminal without a place is none of the desk's
+pub no_such_place : (desk : List TableId) (places : List (Option HeldState)) (at : ℕ) → IsLobbyOf desk places → slice_get places at ≡ None → length desk ≤ at
+no_such_place desk places at lobby is = let behind = past places at is in let all = lobby.all in omega (arith, behind, all)
 
 pub nothing_taken : (places : List (Option HeldState)) (at : ℕ) → slice_get places at ≡ Some None → slice_set places at None ≡ places
 nothing_taken [] zero is = refl
@@ -163,3 +155,40 @@ all_as_found register desk before rest places split are place held is =
     let there = found_each register desk desk 0 place held (subst (λ (seats : List TerminalSeat). slice_get (all_found register desk seats) place ≡ Some (Some held)) split whole) in
     let at : 0 + place ≡ place = omega arith in
     (there.0, there.1 ∙ ap (λ (t : ℕ). known_of (last_of register t)) at, there.2)
+
+own_each : (register : RegisterState) (desk tables : List TableId) (first : ℕ) (place : ℕ) (held : HeldState)
+    → slice_get (all_found register desk (seats_from first tables)) place ≡ Some (Some held) → held.seat.terminal ≡ first + place
+own_each register desk [] first zero held is = absurd (cc)
+own_each register desk [] first (suc place) held is = absurd (cc)
+own_each register desk (table ∷ tables) first zero held is =
+    let same : record { desk = desk; seat = record { table = table; terminal = first; view = no_asks }; last = known_of (last_of register first); found = known_of (last_of register first) } ≡ held = cc in
+    let at : first ≡ first + 0 = omega arith in
+    sym (ap (λ (h : HeldState). h.seat.terminal) same) ∙ at
+own_each register desk (table ∷ tables) first (suc place) held is =
+    let at : suc first + place ≡ first + suc place = omega arith in
+    own_each register desk tables (suc first) place held is ∙ at
+
+as_many : (first : ℕ) (desk : List TableId) → length (seats_from first desk) ≡ length desk
+as_many first [] = refl
+as_many first (table ∷ tables) = ap suc (as_many (suc first) tables)
+
+-- the places of all seats of a desk are a lobby
+pub is_lobby : (register : RegisterState) (desk : List TableId) (seats : List TerminalSeat) (places : List (Option HeldState)) → places ≡ all_found register desk seats
+    → seats ≡ seats_from 0 desk → IsLobbyOf desk places
+is_lobby register desk seats places are all =
+    let whole : places ≡ all_found register desk (seats_from 0 desk) = are ∙ ap (all_found register desk) all in
+    record {
+      own = λ place held is. own_each register desk desk 0 place held (subst (λ (l : List (Option HeldState)). slice_get l place ≡ Some (Some held)) whole is) ∙ omega arith;
+      all = ap length whole ∙ (so_many register desk (seats_from 0 desk) ∙ as_many 0 desk);
+    }
+
+no_more : (l : List TerminalSeat) → length l ≡ 0 → l ≡ []
+no_more [] is = refl
+no_more (seat ∷ l) is = absurd (omega (arith, is))
+
+-- as far as nothing is left behind those that came
+pub is_lobby_behind : (register : RegisterState) (desk : List TableId) (before rest : List TerminalSeat) (places : List (Option HeldState)) → before ++ rest ≡ seats_from 0 desk
+    → length rest ≡ 0 → places ≡ all_found register desk before → IsLobbyOf desk places
+is_lobby_behind register desk before rest places split none are =
+    let all : before ≡ seats_from 0 desk = sym (append-nil before) ∙ (ap (λ (l : List TerminalSeat). before ++ l) (sym (no_more rest none)) ∙ split) in
+    is_lobby register desk before places are all

@@ -11,10 +11,12 @@ use Rattle.lift_relay.specs.declared.pair.RunFault.TheVariants.{Keeper, Spawn}
 use Rattle.lift_relay.specs.Batch.{BatchState}
 use Rattle.lift_relay.specs.Allocator.{AllocatorState}
 use Rattle.lift_relay.specs.Flusher.{FlusherState}
-use Rattle.lift_relay.specs.Relay.{AreParts}
+use Rattle.lift_relay.specs.Relay.{AreParts, AreOfOne}
 use Rattle.lift_serve.specs.declared.serving.ServeFault.{ServeFault}
-use Rattle.lift_serve.specs.declared.serving.ServeFault.TheVariants.{Thread}
-use Rattle.lift_serve.specs.Relaying.{HaveRunOn, IsLastTurn, Relayed, first_told, has_failed, undone}
+use Rattle.lift_serve.specs.declared.serving.ServeFault.TheVariants.{Network, Thread, Memory}
+use Rattle.lift_serve.specs.declared.serving.Lack.{Lack}
+use Rattle.lift_serve.specs.declared.serving.Lack.TheVariants.{Thread as NoThread, Memory as NoMemory}
+use Rattle.lift_serve.specs.Relaying.{HaveRunOn, IsLastTurn, Relayed, first_told, has_failed, told, undone}
 
 abbrev is_spawn : Option RunFault → Type 0
 is_spawn None = ⊥
@@ -74,18 +76,34 @@ relayed_on {D} {P} chooses state before after a b f g fault parts run last =
     subst (λ (p : P). Relayed (chooses p) state before after fault) parts.policy
     (relayed (chooses a.policy) state before a b f g fault after parts run (subst (λ (p : P). IsLastTurn (chooses p) b g after) run.same.policy last))
 
-abbrev is_told : Option ServeFault → Type 0
-is_told None = ⊥
-is_told (Some fault) = Unit {0}
+-- parts that no thread could be made for are as they were
+pub not_run : {D P : Type 0} (choice : Choice) (state : D → DiskState) (a : AllocatorState P) (f : FlusherState D) → AreOfOne a f → HaveRunOn choice state a a f f (Some Spawn)
+not_run choice state a f of_one = record {
+  refused = λ spawn. (refl, refl);
+  ran = λ other. absurd (other refl);
+  received = λ other. absurd (other refl);
+  broken = λ of is. absurd (not_spawn of (sym is));
+  same = record { line = refl; desk = refl; plan = refl; policy = refl; start = refl };
+  of_one = of_one;
+}
 
--- a fault that is told stays so behind an earlier one
-told_behind : (before behind : Option ServeFault) → is_told behind → is_told (first_told before behind)
-told_behind None behind is = is
-told_behind (Some fault) behind is = tt
+-- that no thread could be made for the serving itself is told, whatever else there was
+pub tells_spawn : (fault : Option RunFault) (own rest : Option Lack) (is_told : Option ServeFault) → own ≡ undone fault → is_told ≡ told (first_told own rest)
+    → fault ≡ Some Spawn → is_told ≡ Some Thread
+tells_spawn fault own rest is_told is says spawn =
+    says ∙ ap (λ (o : Option Lack). told (first_told o rest)) (is ∙ ap undone spawn)
 
--- that no thread could be made for the parts is told, or what was before it
-pub tells_spawn : (fault : Option RunFault) (before behind told : Option ServeFault) → behind ≡ undone fault → told ≡ first_told before behind
-    → fault ≡ Some Spawn → told ≢ None
-tells_spawn fault before behind told is first spawn none =
-    let here : is_told behind = subst is_told (sym (is ∙ ap undone spawn)) tt in
-    subst is_told (sym first ∙ none) (told_behind before behind here)
+abbrev is_network : Option ServeFault → Type 0
+is_network None = ⊥
+is_network (Some Network) = Unit {0}
+is_network (Some Thread) = ⊥
+is_network (Some Memory) = ⊥
+
+told_no_network : (lack : Option Lack) → told lack ≢ Some Network
+told_no_network None is = subst is_network (sym is) tt
+told_no_network (Some NoThread) is = subst is_network (sym is) tt
+told_no_network (Some NoMemory) is = subst is_network (sym is) tt
+
+-- a lack is never told as the socket's fault
+pub tells_lack : (lack : Option Lack) (is_told : Option ServeFault) → is_told ≡ told lack → is_told ≢ Some Network
+tells_lack lack is_told says is = told_no_network lack (sym says ∙ is)

@@ -1,5 +1,5 @@
 -- What comes of a connection.
-use Rattle.std.specs.Prelude.{ℕ, ◌≡◌, ◌≤◌, ◌+◌, ◌⊎◌, List, [], ◌∷◌, ◌++◌, codes}
+use Rattle.std.specs.Prelude.{ℕ, ◌≡◌, ◌≤◌, ◌+◌, ◌⊎◌, List, [], ◌∷◌, ◌++◌, codes, length}
 use Rattle.std.specs.Str.Lines.{strip_carriage_return}
 use Rattle.lift_base.specs.Output.{Sink, Takes, TakesFront}
 use Rattle.lift_kiosk.specs.Lines.{Fails, FindsEnd, GivesLine, GivesPart, Source}
@@ -42,12 +42,12 @@ EndsWithoutLine calls AtEnd before after = (part : List ℕ) × (mid : Source) �
 EndsWithoutLine calls Fault before after = (part : List ℕ) × (mid : Source) × GivesPart part before mid × Fails mid after × CallsUpTo calls before after
 EndsWithoutLine calls NoCalls before after = (part : List ℕ) × GivesPart part before after × (after.calls ≡ before.calls + calls)
 
--- Nothing is written where no line came; BAD where it names no terminal, or one whose seat the lobby never received; BUSY where the
+-- Nothing is written where no line came; BAD where it names no terminal, or one that the lobby's desk hasn't; BUSY where the
 -- seat of the one that it names was taken out; else there was a session of it, and the seat was put back as the session left it.
 abbrev pub Attends : (cars kiosks : ℕ) → Outcome → (source source' : Source) → (sink sink' : Sink) → Type 0
 Attends cars kiosks (NoLine reason) source source' sink sink' = EndsWithoutLine first_reads reason source source' × (sink' ≡ sink)
 Attends cars kiosks Bad source source' sink sink' = NamesNone cars kiosks source source' × IsSaid (codes "BAD" ++ 10 ∷ []) sink sink'
 Attends cars kiosks (Busy absent) source source' sink sink' = Names cars kiosks absent.terminal source source' × IsSaid (codes "BUSY" ++ 10 ∷ []) sink sink'
-Attends cars kiosks (Unseated missing) source source' sink sink' = Names cars kiosks missing.terminal source source' × IsSaid (codes "BAD" ++ 10 ∷ []) sink sink'
+Attends cars kiosks (Unseated missing) source source' sink sink' = Names cars kiosks missing.terminal source source' × (length missing.desk ≤ missing.terminal) × IsSaid (codes "BAD" ++ 10 ∷ []) sink sink'
 Attends cars kiosks (Visited held' end) source source' sink sink' = (terminal : ℕ) × (mid : Source) × Names cars kiosks terminal source mid
     × (held : HeldState) × IsServed held × (held.seat.terminal ≡ terminal) × Visits held end held' mid source' sink sink'

@@ -1,6 +1,5 @@
 -- What becomes of a clerk whose work two threads do.
-use Rattle.std.specs.Prelude.{ℕ, ◌≡◌, ◌≢◌, ◌+◌, Bool, true, false, ◌||◌, is_err, Option, Some, None, Result, Err, IfOk, length}
-use Rattle.lift_building.specs.Plan.{Plan}
+use Rattle.std.specs.Prelude.{ℕ, ◌≡◌, ◌≢◌, ◌⊎◌, ◌+◌, Bool, true, false, ◌||◌, is_err, Option, Some, None, Result, Err, IfOk, length}
 use Rattle.lift_disk.specs.Disk.{DiskState}
 use Rattle.lift_policy.specs.Eligible.{Choice}
 use Rattle.lift_journal.specs.declared.fault.JournalFault.TheVariants.{Disk}
@@ -17,7 +16,9 @@ use Rattle.lift_relay.specs.Flusher.{FlusherState}
 use Rattle.lift_relay.specs.Pair.{HaveRun, IsSameAllocator}
 use Rattle.lift_relay.specs.Relay.{AreOfOne, AreParts, IsRejoined}
 use Rattle.lift_serve.specs.declared.serving.ServeFault.{ServeFault}
-use Rattle.lift_serve.specs.declared.serving.ServeFault.TheVariants.{Thread}
+use Rattle.lift_serve.specs.declared.serving.ServeFault.TheVariants.{Network, Thread, Memory}
+use Rattle.lift_serve.specs.declared.serving.Lack.{Lack}
+use Rattle.lift_serve.specs.declared.serving.Lack.TheVariants.{Thread as NoThread, Memory as NoMemory}
 
 -- What a turn of the clerk did, by its result. Behind one that failed the keeper is broken, behind another it is whole.
 pub record TurnsTo {D P : Type 0} (choice : Choice) (before after : ClerkState D P) (result : Result Counts KeeperFault) : Type 0 where
@@ -52,15 +53,21 @@ has_failed (Some Spawn) = false
 has_failed (Some (Keeper fault)) = true
 
 -- what a run by itself is undone for: that no thread could be made
-abbrev pub undone : Option RunFault → Option ServeFault
+abbrev pub undone : Option RunFault → Option Lack
 undone None = None
 undone (Some (Keeper fault)) = None
-undone (Some Spawn) = Some Thread
+undone (Some Spawn) = Some NoThread
 
--- the first of two faults, if there is one
-abbrev pub first_told : (before behind : Option ServeFault) → Option ServeFault
+-- the first of two lacks, if there is one
+abbrev pub first_told : (before behind : Option Lack) → Option Lack
 first_told None behind = behind
-first_told (Some fault) behind = Some fault
+first_told (Some lack) behind = Some lack
+
+-- how a lack is told
+abbrev pub told : Option Lack → Option ServeFault
+told None = None
+told (Some NoThread) = Some Thread
+told (Some NoMemory) = Some Memory
 
 -- The clerk was split, its parts ran, each on a thread of its own, or came to this fault, and the clerk of both turned once more.
 -- The keeper is broken at the end exactly where a turn of the flusher failed or this last one. Desk and policy stay.
@@ -86,9 +93,19 @@ pub record IsRelayedKeeper {D P : Type 0} (choice : Choice) (state : D → DiskS
   pub relayed : Relayed choice state before after fault
   pub ends : after.keeper ≡ keeper'
 
--- The keeper was relayed to this at a desk with a seat for each terminal that the building may have, 16 cars and its kiosks. Where no
--- thread could be made for the parts, a fault is told.
-pub record IsServedKeeper {D P : Type 0} (choice : Choice) (state : D → DiskState) (policy : P) (plan : Plan) (keeper keeper' : KeeperView D) (told : Option ServeFault) : Type 0 where
+-- The keeper was relayed to this at a desk with a seat for each terminal that its building may have, 16 cars and its kiosks. Where no
+-- thread could be made for the accepting or for the parts, that is told, whatever else there was; and behind the beginning the socket is no fault.
+pub record IsServedKeeper {D P : Type 0} (choice : Choice) (state : D → DiskState) (policy : P) (keeper keeper' : KeeperView D) (fault : Option ServeFault) : Type 0 where
   pub relayed : IsRelayedKeeper choice state policy keeper keeper'
-  pub seats : length relayed.before.desk ≡ 16 + length plan.kiosks
-  pub tells : relayed.fault ≡ Some Spawn → told ≢ None
+  pub seats : length relayed.before.desk ≡ 16 + length keeper.writer.plan.kiosks
+  pub tells : relayed.fault ≡ Some Spawn → fault ≡ Some Thread
+  pub begun : fault ≢ Some Network
+
+-- Nobody was served: the keeper is as it was, and that the socket failed or that memory was wanting is told.
+pub record IsUnserved {D : Type 0} (keeper keeper' : KeeperView D) (fault : Option ServeFault) : Type 0 where
+  pub keeper_is : keeper' ≡ keeper
+  pub tells : (fault ≡ Some Network) ⊎ (fault ≡ Some Memory)
+
+-- what a serving comes to
+abbrev pub ComesTo : {D P : Type 0} → Choice → (D → DiskState) → (policy : P) → (keeper keeper' : KeeperView D) → (fault : Option ServeFault) → Type 0
+ComesTo choice state policy keeper keeper' fault = IsServedKeeper choice state policy keeper keeper' fault ⊎ IsUnserved keeper keeper' fault

@@ -1,11 +1,12 @@
 //! One connection, from its first line to its end.
 
-ghost use Rattle.std.specs.Prelude.{◌≡◌, ◌≤◌, ℕ, List, Err, IfOk, IfErr};
+ghost use Rattle.std.specs.Prelude.{◌≡◌, ◌≤◌, ℕ, List, Err, IfOk, IfErr, length};
 ghost use Rattle.lift_base.specs.Output.{sink_of};
 ghost use Rattle.lift_kiosk.specs.Lines.{GivesLine, Keeps65, source_of};
 ghost use Rattle.lift_serve.specs.Connections.{Attends, CallsUpTo, EndsWithoutLine, IsSaid, first_reads};
 ghost use Rattle.lift_serve.specs.Lobby.{AskedState, IsSamePlace};
 
+use crate::connections::Ticket;
 use crate::first_line::terminal_of;
 use crate::held::Held;
 use crate::lobby::{Absent, Lobby, Missing, NoSeat, Returned, Vacancy};
@@ -29,7 +30,7 @@ pub enum Outcome<'d> {
     Bad,
     /// Another session has the seat of the terminal that it names: it was taken out of the lobby.
     Busy(Absent<'d>),
-    /// The lobby never had the seat of the terminal that it names.
+    /// The lobby's desk hasn't the terminal that it names.
     Unseated(Missing<'d>),
     /// There was a session of the terminal that it names, which ended so, and whose seat is back in the lobby.
     Visited(Returned<'d>, End),
@@ -50,14 +51,16 @@ fn read_first<I: Read + Drop>(reader: &mut Counted<I>) -> Result<Line, NoLine>
 fn take<'d>(
     rt: &impl Wait,
     lobby: &Mutex<Lobby<'d>>,
+    ticket: Ticket,
     terminal: Terminal,
 ) -> Result<(Held<'d>, Vacancy<'d>), NoSeat<'d>>
     ensures own { IfOk result (λ taken. taken.0.seat.terminal ≡ terminal) }
     ensures vacant { IfOk result (λ taken. taken.1 ≡ taken.0) }
     ensures out { (absent : AskedState) → result ≡ Err (NoSeat.Taken absent) → absent.terminal ≡ terminal }
     ensures unknown { (missing : AskedState) → result ≡ Err (NoSeat.Unknown missing) → missing.terminal ≡ terminal }
+    ensures lacks { (missing : AskedState) → result ≡ Err (NoSeat.Unknown missing) → length missing.desk ≤ missing.terminal }
 {
-    lobby.lock(rt).take(terminal)
+    lobby.lock(rt).take(ticket, terminal)
 }
 
 fn put_back<'d>(
@@ -83,10 +86,11 @@ fn say<O: Write + Drop>(writer: &mut Watched<O>, bytes: &[u8])
 }
 
 /// Reads the first line, and serves the terminal that it names. Where the line names none of the building, or one whose seat
-/// the lobby never had, `BAD` is answered, and where its seat is in use `BUSY`.
+/// the lobby's desk hasn't, `BAD` is answered, and where its seat is in use `BUSY`.
 pub fn attend<'d, R: Wait + Clock, I: Read + Drop, O: Write + Drop>(
     rt: &R,
     lobby: &Mutex<Lobby<'d>>,
+    ticket: Ticket,
     bell: &Parker,
     cars: u8,
     kiosks: u8,
@@ -106,7 +110,7 @@ pub fn attend<'d, R: Wait + Clock, I: Read + Drop, O: Write + Drop>(
         say(writer, b"BAD\n");
         return Outcome::Bad;
     };
-    let (held, vacancy) = match take(rt, lobby, terminal) {
+    let (held, vacancy) = match take(rt, lobby, ticket, terminal) {
         Ok(taken) => taken,
         Err(NoSeat::Taken(absent)) => {
             say(writer, b"BUSY\n");

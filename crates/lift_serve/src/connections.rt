@@ -1,6 +1,6 @@
 //! The connections that are open, and how many have ended.
 
-ghost use Rattle.std.specs.Prelude.{◌≡◌, ℕ, ◌+◌, ◌%◌, ◌^◌, ◌∷◌, ◌++◌, [], pred, Ok, Some, None, IsTrue, ◌↔◌, not, ◌==◌, filter};
+ghost use Rattle.std.specs.Prelude.{◌≡◌, ℕ, ◌+◌, ◌%◌, ◌^◌, ◌∷◌, ◌++◌, [], pred, Ok, Some, None, IfErr, IsTrue, ◌↔◌, not, ◌==◌, filter};
 
 use std::alloc::{AllocError, Global};
 use std::marker::Model;
@@ -12,6 +12,29 @@ use std::sync::Arc;
 struct Open {
     number: u64,
     stream: Arc<TcpStream>,
+}
+
+/// That a connection was let in. It asks for one seat. Only `enter` makes one.
+#[derive(Drop)]
+pub struct Ticket {
+    number: u64,
+}
+
+impl Model for Ticket {
+    ghost use Rattle.std.specs.Prelude.{ℕ};
+
+    ghost Value = { ℕ };
+
+    ghost view = { λ t. t.number };
+}
+
+impl Ticket {
+    /// The connection's number.
+    pub fn number(&self) -> u64
+        ensures { result ≡ self.now }
+    {
+        self.number
+    }
 }
 
 /// The connections that are open, and how many may still end before all of them are closed. Contracts see the numbers of
@@ -61,12 +84,13 @@ impl Connections {
         self.open.is_empty()
     }
 
-    /// A connection is open from now on, by the number in the answer. None where all have ended that were to end.
-    pub fn enter(&mut self, stream: Arc<TcpStream>) -> Result<Option<u64>, AllocError>
+    /// A connection is open from now on, by the number of the ticket. None where all have ended that were to end.
+    pub fn enter(&mut self, stream: Arc<TcpStream>) -> Result<Option<Ticket>, AllocError>
         ensures over { self.old.left ≡ 0 → result ≡ Ok None }
         ensures let_in { (number : ℕ) → result ≡ Ok (Some number) → (number ≡ self.old.next)
             × (self.new ≡ record self.old { numbers = self.old.numbers ++ number ∷ []; next = (self.old.next + 1) % 2 ^ 64 }) }
         ensures left_out { result ≡ Ok None → (self.old.left ≡ 0) × (self.new ≡ self.old) }
+        ensures unchanged { IfErr result (λ _. self.new ≡ self.old) }
     {
         if self.left == 0 {
             return Ok(None);
@@ -74,7 +98,7 @@ impl Connections {
         let number = self.next;
         self.open.push(Open { number, stream })?;
         self.next = number.wrapping_add(1);
-        Ok(Some(number))
+        Ok(Some(Ticket { number }))
     }
 
     /// The connection of this number has ended.

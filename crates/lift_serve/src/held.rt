@@ -26,7 +26,7 @@ const LIMITS: Limits = Limits {
     reads: 100_000_000,
 };
 
-/// A terminal's seat and pager, with the last command that is known to be in, and the one that the recovery found. One session at a
+/// A terminal's seat and its own pager, with the last command that is known to be in, and the one that the recovery found. One session at a
 /// time has it. What is known came from what was found by sessions, each of which began where the one before ended.
 #[derive(Drop)]
 pub struct Held<'d> {
@@ -38,13 +38,14 @@ pub struct Held<'d> {
 }
 
 impl<'d> Model for Held<'d> {
+    ghost use Rattle.std.specs.Prelude.{◌≡◌};
     ghost use Rattle.lift_serve.specs.Visits.{HeldState, IsServed};
 
     ghost Value = { HeldState };
 
     ghost view = { λ h. record { desk = h.desk.now; seat = h.seat; last = h.last; found = h.found } };
 
-    ghost invariant = { λ h. IsServed (record { desk = h.desk.now; seat = h.seat; last = h.last; found = h.found }) };
+    ghost invariant = { λ h. IsServed (record { desk = h.desk.now; seat = h.seat; last = h.last; found = h.found }) × (h.pager.now ≡ h.seat.terminal) };
 }
 
 impl<'d> Held<'d> {
@@ -52,6 +53,7 @@ impl<'d> Held<'d> {
     pub fn new(desk: &'d Desk, pager: &'d Pager, seat: Seat, found: LastLetter) -> Self
         requires seated { IsSeatOf desk.now seat }
         requires new { IsNewSeat seat }
+        requires paged { pager.now ≡ seat.terminal }
         ensures { result ≡ record { desk = desk.now; seat = seat; last = found; found = found } }
     {
         let last = found;

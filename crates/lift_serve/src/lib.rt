@@ -6,14 +6,18 @@ mod attending;
 mod connections;
 mod first_line;
 mod held;
+mod keep_alive;
 mod lobby;
 mod pace;
 mod pager;
 mod port;
 mod relaying;
+mod rests;
+mod seating;
 mod serving;
 
 pub use attending::{Outcome, attend};
+pub use connections::Ticket;
 pub use first_line::terminal_of;
 pub use held::Held;
 pub use lobby::{Absent, Lobby, Missing, NoSeat, Returned, Vacancy};

@@ -1,9 +1,9 @@
 //! Where the terminals' seats wait for their next sessions.
 
-ghost use Rattle.std.specs.Prelude.{◌≡◌, ◌∷◌, ◌++◌, [], IfOk, IfErr, IfSome, IfNone, None, Some, Err, length, slice_get, slice_set};
-ghost use Rattle.lift_serve.specs.Lobby.{AskedState, IsSamePlace, IsTakenOut, IsUnknown};
-ghost use Rattle.lift_serve.specs.Visits.{AreEmpty};
+ghost use Rattle.std.specs.Prelude.{◌≡◌, IfOk, IfErr, IfSome, IfNone, None, Some, Err, slice_get, slice_set};
+ghost use Rattle.lift_serve.specs.Lobby.{AskedState, IsLobbyOf, IsSamePlace, IsTakenOut, IsUnknown};
 
+use crate::connections::Ticket;
 use crate::held::Held;
 use arrayvec::ArrayVec;
 use lift_base::Terminal;
@@ -11,7 +11,8 @@ use lift_desk::Desk;
 use std::marker::Model;
 use std::snapshot::Snapshot;
 
-/// The seats of a desk that no session has, each at its terminal's place. Who has no desk can make none.
+/// The seats of a desk that no session has, each at its terminal's place: there is one for each terminal of the desk. Who has
+/// no desk can make none.
 #[derive(Drop)]
 pub struct Lobby<'d> {
     desk: &'d Desk,
@@ -19,14 +20,13 @@ pub struct Lobby<'d> {
 }
 
 impl<'d> Model for Lobby<'d> {
-    ghost use Rattle.lift_serve.specs.Lobby.{LobbyState};
-    ghost use Rattle.lift_serve.specs.Visits.{AreAtTheirPlaces};
+    ghost use Rattle.lift_serve.specs.Lobby.{IsLobbyOf, LobbyState};
 
     ghost Value = { LobbyState };
 
     ghost view = { λ l. record { desk = l.desk.now; places = l.places.items } };
 
-    ghost invariant = { λ l. AreAtTheirPlaces l.places.items };
+    ghost invariant = { λ l. IsLobbyOf l.desk.now l.places.items };
 }
 
 /// That the seat of this place was taken out of a lobby. It can't be let go: only `put_back` ends it, so a seat that was taken
@@ -43,7 +43,7 @@ impl<'d> Model for Vacancy<'d> {
     ghost view = { λ v. v.held.value };
 }
 
-/// That a lobby was asked for a terminal's seat, which it had received, and which was taken out. Only `take` makes one.
+/// That a lobby was asked for a terminal's seat, which was taken out. Only `take` makes one.
 #[derive(Drop)]
 pub struct Absent<'d> {
     desk: &'d Desk,
@@ -58,7 +58,7 @@ impl<'d> Model for Absent<'d> {
     ghost view = { λ a. record { desk = a.desk.now; terminal = a.terminal } };
 }
 
-/// That a lobby was asked for the seat of a terminal that it never received. Only `take` makes one.
+/// That a lobby was asked for the seat of a terminal that its desk hasn't. Only `take` makes one.
 #[derive(Drop)]
 pub struct Missing<'d> {
     desk: &'d Desk,
@@ -78,7 +78,7 @@ impl<'d> Model for Missing<'d> {
 pub enum NoSeat<'d> {
     /// A session has it.
     Taken(Absent<'d>),
-    /// The lobby never had it.
+    /// The desk hasn't the terminal.
     Unknown(Missing<'d>),
 }
 
@@ -97,29 +97,15 @@ impl<'d> Model for Returned<'d> {
 }
 
 impl<'d> Lobby<'d> {
-    /// With nobody in it, for the seats of this desk.
-    #[tactic(auto, using(crate::proofs::Places::nobody_is_there, crate::proofs::Places::nothing_is_empty))]
-    pub fn new(desk: &'d Desk) -> Self
-        ensures new { result ≡ record { desk = desk.now; places = [] } }
-        ensures empty { AreEmpty result.places }
+    /// Of a desk, with these places of its terminals.
+    pub fn new(desk: &'d Desk, places: ArrayVec<Option<Held<'d>>, 63>) -> Self
+        requires { IsLobbyOf desk.now places.items }
+        ensures { result ≡ record { desk = desk.now; places = places.entry.items } }
     {
-        Lobby {
-            desk,
-            places: ArrayVec::new(),
-        }
+        Lobby { desk, places }
     }
 
-    /// The seat of the next terminal is there from now on.
-    #[tactic(auto, using(crate::proofs::Places::one_place_more))]
-    pub fn receive(&mut self, held: Held<'d>)
-        requires next { held.seat.terminal ≡ length self.old.places }
-        ensures { self.new ≡ record self.old { places = self.old.places ++ Some held.entry ∷ [] } }
-    {
-        let _terminal = held.terminal().get();
-        self.places.push(Some(held));
-    }
-
-    /// What is at a terminal's place, which is vacant then; none where the lobby has no place of it.
+    /// What is at a terminal's place, which is vacant then; none where the desk hasn't the terminal.
     #[tactic(auto, using(crate::proofs::Places::vacant_place))]
     fn vacate(&mut self, terminal: Terminal) -> Option<Option<Held<'d>>>
         ensures found { result ≡ slice_get self.old.places terminal }
@@ -133,9 +119,14 @@ impl<'d> Lobby<'d> {
     }
 
     /// The seat of a terminal, and its place, which is vacant then. It is refused only where the seat was taken out before, or
-    /// was never received.
+    /// where the desk hasn't the terminal. Each connection may ask once, by its ticket: so whoever is told that the seat is out
+    /// didn't take it.
     #[tactic(auto, using(crate::proofs::Places::is_at_its_place, crate::proofs::Places::nothing_taken))]
-    pub fn take(&mut self, terminal: Terminal) -> Result<(Held<'d>, Vacancy<'d>), NoSeat<'d>>
+    pub fn take(
+        &mut self,
+        ticket: Ticket,
+        terminal: Terminal,
+    ) -> Result<(Held<'d>, Vacancy<'d>), NoSeat<'d>>
         ensures own { IfOk result (λ taken. taken.0.seat.terminal ≡ terminal) }
         ensures there { IfOk result (λ taken. slice_get self.old.places terminal ≡ Some (Some taken.0)) }
         ensures vacant { IfOk result (λ taken. taken.1 ≡ taken.0) }
@@ -144,6 +135,7 @@ impl<'d> Lobby<'d> {
         ensures unknown { (missing : AskedState) → result ≡ Err (NoSeat.Unknown missing) → IsUnknown self.old terminal missing }
         ensures unchanged { IfErr result (λ _. self.new ≡ self.old) }
     {
+        let _used = ticket;
         let desk = self.desk;
         match self.vacate(terminal) {
             Some(Some(held)) => {

@@ -1,5 +1,9 @@
 //! What tells a resting session that its terminal's answer is stored.
 
+ghost use Rattle.std.specs.Prelude.{◌≡◌};
+
+use lift_base::Terminal;
+use std::marker::Model;
 use std::sync::Wait;
 use std::sync::atomic::{AtomicU64, Ordering};
 use std::thread;
@@ -22,17 +26,30 @@ const ANSWERED: u64 = 2;
 const IN_BATCH: u64 = 2;
 
 /// How far a terminal's ask is, and where its session rests. The session says that it asked and heard, the allocator's thread
-/// that a scan begins, and the flusher's which batches are answered. None waits for another.
+/// that a scan begins, and the flusher's which batches are answered. None waits for another. Contracts see the terminal, which
+/// only proofs read.
 #[derive(Drop)]
 pub struct Pager {
+    terminal: Terminal,
     stage: AtomicU64,
     parker: Parker,
 }
 
+impl Model for Pager {
+    ghost use Rattle.std.specs.Prelude.{ℕ};
+
+    ghost Value = { ℕ };
+
+    ghost view = { λ p. p.terminal };
+}
+
 impl Pager {
-    /// Of a terminal that awaits nothing.
-    pub fn new() -> Pager {
+    /// Of this terminal, which awaits nothing.
+    pub fn new(terminal: Terminal) -> Pager
+        ensures { result ≡ terminal }
+    {
         Pager {
+            terminal,
             stage: AtomicU64::new(IDLE),
             parker: Parker::new(),
         }

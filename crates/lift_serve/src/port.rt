@@ -3,7 +3,8 @@
 ghost use Rattle.std.specs.Prelude.{◌≡◌};
 
 use crate::pager::Pager;
-use lift_base::{Body, Number, ProofCount, Reply};
+use crate::rests::Rests;
+use lift_base::{Body, Number, Reply};
 use lift_desk::AskRefusal;
 use lift_kiosk::{DeskPort, Port};
 use std::sync::Wait;
@@ -15,7 +16,7 @@ use std::time::Clock;
 #[derive(Drop)]
 pub struct RestingPort<'d, 'r, R: Wait + Clock> {
     port: DeskPort<'d>,
-    rests: ProofCount,
+    rests: Rests,
     rt: &'r R,
     bell: &'r Parker,
     pager: &'r Pager,
@@ -25,11 +26,11 @@ impl<'d, 'r, R: Wait + Clock> RestingPort<'d, 'r, R> {
     /// The port, with the runtime that it sleeps by, the clerk's bell and its terminal's pager.
     pub fn new(port: DeskPort<'d>, rt: &'r R, bell: &'r Parker, pager: &'r Pager) -> Self
         ensures port { result.port ≡ port.entry }
-        ensures rests { result.rests.count ≡ 0 }
+        ensures rests { result.rests ≡ 0 }
     {
         RestingPort {
             port,
-            rests: ProofCount::new(),
+            rests: Rests::new(),
             rt,
             bell,
             pager,
@@ -54,7 +55,7 @@ impl<'d, 'r, R: Wait + Clock> RestingPort<'d, 'r, R> {
 impl<'d, 'r, R: Wait + Clock> Port for RestingPort<'d, 'r, R> {
     ghost use Rattle.lift_kiosk.specs.Desk.{port_view, place_of};
 
-    ghost view = { λ p. port_view p.port.seat.view p.rests.count };
+    ghost view = { λ p. port_view p.port.seat.view p.rests };
 
     ghost place = { λ p. place_of p.port };
 
@@ -78,7 +79,6 @@ impl<'d, 'r, R: Wait + Clock> Port for RestingPort<'d, 'r, R> {
     }
 
     fn rest(&mut self) {
-        self.rests = ProofCount::next(&self.rests);
-        self.pager.rest(self.rt);
+        self.rests.rest_at(self.rt, self.pager);
     }
 }

@@ -1,6 +1,6 @@
 //! A clerk's work in two parts, until the parts are one clerk again.
 
-ghost use Rattle.std.specs.Prelude.{◌≡◌, []};
+ghost use Rattle.std.specs.Prelude.{◌≡◌, [], Some};
 ghost use Rattle.lift_relay.specs.Relay.{AreOfOne, IsRejoined};
 ghost use Rattle.lift_serve.specs.Relaying.{HaveRunOn, IsLastTurn, TurnsTo};
 
@@ -44,6 +44,27 @@ where
         allocator,
         flusher,
         fault,
+    }
+}
+
+/// Both parts as they were, where no thread could be made.
+#[tactic(auto, using(crate::proofs::Relayings::not_run))]
+pub fn unrun<'d, 'b, D: Disk + Drop, P: Policy + Drop>(
+    parts: Parts<'d, 'b, D, P>,
+) -> Parts<'d, 'b, D, P>
+    requires of_one { AreOfOne parts.allocator parts.flusher }
+    ensures unrun { HaveRunOn (P.chooses parts.entry.allocator.policy) D.state parts.entry.allocator result.allocator parts.entry.flusher result.flusher result.fault }
+    ensures spawn { result.fault ≡ Some RunFault.Spawn }
+{
+    let Parts {
+        allocator,
+        flusher,
+        fault: _,
+    } = parts;
+    Parts {
+        allocator,
+        flusher,
+        fault: Some(RunFault::Spawn),
     }
 }
 

@@ -1,34 +1,30 @@
 //! The serving of a building on a socket.
 
-ghost use Rattle.std.specs.Prelude.{◌≡◌, ◌≤◌, ◌+◌, [], All, Option, IfOk, IfErr, length, vec_len};
+ghost use Rattle.std.specs.Prelude.{◌≡◌, ◌≤◌, ◌+◌, [], All, Option, Some, IfOk, IfErr, length};
 ghost use Rattle.std.specs.Thread.{IsSend, IsSync};
-ghost use Rattle.lift_desk.specs.Seats.{AreSeatsOf, IsSeatOf, seats_from};
+ghost use Rattle.lift_desk.specs.Seats.{AreSeatsOf, seats_from};
 ghost use Rattle.lift_relay.specs.Relay.{AreOfOne};
-ghost use Rattle.lift_serve.specs.Lobby.{all_found, found_at};
+ghost use Rattle.lift_serve.specs.Lobby.{AreInOrder, all_found};
 ghost use Rattle.lift_relay.specs.declared.pair.RunFault.{RunFault as Fault};
-ghost use Rattle.lift_serve.specs.Relaying.{HaveRunOn, IsRelayedKeeper, IsServedKeeper, Relayed, first_told, undone};
-ghost use Rattle.lift_register.specs.Register.{last_of as last_in};
-ghost use Rattle.lift_serve.specs.Visits.{AreAsFound, IsNewSeat, known_of, letter_in as letter_of};
+ghost use Rattle.lift_serve.specs.Relaying.{ComesTo, HaveRunOn, Relayed, first_told, told, undone};
+ghost use Rattle.lift_serve.specs.Visits.{IsNewSeat};
 
 use crate::attending::attend;
-use crate::connections::Connections;
-use crate::held::Held;
+use crate::connections::{Connections, Ticket};
+use crate::keep_alive::watch;
 use crate::lobby::Lobby;
 use crate::pace::{Bells, Pace};
 use crate::pager::Pager;
-use crate::relaying::{Parts, run_parts, turn_rejoined};
+use crate::relaying::{Parts, run_parts, turn_rejoined, unrun};
+use crate::seating::{lobby_of, new_pagers};
 use lift_base::text::{Counted, Watched};
-use lift_base::{Content, Letter, Number, Terminal};
-use lift_building::Building;
 use lift_clerk::Clerk;
 use lift_desk::{Desk, DeskParts, Seat};
 use lift_disk::Disk;
 use lift_keeper::Keeper;
-use lift_kiosk::LastLetter;
 use lift_policy::Policy;
-use lift_register::Register;
 use lift_relay::{Gate, RunFault, split};
-use std::alloc::{AllocError, Global};
+use std::alloc::Global;
 use std::io::BufReader;
 use std::net::{Shutdown, TcpListener, TcpStream};
 use std::os::fd::OwnedFd;
@@ -49,20 +45,26 @@ pub enum ServeFault {
     Memory,
 }
 
+/// What a connection was not served for, or the two parts did not run for.
+#[derive(Clone, Copy)]
+enum Lack {
+    /// A thread couldn't be started.
+    Thread,
+    /// A growth was refused.
+    Memory,
+}
+
 /// What came of the serving.
 #[derive(Drop)]
 pub struct Served<'b, D: Disk + Drop> {
-    /// The keeper behind the last turn. It is broken where a call of the device failed.
+    /// The keeper behind the last turn, or as it was where none was made. It is broken where a call of the device failed.
     pub keeper: Keeper<'b, D>,
-    /// The first fault of the rest.
+    /// That no thread could be had for the serving itself, and else the first fault of the rest.
     pub fault: Option<ServeFault>,
 }
 
 /// How much is read of a connection at once, in bytes.
 const AHEAD: usize = 512;
-
-/// How many terminals there are at most.
-const TERMINALS: usize = 63;
 
 /// How long the accepting of connections rests where it failed, ms.
 const REST_MS: u64 = 10;
@@ -79,110 +81,48 @@ struct Shared<'a, 'd> {
     bells: &'a Bells,
     closing: &'a AtomicU64,
     connections: &'a Mutex<Connections>,
-    fault: &'a Mutex<Option<ServeFault>>,
+    lack: &'a Mutex<Option<Lack>>,
     ghost some_cars: { cars ≤ 16 },
     ghost some_kiosks: { kiosks ≤ 47 },
 }
 
-/// The first of two faults.
-fn first_of(before: Option<ServeFault>, behind: Option<ServeFault>) -> Option<ServeFault>
+/// The first of two lacks.
+fn first_of(before: Option<Lack>, behind: Option<Lack>) -> Option<Lack>
     ensures { result ≡ first_told before behind }
 {
     match before {
-        Some(fault) => Some(fault),
+        Some(lack) => Some(lack),
         None => behind,
     }
 }
 
 /// What a run by itself is undone for.
-fn undone_by(fault: Option<RunFault>) -> Option<ServeFault>
+fn undone_by(fault: Option<RunFault>) -> Option<Lack>
     ensures { result ≡ undone fault }
 {
     match fault {
-        Some(RunFault::Spawn) => Some(ServeFault::Thread),
+        Some(RunFault::Spawn) => Some(Lack::Thread),
         Some(RunFault::Keeper(_)) => None,
         None => None,
     }
 }
 
-/// The letter that a kiosk's last call got.
-fn letter_in(content: &Content) -> Option<Letter>
-    ensures { result ≡ letter_of content.now }
+/// How a lack is told.
+fn told_of(lack: Option<Lack>) -> Option<ServeFault>
+    ensures { result ≡ told lack }
 {
-    match content {
-        Content::Letter { car, .. } => Some(*car),
-        Content::Stopped { .. } => None,
+    match lack {
+        Some(Lack::Thread) => Some(ServeFault::Thread),
+        Some(Lack::Memory) => Some(ServeFault::Memory),
+        None => None,
     }
-}
-
-/// What a register knows of a terminal's last command.
-fn last_of(register: &Register, terminal: Terminal) -> LastLetter
-    ensures { result ≡ known_of (last_in register.now terminal) }
-{
-    match register.last(terminal) {
-        Some(last) => LastLetter {
-            number: last.number,
-            letter: letter_in(&last.content),
-        },
-        None => LastLetter {
-            number: Number::default(),
-            letter: None,
-        },
-    }
-}
-
-/// A pager for each terminal that there can be.
-fn new_pagers(alloc: Global) -> Result<Vec<Pager>, AllocError>
-    ensures { IfOk result (λ pagers. vec_len pagers ≡ 63) }
-{
-    let mut pagers = Vec::with_capacity(alloc, TERMINALS)?;
-    for _ in 0..TERMINALS {
-        pagers.push(Pager::new())?;
-    }
-    Ok(pagers)
-}
-
-/// A new seat's place, with what a register knows of its terminal.
-fn held_of<'d>(desk: &'d Desk, pagers: &'d [Pager], seat: Seat, register: &Register) -> Held<'d>
-    requires pagers { 63 ≤ length pagers.now }
-    requires new { IsNewSeat seat }
-    requires seated { IsSeatOf desk.now seat }
-    ensures { result ≡ found_at register.now desk.now seat }
-{
-    let terminal = seat.terminal();
-    let pager = &pagers[usize::from(terminal.get())];
-    let found = last_of(register, terminal);
-    Held::new(desk, pager, seat, found)
-}
-
-/// The lobby with all seats of a desk, each at its place, and what a register knows of their terminals.
-#[tactic(auto, using(crate::proofs::Places::one_taken_more))]
-fn lobby_of<'d>(
-    desk: &'d Desk,
-    pagers: &'d [Pager],
-    seats: Vec<Seat>,
-    register: &Register,
-) -> Lobby<'d>
-    requires pagers { 63 ≤ length pagers.now }
-    requires new { All IsNewSeat seats.items }
-    requires seats { AreSeatsOf desk.now seats.items }
-    requires all { seats.items ≡ seats_from 0 desk.now }
-    ensures desk { result.desk ≡ desk.now }
-    ensures all { result.places ≡ all_found register.now desk.now seats.items }
-    ensures found { AreAsFound register.now desk.now result.places }
-{
-    let mut lobby = Lobby::new(desk);
-    for seat in seats {
-        lobby.receive(held_of(desk, pagers, seat, register));
-    }
-    lobby
 }
 
 impl<'a, 'd> Shared<'a, 'd> {
-    /// Keeps the first fault in mind.
-    fn note<R: Wait>(self, rt: &R, fault: ServeFault) {
-        let mut first = self.fault.lock(rt);
-        *first = first_of(*first, Some(fault));
+    /// Keeps the first lack in mind.
+    fn note<R: Wait>(self, rt: &R, lack: Lack) {
+        let mut first = self.lack.lock(rt);
+        *first = first_of(*first, Some(lack));
     }
 
     fn is_over<R: Wait>(self, rt: &R) -> bool {
@@ -190,24 +130,24 @@ impl<'a, 'd> Shared<'a, 'd> {
     }
 
     /// None where all connections have ended that were to end.
-    fn enter<R: Wait>(self, rt: &R, stream: Arc<TcpStream>) -> Result<Option<u64>, ServeFault>
-        ensures fault { IfErr result (λ fault. fault ≡ ServeFault.Memory) }
+    fn enter<R: Wait>(self, rt: &R, stream: Arc<TcpStream>) -> Result<Option<Ticket>, Lack>
+        ensures lack { IfErr result (λ lack. lack ≡ Lack.Memory) }
     {
         match self.connections.lock(rt).enter(stream) {
-            Ok(number) => Ok(number),
-            Err(_) => Err(ServeFault::Memory),
+            Ok(ticket) => Ok(ticket),
+            Err(_) => Err(Lack::Memory),
         }
     }
 
     /// A connection is not served.
-    fn refuse<R: Wait>(self, rt: &R, fault: ServeFault) {
-        self.note(rt, fault);
+    fn refuse<R: Wait>(self, rt: &R, lack: Lack) {
+        self.note(rt, lack);
         self.connections.lock(rt).ended();
     }
 
     /// No connection is served any more.
-    fn give_up<R: Wait>(self, rt: &R, fault: ServeFault) {
-        self.note(rt, fault);
+    fn give_up<R: Wait>(self, rt: &R, lack: Lack) {
+        self.note(rt, lack);
         self.connections.lock(rt).give_up();
     }
 
@@ -236,18 +176,20 @@ fn speak<R: Wait + Clock>(
     rt: &R,
     alloc: Global,
     shared: Shared<'_, '_>,
+    ticket: Ticket,
     stream: &TcpStream,
-) -> Result<(), ServeFault>
-    ensures fault { IfErr result (λ fault. fault ≡ ServeFault.Memory) }
+) -> Result<(), Lack>
+    ensures lack { IfErr result (λ lack. lack ≡ Lack.Memory) }
 {
     let Ok(ahead) = BufReader::with_capacity(alloc, AHEAD, stream) else {
-        return Err(ServeFault::Memory);
+        return Err(Lack::Memory);
     };
     let mut reader = Counted::new(ahead);
     let mut writer = Watched::new(stream);
     let _outcome = attend(
         rt,
         shared.lobby,
+        ticket,
         shared.bells.asks(),
         shared.cars,
         shared.kiosks,
@@ -262,12 +204,14 @@ fn attend_stream<R: Wait + Clock>(
     rt: &R,
     alloc: Global,
     shared: Shared<'_, '_>,
-    number: u64,
+    ticket: Ticket,
     stream: Arc<TcpStream>,
 ) {
+    let number = ticket.number();
     let _quick = stream.set_nodelay(true);
-    if let Err(fault) = speak(rt, alloc, shared, &stream) {
-        shared.note(rt, fault);
+    watch(&stream);
+    if let Err(lack) = speak(rt, alloc, shared, ticket, &stream) {
+        shared.note(rt, lack);
     }
     let _closed = stream.shutdown(Shutdown::Both);
     shared.leave(rt, number);
@@ -279,17 +223,17 @@ fn admit<R: Wait>(
     alloc: Global,
     shared: Shared<'_, '_>,
     stream: TcpStream,
-) -> Result<Option<(u64, Arc<TcpStream>)>, ServeFault>
-    ensures fault { IfErr result (λ fault. fault ≡ ServeFault.Memory) }
+) -> Result<Option<(Ticket, Arc<TcpStream>)>, Lack>
+    ensures lack { IfErr result (λ lack. lack ≡ Lack.Memory) }
 {
     let Ok(stream) = Arc::new(alloc, stream) else {
-        return Err(ServeFault::Memory);
+        return Err(Lack::Memory);
     };
     let Ok(theirs) = Arc::try_clone(&stream) else {
-        return Err(ServeFault::Memory);
+        return Err(Lack::Memory);
     };
     match shared.enter(rt, theirs)? {
-        Some(number) => Ok(Some((number, stream))),
+        Some(ticket) => Ok(Some((ticket, stream))),
         None => Ok(None),
     }
 }
@@ -315,19 +259,20 @@ fn welcome<R: Threads + Wait + Clock + Sync>(
                     thread::sleep(rt, Duration::from_millis(REST_MS));
                     continue;
                 };
-                let (number, stream) = match admit(rt, alloc, shared, stream) {
+                let (ticket, stream) = match admit(rt, alloc, shared, stream) {
                     Ok(Some(admitted)) => admitted,
                     Ok(None) => break,
-                    Err(fault) => {
-                        shared.refuse(rt, fault);
+                    Err(lack) => {
+                        shared.refuse(rt, lack);
                         continue;
                     }
                 };
+                let number = ticket.number();
                 let speaking = scope.spawn(move || attend_stream(
-                    rt, alloc, shared, number, stream,
+                    rt, alloc, shared, ticket, stream,
                 ));
                 if speaking.is_err() {
-                    shared.note(rt, ServeFault::Thread);
+                    shared.note(rt, Lack::Thread);
                     shared.leave(rt, number);
                 }
             }
@@ -348,8 +293,8 @@ fn welcome_all<R: Threads + Wait + Clock + Sync>(
     shared.bells.ring_all();
 }
 
-/// Both parts run, the flusher on this thread, while connections are accepted on another. Where the allocator's thread
-/// couldn't be started, all connections are given up.
+/// Both parts run, the flusher on this thread, while connections are accepted on another. Where no thread could be had for
+/// the accepting, the parts are as they were; where none could be had for the allocator, all connections are given up.
 fn run_beside<'d, 'b, R, G, D, P>(
     rt: &R,
     alloc: Global,
@@ -357,41 +302,40 @@ fn run_beside<'d, 'b, R, G, D, P>(
     shared: Shared<'_, '_>,
     gate: &G,
     parts: Parts<'d, 'b, D, P>,
-) -> Result<Parts<'d, 'b, D, P>, ServeFault>
+) -> Parts<'d, 'b, D, P>
 where
     R: Threads + Wait + Clock + Sync,
     G: Gate + Sync,
     D: Disk + Drop,
     P: Policy + Drop + Send,
     requires of_one { AreOfOne parts.allocator parts.flusher }
-    ensures ran { IfOk result (λ ran. HaveRunOn (P.chooses parts.entry.allocator.policy) D.state parts.entry.allocator ran.allocator parts.entry.flusher ran.flusher ran.fault) }
-    ensures fault { IfErr result (λ fault. fault ≡ ServeFault.Thread) }
+    ensures { HaveRunOn (P.chooses parts.entry.allocator.policy) D.state parts.entry.allocator result.allocator parts.entry.flusher result.flusher result.fault }
 {
     thread::scope(
         thread::scope_env(),
         rt,
-        move |scope| -> Result<Parts<D, P>, ServeFault>
+        move |scope| -> Parts<D, P>
             requires { IsSync R.row × IsSync G.row × IsSend P.row × AreOfOne parts.allocator parts.flusher }
-            ensures ran { IfOk result (λ ran. HaveRunOn (P.chooses parts.entry.allocator.policy) D.state parts.entry.allocator ran.allocator parts.entry.flusher ran.flusher ran.fault) }
-            ensures fault { IfErr result (λ fault. fault ≡ ServeFault.Thread) }
+            ensures { HaveRunOn (P.chooses parts.entry.allocator.policy) D.state parts.entry.allocator result.allocator parts.entry.flusher result.flusher result.fault }
         {
             if scope
                 .spawn(move || welcome_all(rt, alloc, listener, shared))
                 .is_err()
             {
-                return Err(ServeFault::Thread);
+                return unrun(parts);
             }
             let ran = run_parts(rt, gate, parts);
             if ran.fault == Some(RunFault::Spawn) {
-                shared.give_up(rt, ServeFault::Thread);
+                shared.give_up(rt, Lack::Thread);
             }
-            Ok(ran)
+            ran
         },
     )
 }
 
 /// The clerk's work is done in two parts while connections are accepted. It turns once more behind them. What the parts' run by itself is
-/// undone for is told beside the clerk: no contract knows what a lock holds.
+/// undone for is told beside the clerk: no contract knows what a lock holds. Where memory was wanting for the parts the clerk comes
+/// back as it was.
 #[tactic(auto, using(crate::proofs::Relayings::relayed_on, crate::proofs::Relayings::none_in_hand, crate::proofs::Relayings::all_received))]
 fn run<'d, 'b, R: Threads + Wait + Clock + Sync, D: Disk + Drop, P: Policy + Drop + Send>(
     rt: &R,
@@ -400,21 +344,35 @@ fn run<'d, 'b, R: Threads + Wait + Clock + Sync, D: Disk + Drop, P: Policy + Dro
     shared: Shared<'_, '_>,
     pagers: &[Pager],
     clerk: Clerk<'d, 'b, D, P>,
-) -> Result<(Clerk<'d, 'b, D, P>, Option<ServeFault>), ServeFault>
-    ensures { IfOk result (λ ran. (fault : Option Fault) × Relayed (P.chooses clerk.entry.policy) D.state clerk.entry ran.0 fault × (ran.1 ≡ undone fault)) }
+) -> Result<(Clerk<'d, 'b, D, P>, Option<Lack>), Clerk<'d, 'b, D, P>>
+    ensures ran { IfOk result (λ ran. (fault : Option Fault) × Relayed (P.chooses clerk.entry.policy) D.state clerk.entry ran.0 fault × (ran.1 ≡ undone fault)) }
+    ensures refused { IfErr result (λ back. back ≡ clerk.entry) }
 {
-    let Ok((allocator, flusher)) = split(alloc, clerk) else {
-        return Err(ServeFault::Memory);
-    };
-    let parts = Parts {
-        allocator,
-        flusher,
-        fault: None,
-    };
-    let pace = Pace::new(shared.bells, pagers, shared.closing);
-    let ran = run_beside(rt, alloc, listener, shared, &pace, parts)?;
-    let own = undone_by(ran.fault);
-    Ok((turn_rejoined(ran.allocator, ran.flusher), own))
+    match split(alloc, clerk) {
+        Ok((allocator, flusher)) => {
+            let parts = Parts {
+                allocator,
+                flusher,
+                fault: None,
+            };
+            let pace = Pace::new(shared.bells, pagers, shared.closing);
+            let ran = run_beside(rt, alloc, listener, shared, &pace, parts);
+            let own = undone_by(ran.fault);
+            Ok((turn_rejoined(ran.allocator, ran.flusher), own))
+        }
+        Err((clerk, _)) => Err(clerk),
+    }
+}
+
+/// Nobody is served, for this: the keeper as it is.
+fn unserved<'b, D: Disk + Drop>(keeper: Keeper<'b, D>, fault: ServeFault) -> Served<'b, D>
+    ensures keeper { result.keeper ≡ keeper.entry }
+    ensures fault { result.fault ≡ Some fault }
+{
+    Served {
+        keeper,
+        fault: Some(fault),
+    }
 }
 
 /// Serves at the clerk's desk, whose seats wait in this lobby.
@@ -422,24 +380,20 @@ fn serve_from<'d, 'b, R: Threads + Wait + Clock + Sync, D: Disk + Drop, P: Polic
     rt: &R,
     alloc: Global,
     listener: &TcpListener,
-    sessions: u32,
-    building: &Building,
+    connections: Connections,
     pagers: &[Pager],
     lobby: Lobby<'d>,
     clerk: Clerk<'d, 'b, D, P>,
-) -> Result<Served<'b, D>, ServeFault>
+) -> Served<'b, D>
     requires desk { lobby.desk ≡ clerk.desk }
     requires all { lobby.places ≡ all_found clerk.keeper.state.register clerk.desk (seats_from 0 clerk.desk) }
-    requires count { length clerk.desk ≡ 16 + length building.now.kiosks }
-    ensures { IfOk result (λ served. IsServedKeeper (P.chooses clerk.entry.policy) D.state clerk.entry.policy building.now clerk.entry.keeper served.keeper served.fault) }
+    requires count { length clerk.desk ≡ 16 + length clerk.keeper.writer.plan.kiosks }
+    ensures { ComesTo (P.chooses clerk.entry.policy) D.state clerk.entry.policy clerk.entry.keeper result.keeper result.fault }
 {
+    let building = clerk.keeper().building();
     let lobby = Mutex::new(lobby);
-    let Ok(again) = listener.try_clone() else {
-        return Err(ServeFault::Network);
-    };
-    let listening = TcpStream::from(OwnedFd::from(again));
-    let connections = Mutex::new(Connections::new(alloc, listening, sessions));
-    let fault = Mutex::new(None);
+    let connections = Mutex::new(connections);
+    let lack = Mutex::new(None);
     let bells = Bells::new();
     let closing = AtomicU64::new(0);
     let shared = Shared {
@@ -449,14 +403,21 @@ fn serve_from<'d, 'b, R: Threads + Wait + Clock + Sync, D: Disk + Drop, P: Polic
         bells: &bells,
         closing: &closing,
         connections: &connections,
-        fault: &fault,
+        lack: &lack,
     };
-    let (clerk, own) = run(rt, alloc, listener, shared, pagers, clerk)?;
-    let (_seat, keeper, _policy) = clerk.into_parts();
-    Ok(Served {
-        keeper,
-        fault: first_of(*fault.lock(rt), own),
-    })
+    match run(rt, alloc, listener, shared, pagers, clerk) {
+        Ok((clerk, own)) => {
+            let (_seat, keeper, _policy) = clerk.into_parts();
+            Served {
+                keeper,
+                fault: told_of(first_of(own, *lack.lock(rt))),
+            }
+        }
+        Err(clerk) => {
+            let (_seat, keeper, _policy) = clerk.into_parts();
+            unserved(keeper, ServeFault::Memory)
+        }
+    }
 }
 
 /// Serves at the clerk's desk, whose seats these are.
@@ -464,51 +425,51 @@ fn serve_at<'b, R: Threads + Wait + Clock + Sync, D: Disk + Drop, P: Policy + Dr
     rt: &R,
     alloc: Global,
     listener: &TcpListener,
-    sessions: u32,
-    building: &Building,
+    connections: Connections,
     pagers: &[Pager],
     seats: Vec<Seat>,
     clerk: Clerk<'_, 'b, D, P>,
-) -> Result<Served<'b, D>, ServeFault>
+) -> Served<'b, D>
     requires pagers { 63 ≤ length pagers.now }
+    requires in_order { AreInOrder pagers.now }
     requires new { All IsNewSeat seats.items }
     requires seats { AreSeatsOf clerk.desk seats.items }
     requires all { seats.items ≡ seats_from 0 clerk.desk }
-    requires count { length clerk.desk ≡ 16 + length building.now.kiosks }
-    ensures { IfOk result (λ served. IsServedKeeper (P.chooses clerk.entry.policy) D.state clerk.entry.policy building.now clerk.entry.keeper served.keeper served.fault) }
+    requires count { length clerk.desk ≡ 16 + length clerk.keeper.writer.plan.kiosks }
+    ensures { ComesTo (P.chooses clerk.entry.policy) D.state clerk.entry.policy clerk.entry.keeper result.keeper result.fault }
 {
     let register = clerk.keeper().register();
     let lobby = lobby_of(clerk.desk(), pagers, seats, register);
-    serve_from(
-        rt, alloc, listener, sessions, building, pagers, lobby, clerk,
-    )
+    serve_from(rt, alloc, listener, connections, pagers, lobby, clerk)
 }
 
-/// Serves the building on a listening socket until so many connections have ended, those that were refused included: each
+/// Serves the keeper's building on a listening socket until so many connections have ended, those that were refused included: each
 /// has a thread of its own, beside the allocator's and the flusher's. A fault of the device ends nothing: what is asked from then on is answered
-/// Unknown.
+/// Unknown. The keeper always comes back; where nobody could be served for want of memory, or since the socket failed, it is as it was.
 pub fn serve<'b, R: Threads + Wait + Clock + Sync, D: Disk + Drop, P: Policy + Drop + Send>(
     rt: &R,
     alloc: Global,
     listener: &TcpListener,
     sessions: u32,
-    building: &Building,
     keeper: Keeper<'b, D>,
     policy: P,
-) -> Result<Served<'b, D>, ServeFault>
+) -> Served<'b, D>
     requires settled { keeper.state.batch ≡ [] }
-    // What the keeper has at the end came to it by the turns of the two parts of a clerk with this policy, and by its last one.
-    ensures { IfOk result (λ served. IsRelayedKeeper (P.chooses policy) D.state policy keeper.entry served.keeper) }
+    // What the keeper has at the end came to it by the turns of the two parts of a clerk with this policy, and by its last one; or it is as it was, and why is told.
+    ensures { ComesTo (P.chooses policy) D.state policy keeper.entry result.keeper result.fault }
 {
-    let terminals = 16 + usize::from(building.kiosks());
+    let terminals = 16 + usize::from(keeper.building().kiosks());
     let Ok(DeskParts { desk, seats, clerk }) = Desk::open(alloc, terminals) else {
-        return Err(ServeFault::Memory);
+        return unserved(keeper, ServeFault::Memory);
     };
     let Ok(pagers) = new_pagers(alloc) else {
-        return Err(ServeFault::Memory);
+        return unserved(keeper, ServeFault::Memory);
     };
+    let Ok(again) = listener.try_clone() else {
+        return unserved(keeper, ServeFault::Network);
+    };
+    let listening = TcpStream::from(OwnedFd::from(again));
+    let connections = Connections::new(alloc, listening, sessions);
     let clerk = Clerk::new(&desk, clerk, keeper, policy);
-    serve_at(
-        rt, alloc, listener, sessions, building, &pagers, seats, clerk,
-    )
+    serve_at(rt, alloc, listener, connections, &pagers, seats, clerk)
 }

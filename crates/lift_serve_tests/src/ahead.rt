@@ -239,14 +239,12 @@ fn serve_callers<
     let calls = move || call(rt, alloc, port, shared, are_both);
     let ended = &shared.ended;
     match serve_beside(
-        rt, alloc, &listener, sessions, &building, keeper, policy, ended, calls,
+        rt, alloc, &listener, sessions, keeper, policy, ended, calls,
     ) {
-        Ok(
-            Served {
-                keeper,
-                fault: None,
-            },
-        ) if !keeper.is_broken() => Ok(keeper.register().open_count()),
+        Served {
+            keeper,
+            fault: None,
+        } if !keeper.is_broken() => Ok(keeper.register().open_count()),
         _ => Err("a fault of serving".into()),
     }
 }

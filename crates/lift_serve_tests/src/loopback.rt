@@ -4,7 +4,6 @@ ghost use Rattle.std.specs.Prelude.{◌≡◌, []};
 use crate::callers::{address, end_server, follows};
 use crate::group::{demo, formatted, opened};
 use crate::serving::serve_beside;
-use lift_building::Building;
 use lift_disk::{FuseDisk, Outcome};
 use lift_keeper::Keeper;
 use lift_policy::{Etd, FewestOpen, Shipped, ShortestWait};
@@ -18,7 +17,7 @@ use std::test::Fail;
 use std::thread::Threads;
 use std::time::Clock;
 
-/// Eight connections end: three that are refused, a kiosk's and a car's two, and another car's one. The last of them ends
+/// Eight connections end: three that are refused, a kiosk's one, a car's three, and another car's one. The last of them ends
 /// one that is silent, one in the middle of a line, and a kiosk that nobody closed.
 const A_DAY: &str = "\
 0+
@@ -230,7 +229,6 @@ fn served<
 >(
     rt: &R,
     alloc: Global,
-    building: &Building,
     keeper: Keeper<'b, FuseDisk>,
     policy: Shipped,
     sessions: u32,
@@ -244,14 +242,12 @@ fn served<
     let (count, ended) = (&followed, &end);
     let calls = move || follow(rt, alloc, port, script, count, ended);
     match serve_beside(
-        rt, alloc, &listener, sessions, building, keeper, policy, ended, calls,
+        rt, alloc, &listener, sessions, keeper, policy, ended, calls,
     ) {
-        Ok(
-            Served {
-                keeper,
-                fault: None,
-            },
-        ) => {
+        Served {
+            keeper,
+            fault: None,
+        } => {
             if count.load(Ordering::SeqCst) == 1 {
                 Ok(keeper)
             } else {
@@ -266,25 +262,9 @@ fn served<
 fn a_day_and_the_next(rt: HostRuntime) -> Result<(), Fail> {
     let building = demo(rt.alloc())?;
     let keeper = opened(formatted(rt.alloc(), &building)?, &building)?;
-    let keeper = served(
-        &rt,
-        rt.alloc(),
-        &building,
-        keeper,
-        Shipped::Etd(Etd),
-        8,
-        A_DAY,
-    )?;
+    let keeper = served(&rt, rt.alloc(), keeper, Shipped::Etd(Etd), 8, A_DAY)?;
     let keeper = opened(keeper.into_disk(), &building)?;
-    let keeper = served(
-        &rt,
-        rt.alloc(),
-        &building,
-        keeper,
-        Shipped::Etd(Etd),
-        1,
-        THE_NEXT_DAY,
-    )?;
+    let keeper = served(&rt, rt.alloc(), keeper, Shipped::Etd(Etd), 1, THE_NEXT_DAY)?;
     assert!(rt; !keeper.is_broken());
     Ok(())
 }
@@ -294,7 +274,7 @@ fn a_kiosk_is_reset(rt: HostRuntime) -> Result<(), Fail> {
     let building = demo(rt.alloc())?;
     let keeper = opened(formatted(rt.alloc(), &building)?, &building)?;
     let policy = Shipped::Etd(Etd);
-    let keeper = served(&rt, rt.alloc(), &building, keeper, policy, ENOUGH, RESET)?;
+    let keeper = served(&rt, rt.alloc(), keeper, policy, ENOUGH, RESET)?;
     assert!(rt; keeper.register().open_count() == 1);
     Ok(())
 }
@@ -307,7 +287,7 @@ fn other_policies(rt: HostRuntime) -> Result<(), Fail> {
         (Shipped::ShortestWait(ShortestWait), SHORTEST),
     ] {
         let keeper = opened(formatted(rt.alloc(), &building)?, &building)?;
-        let keeper = served(&rt, rt.alloc(), &building, keeper, policy, 1, script)?;
+        let keeper = served(&rt, rt.alloc(), keeper, policy, 1, script)?;
         assert!(rt; !keeper.is_broken());
     }
     Ok(())
@@ -318,27 +298,11 @@ fn a_device_fails(rt: HostRuntime) -> Result<(), Fail> {
     let building = demo(rt.alloc())?;
     let mut keeper = opened(formatted(rt.alloc(), &building)?, &building)?;
     keeper.arm(1);
-    let keeper = served(
-        &rt,
-        rt.alloc(),
-        &building,
-        keeper,
-        Shipped::Etd(Etd),
-        2,
-        FAILING,
-    )?;
+    let keeper = served(&rt, rt.alloc(), keeper, Shipped::Etd(Etd), 2, FAILING)?;
     assert!(rt; keeper.is_broken());
     let disk = keeper.into_disk().into_inner().cut(Outcome::Lose);
     let keeper = opened(FuseDisk::new(disk), &building)?;
-    let keeper = served(
-        &rt,
-        rt.alloc(),
-        &building,
-        keeper,
-        Shipped::Etd(Etd),
-        2,
-        BEHIND,
-    )?;
+    let keeper = served(&rt, rt.alloc(), keeper, Shipped::Etd(Etd), 2, BEHIND)?;
     assert!(rt; !keeper.is_broken() && keeper.register().open_count() == 1);
     Ok(())
 }

@@ -2,7 +2,6 @@
 ghost use Rattle.std.specs.Prelude.{◌≡◌, []};
 ghost use Rattle.std.specs.Thread.{IsSync};
 
-use lift_building::Building;
 use lift_disk::Disk;
 use lift_keeper::Keeper;
 use lift_policy::Policy;
@@ -36,12 +35,11 @@ pub(crate) fn serve_beside<'b, R, D, P, C>(
     alloc: Global,
     listener: &TcpListener,
     sessions: u32,
-    building: &Building,
     keeper: Keeper<'b, D>,
     policy: P,
     ended: &AtomicU64,
     calls: C,
-) -> Result<Served<'b, D>, ServeFault>
+) -> Served<'b, D>
 where
     R: Threads + Wait + Clock + Abort + Sync,
     D: Disk + Drop,
@@ -53,20 +51,27 @@ where
     thread::scope(
         thread::scope_env(),
         rt,
-        move |scope| -> Result<Served<D>, ServeFault>
+        move |scope| -> Served<D>
             requires sync { IsSync R.row }
             requires settled { keeper.state.batch ≡ [] }
             requires calls { C.pre calls }
         {
             if scope.spawn(move || watch(rt, ended)).is_err() {
-                return Err(ServeFault::Thread);
+                return Served {
+                    keeper,
+                    fault: Some(ServeFault::Thread),
+                };
             }
-            let answer = match scope.spawn(calls) {
-                Ok(_) => serve(rt, alloc, listener, sessions, building, keeper, policy),
-                Err(_) => Err(ServeFault::Thread),
-            };
+            if scope.spawn(calls).is_err() {
+                ended.store(1, Ordering::SeqCst);
+                return Served {
+                    keeper,
+                    fault: Some(ServeFault::Thread),
+                };
+            }
+            let served = serve(rt, alloc, listener, sessions, keeper, policy);
             ended.store(1, Ordering::SeqCst);
-            answer
+            served
         },
     )
 }

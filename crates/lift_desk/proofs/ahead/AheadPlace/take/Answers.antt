@@ -1,4 +1,4 @@
-use Rattle.std.proofs.Common.{◌≡◌, ℕ, suc, ◌≤◌, [], ◌∷◌, ◌++◌, length, true, refl, sym, ap, ◌∙◌, arith}
+use Rattle.std.proofs.Common.{not, ◌≡◌, ℕ, suc, ◌≤◌, [], ◌∷◌, ◌++◌, length, true, refl, sym, ap, ◌∙◌, arith}
 use Rattle.lift_desk.specs.declared.view.View.{View}
 use Rattle.lift_desk.specs.Words.{turn_of, last_of, ask_word}
 use Rattle.lift_desk.specs.Steps.{at_clerk, with_taking, is_new}
@@ -39,7 +39,7 @@ invariant_of-self-2 c =
     let last_is : last_of (view_in c.into_badge.result.views).clerk.taken ≡ word = ap last_of taken ∙ last_of-push m.clerk.taken word in record {
       one = λ _. b.2 ∙ ap (λ v. v ∷ []) (sym (ap view_in b.2));
       ahead = λ _. ap (λ (v : View). v.looks_ahead) (new ∙ ap (λ (v : View). at_clerk v (with_taking m.clerk word)) (sym old)) ∙ i.ahead seated;
-      loads = c.load-word.ensures.counted ∙ (λ k. record { times = suc ((i.loads ∙ ap loads_of old) k).times; last = word }) ∙ ap loads_of (sym new);
+      loads = c.load-word.ensures.counted ∙ (λ k. record { odd = not ((i.loads ∙ ap loads_of old) k).odd; last = word }) ∙ ap loads_of (sym new);
       silent = ap (λ (v : View). v.answers) (new ∙ ap (λ (v : View). at_clerk v (with_taking m.clerk word)) (sym old)) ∙ i.silent;
       turn = turn ∙ ap turn_of (sym last_is);
     }

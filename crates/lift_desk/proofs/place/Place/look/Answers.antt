@@ -1,4 +1,4 @@
-use Rattle.std.proofs.Common.{◌≡◌, ℕ, suc, ◌+◌, [], ◌∷◌, ◌++◌, length, true, true≢false, sym, ap, ◌∙◌, arith}
+use Rattle.std.proofs.Common.{not, ◌≡◌, ℕ, suc, ◌+◌, [], ◌∷◌, ◌++◌, length, true, true≢false, sym, ap, ◌∙◌, arith}
 use Rattle.std.proofs.lemmas.List.{length_push}
 use Rattle.lift_desk.specs.declared.view.View.{View}
 use Rattle.lift_desk.specs.Words.{turn_of, number_of, last_of}
@@ -54,7 +54,7 @@ invariant_of-self-2 c =
       one = λ _. b.2 ∙ ap (λ v. v ∷ []) (sym (ap view_in b.2));
       answers = λ _. ap (λ (v : View). v.answers) (new ∙ ap (λ (v : View). at_clerk v (with_taking m.clerk word)) (sym old)) ∙ i.answers seated;
       in_order = ap (λ (v : View). v.looks_ahead) (new ∙ ap (λ (v : View). at_clerk v (with_taking m.clerk word)) (sym old)) ∙ i.in_order;
-      loads = c.load-word.ensures.counted ∙ (λ k. record { times = suc ((i.loads ∙ ap loads_of old) k).times; last = word }) ∙ ap loads_of (sym new);
+      loads = c.load-word.ensures.counted ∙ (λ k. record { odd = not ((i.loads ∙ ap loads_of old) k).odd; last = word }) ∙ ap loads_of (sym new);
       turn = omega arith;
       last_taken = ap turn_of last_is ∙ omega arith;
       in_range = c.turn_of-turn.ensures.in_range;

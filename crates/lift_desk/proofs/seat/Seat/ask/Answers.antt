@@ -1,5 +1,6 @@
 use Rattle.std.proofs.Common.{◌≡◌, ℕ, ◌+◌, List, [], ◌∷◌, ◌++◌, length, true≢false, sym, ap, ◌∙◌, arith}
 use Rattle.std.proofs.lemmas.List.{length_push}
+use Rattle.lift_desk.specs.Loads.{is_odd}
 use Rattle.lift_desk.specs.Words.{number_of, last_of}
 use Rattle.lift_desk.proofs.Keeps.{asks_keep}
 use Rattle.lift_desk.specs.lemmas.WordLists.{last_of-push}
@@ -27,7 +28,7 @@ invariant_of-self c =
       in_range = omega arith;
       number = sym c.ask_word-word.ensures.number ∙ ap number_of (sym (last_of-push old word)) ∙ ap (λ l. number_of (last_of l)) (sym asked);
       waits = λ _. omega arith;
-      loads = i.loads ∙ (λ k. record { times = sym (ap (λ m. m.0.terminal.looks) e) k; last = sym (ap (λ m. m.0.terminal.last) e) k });
+      loads = i.loads ∙ (λ k. record { odd = sym (ap (λ m. is_odd m.0.terminal.looks) e) k; last = sym (ap (λ m. m.0.terminal.last) e) k });
       rests = λ k. absurd (true≢false k);
     }
 

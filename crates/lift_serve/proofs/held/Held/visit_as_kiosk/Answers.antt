@@ -1,4 +1,4 @@
-use Rattle.std.proofs.Common.{ap, subst, ◌∙◌, arith}
+use Rattle.std.proofs.Common.{ap, subst, sym, ◌∙◌, arith}
 use Rattle.lift_base.specs.Output.{sink_of}
 use Rattle.lift_kiosk.specs.Desk.{DeskPortState}
 use Rattle.lift_kiosk.specs.Lines.{source_of}
@@ -18,9 +18,11 @@ invariant_of-result g c =
     let made = made_visit held c.converse-last.result.last c.into_seat-seat.result c.converse-last.result.end
     (source_of g.I.Read.remaining c.args.reader.now) (source_of g.I.Read.remaining c.converse-last.new.reader)
     (sink_of g.O.Write.contents c.args.writer.now) (sink_of g.O.Write.contents c.converse-last.new.writer) first mid
-    c.new-port.result.rests.count c.converse-last.new.port.rests.count new c.new-port.ensures.rests c.converse-last.ensures.stays is visit in
-    served_on held held' c.converse-last.result.end _ _ _ _ c.self.invariant made
-    (still_seated held c.into_seat-seat.result first mid c.into_port.result new c.converse-last.ensures.stays c.into_port.ensures c.into_seat-seat.ensures.stays)
+    c.new-port.result.rests c.converse-last.new.port.rests new c.new-port.ensures.rests c.converse-last.ensures.stays is visit in (
+      served_on held held' c.converse-last.result.end _ _ _ _ c.self.invariant.0 made
+          (still_seated held c.into_seat-seat.result first mid c.into_port.result new c.converse-last.ensures.stays c.into_port.ensures c.into_seat-seat.ensures.stays),
+      c.self.invariant.1 ∙ sym made.terminal,
+    )
 
 pub returns : goal.returns
 returns g c =
@@ -34,6 +36,6 @@ returns g c =
     let made = made_visit held c.converse-last.result.last c.into_seat-seat.result c.converse-last.result.end
     (source_of g.I.Read.remaining c.args.reader.now) (source_of g.I.Read.remaining c.converse-last.new.reader)
     (sink_of g.O.Write.contents c.args.writer.now) (sink_of g.O.Write.contents c.converse-last.new.writer) first mid
-    c.new-port.result.rests.count c.converse-last.new.port.rests.count new c.new-port.ensures.rests c.converse-last.ensures.stays is visit in
+    c.new-port.result.rests c.converse-last.new.port.rests new c.new-port.ensures.rests c.converse-last.ensures.stays is visit in
     subst (λ (h : HeldState). Visits h c.converse-last.result.end held' (source_of g.I.Read.remaining c.args.reader.now) (source_of g.I.Read.remaining c.converse-last.new.reader)
     (sink_of g.O.Write.contents c.args.writer.now) (sink_of g.O.Write.contents c.converse-last.new.writer)) c.self.view_is made
