@@ -4,7 +4,8 @@ use Rattle.lift_base.specs.declared.travel.Dir.TheVariants.{Up, Down}
 use Rattle.lift_base.specs.declared.history.Entry.{Entry}
 use Rattle.lift_base.specs.declared.history.Entry.TheVariants.{Allot, Stop}
 use Rattle.lift_base.specs.declared.history.Record.{Record}
-use Rattle.lift_base.specs.declared.history.Record.TheVariants.{Allot as AllotRecord, Stop as StopRecord}
+use Rattle.lift_base.specs.declared.history.Record.TheVariants.{Allot as AllotRecord}
+use Rattle.lift_base.specs.declared.history.Record.TheVariants.{Stop as StopRecord}
 use Rattle.lift_base.specs.declared.history.Row.{Row}
 use Rattle.lift_base.specs.declared.history.Shape.{Shape}
 use Rattle.lift_base.specs.declared.travel.Stop.{Stop as CarStop}
@@ -29,12 +30,16 @@ record_of (Stop car number floor dir) = StopRecord car number floor dir
 abbrev pub dir_of : ℕ → ℕ → Dir
 dir_of from to = if nat_lt from to then Up else Down
 
--- an open call after a stop of its car: none once its passengers have left, aboard once they have boarded
+-- an open call after a stop of its car: none once its passengers have left, aboard once they have
+-- boarded
 abbrev pub row_after : CarStop → Row → List Row
 row_after stop row =
     if row.aboard
     then (if stop.floor == row.to then [] else row ∷ [])
-    else (record row { aboard = stop.floor == row.from && same_dir stop.dir (dir_of row.from row.to) }) ∷ []
+    else (record row {
+      aboard = stop.floor
+          == row.from && same_dir stop.dir (dir_of row.from row.to);
+    }) ∷ []
 
 -- what the controller is made for
 pub record IsWithinLimits (shape : Shape) : Type 0 where

@@ -8,14 +8,16 @@ pub record OutputState (W : Type 0) : Type 0 where
   pub calls : ℕ
   pub failed : Bool  -- a call failed or took nothing
 
--- a writer: how often it was called, whether a call failed or took nothing, and what was written, where it tells that
+-- a writer: how often it was called, whether a call failed or took nothing, and what was written,
+-- where it tells that
 pub record Sink : Type 0 where
   pub calls : ℕ
   pub failed : Bool
   pub written : Option (List ℕ)
 
 abbrev pub sink_of : {W : Type 0} → (contents : W → Option (List ℕ)) → OutputState W → Sink
-sink_of contents output = record { calls = output.calls; failed = output.failed; written = contents output.writer }
+sink_of contents output =
+    record { calls = output.calls; failed = output.failed; written = contents output.writer }
 
 -- the writer was called for this many bytes, where there are any, and each call took one at least
 pub record CallsForAll (count before after : ℕ) : Type 0 where

@@ -40,12 +40,14 @@ abbrev pub IsLawfulLast : ℕ → ℕ → Content → Type 0
 IsLawfulLast terminal number (Letter from to car party) = IsLawfulCall terminal number from to
 IsLawfulLast terminal number (Stopped floor dir) = IsLawfulStop terminal number
 
--- what each record of the program is by its types: floors to 63, cars to 15, terminals to 62, numbers to 16,777,215,
--- parties of 1 to 15
+-- what each record of the program is by its types: floors to 63, cars to 15, terminals to 62,
+-- numbers to 16,777,215, parties of 1 to 15
 abbrev pub IsTyped : Record → Type 0
-IsTyped (Allot kiosk number from to car party) = IsTypedCommand kiosk number × IsTypedCall from to car party
+IsTyped (Allot kiosk number from to car party) = IsTypedCommand kiosk number
+    × IsTypedCall from to car party
 IsTyped (Stop car number floor dir) = IsTypedCommand car number × (car ≤ 15) × (floor ≤ 63)
-IsTyped (Row row) = IsTypedCommand row.kiosk row.number × IsTypedCall row.from row.to row.car row.party
+IsTyped (Row row) = IsTypedCommand row.kiosk row.number
+    × IsTypedCall row.from row.to row.car row.party
 IsTyped (Last terminal last) = IsTypedCommand terminal last.number × IsTypedContent last.content
 IsTyped (Done count) = count < 2 ^ 32
 

@@ -1,10 +1,12 @@
 -- The texts that scripts, reports and sessions share.
-use Rattle.std.specs.Prelude.{ℕ, ◌≡◌, ◌≢◌, ◌<◌, ◌+◌, ◌-◌, ◌⊎◌, List, [], ◌∷◌, ◌++◌, codes, length, slice_index, Option, Some, None, nat_lt, if◌then◌else◌}
+use Rattle.std.specs.Prelude.{ℕ, ◌≡◌, ◌≢◌, ◌<◌, ◌+◌, ◌-◌, ◌⊎◌, List, [], ◌∷◌, ◌++◌, codes, length}
+use Rattle.std.specs.Prelude.{slice_index, Option, Some, None, nat_lt, if◌then◌else◌}
 use Rattle.std.specs.Fmt.{decimal}
 use Rattle.std.specs.List.{AllByRecursion}
 use Rattle.lift_base.specs.Command.{reason_number}
 use Rattle.lift_base.specs.declared.command.Reply.{Reply}
-use Rattle.lift_base.specs.declared.command.Reply.TheVariants.{Car, Stopped, Placed, Refused, Unknown}
+use Rattle.lift_base.specs.declared.command.Reply.TheVariants.{Car, Stopped, Placed, Refused}
+use Rattle.lift_base.specs.declared.command.Reply.TheVariants.{Unknown}
 use Rattle.lift_base.specs.declared.travel.Stop.{Stop}
 use Rattle.lift_base.specs.declared.travel.Dir.{Dir}
 use Rattle.lift_base.specs.declared.travel.Dir.TheVariants.{Up, Down}
@@ -44,7 +46,8 @@ ArePartyWords words party = (words ≡ decimal party ∷ []) ⊎ ((words ≡ [])
 
 -- and kiosks K0 to K46
 abbrev pub terminal_text : ℕ → List ℕ
-terminal_text terminal = if nat_lt terminal 16 then letter_text terminal else codes "K" ++ decimal (terminal - 16)
+terminal_text terminal =
+    if nat_lt terminal 16 then letter_text terminal else codes "K" ++ decimal (terminal - 16)
 
 -- a car's next stop, as it is answered
 abbrev pub next_text : Option Stop → List ℕ

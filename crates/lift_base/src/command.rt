@@ -5,7 +5,8 @@ ghost use Rattle.lift_base.specs.Command.{reason_number, IsReasonNumber};
 use crate::checked::{Floor, Letter, Party};
 use crate::travel::{Dir, Stop};
 
-/// What a terminal asks: a kiosk for a car to a floor for a party, a car to report a stop or its position.
+/// What a terminal asks: a kiosk for a car to a floor for a party, a car to report a stop or its
+/// position.
 #[derive(Clone, Copy, PartialEq, Eq)]
 pub enum Body {
     /// The floor that the passengers go to, and how many they are.

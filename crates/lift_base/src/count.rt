@@ -1,4 +1,5 @@
-//! A count that only proofs read. It takes no memory, so it never overflows, and its methods do nothing at run time.
+//! A count that only proofs read. It takes no memory, so it never overflows, and its methods do
+//! nothing at run time.
 ghost use Rattle.std.specs.Prelude.{◌≡◌, ◌+◌, ℕ};
 ghost use Rattle.std.specs.Borrow.{ftrue};
 

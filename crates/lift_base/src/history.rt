@@ -70,8 +70,9 @@ impl Row {
         }
     }
 
-    /// The call after a stop of its car, none once its passengers have left. Those aboard for the stop's floor leave,
-    /// whatever its direction is; those who wait there board where their direction is the stop's.
+    /// The call after a stop of its car, none once its passengers have left. Those aboard for the
+    /// stop's floor leave, whatever its direction is; those who wait there board where their
+    /// direction is the stop's.
     pub fn after(&self, stop: Stop) -> Option<Row>
         ensures { option_to_list result ≡ row_after stop self.now }
     {
@@ -242,7 +243,8 @@ impl Record {
 /// The largest count of done calls: every call that all kiosks can number.
 pub const MOST_DONE: u32 = 788_529_105;
 
-/// The size of an installation: how many floors, cars and kiosks, and how many sectors in half of its disk.
+/// The size of an installation: how many floors, cars and kiosks, and how many sectors in half of
+/// its disk.
 #[derive(Clone, Copy, Default, PartialEq, Eq)]
 pub struct Shape {
     /// 2 to 64.

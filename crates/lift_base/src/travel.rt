@@ -44,7 +44,8 @@ pub struct Stop {
     pub dir: Dir,
 }
 
-/// The part of a car's round in which it reaches a floor: on its way now, on the way back, or on the way after that.
+/// The part of a car's round in which it reaches a floor: on its way now, on the way back, or on
+/// the way after that.
 #[derive(Clone, Copy, Default, PartialEq, Eq)]
 pub enum Pass {
     /// On its way now.

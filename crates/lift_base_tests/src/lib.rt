@@ -1,4 +1,5 @@
-//! Tests of `lift_base`'s counted readers, watched writers and printed values over streams that say how they were called.
+//! Tests of `lift_base`'s counted readers, watched writers and printed values over streams that say
+//! how they were called.
 #![tactic(auto)]
 
 #[cfg(test)]

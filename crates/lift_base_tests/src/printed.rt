@@ -15,7 +15,8 @@ fn page(alloc: Global, stop: usize) -> Page {
     }
 }
 
-/// The value prints this text, and fails exactly where a call of its page does, which is then the last one.
+/// The value prints this text, and fails exactly where a call of its page does, which is then the
+/// last one.
 fn prints<D: Display + Copy>(
     rt: &impl Abort,
     alloc: Global,

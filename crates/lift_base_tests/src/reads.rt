@@ -6,8 +6,8 @@ use std::cell::Cell;
 use std::process::Abort;
 use std::test::Fail;
 
-/// Reads this text into a buffer with so much room, and four calls past its end. Each call is one of the reader, gives what
-/// that gave, and fails where that failed.
+/// Reads this text into a buffer with so much room, and four calls past its end. Each call is one
+/// of the reader, gives what that gave, and fails where that failed.
 fn read_text(
     rt: &impl Abort,
     alloc: Global,
@@ -44,7 +44,8 @@ fn read_text(
     Ok(())
 }
 
-/// One call of the reader after another stops, once or from then on. The end is told again and again, and is no fault.
+/// One call of the reader after another stops, once or from then on. The end is told again and
+/// again, and is no fault.
 #[test]
 fn readers_stop(rt: HostRuntime) -> Result<(), Fail> {
     for piece in [1usize, 3, 20, usize::MAX] {

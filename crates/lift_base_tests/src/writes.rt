@@ -21,8 +21,8 @@ fn outcome(course: &Course, before: usize, length: usize) -> (usize, usize) {
     }
 }
 
-/// Writes these texts, one after another, to a watched writer and to one that isn't: the calls of each are those that have
-/// to come, and each byte that is told is taken once.
+/// Writes these texts, one after another, to a watched writer and to one that isn't: the calls of
+/// each are those that have to come, and each byte that is told is taken once.
 fn put_texts(rt: &impl Abort, alloc: Global, course: Course, texts: &[&[u8]]) -> Result<(), Fail> {
     let (watched_calls, plain_calls) = (Cell::new(0usize), Cell::new(0usize));
     let mut watched = Watched::new(Target {
@@ -57,8 +57,8 @@ fn put_texts(rt: &impl Abort, alloc: Global, course: Course, texts: &[&[u8]]) ->
     Ok(())
 }
 
-/// One call of the writer after another stops, once or from then on. No call follows for that text, and the next text is
-/// tried anew.
+/// One call of the writer after another stops, once or from then on. No call follows for that text,
+/// and the next text is tried anew.
 #[test]
 fn writers_stop(rt: HostRuntime) -> Result<(), Fail> {
     let texts: [&[u8]; 5] = [b"", b"twenty bytes of text", b"", b"thirteen more", b"!"];

@@ -1,4 +1,5 @@
-//! The building of the decisions: 64 floors, 47 kiosks on the lowest of them, and cars for 32 persons that serve all.
+//! The building of the decisions: 64 floors, 47 kiosks on the lowest of them, and cars for 32
+//! persons that serve all.
 use std::alloc::{AllocError, Global};
 use std::fmt::Write;
 

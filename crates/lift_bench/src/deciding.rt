@@ -1,4 +1,5 @@
-//! Decisions with so many open calls: new calls, by the cars' schedules and from nothing, and stops.
+//! Decisions with so many open calls: new calls, by the cars' schedules and from nothing, and
+//! stops.
 ghost use Rattle.std.specs.Prelude.{◌<◌, Contains, length};
 ghost use Rattle.lift_policy.specs.View.{IsViewIn};
 
@@ -14,7 +15,8 @@ use std::alloc::Global;
 /// What is decided again and again. The open calls are the same after each round.
 #[derive(Clone, Copy)]
 pub(crate) enum Kind {
-    /// A new call, by the cars' schedules; the two stops of its car, and its place, take it out again.
+    /// A new call, by the cars' schedules; the two stops of its car, and its place, take it out
+    /// again.
     Call,
     /// The same, with the costs of all eligible cars from nothing.
     Plain,
@@ -99,7 +101,8 @@ fn goal(place: u32) -> Floor {
     floor(if number < FROM { number } else { number + 1 })
 }
 
-/// So many calls, from the kiosks below the new call's in turn; each goes to the car with the fewest.
+/// So many calls, from the kiosks below the new call's in turn; each goes to the car with the
+/// fewest.
 fn fill(decider: &mut Decider, calls: u32) {
     for place in 0..calls {
         let from = kiosk((place % 46) as u8);
@@ -108,7 +111,8 @@ fn fill(decider: &mut Decider, calls: u32) {
     }
 }
 
-/// The stops at which the new call's passengers would board and leave, and the place where the car was.
+/// The stops at which the new call's passengers would board and leave, and the place where the car
+/// was.
 fn pass_by(decider: &mut Decider, car: Letter) {
     stop(decider, car, FROM, Dir::Up);
     stop(decider, car, TO, Dir::Up);

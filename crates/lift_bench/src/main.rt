@@ -1,4 +1,5 @@
-//! Workloads whose time is taken from outside. They print counts alone; `docs/speed.md` has what was measured.
+//! Workloads whose time is taken from outside. They print counts alone; `docs/speed.md` has what
+//! was measured.
 #![tactic(auto)]
 
 mod building;

@@ -1,5 +1,7 @@
 -- What a building's text describes, or the first fault that is found in it, key by key.
-use Rattle.std.specs.Prelude.{ℕ, suc, ◌-◌, ◌+◌, pos, negsuc, List, [], ◌∷◌, map, Bool, true, false, ◌&&◌, ◌==◌, nat_le, if◌then◌else◌, Option, Some, None, Result, Ok, Err, replicate}
+use Rattle.std.specs.Prelude.{ℕ, suc, ◌-◌, ◌+◌, pos, negsuc, List, [], ◌∷◌, map, Bool, true, false}
+use Rattle.std.specs.Prelude.{◌&&◌, ◌==◌, nat_le, if◌then◌else◌, Option, Some, None, Result, Ok}
+use Rattle.std.specs.Prelude.{Err, replicate}
 use Rattle.std.specs.List.{list_any, range_with_len}
 use Rattle.toml.specs.Data.{Data, integer, array, table, Items, no_items, item, Members, get}
 use Rattle.toml.specs.Parse.{parse_document}
@@ -16,7 +18,9 @@ use Rattle.lift_building.specs.declared.fault.Field.TheVariants.{
   Serves,
 }
 use Rattle.lift_building.specs.declared.fault.BuildingFault.{BuildingFault}
-use Rattle.lift_building.specs.declared.fault.BuildingFault.TheVariants.{NotToml, Missing, WrongType, OutOfRange, TableShape}
+use Rattle.lift_building.specs.declared.fault.BuildingFault.TheVariants.{NotToml, Missing}
+use Rattle.lift_building.specs.declared.fault.BuildingFault.TheVariants.{WrongType, OutOfRange}
+use Rattle.lift_building.specs.declared.fault.BuildingFault.TheVariants.{TableShape}
 
 -- the next thing is read only where the one before has no fault
 infixl 10 ◌>>=◌

@@ -3,7 +3,8 @@
 ghost use Rattle.std.specs.Prelude.{◌≡◌, ◌≢◌, ◌<◌, ◌≤◌, ◌↔◌, true, length, IfOk, IfErr};
 ghost use Rattle.lift_base.specs.History.{IsWithinLimits};
 ghost use Rattle.toml.specs.View.{view};
-ghost use Rattle.lift_building.specs.Plan.{Plan, HasLimits, IsBuilding, flight_ms, serves_floor, places_of, kiosk_floor_of, shape_of};
+ghost use Rattle.lift_building.specs.Plan.{Plan, HasLimits, IsBuilding, flight_ms, serves_floor};
+ghost use Rattle.lift_building.specs.Plan.{places_of, kiosk_floor_of, shape_of};
 ghost use Rattle.lift_building.specs.Reading.{document_of, plan_of};
 ghost use Rattle.lift_building.specs.Arrivals.{arrivals_of, AreArrivals};
 ghost use Rattle.lift_building.specs.Layout.{layout_view};
@@ -75,8 +76,8 @@ impl Model for Building {
 }
 
 impl Building {
-    /// The building that a TOML text describes, or the first fault of the text in the order in which it is read:
-    /// `floors`, `door_ms`, `kiosks`, `flight`, `cars`, and last the detours.
+    /// The building that a TOML text describes, or the first fault of the text in the order in
+    /// which it is read: `floors`, `door_ms`, `kiosks`, `flight`, `cars`, and last the detours.
     ///
     /// # Errors
     /// `Memory` where no memory was left for the document; else the text's first fault.
@@ -88,7 +89,8 @@ impl Building {
         ensures only { (plan : Plan) → IsTextOf text.now plan → IsBuilding plan
             → IfErr result (λ fault. fault ≡ BuildingFault.Memory) }
         // Each other fault is the first one of the text.
-        ensures first { IfErr result (λ fault. fault ≢ BuildingFault.Memory → IsFirstFault text.now fault) }
+        ensures first { IfErr result (λ fault. fault ≢ BuildingFault.Memory
+            → IsFirstFault text.now fault) }
     {
         let layout = layout_of(alloc, text)?;
         match first_detour(&layout) {
@@ -133,7 +135,8 @@ impl Building {
         self.layout.door_ms
     }
 
-    /// The time from leaving floor i to standing at floor j, at most 600,000 ms; 0 where the building lacks one of them.
+    /// The time from leaving floor i to standing at floor j, at most 600,000 ms; 0 where the
+    /// building lacks one of them.
     #[tactic(auto, using(crate::specs::lemmas::Times::flight_short))]
     pub fn flight(&self, i: Floor, j: Floor) -> u32
         ensures value { result ≡ flight_ms self.now i j }

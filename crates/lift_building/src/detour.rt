@@ -1,7 +1,8 @@
 //! The search for a flight that a stop on the way would make shorter.
 
 ghost use Rattle.std.specs.Prelude.{◌≡◌, ℕ, ◌<◌, ◌≤◌, IfNone, IfSome};
-ghost use Rattle.lift_building.specs.Plan.{flight_ms, detour_ms, IsDirect, HasNoDetour, IsFirstDetourFrom, IsFirstDetour, HasLimits};
+ghost use Rattle.lift_building.specs.Plan.{flight_ms, detour_ms, IsDirect, HasNoDetour};
+ghost use Rattle.lift_building.specs.Plan.{IsFirstDetourFrom, IsFirstDetour, HasLimits};
 ghost use Rattle.lift_building.specs.Layout.{layout_view};
 
 use crate::layout::Layout;
@@ -11,9 +12,11 @@ fn detour_to(layout: &Layout, i: usize, j: usize) -> Option<usize>
     requires limits { HasLimits (layout_view layout.now) }
     requires from { i < layout.now.floors }
     requires by { j < layout.now.floors }
-    ensures none { IfNone result ((k : ℕ) → k < layout.now.floors → IsDirect (layout_view layout.now) i j k) }
+    ensures none { IfNone result ((k : ℕ) → k < layout.now.floors
+        → IsDirect (layout_view layout.now) i j k) }
     ensures to { IfSome result (λ k. k < layout.now.floors) }
-    ensures longer { IfSome result (λ k. detour_ms (layout_view layout.now) i j k < flight_ms (layout_view layout.now) i k) }
+    ensures longer { IfSome result (λ k.
+        detour_ms (layout_view layout.now) i j k < flight_ms (layout_view layout.now) i k) }
     ensures first { IfSome result (λ k. (c : ℕ) → c < k → IsDirect (layout_view layout.now) i j c) }
 {
     for k in 0..layout.floors as usize {
@@ -28,7 +31,8 @@ fn detour_to(layout: &Layout, i: usize, j: usize) -> Option<usize>
 fn detour_by(layout: &Layout, i: usize) -> Option<(usize, usize)>
     requires limits { HasLimits (layout_view layout.now) }
     requires from { i < layout.now.floors }
-    ensures none { IfNone result ((j k : ℕ) → j < layout.now.floors → k < layout.now.floors → IsDirect (layout_view layout.now) i j k) }
+    ensures none { IfNone result ((j k : ℕ) → j < layout.now.floors → k < layout.now.floors
+        → IsDirect (layout_view layout.now) i j k) }
     ensures some { IfSome result (λ jk. IsFirstDetourFrom (layout_view layout.now) i jk.0 jk.1) }
 {
     for j in 0..layout.floors as usize {

@@ -1,10 +1,14 @@
 //! The parts of a building's text.
 
-ghost use Rattle.std.specs.Prelude.{◌≡◌, ◌≤◌, ◌<◌, ◌-◌, [], map, replicate, true, option_map, IfOk, length, slice_set};
+ghost use Rattle.std.specs.Prelude.{◌≡◌, ◌≤◌, ◌<◌, ◌-◌, [], map, replicate, true, option_map, IfOk};
+ghost use Rattle.std.specs.Prelude.{length, slice_set};
 ghost use Rattle.toml.specs.Data.{get};
 ghost use Rattle.toml.specs.View.{view, items_view};
 ghost use Rattle.lift_building.specs.Text.{name_of};
-ghost use Rattle.lift_building.specs.Reading.{number_in, items_in, key, number_at, item_count, each, is_between, floors_in, flight_in, row_in, table_in, flags_of, flags_in, served_in, car_in, cars_in, plan_in};
+ghost use Rattle.lift_building.specs.Reading.{number_in, items_in, key, number_at, item_count};
+ghost use Rattle.lift_building.specs.Reading.{each, is_between, floors_in, flight_in, row_in};
+ghost use Rattle.lift_building.specs.Reading.{table_in, flags_of, flags_in, served_in, car_in};
+ghost use Rattle.lift_building.specs.Reading.{cars_in, plan_in};
 ghost use Rattle.lift_building.specs.Layout.{car_view, rows_view, layout_view};
 ghost use Rattle.lift_building.specs.Gives.{Gives};
 
@@ -59,7 +63,8 @@ fn number_at(field: Field, low: u32, high: u32, document: &Value) -> Result<u32,
 fn floor_in(field: Field, floors: u32, value: &Value) -> Result<Floor, BuildingFault>
     requires some { 1 ≤ floors }
     requires limit { floors ≤ 64 }
-    ensures given { Gives (λ floor. floor) result (number_in field 0 (floors - 1) (view value.now)) }
+    ensures given { Gives (λ floor.
+        floor) result (number_in field 0 (floors - 1) (view value.now)) }
     ensures limit { IfOk result (λ floor. floor < floors) }
 {
     let number = number_in(field, 0, floors - 1, value)?;
@@ -74,7 +79,9 @@ fn kiosks_among(floors: u32, items: &[Value]) -> Result<ArrayVec<Floor, 47>, Bui
     requires some { 1 ≤ floors }
     requires limit { floors ≤ 64 }
     requires room { length items.now ≤ 47 }
-    ensures { Gives (λ kiosks. kiosks.items) result (each (λ _. number_in Field.Kiosks 0 (floors - 1)) 0 (items_view items.now)) }
+    ensures { Gives (λ kiosks.
+        kiosks.items) result (each (λ _.
+        number_in Field.Kiosks 0 (floors - 1)) 0 (items_view items.now)) }
 {
     let mut kiosks = ArrayVec::new();
     for item in items {
@@ -87,7 +94,8 @@ fn kiosks_among(floors: u32, items: &[Value]) -> Result<ArrayVec<Floor, 47>, Bui
 fn kiosks_in(floors: u32, value: &Value) -> Result<ArrayVec<Floor, 47>, BuildingFault>
     requires some { 1 ≤ floors }
     requires limit { floors ≤ 64 }
-    ensures { Gives (λ kiosks. kiosks.items) result (floors_in Field.Kiosks (is_between 1 47) floors (view value.now)) }
+    ensures { Gives (λ kiosks.
+        kiosks.items) result (floors_in Field.Kiosks (is_between 1 47) floors (view value.now)) }
 {
     let items = items_in(Field::Kiosks, value)?;
     if items.is_empty() || items.len() > 47 {
@@ -134,7 +142,8 @@ fn row_in(floors: u32, i: usize, value: &Value) -> Result<Flights, BuildingFault
 fn rows_among(floors: u32, items: &[Value]) -> Result<ArrayVec<Flights, 64>, BuildingFault>
     requires limit { floors ≤ 64 }
     requires room { length items.now ≤ 64 }
-    ensures { Gives (λ table. rows_view table.items) result (each (row_in floors) 0 (items_view items.now)) }
+    ensures { Gives (λ table.
+        rows_view table.items) result (each (row_in floors) 0 (items_view items.now)) }
 {
     let mut table = ArrayVec::new();
     for (i, item) in items.iter().enumerate() {
@@ -193,7 +202,8 @@ fn flags_among(floors: u32, items: &[Value]) -> Result<ArrayVec<bool, 64>, Build
 fn served_in(floors: u32, value: Option<&Value>) -> Result<ArrayVec<bool, 64>, BuildingFault>
     requires some { 1 ≤ floors }
     requires limit { floors ≤ 64 }
-    ensures { Gives (λ served. served.items) result (served_in floors (option_map (λ v. view v.now) value.entry)) }
+    ensures { Gives (λ served.
+        served.items) result (served_in floors (option_map (λ v. view v.now) value.entry)) }
 {
     match value {
         None => Ok(same_flags(floors, true)),
@@ -225,7 +235,8 @@ fn cars_among(floors: u32, items: &[Value]) -> Result<ArrayVec<Car, 16>, Buildin
     requires some { 1 ≤ floors }
     requires limit { floors ≤ 64 }
     requires room { length items.now ≤ 16 }
-    ensures { Gives (λ cars. map car_view cars.items) result (each (λ _. car_in floors) 0 (items_view items.now)) }
+    ensures { Gives (λ cars.
+        map car_view cars.items) result (each (λ _. car_in floors) 0 (items_view items.now)) }
 {
     let mut cars = ArrayVec::new();
     for item in items {

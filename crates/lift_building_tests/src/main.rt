@@ -1,4 +1,5 @@
-//! Reads the buildings `NAME.toml` that its words name, and prints what is in them, or why they are refused.
+//! Reads the buildings `NAME.toml` that its words name, and prints what is in them, or why they are
+//! refused.
 #![tactic(auto)]
 
 use lift_base::{Floor, Letter};
@@ -48,7 +49,8 @@ fn show_car(rt: &impl Print, building: &Building, car: Letter) -> io::Result<()>
     println!(rt; "")
 }
 
-/// What is answered of the floor above the top and the car behind the last: no flight, no places, no floors.
+/// What is answered of the floor above the top and the car behind the last: no flight, no places,
+/// no floors.
 fn show_beyond(rt: &impl Print, building: &Building) -> io::Result<()> {
     let (Some(above), Some(behind)) = (Floor::new(building.floors()), Letter::new(building.cars()))
     else {

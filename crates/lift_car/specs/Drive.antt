@@ -1,23 +1,28 @@
 -- How a car is driven: it asks, waits for the answer, and goes to the stop that it heard.
-use Rattle.std.specs.Prelude.{ℕ, ◌≡◌, ◌≢◌, ◌<◌, ◌+◌, ◌⊎◌, Bool, true, false, List, [], ◌∷◌, length, Option, Some, None, nat_lt, if◌then◌else◌}
+use Rattle.std.specs.Prelude.{ℕ, ◌≡◌, ◌≢◌, ◌<◌, ◌+◌, ◌⊎◌, Bool, true, false, List, [], ◌∷◌, length}
+use Rattle.std.specs.Prelude.{Option, Some, None, nat_lt, if◌then◌else◌}
 use Rattle.lift_base.specs.declared.travel.Position.{Position}
 use Rattle.lift_base.specs.declared.travel.Stop.{Stop as StopAt}
 use Rattle.lift_base.specs.declared.command.Body.TheVariants.{Stop, Place}
 use Rattle.lift_base.specs.declared.command.Reply.{Reply}
-use Rattle.lift_base.specs.declared.command.Reply.TheVariants.{Car, Stopped, Placed, Refused, Unknown}
+use Rattle.lift_base.specs.declared.command.Reply.TheVariants.{Car, Stopped, Placed, Refused}
+use Rattle.lift_base.specs.declared.command.Reply.TheVariants.{Unknown}
 use Rattle.lift_desk.specs.declared.words.Ask.{Ask}
 use Rattle.lift_kiosk.specs.declared.terms.Limits.{Limits}
 use Rattle.lift_kiosk.specs.declared.outcome.Opening.{Opening}
 use Rattle.lift_kiosk.specs.declared.outcome.Opening.TheVariants.{Free, BroughtIn, StillWaits}
-use Rattle.lift_kiosk.specs.declared.outcome.Outcome.TheVariants.{Answered, NotAnswered, Refused as NotTaken}
+use Rattle.lift_kiosk.specs.declared.outcome.Outcome.TheVariants.{Answered, NotAnswered}
+use Rattle.lift_kiosk.specs.declared.outcome.Outcome.TheVariants.{Refused as NotTaken}
 use Rattle.lift_kiosk.specs.Port.{PortView}
 use Rattle.lift_kiosk.specs.Hearing.{rested}
 use Rattle.lift_kiosk.specs.Session.{PortDid, PortOpened}
 use Rattle.lift_car.specs.declared.terms.Ending.{Ending}
-use Rattle.lift_car.specs.declared.terms.Ending.TheVariants.{Limit, Late, Spent, Refused as EndRefused, Unknown as EndUnknown}
+use Rattle.lift_car.specs.declared.terms.Ending.TheVariants.{Limit, Late, Spent}
+use Rattle.lift_car.specs.declared.terms.Ending.TheVariants.{Refused as EndRefused}
+use Rattle.lift_car.specs.declared.terms.Ending.TheVariants.{Unknown as EndUnknown}
 
--- where a car stands in its drive: the number of its last stop, whether it went to a stop that it has not reported, its
--- port, and the car itself
+-- where a car stands in its drive: the number of its last stop, whether it went to a stop that it
+-- has not reported, its port, and the car itself
 pub record Standing (C : Type 0) : Type 0 where
   pub last : ℕ
   pub arrived : Bool
@@ -27,7 +32,8 @@ pub record Standing (C : Type 0) : Type 0 where
 abbrev pub standing : {C : Type 0} → ℕ → Bool → PortView → C → Standing C
 standing last arrived port car = record { last = last; arrived = arrived; port = port; car = car }
 
--- What it asks: it reports the stop that it went to with its next number, else it tells its place, with number 0.
+-- What it asks: it reports the stop that it went to with its next number, else it tells its place,
+-- with number 0.
 abbrev pub ask_at : (arrived : Bool) → (last : ℕ) → Position → Ask
 ask_at true last position = record { number = last + 1; body = Stop position.floor position.dir }
 ask_at false last position = record { number = 0; body = Place position.floor position.dir }
@@ -56,7 +62,8 @@ has_stop None = false
 has_stop (Some stop) = true
 
 -- It goes to this stop, once, and is there; or it stays.
-abbrev pub Moves : {C : Type 0} → (told : C → Position) → (goes : C → StopAt → C → Type 0) → (before : C) → Option StopAt → (after : C) → Type 0
+abbrev pub Moves : {C : Type 0} → (told : C → Position) → (goes : C → StopAt → C → Type 0)
+    → (before : C) → Option StopAt → (after : C) → Type 0
 Moves told goes before None after = after ≡ before
 Moves told goes before (Some stop) after = goes before stop after × (told after ≡ position_at stop)
 
@@ -82,27 +89,43 @@ EndsWith (Refused reason) end = end ≡ EndRefused reason
 EndsWith Unknown end = end ≡ EndUnknown
 
 -- It asks, hears this answer, and goes to the answer's stop, or rests.
-pub record Errand {C : Type 0} (told : C → Position) (goes : C → StopAt → C → Type 0) (looks : ℕ) (reply : Reply) (before after : Standing C) : Type 0 where
+pub record Errand {C : Type 0} (told : C → Position) (goes : C → StopAt → C
+    → Type 0) (looks : ℕ) (reply : Reply) (before after : Standing C) : Type 0 where
   pub room : before.arrived ≡ true → before.last < 16777215
   pub answered : PortView
-  pub port : PortDid looks before.port (Answered (ask_at before.arrived before.last (told before.car)) reply) answered
+  pub port : PortDid looks before.port
+      (Answered (ask_at before.arrived before.last (told before.car)) reply) answered
   pub rests : Rests (stop_in reply) answered after.port
-  pub last : after.last ≡ last_after before.last (ask_at before.arrived before.last (told before.car)).number reply
+  pub last : after.last ≡ last_after before.last
+      (ask_at before.arrived before.last (told before.car)).number reply
   pub moves : Moves told goes before.car (stop_in reply) after.car
   pub arrived : after.arrived ≡ has_stop (stop_in reply)
 
 -- one errand after another
-abbrev pub Run : {C : Type 0} → (told : C → Position) → (goes : C → StopAt → C → Type 0) → (looks : ℕ) → List Reply → Standing C → Standing C → Type 0
+abbrev pub Run : {C : Type 0} → (told : C → Position) → (goes : C → StopAt → C → Type 0)
+    → (looks : ℕ) → List Reply → Standing C → Standing C → Type 0
 Run told goes looks [] before after = after ≡ before
-Run told goes looks (reply ∷ replies) before after = (mid : Standing _) × Errand told goes looks reply before mid × GoesOn reply × Run told goes looks replies mid after
+Run told goes looks (reply ∷ replies) before after =
+    (mid : Standing _) × Errand told goes looks reply before mid × GoesOn reply
+    × Run told goes looks replies mid after
 
 -- Why it asks no more, or what came of its last ask; the car stays.
-abbrev pub LastAsk : {C : Type 0} → (told : C → Position) → (looks : ℕ) → Ending → (before after : Standing C) → Type 0
-LastAsk told looks Limit before after = (before.arrived ≡ true) × (before.last ≡ 16777215) × (after.port ≡ before.port)
-LastAsk told looks Late before after = PortDid looks before.port (NotAnswered (ask_at before.arrived before.last (told before.car))) after.port
-LastAsk told looks Spent before after = PortDid looks before.port (NotTaken (ask_at before.arrived before.last (told before.car))) after.port
-LastAsk told looks (EndRefused reason) before after = PortDid looks before.port (Answered (ask_at before.arrived before.last (told before.car)) (Refused reason)) after.port
-LastAsk told looks EndUnknown before after = PortDid looks before.port (Answered (ask_at before.arrived before.last (told before.car)) Unknown) after.port
+abbrev pub LastAsk : {C : Type 0} → (told : C → Position) → (looks : ℕ) → Ending
+    → (before after : Standing C) → Type 0
+LastAsk told looks Limit before after = (before.arrived ≡ true) × (before.last ≡ 16777215)
+    × (after.port ≡ before.port)
+LastAsk told looks Late before after =
+    PortDid looks before.port (NotAnswered (ask_at before.arrived before.last (told before.car)))
+    after.port
+LastAsk told looks Spent before after =
+    PortDid looks before.port (NotTaken (ask_at before.arrived before.last (told before.car)))
+    after.port
+LastAsk told looks (EndRefused reason) before after =
+    PortDid looks before.port
+    (Answered (ask_at before.arrived before.last (told before.car)) (Refused reason)) after.port
+LastAsk told looks EndUnknown before after =
+    PortDid looks before.port
+    (Answered (ask_at before.arrived before.last (told before.car)) Unknown) after.port
 
 -- the last command follows an answer that is brought in, too
 abbrev pub last_opened : ℕ → Opening → ℕ
@@ -120,13 +143,15 @@ last_stop [] = None
 last_stop (reply ∷ replies) = later_stop (last_stop replies) (stop_in reply)
 
 -- the car tells this stop, or it is where it was
-abbrev pub Tells : {C : Type 0} → (told : C → Position) → (before : C) → Option StopAt → (after : C) → Type 0
+abbrev pub Tells : {C : Type 0} → (told : C → Position) → (before : C) → Option StopAt → (after : C)
+    → Type 0
 Tells told before None after = after ≡ before
 Tells told before (Some stop) after = told after ≡ position_at stop
 
--- A drive that brought an earlier answer in, if one was pending: it heard these answers to its own asks, and ended since it
--- may ask no more, or by its last ask.
-pub record Drives {C : Type 0} (told : C → Position) (goes : C → StopAt → C → Type 0) (limits : Limits) (end : Ending) (before after : Standing C) : Type 0 where
+-- A drive that brought an earlier answer in, if one was pending: it heard these answers to its own
+-- asks, and ended since it may ask no more, or by its last ask.
+pub record Drives {C : Type 0} (told : C → Position) (goes : C → StopAt → C
+    → Type 0) (limits : Limits) (end : Ending) (before after : Standing C) : Type 0 where
   pub opening : Opening
   pub begun : Standing C
   pub replies : List Reply
@@ -144,11 +169,14 @@ pub record Drives {C : Type 0} (told : C → Position) (goes : C → StopAt → 
   pub tells : Tells told before.car (last_stop replies) after.car
 
 -- The answer to an earlier ask was not heard.
-pub record WaitsStill {C : Type 0} (limits : Limits) (end : Ending) (before after : Standing C) : Type 0 where
+pub record WaitsStill {C : Type 0} (limits : Limits) (end : Ending)
+    (before after : Standing C) : Type 0 where
   pub late : end ≡ Late
   pub port : PortOpened limits.looks before.port StillWaits after.port
   pub number : after.last ≡ before.last
   pub stays : after.car ≡ before.car
 
-abbrev pub IsDrive : {C : Type 0} → (told : C → Position) → (goes : C → StopAt → C → Type 0) → Limits → Ending → (before after : Standing C) → Type 0
-IsDrive told goes limits end before after = WaitsStill limits end before after ⊎ Drives told goes limits end before after
+abbrev pub IsDrive : {C : Type 0} → (told : C → Position) → (goes : C → StopAt → C → Type 0)
+    → Limits → Ending → (before after : Standing C) → Type 0
+IsDrive told goes limits end before after = WaitsStill limits end before after
+    ⊎ Drives told goes limits end before after

@@ -1,11 +1,13 @@
 -- What a car's lines ask for, and which answers it keeps.
-use Rattle.std.specs.Prelude.{ℕ, ◌≡◌, ◌<◌, ◌≤◌, List, [], ◌∷◌, codes, length, Option, Some, None, nat_lt, if◌then◌else◌}
+use Rattle.std.specs.Prelude.{ℕ, ◌≡◌, ◌<◌, ◌≤◌, List, [], ◌∷◌, codes, length, Option, Some, None}
+use Rattle.std.specs.Prelude.{nat_lt, if◌then◌else◌}
 use Rattle.std.specs.Fmt.{decimal}
 use Rattle.lift_base.specs.Text.{AreWords, dir_text}
 use Rattle.lift_base.specs.declared.travel.Dir.{Dir}
 use Rattle.lift_base.specs.declared.command.Body.TheVariants.{Stop, Place}
 use Rattle.lift_base.specs.declared.command.Reply.{Reply}
-use Rattle.lift_base.specs.declared.command.Reply.TheVariants.{Car, Stopped, Placed, Refused, Unknown}
+use Rattle.lift_base.specs.declared.command.Reply.TheVariants.{Car, Stopped, Placed, Refused}
+use Rattle.lift_base.specs.declared.command.Reply.TheVariants.{Unknown}
 use Rattle.lift_desk.specs.declared.words.Ask.{Ask}
 use Rattle.lift_car.specs.declared.lines.Move.{Move}
 use Rattle.lift_kiosk.specs.declared.terms.LastLetter.{LastLetter}
@@ -15,7 +17,8 @@ use Rattle.lift_kiosk.specs.declared.dialect.Wanted.TheVariants.{Ask as Asks, No
 -- these words tell where a car is, or report a stop
 abbrev pub move_words : Option ℕ → (floor : ℕ) → Dir → List (List ℕ)
 move_words None floor dir = codes "PLACE" ∷ decimal floor ∷ dir_text dir ∷ []
-move_words (Some number) floor dir = codes "STOP" ∷ decimal number ∷ decimal floor ∷ dir_text dir ∷ []
+move_words (Some number) floor dir =
+    codes "STOP" ∷ decimal number ∷ decimal floor ∷ dir_text dir ∷ []
 
 -- the number of a stop is up to 16,777,215
 abbrev pub IsNumber : Option ℕ → Type 0
@@ -45,13 +48,15 @@ ask_of move = asked move.number move.floor move.dir
 
 -- A floor from 64 on is in no building.
 abbrev pub WantsMove : List ℕ → Wanted → Type 0
-WantsMove line (Asks ask) = (move : Move) × SpellsMove line move × (move.floor < 64) × (ask ≡ ask_of move)
+WantsMove line (Asks ask) = (move : Move) × SpellsMove line move × (move.floor < 64)
+    × (ask ≡ ask_of move)
 WantsMove line NoFloor = (move : Move) × SpellsMove line move × (64 ≤ move.floor)
 
 -- A stop is kept where its number is above the last one's.
 abbrev pub keeps_stop : LastLetter → ℕ → Reply → LastLetter
 keeps_stop last number (Car car) = last
-keeps_stop last number (Stopped next) = if nat_lt last.number number then record { number = number; letter = None } else last
+keeps_stop last number (Stopped next) =
+    if nat_lt last.number number then record { number = number; letter = None } else last
 keeps_stop last number (Placed next) = last
 keeps_stop last number (Refused reason) = last
 keeps_stop last number Unknown = last

@@ -1,7 +1,9 @@
 //! An agent that drives a car through its stops.
 
-ghost use Rattle.std.specs.Prelude.{◌≡◌, ◌≢◌, ◌+◌, ◌<◌, ◌≤◌, OnOk, IfOk, IfErr, IfSome, IfNone, Err, Bool, None, false, true};
-ghost use Rattle.lift_car.specs.Drive.{ask_at, stop_in, last_after, last_opened, Moves, Rests, GoesOn, EndsWith, Errand, LastAsk, IsDrive, standing};
+ghost use Rattle.std.specs.Prelude.{◌≡◌, ◌≢◌, ◌+◌, ◌<◌, ◌≤◌, OnOk, IfOk, IfErr, IfSome, IfNone};
+ghost use Rattle.std.specs.Prelude.{Err, Bool, None, false, true};
+ghost use Rattle.lift_car.specs.Drive.{ask_at, stop_in, last_after, last_opened, Moves, Rests};
+ghost use Rattle.lift_car.specs.Drive.{GoesOn, EndsWith, Errand, LastAsk, IsDrive, standing};
 ghost use Rattle.lift_base.specs.declared.command.Reply.{Reply as ReplyValue};
 
 use crate::car::Car;
@@ -10,9 +12,11 @@ use lift_base::{Body, Number, Position, Reply, Stop};
 use lift_desk::Ask;
 use lift_kiosk::{Limits, Opening, Outcome, Port, bring_in, carry_out};
 
-/// What the car asks where it is: its next stop where it went to one, else its place. None where no number is left.
+/// What the car asks where it is: its next stop where it went to one, else its place. None where no
+/// number is left.
 fn ask_at(arrived: bool, last: &Number, position: &Position) -> Option<Ask>
-    ensures some { IfSome result (λ ask. (ask ≡ ask_at arrived last.now position.now) × (arrived ≡ true → last.now < 16777215)) }
+    ensures some { IfSome result (λ ask. (ask ≡ ask_at arrived last.now position.now)
+        × (arrived ≡ true → last.now < 16777215)) }
     ensures none { IfNone result ((arrived ≡ true) × (last.now ≡ 16777215)) }
 {
     if arrived {
@@ -121,16 +125,19 @@ fn errand<C: Car, P: Port>(
     Ok(())
 }
 
-/// Drives a car: brings in the answer to an ask of an earlier drive, then asks Place of what the car tells. It goes to each
-/// stop that it hears, and reports it with the next number; where it hears none it rests and asks Place again.
-/// The limits bound the asks (`lines`) and the looks for each answer.
+/// Drives a car: brings in the answer to an ask of an earlier drive, then asks Place of what the
+/// car tells. It goes to each stop that it hears, and reports it with the next number; where it
+/// hears none it rests and asks Place again. The limits bound the asks (`lines`) and the looks for
+/// each answer.
 pub fn drive<C: Car, P: Port>(car: &mut C, port: &mut P, last: Number, limits: Limits) -> DriveEnd
     ensures drive { (arrived : Bool) × IsDrive C.told C.goes limits result.end
-        (standing last false (P.view port.old) car.old) (standing result.last arrived (P.view port.new) car.new) }
+        (standing last false (P.view port.old) car.old)
+        (standing result.last arrived (P.view port.new) car.new) }
     ensures stays { P.place port.new ≡ P.place port.old }
     ensures late { result.end ≡ Ending.Late → ((P.view port.new).pending ≢ None)
         × ((P.view port.old).looks + limits.looks ≤ (P.view port.new).looks) }
-    ensures spent { result.end ≡ Ending.Spent → ((P.view port.new).spent ≡ true) × ((P.view port.new).pending ≡ None) }
+    ensures spent { result.end ≡ Ending.Spent
+        → ((P.view port.new).spent ≡ true) × ((P.view port.new).pending ≡ None) }
 {
     let opening = bring_in(port, limits.looks);
     let mut last = last_behind_opening(&last, &opening);

@@ -1,5 +1,5 @@
-//! Cars at the desk: their sessions, lines in and lines out, and agents that drive them. Nothing here takes memory, and nothing
-//! waits but calls of the reader and the writer, and a port's rest.
+//! Cars at the desk: their sessions, lines in and lines out, and agents that drive them. Nothing
+//! here takes memory, and nothing waits but calls of the reader and the writer, and a port's rest.
 #![tactic(auto)]
 
 mod car;

@@ -1,6 +1,7 @@
 //! What a car says in its sessions.
 
-ghost use Rattle.std.specs.Prelude.{◌≡◌, ◌≢◌, ℕ, ◌<◌, ◌≤◌, ◌+◌, ◌^◌, List, map, IfSome, IfNone, None, true, ◌∷◌, [], codes};
+ghost use Rattle.std.specs.Prelude.{◌≡◌, ◌≢◌, ℕ, ◌<◌, ◌≤◌, ◌+◌, ◌^◌, List, map, IfSome, IfNone};
+ghost use Rattle.std.specs.Prelude.{None, true, ◌∷◌, [], codes};
 ghost use Rattle.lift_base.specs.Output.{sink_of};
 ghost use Rattle.lift_kiosk.specs.Lines.{source_of};
 ghost use Rattle.lift_kiosk.specs.Session.{IsSession, standing};
@@ -26,8 +27,10 @@ struct Move {
 
 /// The place that the words behind PLACE spell.
 fn place_of(words: &[&str]) -> Option<Move>
-    ensures some { IfSome result (λ found. IsMove (codes "PLACE" ∷ map (λ word. word.now) words.now) found) }
-    ensures none { IfNone result ((found : MoveValue) → IsMove (codes "PLACE" ∷ map (λ word. word.now) words.now) found → ⊥) }
+    ensures some { IfSome result (λ found.
+        IsMove (codes "PLACE" ∷ map (λ word. word.now) words.now) found) }
+    ensures none { IfNone result ((found : MoveValue)
+        → IsMove (codes "PLACE" ∷ map (λ word. word.now) words.now) found → ⊥) }
 {
     match words {
         [floor, dir] => {
@@ -45,8 +48,10 @@ fn place_of(words: &[&str]) -> Option<Move>
 
 /// The stop that the words behind STOP spell.
 fn stop_of(words: &[&str]) -> Option<Move>
-    ensures some { IfSome result (λ found. IsMove (codes "STOP" ∷ map (λ word. word.now) words.now) found) }
-    ensures none { IfNone result ((found : MoveValue) → IsMove (codes "STOP" ∷ map (λ word. word.now) words.now) found → ⊥) }
+    ensures some { IfSome result (λ found.
+        IsMove (codes "STOP" ∷ map (λ word. word.now) words.now) found) }
+    ensures none { IfNone result ((found : MoveValue)
+        → IsMove (codes "STOP" ∷ map (λ word. word.now) words.now) found → ⊥) }
 {
     match words {
         [number, floor, dir] => {
@@ -66,7 +71,8 @@ fn stop_of(words: &[&str]) -> Option<Move>
 /// The move that all words of a line spell.
 fn move_among(words: &[&str]) -> Option<Move>
     ensures some { IfSome result (λ found. IsMove (map (λ word. word.now) words.now) found) }
-    ensures none { IfNone result ((found : MoveValue) → IsMove (map (λ word. word.now) words.now) found → ⊥) }
+    ensures none { IfNone result ((found : MoveValue)
+        → IsMove (map (λ word. word.now) words.now) found → ⊥) }
 {
     match words {
         [first, others @ ..] => {
@@ -153,12 +159,14 @@ impl Dialect for CarLines {
 
 /// A line asks for one thing at most.
 pub fn lines_ask_for_one_thing()
-    ensures { (line : List ℕ) (one other : WantedValue) → WantsMove line one → WantsMove line other → one ≡ other }
+    ensures { (line : List ℕ) (one other : WantedValue) → WantsMove line one → WantsMove line other
+        → one ≡ other }
 {}
 
-/// A session of a car. It greets with the number of the last stop that is known to be in, then reads lines
-/// `PLACE <floor> <up or down>` and `STOP <number> <floor> <up or down>`, asks each at the port, and answers it. It may call
-/// the reader as often as the limits say, beyond the calls that were made before.
+/// A session of a car. It greets with the number of the last stop that is known to be in, then
+/// reads lines `PLACE <floor> <up or down>` and `STOP <number> <floor> <up or down>`, asks each at
+/// the port, and answers it. It may call the reader as often as the limits say, beyond the calls
+/// that were made before.
 pub fn session<R: Read + Drop, W: Write + Drop, P: Port>(
     reader: &mut Counted<R>,
     writer: &mut Watched<W>,
@@ -167,13 +175,16 @@ pub fn session<R: Read + Drop, W: Write + Drop, P: Port>(
     limits: Limits,
 ) -> CarEnd
     ensures session { IsSession WantsMove keeps_stop limits result.end
-        (standing (stop_numbered last) (P.view port.old) (source_of R.remaining reader.old) (sink_of W.contents writer.old))
-        (standing (stop_numbered result.last) (P.view port.new) (source_of R.remaining reader.new) (sink_of W.contents writer.new)) }
+        (standing (stop_numbered last) (P.view port.old) (source_of R.remaining reader.old)
+        (sink_of W.contents writer.old))
+        (standing (stop_numbered result.last) (P.view port.new) (source_of R.remaining reader.new)
+        (sink_of W.contents writer.new)) }
     ensures calls { reader.new.calls ≤ reader.old.calls + limits.reads }
     ensures stays { P.place port.new ≡ P.place port.old }
     ensures late { result.end ≡ End.Late → ((P.view port.new).pending ≢ None)
         × ((P.view port.old).looks + limits.looks ≤ (P.view port.new).looks) }
-    ensures spent { result.end ≡ End.Spent → ((P.view port.new).spent ≡ true) × ((P.view port.new).pending ≡ None) }
+    ensures spent { result.end ≡ End.Spent
+        → ((P.view port.new).spent ≡ true) × ((P.view port.new).pending ≡ None) }
     ensures closed { result.end ≡ End.Closed → reader.new.ended ≡ true }
     ensures unwritten { result.end ≡ End.WriteFault → writer.new.failed ≡ true }
     ensures failed { result.end ≡ End.ReadFault → reader.new.failed ≡ true }

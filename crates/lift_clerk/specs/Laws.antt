@@ -13,9 +13,16 @@ use Rattle.lift_world.specs.Asking.{AsksStand}
 use Rattle.lift_world.specs.Beside.{GoesAreRuns, RunsJoin}
 use Rattle.lift_world.specs.Headline.{HearsInOrder, RecoversAcknowledged, RecoversLetters}
 use Rattle.lift_world.specs.Possible.{ReopensAfterCut, Seals, PullsInTurn, CallsInOrder}
-use Rattle.lift_world.specs.Turns.{IsAtRest, HasRun, RunsAreTakes, TurnsAreRuns, FailuresAreRuns, BrokenTurnsAreRuns, TurnsEndAtRest, FailuresEndAtRest, BrokenTurnsEndAtRest, ReopeningsEndAtRest, RunningReopeningsEndAtRest, FailedReopeningsEndAtRest, CutsEndAtRest}
-use Rattle.lift_clerk.specs.Machine.{TurnsAreTurns, FailuresAreFailures, BrokenTurnsAreBroken, ReopeningsAreReopenings, FailedReopeningsAreFaults, NothingIsNoEvent, TellsAreNoEvents}
-use Rattle.lift_clerk.specs.Machine.{BeginsAtStart, BeginsAfterCrash, CrashesAreCuts, CrashesWithinTurns, CrashesWithinFailures, CutsShowLetters}
+use Rattle.lift_world.specs.Turns.{IsAtRest, HasRun, RunsAreTakes, TurnsAreRuns, FailuresAreRuns}
+use Rattle.lift_world.specs.Turns.{BrokenTurnsAreRuns, TurnsEndAtRest, FailuresEndAtRest}
+use Rattle.lift_world.specs.Turns.{BrokenTurnsEndAtRest, ReopeningsEndAtRest}
+use Rattle.lift_world.specs.Turns.{RunningReopeningsEndAtRest, FailedReopeningsEndAtRest}
+use Rattle.lift_world.specs.Turns.{CutsEndAtRest}
+use Rattle.lift_clerk.specs.Machine.{TurnsAreTurns, FailuresAreFailures, BrokenTurnsAreBroken}
+use Rattle.lift_clerk.specs.Machine.{ReopeningsAreReopenings, FailedReopeningsAreFaults}
+use Rattle.lift_clerk.specs.Machine.{NothingIsNoEvent, TellsAreNoEvents}
+use Rattle.lift_clerk.specs.Machine.{BeginsAtStart, BeginsAfterCrash, CrashesAreCuts}
+use Rattle.lift_clerk.specs.Machine.{CrashesWithinTurns, CrashesWithinFailures, CutsShowLetters}
 
 pub record Laws : Type 0 where
   pub asks : (w : World) → AsksStand w
@@ -23,7 +30,8 @@ pub record Laws : Type 0 where
   pub turns : (w : World) → TurnsAreRuns w
   pub failures : (w : World) → FailuresAreRuns w
   pub broken : (w : World) → BrokenTurnsAreRuns w
-  pub decided : (building : Plan) (state : State) (commands : List Command) → HasRun building state commands
+  pub decided : (building : Plan) (state : State) (commands : List Command)
+      → HasRun building state commands
   pub turns_rest : (w : World) → TurnsEndAtRest w
   pub failures_rest : (w : World) → FailuresEndAtRest w
   pub broken_rest : (w : World) → BrokenTurnsEndAtRest w
@@ -38,8 +46,10 @@ pub record Laws : Type 0 where
   pub seals : (w : World) → Seals w
   pub pulls : (w : World) → PullsInTurn w
   pub calls : (w : World) → CallsInOrder w
-  pub acknowledged : (building : Plan) (events : List Event) → IsBuilding building → RecoversAcknowledged (run events (start building))
-  pub letters : (building : Plan) (events : List Event) → IsBuilding building → RecoversLetters (run events (start building))
+  pub acknowledged : (building : Plan) (events : List Event) → IsBuilding building
+      → RecoversAcknowledged (run events (start building))
+  pub letters : (building : Plan) (events : List Event) → IsBuilding building
+      → RecoversLetters (run events (start building))
   pub possible : (w : World) → GoesAreRuns w
   pub joined : (w : World) → RunsJoin w
   pub registers : RegistersJoin

@@ -32,15 +32,19 @@ abbrev pub Decides : Bool → Plan → Choice → State → List Command → Lis
 Decides true plan choice state commands replies next = RunWhileBroken state commands replies next
 Decides false plan choice state commands replies next = Run plan choice state commands replies next
 
--- each place was looked at as far as these visits go, and each command found there has its answer, which isn't stored yet
-pub record IsScanned (places : List ClerkPlace) (visits : List Visit) (seat : List ClerkPlace) (answers : List Answer) : Type 0 where
+-- each place was looked at as far as these visits go, and each command found there has its answer,
+-- which isn't stored yet
+pub record IsScanned (places : List ClerkPlace) (visits : List Visit) (seat : List ClerkPlace)
+    (answers : List Answer) : Type 0 where
   pub finds : Finds places visits
   pub looked : seat ≡ served places visits []
   pub terminals : terminals_in answers ≡ terminals_of (commands_of 0 visits)
 
 -- the first n places were looked at, and what was found was decided
-pub record Scans (choice : Choice) (plan : Plan) (is_broken : Bool) (places seat : List ClerkPlace) (before after : State) (answers : List Answer) (n : ℕ) : Type 0 where
+pub record Scans (choice : Choice) (plan : Plan) (is_broken : Bool) (places seat : List ClerkPlace)
+    (before after : State) (answers : List Answer) (n : ℕ) : Type 0 where
   pub visits : List Visit
   pub count : length visits ≡ n
   pub scanned : IsScanned places visits seat answers
-  pub decides : Decides is_broken plan choice before (commands_of 0 visits) (replies_in answers) after
+  pub decides : Decides is_broken plan choice before (commands_of 0 visits)
+      (replies_in answers) after

@@ -18,33 +18,38 @@ use Rattle.lift_clerk.specs.Clerk.{ClerkState}
 abbrev pub settled : State → State
 settled state = record state { batch = [] }
 
--- A turn that answers Ok: its commands and replies are a run of the rules from the state before to the state after, whose
--- batch was made safe.
-pub record IsTurn {D P : Type 0} (choice : Choice) (old new : ClerkState D P) (counts : Counts) : Type 0 where
+-- A turn that answers Ok: its commands and replies are a run of the rules from the state before to
+-- the state after, whose batch was made safe.
+pub record IsTurn {D P : Type 0} (choice : Choice) (old new : ClerkState D P)
+    (counts : Counts) : Type 0 where
   pub visits : List Visit
   pub replies : List Reply
   pub decided : State
   pub serves : Serves old.seat new.seat visits replies
   pub begins : old.keeper.state.batch ≡ []
-  pub run : Run old.keeper.writer.plan choice old.keeper.state (commands_of 0 visits) replies decided
+  pub run : Run old.keeper.writer.plan choice old.keeper.state
+      (commands_of 0 visits) replies decided
   pub after : new.keeper.state ≡ settled decided
   pub safe : decided.register ≡ register_of old.keeper.writer.register decided.batch
   pub taken : counts.taken ≡ length (commands_of 0 visits)
   pub accepted : counts.accepted ≡ length decided.batch
 
--- A turn whose batch failed on the device: its commands were decided as in a run, and each is answered Unknown. The batch
--- is not empty, and in doubt.
+-- A turn whose batch failed on the device: its commands were decided as in a run, and each is
+-- answered Unknown. The batch is not empty, and in doubt.
 pub record IsFailedTurn {D P : Type 0} (choice : Choice) (old new : ClerkState D P) : Type 0 where
   pub visits : List Visit
   pub replies : List Reply
   pub serves : Serves old.seat new.seat visits replies
   pub begins : old.keeper.state.batch ≡ []
-  pub run : FailedRun old.keeper.writer.plan choice old.keeper.state (commands_of 0 visits) replies new.keeper.state
+  pub run : FailedRun old.keeper.writer.plan choice old.keeper.state
+      (commands_of 0 visits) replies new.keeper.state
   pub some : 0 < length new.keeper.state.batch
   pub doubt : new.keeper.writer.doubt ≡ new.keeper.state.batch
-  pub register : new.keeper.state.register ≡ register_of old.keeper.writer.register new.keeper.state.batch
+  pub register : new.keeper.state.register
+      ≡ register_of old.keeper.writer.register new.keeper.state.batch
 
--- A turn of a clerk whose keeper is broken: each command is answered Unknown, and nothing else changes.
+-- A turn of a clerk whose keeper is broken: each command is answered Unknown, and nothing else
+-- changes.
 pub record IsBrokenTurn {D P : Type 0} (old new : ClerkState D P) : Type 0 where
   pub visits : List Visit
   pub replies : List Reply

@@ -1,5 +1,6 @@
 -- One scan of all terminals: what each look found, and which replies were stored.
-use Rattle.std.specs.Prelude.{ℕ, suc, ◌≡◌, List, [], ◌∷◌, ◌++◌, length, All, Option, Some, None, IsSome, IfSome}
+use Rattle.std.specs.Prelude.{ℕ, suc, ◌≡◌, List, [], ◌∷◌, ◌++◌, length, All, Option, Some, None}
+use Rattle.std.specs.Prelude.{IsSome, IfSome}
 use mathlib.Core.List.{IsPrefix}
 use Rattle.lift_base.specs.declared.command.Reply.{Reply}
 use Rattle.lift_desk.specs.declared.view.ClerkView.{ClerkView}
@@ -15,8 +16,8 @@ pub record Visit : Type 0 where
   pub word : ℕ
   pub found : Option Ask
 
--- The look takes what its word says where that is new to the clerk, which had answered all that it took there before. Then all
--- asks that the clerk was told of are taken.
+-- The look takes what its word says where that is new to the clerk, which had answered all that it
+-- took there before. Then all asks that the clerk was told of are taken.
 pub record FindsAt (place : ClerkPlace) (visit : Visit) : Type 0 where
   pub reads : TakesOf place.view visit.word visit.found
   pub even : IsSome visit.found → length place.view.answered ≡ length place.view.taken
@@ -34,18 +35,21 @@ Finds (place ∷ places) (visit ∷ visits) = FindsAt place visit × Finds place
 -- the command that a look at a terminal took
 abbrev pub command_at : ℕ → Option Ask → List Command
 command_at terminal None = []
-command_at terminal (Some ask) = record { terminal = terminal; number = ask.number; body = ask.body } ∷ []
+command_at terminal (Some ask) =
+    record { terminal = terminal; number = ask.number; body = ask.body } ∷ []
 
 -- the commands that these looks took, from this terminal on, by rising terminal
 abbrev pub commands_of : ℕ → List Visit → List Command
 commands_of terminal [] = []
-commands_of terminal (visit ∷ visits) = command_at terminal visit.found ++ commands_of (suc terminal) visits
+commands_of terminal (visit ∷ visits) =
+    command_at terminal visit.found ++ commands_of (suc terminal) visits
 
 -- a terminal's words once the first of these replies is stored, if its look found an ask
 abbrev pub with_reply : ClerkView → Option Ask → List Reply → ClerkView
 with_reply view None replies = view
 with_reply view (Some ask) [] = view
-with_reply view (Some ask) (reply ∷ replies) = with_answer view (reply_word (length view.taken) ask.number reply)
+with_reply view (Some ask) (reply ∷ replies) =
+    with_answer view (reply_word (length view.taken) ask.number reply)
 
 -- the replies to the commands behind a look
 abbrev pub replies_behind : Option Ask → List Reply → List Reply
@@ -53,15 +57,20 @@ replies_behind None replies = replies
 replies_behind (Some ask) [] = []
 replies_behind (Some ask) (reply ∷ replies) = replies
 
--- the clerk's seats after these looks, and these replies to the first of their commands, each at its own terminal
+-- the clerk's seats after these looks, and these replies to the first of their commands, each at
+-- its own terminal
 abbrev pub served : List ClerkPlace → List Visit → List Reply → List ClerkPlace
 served places [] replies = places
 served [] (visit ∷ visits) replies = []
 served (place ∷ places) (visit ∷ visits) replies =
-    placed_at place.table (with_reply (with_taking place.view visit.word) visit.found replies) ∷ served places visits (replies_behind visit.found replies)
+    placed_at place.table (with_reply (with_taking place.view visit.word) visit.found replies)
+    ∷ served places visits (replies_behind visit.found replies)
 
--- The clerk has looked once at each of its terminals, has stored one reply for each ask that it took, and nothing else. What was taken is decided in rising order of terminals; in which order the looks were is not said. So each reply's word has no other reading.
-pub record Serves (old new : List ClerkPlace) (visits : List Visit) (replies : List Reply) : Type 0 where
+-- The clerk has looked once at each of its terminals, has stored one reply for each ask that it
+-- took, and nothing else. What was taken is decided in rising order of terminals; in which order
+-- the looks were is not said. So each reply's word has no other reading.
+pub record Serves (old new : List ClerkPlace) (visits : List Visit)
+    (replies : List Reply) : Type 0 where
   pub each_once : length visits ≡ length old
   pub finds : Finds old visits
   pub one_reply_each : length replies ≡ length (commands_of 0 visits)

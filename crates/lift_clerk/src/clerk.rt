@@ -1,6 +1,7 @@
 //! The clerk: its seats at the desk, its keeper, and its turns.
 
-ghost use Rattle.std.specs.Prelude.{◌≡◌, ◌<◌, ◌⊎◌, ◌↔◌, [], ◌∷◌, length, true, false, Ok, Err, IfOk, IfErr, OnOk, OnErr};
+ghost use Rattle.std.specs.Prelude.{◌≡◌, ◌<◌, ◌⊎◌, ◌↔◌, [], ◌∷◌, length, true, false, Ok, Err};
+ghost use Rattle.std.specs.Prelude.{IfOk, IfErr, OnOk, OnErr};
 ghost use Rattle.lift_disk.specs.Disk.{LeavesNow, LeavesOnly, RunsOn};
 ghost use Rattle.lift_disk.specs.Trace.Access.{Sync};
 ghost use Rattle.lift_register.specs.Register.{register_of};
@@ -13,7 +14,8 @@ ghost use Rattle.lift_keeper.specs.Calls.{ReadsBehind, SyncsBeforeReading};
 ghost use Rattle.lift_keeper.specs.Decider.{starting};
 ghost use Rattle.lift_keeper.specs.Images.{IsImageOf, IsInDoubt};
 ghost use Rattle.lift_keeper.specs.Reopening.{Reopens, RefusesReopening, FailsBy};
-ghost use Rattle.lift_keeper.specs.Writer.{StopsCommit, commit_calls, commit_writes, commit_used, commit_second};
+ghost use Rattle.lift_keeper.specs.Writer.{StopsCommit, commit_calls, commit_writes, commit_used};
+ghost use Rattle.lift_keeper.specs.Writer.{commit_second};
 ghost use Rattle.lift_clerk.specs.Clerk.{IsClerk, IsToldAt};
 ghost use Rattle.lift_clerk.specs.Turn.{IsTurn, IsFailedTurn, IsBrokenTurn, IsEither, entries_in};
 
@@ -27,8 +29,8 @@ use lift_keeper::{Keeper, KeeperFault};
 use lift_policy::Policy;
 use std::marker::Model;
 
-/// Takes what terminals ask at a desk, decides it, makes it safe, and then answers. Contracts see its desk's tables, its
-/// seats there, its keeper and its policy.
+/// Takes what terminals ask at a desk, decides it, makes it safe, and then answers. Contracts see
+/// its desk's tables, its seats there, its keeper and its policy.
 #[derive(Drop)]
 pub struct Clerk<'d, 'b, D: Disk, P: Policy + Drop> {
     desk: &'d Desk,
@@ -44,9 +46,15 @@ impl<'d, 'b, D: Disk, P: Policy + Drop> Model for Clerk<'d, 'b, D, P> {
 
     ghost Value = { ClerkState D P };
 
-    ghost view = { λ c. record { desk = c.desk.now; seat = c.seat; keeper = c.keeper; policy = c.policy } };
+    ghost view = { λ c. record {
+      desk = c.desk.now;
+      seat = c.seat;
+      keeper = c.keeper;
+      policy = c.policy;
+    } };
 
-    ghost invariant = { λ c. IsClerk c.desk.now c.seat c.keeper.state.batch c.keeper.writer.is_broken };
+    ghost invariant = { λ c.
+        IsClerk c.desk.now c.seat c.keeper.state.batch c.keeper.writer.is_broken };
 }
 
 impl<'d, 'b, D: Disk, P: Policy + Drop> Clerk<'d, 'b, D, P> {
@@ -55,7 +63,12 @@ impl<'d, 'b, D: Disk, P: Policy + Drop> Clerk<'d, 'b, D, P> {
         requires seated { IsClerkOf desk.now seat }
         requires answered { OwesNothing seat }
         requires settled { (keeper.state.batch ≡ []) ⊎ (keeper.writer.is_broken ≡ true) }
-        ensures { result ≡ record { desk = desk.now; seat = seat; keeper = keeper.entry; policy = policy } }
+        ensures { result ≡ record {
+          desk = desk.now;
+          seat = seat;
+          keeper = keeper.entry;
+          policy = policy;
+        } }
     {
         Clerk {
             desk,
@@ -81,70 +94,109 @@ impl<'d, 'b, D: Disk, P: Policy + Drop> Clerk<'d, 'b, D, P> {
         &self.keeper
     }
 
-    /// Tells it what a terminal has asked so far, and the terminal what was answered there so far. Behind a later turn
-    /// that ask is taken, and behind a later `hear` that answer is heard. It stores nothing.
+    /// Tells it what a terminal has asked so far, and the terminal what was answered there so far.
+    /// Behind a later turn that ask is taken, and behind a later `hear` that answer is heard. It
+    /// stores nothing.
     pub fn tell(&mut self, seat: &mut Seat)
         requires { IsSeatOf self.old.desk seat.old }
-        ensures seat { seat.new ≡ seat_with seat.old (with_told_answers seat.old.view (view_at self.old.seat seat.old.terminal).answered) }
+        ensures seat { seat.new ≡ seat_with seat.old
+            (with_told_answers seat.old.view (view_at self.old.seat seat.old.terminal).answered) }
         ensures told { IsToldAt self.old self.new seat.old.terminal seat.old.view.asked }
         // What the two have stored fits together.
-        ensures in_order { IsInOrder (lists_of seat.old.view (view_at self.old.seat seat.old.terminal)) }
+        ensures in_order { IsInOrder
+            (lists_of seat.old.view (view_at self.old.seat seat.old.terminal)) }
         ensures seat_stays { IsSeatOf self.new.desk seat.new }
     {
         self.desk.tell(seat, &mut self.seat)
     }
 
-    /// One turn: looks once at each terminal, takes at most one command of each, decides these in rising order of terminals,
-    /// each on the state that the earlier ones left, makes all that was accepted safe as one batch, and only then stores the
-    /// answers, refusals too. Where the batch fails, and while the keeper is broken, each command taken is answered Unknown.
+    /// One turn: looks once at each terminal, takes at most one command of each, decides these in
+    /// rising order of terminals, each on the state that the earlier ones left, makes all that was
+    /// accepted safe as one batch, and only then stores the answers, refusals too. Where the batch
+    /// fails, and while the keeper is broken, each command taken is answered Unknown.
     ///
-    /// `Journal(Disk)` where a call of the device failed, `Journal(Broken)` while the keeper is broken, also where nothing
-    /// was taken.
+    /// `Journal(Disk)` where a call of the device failed, `Journal(Broken)` while the keeper is
+    /// broken, also where nothing was taken.
     pub fn turn(&mut self) -> Result<Counts, KeeperFault>
-        ensures turns { IfOk result (λ counts. IsTurn (P.chooses self.old.policy) self.old self.new counts) }
-        ensures fails { result ≡ Err (KeeperFault.Journal JournalFault.Disk) → IsFailedTurn (P.chooses self.old.policy) self.old self.new }
+        ensures turns { IfOk result (λ counts.
+            IsTurn (P.chooses self.old.policy) self.old self.new counts) }
+        ensures fails { result ≡ Err (KeeperFault.Journal JournalFault.Disk)
+            → IsFailedTurn (P.chooses self.old.policy) self.old self.new }
         ensures rests { self.old.keeper.writer.is_broken ≡ true → IsBrokenTurn self.old self.new }
 
-        // A crash at any moment of the call leaves the register that was safe before it, or that with this turn's entries.
-        ensures any_moment { self.old.keeper.writer.is_broken ≡ false → LeavesOnly (D.state self.old.keeper.writer.device) (D.state self.new.keeper.writer.device)
-            (IsEither self.old.keeper.writer.plan self.old.keeper.writer.register self.new.keeper.state.register) }
+        // A crash at any moment of the call leaves the register that was safe before it, or that
+        // with this turn's entries.
+        ensures any_moment { self.old.keeper.writer.is_broken ≡ false
+            → LeavesOnly (D.state self.old.keeper.writer.device)
+            (D.state self.new.keeper.writer.device)
+            (IsEither self.old.keeper.writer.plan self.old.keeper.writer.register
+            self.new.keeper.state.register) }
         // What was answered is safe: every crash from now on leaves it.
-        ensures acknowledged { OnOk result (LeavesNow (D.state self.new.keeper.writer.device) (IsImageOf self.old.keeper.writer.plan self.new.keeper.state.register)) }
-        ensures register { OnOk result (self.new.keeper.writer.register ≡ self.new.keeper.state.register) }
+        ensures acknowledged { OnOk result
+            (LeavesNow (D.state self.new.keeper.writer.device)
+            (IsImageOf self.old.keeper.writer.plan self.new.keeper.state.register)) }
+        ensures register { OnOk result (self.new.keeper.writer.register
+            ≡ self.new.keeper.state.register) }
         ensures in_doubt { result ≡ Err (KeeperFault.Journal JournalFault.Disk)
-            → LeavesNow (D.state self.new.keeper.writer.device) (IsInDoubt self.old.keeper.writer.plan self.old.keeper.writer.register self.new.keeper.writer.doubt) }
+            → LeavesNow (D.state self.new.keeper.writer.device)
+            (IsInDoubt self.old.keeper.writer.plan self.old.keeper.writer.register
+            self.new.keeper.writer.doubt) }
 
-        ensures broken { (result ≡ Err (KeeperFault.Journal JournalFault.Broken)) ↔ (self.old.keeper.writer.is_broken ≡ true) }
-        ensures causes { IfErr result (λ fault. (fault ≡ KeeperFault.Journal JournalFault.Disk) ⊎ (fault ≡ KeeperFault.Journal JournalFault.Broken)) }
-        ensures failed { result ≡ Err (KeeperFault.Journal JournalFault.Disk) → (D.state self.old.keeper.writer.device).failures < (D.state self.new.keeper.writer.device).failures }
+        ensures broken { (result ≡ Err (KeeperFault.Journal JournalFault.Broken))
+            ↔ (self.old.keeper.writer.is_broken ≡ true) }
+        ensures causes { IfErr result (λ fault. (fault ≡ KeeperFault.Journal JournalFault.Disk)
+            ⊎ (fault ≡ KeeperFault.Journal JournalFault.Broken)) }
+        ensures failed { result ≡ Err (KeeperFault.Journal JournalFault.Disk)
+            → (D.state self.old.keeper.writer.device).failures
+            < (D.state self.new.keeper.writer.device).failures }
         ensures breaks { OnErr result (self.new.keeper.writer.is_broken ≡ true) }
         // Unknown is answered only where a call has failed since the last opening that succeeded.
-        ensures since { OnErr result (self.new.keeper.writer.opened < (D.state self.new.keeper.writer.device).failures) }
-        ensures whole { OnOk result ((D.state self.new.keeper.writer.device).failures ≡ (D.state self.old.keeper.writer.device).failures) }
-        ensures stays { OnOk result ((self.new.keeper.writer.is_broken ≡ false) × (self.new.keeper.writer.doubt ≡ [])) }
-        ensures unmoved { OnErr result (self.new.keeper.writer.register ≡ self.old.keeper.writer.register) }
+        ensures since { OnErr result (self.new.keeper.writer.opened
+            < (D.state self.new.keeper.writer.device).failures) }
+        ensures whole { OnOk result ((D.state self.new.keeper.writer.device).failures
+            ≡ (D.state self.old.keeper.writer.device).failures) }
+        ensures stays { OnOk result ((self.new.keeper.writer.is_broken ≡ false)
+            × (self.new.keeper.writer.doubt ≡ [])) }
+        ensures unmoved { OnErr result (self.new.keeper.writer.register
+            ≡ self.old.keeper.writer.register) }
         ensures same { (self.new.desk ≡ self.old.desk) × (self.new.policy ≡ self.old.policy) }
         ensures seated { IsClerkOf self.new.desk self.new.seat }
         ensures answered { OwesNothing self.new.seat }
-        ensures kept { (self.new.keeper.writer.plan ≡ self.old.keeper.writer.plan) × (self.new.keeper.writer.half ≡ self.old.keeper.writer.half)
+        ensures kept { (self.new.keeper.writer.plan ≡ self.old.keeper.writer.plan)
+            × (self.new.keeper.writer.half ≡ self.old.keeper.writer.half)
             × (self.new.keeper.writer.opened ≡ self.old.keeper.writer.opened) }
 
         // How many calls it makes: those of one commit, none where nothing was accepted.
-        ensures runs { RunsOn (D.state self.old.keeper.writer.device) (D.state self.new.keeper.writer.device) }
-        ensures made { Makes result (commit_calls self.old.keeper.writer.register self.old.keeper.writer.used self.old.keeper.writer.half (entries_in result self.new.keeper))
-            (commit_writes self.old.keeper.writer.register self.old.keeper.writer.used self.old.keeper.writer.half (entries_in result self.new.keeper))
+        ensures runs { RunsOn (D.state self.old.keeper.writer.device)
+            (D.state self.new.keeper.writer.device) }
+        ensures made { Makes result
+            (commit_calls self.old.keeper.writer.register self.old.keeper.writer.used
+            self.old.keeper.writer.half (entries_in result self.new.keeper))
+            (commit_writes self.old.keeper.writer.register self.old.keeper.writer.used
+            self.old.keeper.writer.half (entries_in result self.new.keeper))
             (D.state self.old.keeper.writer.device) (D.state self.new.keeper.writer.device) }
         ensures used { IfOk result (λ counts. self.new.keeper.writer.used
-            ≡ commit_used self.old.keeper.writer.register self.old.keeper.writer.used self.old.keeper.writer.half counts.accepted) }
+            ≡ commit_used self.old.keeper.writer.register self.old.keeper.writer.used
+            self.old.keeper.writer.half counts.accepted) }
         ensures second { IfOk result (λ counts. self.new.keeper.writer.is_second
-            ≡ commit_second self.old.keeper.writer.is_second self.old.keeper.writer.used self.old.keeper.writer.half counts.accepted) }
-        ensures told_ok { OnOk result (NoneFails (D.state self.old.keeper.writer.device) (D.state self.new.keeper.writer.device)) }
-        ensures told { IfErr result (λ fault. FailsBy fault (D.state self.old.keeper.writer.device) (D.state self.new.keeper.writer.device)) }
+            ≡ commit_second self.old.keeper.writer.is_second self.old.keeper.writer.used
+            self.old.keeper.writer.half counts.accepted) }
+        ensures told_ok { OnOk result
+            (NoneFails (D.state self.old.keeper.writer.device)
+            (D.state self.new.keeper.writer.device)) }
+        ensures told { IfErr result (λ fault.
+            FailsBy fault (D.state self.old.keeper.writer.device)
+            (D.state self.new.keeper.writer.device)) }
 
-        // Where a device stopped it that changes no byte in a failed call, the number of calls says what each cut leaves.
-        ensures stops { result ≡ Err (KeeperFault.Journal JournalFault.Disk) → (D.state self.old.keeper.writer.device).is_honest → (D.state self.old.keeper.writer.device).is_inert
-            → StopsCommit self.old.keeper.writer.plan self.old.keeper.writer.half self.old.keeper.writer.is_second self.old.keeper.writer.used
-            self.old.keeper.writer.register self.new.keeper.writer.doubt (D.state self.old.keeper.writer.device) (D.state self.new.keeper.writer.device) }
+        // Where a device stopped it that changes no byte in a failed call, the number of calls says
+        // what each cut leaves.
+        ensures stops { result ≡ Err (KeeperFault.Journal JournalFault.Disk)
+            → (D.state self.old.keeper.writer.device).is_honest
+            → (D.state self.old.keeper.writer.device).is_inert
+            → StopsCommit self.old.keeper.writer.plan self.old.keeper.writer.half
+            self.old.keeper.writer.is_second self.old.keeper.writer.used
+            self.old.keeper.writer.register self.new.keeper.writer.doubt
+            (D.state self.old.keeper.writer.device) (D.state self.new.keeper.writer.device) }
     {
         scan(
             self.desk,
@@ -171,35 +223,58 @@ impl<'d, 'b, D: Disk, P: Policy + Drop> Clerk<'d, 'b, D, P> {
         }
     }
 
-    /// Opens the keeper again, also after a fault: no car has told where it is, and the batch is empty. It writes nothing, and
-    /// gives the register that was safe, or that with the batch in doubt. A refusal leaves it as it was, and a failed call
-    /// broken. No word of the desk is touched.
+    /// Opens the keeper again, also after a fault: no car has told where it is, and the batch is
+    /// empty. It writes nothing, and gives the register that was safe, or that with the batch in
+    /// doubt. A refusal leaves it as it was, and a failed call broken. No word of the desk is
+    /// touched.
     pub fn reopen(&mut self) -> Result<(), KeeperFault>
-        ensures same { (self.new.desk ≡ self.old.desk) × (self.new.seat ≡ self.old.seat) × (self.new.policy ≡ self.old.policy) }
-        ensures opens { OnOk result (Reopens self.old.keeper.writer.plan (D.state self.old.keeper.writer.device) (D.state self.new.keeper.writer.device)
-            self.new.keeper.writer.register self.new.keeper.writer.half self.new.keeper.writer.is_second self.new.keeper.writer.used) }
-        ensures state { OnOk result (self.new.keeper.state ≡ starting self.new.keeper.writer.register) }
+        ensures same { (self.new.desk ≡ self.old.desk) × (self.new.seat ≡ self.old.seat)
+            × (self.new.policy ≡ self.old.policy) }
+        ensures opens { OnOk result
+            (Reopens self.old.keeper.writer.plan (D.state self.old.keeper.writer.device)
+            (D.state self.new.keeper.writer.device)
+            self.new.keeper.writer.register self.new.keeper.writer.half
+            self.new.keeper.writer.is_second self.new.keeper.writer.used) }
+        ensures state { OnOk result (self.new.keeper.state
+            ≡ starting self.new.keeper.writer.register) }
         ensures one_of { OnOk result ((D.state self.old.keeper.writer.device).is_honest
             → (self.new.keeper.writer.register ≡ self.old.keeper.writer.register)
-            ⊎ (self.new.keeper.writer.register ≡ register_of self.old.keeper.writer.register self.old.keeper.writer.doubt)) }
-        // A crash at any moment of the call leaves the register that was safe before it, or that with the batch in doubt.
-        ensures any_moment { LeavesOnly (D.state self.old.keeper.writer.device) (D.state self.new.keeper.writer.device)
-            (IsInDoubt self.old.keeper.writer.plan self.old.keeper.writer.register self.old.keeper.writer.doubt) }
-        ensures whole { OnOk result ((self.new.keeper.writer.is_broken ≡ false) × (self.new.keeper.writer.doubt ≡ [])) }
-        ensures opened { OnOk result (self.new.keeper.writer.opened ≡ (D.state self.new.keeper.writer.device).failures) }
-        ensures refused { IfErr result (λ fault. RefusesReopening self.old.keeper.writer.plan (D.state self.old.keeper.writer.device) (D.state self.new.keeper.writer.device) fault) }
-        ensures good { IfErr result (λ fault. (D.state self.old.keeper.writer.device).is_honest → fault ≡ KeeperFault.Journal JournalFault.Disk) }
-        ensures breaks { result ≡ Err (KeeperFault.Journal JournalFault.Disk) → self.new.keeper.writer.is_broken ≡ true }
+            ⊎ (self.new.keeper.writer.register
+            ≡ register_of self.old.keeper.writer.register self.old.keeper.writer.doubt)) }
+        // A crash at any moment of the call leaves the register that was safe before it, or that
+        // with the batch in doubt.
+        ensures any_moment { LeavesOnly (D.state self.old.keeper.writer.device)
+            (D.state self.new.keeper.writer.device)
+            (IsInDoubt self.old.keeper.writer.plan self.old.keeper.writer.register
+            self.old.keeper.writer.doubt) }
+        ensures whole { OnOk result ((self.new.keeper.writer.is_broken ≡ false)
+            × (self.new.keeper.writer.doubt ≡ [])) }
+        ensures opened { OnOk result (self.new.keeper.writer.opened
+            ≡ (D.state self.new.keeper.writer.device).failures) }
+        ensures refused { IfErr result (λ fault.
+            RefusesReopening self.old.keeper.writer.plan (D.state self.old.keeper.writer.device)
+            (D.state self.new.keeper.writer.device) fault) }
+        ensures good { IfErr result (λ fault. (D.state self.old.keeper.writer.device).is_honest
+            → fault ≡ KeeperFault.Journal JournalFault.Disk) }
+        ensures breaks { result ≡ Err (KeeperFault.Journal JournalFault.Disk)
+            → self.new.keeper.writer.is_broken ≡ true }
         ensures stays { IfErr result (λ fault. (fault ≡ KeeperFault.Journal JournalFault.Disk)
             ⊎ (self.new.keeper.writer.is_broken ≡ self.old.keeper.writer.is_broken)) }
-        ensures unmoved { OnErr result ((self.new.keeper.state ≡ self.old.keeper.state) × (self.new.keeper.writer.register ≡ self.old.keeper.writer.register)
-            × (self.new.keeper.writer.doubt ≡ self.old.keeper.writer.doubt) × (self.new.keeper.writer.opened ≡ self.old.keeper.writer.opened)) }
-        ensures place { OnErr result ((self.new.keeper.writer.half ≡ self.old.keeper.writer.half) × (self.new.keeper.writer.is_second ≡ self.old.keeper.writer.is_second)
+        ensures unmoved { OnErr result ((self.new.keeper.state ≡ self.old.keeper.state)
+            × (self.new.keeper.writer.register ≡ self.old.keeper.writer.register)
+            × (self.new.keeper.writer.doubt ≡ self.old.keeper.writer.doubt)
+            × (self.new.keeper.writer.opened ≡ self.old.keeper.writer.opened)) }
+        ensures place { OnErr result ((self.new.keeper.writer.half ≡ self.old.keeper.writer.half)
+            × (self.new.keeper.writer.is_second ≡ self.old.keeper.writer.is_second)
             × (self.new.keeper.writer.used ≡ self.old.keeper.writer.used)) }
         ensures plan { self.new.keeper.writer.plan ≡ self.old.keeper.writer.plan }
         // One sync before all reads.
-        ensures calls { OnOk result (ReadsBehind (Sync ∷ []) (D.state self.old.keeper.writer.device) (D.state self.new.keeper.writer.device)) }
-        ensures calls_before { IfErr result (λ fault. SyncsBeforeReading fault (D.state self.old.keeper.writer.device) (D.state self.new.keeper.writer.device)) }
+        ensures calls { OnOk result
+            (ReadsBehind (Sync ∷ []) (D.state self.old.keeper.writer.device)
+            (D.state self.new.keeper.writer.device)) }
+        ensures calls_before { IfErr result (λ fault.
+            SyncsBeforeReading fault (D.state self.old.keeper.writer.device)
+            (D.state self.new.keeper.writer.device)) }
     {
         self.keeper.reopen()
     }
@@ -222,8 +297,10 @@ impl<'d, 'b, D: Arm, P: Policy + Drop> Clerk<'d, 'b, D, P> {
 
     /// Tells the device anew which calls to fail. It changes no image.
     pub fn arm(&mut self, calls: u32)
-        ensures unchanged { IsUnchanged (D.state self.old.keeper.writer.device) (D.state self.new.keeper.writer.device) }
-        ensures told { IsTold (D.fails_by calls (D.state self.old.keeper.writer.device).calls) (D.state self.new.keeper.writer.device) }
+        ensures unchanged { IsUnchanged (D.state self.old.keeper.writer.device)
+            (D.state self.new.keeper.writer.device) }
+        ensures told { IsTold (D.fails_by calls (D.state self.old.keeper.writer.device).calls)
+            (D.state self.new.keeper.writer.device) }
         ensures rest { self.new ≡ record self.old {
           keeper = record self.old.keeper { writer = record self.old.keeper.writer { device = self.new.keeper.writer.device } };
         } }

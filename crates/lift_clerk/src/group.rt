@@ -38,10 +38,10 @@ fn group_laws<D: Disk, P: Policy>()
     every_run();
 }
 
-/// What each terminal asked and heard is what the machine's terminal asked and heard. An ask that is
-/// stored is an ask of the machine, and an answer that is heard, of those that the clerk stored, is
-/// the one that its terminal hears next. A `hear` that gives nothing, a `meet` and a `tell` are no
-/// events.
+/// What each terminal asked and heard is what the machine's terminal asked and heard. An ask that
+/// is stored is an ask of the machine, and an answer that is heard, of those that the clerk stored,
+/// is the one that its terminal hears next. A `hear` that gives nothing, a `meet` and a `tell` are
+/// no events.
 pub fn terminals_are_the_machines<D: Disk, P: Policy>()
     ensures asks { AsksAreAsks D P }
     ensures hears { HearsAreHears D P }
@@ -53,8 +53,9 @@ pub fn terminals_are_the_machines<D: Disk, P: Policy>()
 
 /// A clerk's past goes on over all that can happen to its group, in one world of the machine that
 /// has just what terminals asked and heard: between any two of its calls they ask and hear, on
-/// whatever thread, and the clerk is told of it. Its turns, failed turns and reopenings are possible
-/// events from there to the next such world, of the clerk alone; a power cut and what follows too.
+/// whatever thread, and the clerk is told of it. Its turns, failed turns and reopenings are
+/// possible events from there to the next such world, of the clerk alone; a power cut and what
+/// follows too.
 pub fn pasts_go_on<D: Disk, P: Policy>()
     ensures begins { PastsBegin D P P.chooses }
     ensures asks { PastsGoOnOverAsks D P P.chooses }
@@ -73,9 +74,9 @@ pub fn pasts_go_on<D: Disk, P: Policy>()
     group_laws::<D, P>();
 }
 
-/// Whatever has happened to a group and its terminals, in any order, some run of the machine leads to
-/// a world that is just theirs, with what each terminal asked and heard; and the clerk has a history
-/// there, with the letters of its whole past.
+/// Whatever has happened to a group and its terminals, in any order, some run of the machine leads
+/// to a world that is just theirs, with what each terminal asked and heard; and the clerk has a
+/// history there, with the letters of its whole past.
 pub fn pasts_are_runs<D: Disk, P: Policy>()
     ensures { PastsAreRuns D P P.chooses }
 {
@@ -95,13 +96,16 @@ pub fn turn_goes_on<D: Disk, P: Policy + Drop>(
         → Fails (P.chooses clerk.old.policy) clerk.old clerk.new }
     ensures rests { result ≡ Err (KeeperFault.Journal JournalFault.Broken)
         → IsBrokenTurn clerk.old clerk.new }
-    ensures broken { result ≡ Err (KeeperFault.Journal JournalFault.Broken) → clerk.old.keeper.writer.is_broken ≡ true }
+    ensures broken { result ≡ Err (KeeperFault.Journal JournalFault.Broken)
+        → clerk.old.keeper.writer.is_broken ≡ true }
     ensures causes { IfErr result (λ fault. (fault ≡ KeeperFault.Journal JournalFault.Disk)
         ⊎ (fault ≡ KeeperFault.Journal JournalFault.Broken)) }
     ensures kept { (clerk.new.desk ≡ clerk.old.desk) × (clerk.new.policy ≡ clerk.old.policy) }
     ensures goes_on { IfOk result (λ counts. TurnGoesOn P.chooses clerk.old clerk.new counts) }
-    ensures fails_on { result ≡ Err (KeeperFault.Journal JournalFault.Disk) → FailureGoesOn P.chooses clerk.old clerk.new }
-    ensures rests_on { result ≡ Err (KeeperFault.Journal JournalFault.Broken) → BrokenTurnGoesOn P.chooses clerk.old clerk.new }
+    ensures fails_on { result ≡ Err (KeeperFault.Journal JournalFault.Disk)
+        → FailureGoesOn P.chooses clerk.old clerk.new }
+    ensures rests_on { result ≡ Err (KeeperFault.Journal JournalFault.Broken)
+        → BrokenTurnGoesOn P.chooses clerk.old clerk.new }
 {
     pasts_go_on::<D, P>();
     turn_once(clerk)

@@ -1,5 +1,6 @@
-//! The clerk of a lift group: it scans the desk, decides what was asked, makes the batch safe, and then answers. Nothing here
-//! takes memory or waits; what its device takes or waits for is the device's.
+//! The clerk of a lift group: it scans the desk, decides what was asked, makes the batch safe, and
+//! then answers. Nothing here takes memory or waits; what its device takes or waits for is the
+//! device's.
 #![tactic(auto)]
 
 mod clerk;

@@ -6,10 +6,15 @@ ghost use Rattle.lift_keeper.specs.Images.{IsInDoubt};
 ghost use Rattle.lift_keeper.specs.Reopening.{RefusesReopening};
 ghost use Rattle.lift_clerk.specs.Turn.{IsBrokenTurn, IsEither};
 ghost use Rattle.lift_clerk.specs.Laws.{Laws};
-ghost use Rattle.lift_clerk.specs.Machine.{TurnsAreTurns, FailuresAreFailures, BrokenTurnsAreBroken, TerminalsKeepIt};
-ghost use Rattle.lift_clerk.specs.Machine.{ToldLooksAgree, TellsAreNoEvents, TellsMakeKnown, MovesWhereTold};
-ghost use Rattle.lift_clerk.specs.Machine.{ReopeningsAreReopenings, FailedReopeningsAreFaults, NothingIsNoEvent, BeginsAtStart, BeginsAfterCut};
-ghost use Rattle.lift_clerk.specs.Machine.{CrashesAreCuts, CrashesWithinTurns, CrashesWithinFailures, CutsShowLetters, BeginsAfterCrash, Moves, Turns, Fails, Reopens, Stays};
+ghost use Rattle.lift_clerk.specs.Machine.{TurnsAreTurns, FailuresAreFailures};
+ghost use Rattle.lift_clerk.specs.Machine.{BrokenTurnsAreBroken, TerminalsKeepIt};
+ghost use Rattle.lift_clerk.specs.Machine.{ToldLooksAgree, TellsAreNoEvents, TellsMakeKnown};
+ghost use Rattle.lift_clerk.specs.Machine.{MovesWhereTold};
+ghost use Rattle.lift_clerk.specs.Machine.{ReopeningsAreReopenings, FailedReopeningsAreFaults};
+ghost use Rattle.lift_clerk.specs.Machine.{NothingIsNoEvent, BeginsAtStart, BeginsAfterCut};
+ghost use Rattle.lift_clerk.specs.Machine.{CrashesAreCuts, CrashesWithinTurns};
+ghost use Rattle.lift_clerk.specs.Machine.{CrashesWithinFailures, CutsShowLetters};
+ghost use Rattle.lift_clerk.specs.Machine.{BeginsAfterCrash, Moves, Turns, Fails, Reopens, Stays};
 
 use crate::clerk::Clerk;
 use crate::counts::Counts;
@@ -36,9 +41,10 @@ fn machine_laws()
     registers_join();
 }
 
-/// A clerk's group is in some world of the machine between any two calls. Each turn is a list of possible events, with just
-/// its commands and their replies, and leads to the group's next world: a turn that answers Ok, one that the device failed,
-/// and one while broken. What terminals ask and hear between two calls leads to such a world too.
+/// A clerk's group is in some world of the machine between any two calls. Each turn is a list of
+/// possible events, with just its commands and their replies, and leads to the group's next world:
+/// a turn that answers Ok, one that the device failed, and one while broken. What terminals ask and
+/// hear between two calls leads to such a world too.
 pub fn turns_are_the_machines<D: Disk, P: Policy>()
     ensures turns { (policy : P) → TurnsAreTurns D P (P.chooses policy) }
     ensures failures { (policy : P) → FailuresAreFailures D P (P.chooses policy) }
@@ -49,9 +55,10 @@ pub fn turns_are_the_machines<D: Disk, P: Policy>()
     machine_laws();
 }
 
-/// So is each reopening: it keeps what the register tells that it kept, and one that the device failed is a fault. Where
-/// nothing of a clerk changed there was no event. A clerk at a new desk begins in the machine's first world over an empty
-/// journal, and after a crash in the one that a power cut and its recovery leave.
+/// So is each reopening: it keeps what the register tells that it kept, and one that the device
+/// failed is a fault. Where nothing of a clerk changed there was no event. A clerk at a new desk
+/// begins in the machine's first world over an empty journal, and after a crash in the one that a
+/// power cut and its recovery leave.
 pub fn reopenings_are_the_machines<D: Disk, P: Policy>()
     ensures reopenings { ReopeningsAreReopenings D P }
     ensures faults { FailedReopeningsAreFaults D P }
@@ -62,9 +69,9 @@ pub fn reopenings_are_the_machines<D: Disk, P: Policy>()
     machine_laws();
 }
 
-/// Whatever a crash may leave, between two calls or at any moment within a turn, is what some power cut of the machine keeps.
-/// A clerk over a keeper that opens it goes on from there. So it holds every entry that was acknowledged, and shows each letter
-/// that was given before that call.
+/// Whatever a crash may leave, between two calls or at any moment within a turn, is what some power
+/// cut of the machine keeps. A clerk over a keeper that opens it goes on from there. So it holds
+/// every entry that was acknowledged, and shows each letter that was given before that call.
 pub fn crashes_are_the_machines<D: Disk, P: Policy>()
     ensures between { CrashesAreCuts D P }
     ensures within { (policy : P) → CrashesWithinTurns D P (P.chooses policy) }
@@ -76,8 +83,9 @@ pub fn crashes_are_the_machines<D: Disk, P: Policy>()
     machine_laws();
 }
 
-/// A clerk that was told of all that terminals asked in this world finds what waits there: its looks agree with the world, as
-/// the laws of turns want it. To tell it is no event, and makes it know the asks of that terminal.
+/// A clerk that was told of all that terminals asked in this world finds what waits there: its
+/// looks agree with the world, as the laws of turns want it. To tell it is no event, and makes it
+/// know the asks of that terminal.
 pub fn told_asks_are_found<D: Disk, P: Policy>()
     ensures looks { ToldLooksAgree D P }
     ensures nothing { TellsAreNoEvents D P }
@@ -88,14 +96,22 @@ pub fn told_asks_are_found<D: Disk, P: Policy>()
 pub fn turn_once<D: Disk, P: Policy + Drop>(
     clerk: &mut Clerk<'_, '_, D, P>,
 ) -> Result<Counts, KeeperFault>
-    ensures turns { IfOk result (λ counts. Turns (P.chooses clerk.old.policy) clerk.old clerk.new counts) }
-    ensures fails { result ≡ Err (KeeperFault.Journal JournalFault.Disk) → Fails (P.chooses clerk.old.policy) clerk.old clerk.new }
-    ensures rests { result ≡ Err (KeeperFault.Journal JournalFault.Broken) → IsBrokenTurn clerk.old clerk.new }
-    ensures broken { result ≡ Err (KeeperFault.Journal JournalFault.Broken) → clerk.old.keeper.writer.is_broken ≡ true }
-    ensures causes { IfErr result (λ fault. (fault ≡ KeeperFault.Journal JournalFault.Disk) ⊎ (fault ≡ KeeperFault.Journal JournalFault.Broken)) }
+    ensures turns { IfOk result (λ counts.
+        Turns (P.chooses clerk.old.policy) clerk.old clerk.new counts) }
+    ensures fails { result ≡ Err (KeeperFault.Journal JournalFault.Disk)
+        → Fails (P.chooses clerk.old.policy) clerk.old clerk.new }
+    ensures rests { result ≡ Err (KeeperFault.Journal JournalFault.Broken)
+        → IsBrokenTurn clerk.old clerk.new }
+    ensures broken { result ≡ Err (KeeperFault.Journal JournalFault.Broken)
+        → clerk.old.keeper.writer.is_broken ≡ true }
+    ensures causes { IfErr result (λ fault. (fault ≡ KeeperFault.Journal JournalFault.Disk)
+        ⊎ (fault ≡ KeeperFault.Journal JournalFault.Broken)) }
     ensures kept { (clerk.new.desk ≡ clerk.old.desk) × (clerk.new.policy ≡ clerk.old.policy) }
-    ensures any_moment { clerk.old.keeper.writer.is_broken ≡ false → LeavesOnly (D.state clerk.old.keeper.writer.device) (D.state clerk.new.keeper.writer.device)
-        (IsEither clerk.old.keeper.writer.plan clerk.old.keeper.writer.register clerk.new.keeper.state.register) }
+    ensures any_moment { clerk.old.keeper.writer.is_broken ≡ false
+        → LeavesOnly (D.state clerk.old.keeper.writer.device)
+        (D.state clerk.new.keeper.writer.device)
+        (IsEither clerk.old.keeper.writer.plan clerk.old.keeper.writer.register
+        clerk.new.keeper.state.register) }
 {
     clerk.turn()
 }
@@ -104,29 +120,42 @@ pub fn turn_once<D: Disk, P: Policy + Drop>(
 pub fn reopen_once<D: Disk, P: Policy + Drop>(
     clerk: &mut Clerk<'_, '_, D, P>,
 ) -> Result<(), KeeperFault>
-    ensures opens { OnOk result ((D.state clerk.old.keeper.writer.device).is_honest → Reopens clerk.old clerk.new) }
+    ensures opens { OnOk result ((D.state clerk.old.keeper.writer.device).is_honest
+        → Reopens clerk.old clerk.new) }
     // It is refused for a failed call alone, where the device is honest.
-    ensures refused { IfErr result (λ fault. RefusesReopening clerk.old.keeper.writer.plan (D.state clerk.old.keeper.writer.device) (D.state clerk.new.keeper.writer.device) fault) }
-    ensures good { IfErr result (λ fault. (D.state clerk.old.keeper.writer.device).is_honest → fault ≡ KeeperFault.Journal JournalFault.Disk) }
+    ensures refused { IfErr result (λ fault.
+        RefusesReopening clerk.old.keeper.writer.plan (D.state clerk.old.keeper.writer.device)
+        (D.state clerk.new.keeper.writer.device) fault) }
+    ensures good { IfErr result (λ fault. (D.state clerk.old.keeper.writer.device).is_honest
+        → fault ≡ KeeperFault.Journal JournalFault.Disk) }
     ensures stays { OnErr result (Stays clerk.old clerk.new) }
-    ensures same { OnErr result ((clerk.new.keeper.writer.is_broken ≡ true) ⊎ (clerk.new.keeper.writer.is_broken ≡ clerk.old.keeper.writer.is_broken)) }
+    ensures same { OnErr result ((clerk.new.keeper.writer.is_broken ≡ true)
+        ⊎ (clerk.new.keeper.writer.is_broken ≡ clerk.old.keeper.writer.is_broken)) }
     ensures kept { (clerk.new.desk ≡ clerk.old.desk) × (clerk.new.policy ≡ clerk.old.policy) }
-    ensures any_moment { LeavesOnly (D.state clerk.old.keeper.writer.device) (D.state clerk.new.keeper.writer.device)
-        (IsInDoubt clerk.old.keeper.writer.plan clerk.old.keeper.writer.register clerk.old.keeper.writer.doubt) }
+    ensures any_moment { LeavesOnly (D.state clerk.old.keeper.writer.device)
+        (D.state clerk.new.keeper.writer.device)
+        (IsInDoubt clerk.old.keeper.writer.plan clerk.old.keeper.writer.register
+        clerk.old.keeper.writer.doubt) }
 {
     clerk.reopen()
 }
 
-/// One turn. Whatever world the group was in, with no ask waiting there, possible events lead to the one that it is in then.
-/// So they do with asks waiting, where the clerk was told of all asks there.
+/// One turn. Whatever world the group was in, with no ask waiting there, possible events lead to
+/// the one that it is in then. So they do with asks waiting, where the clerk was told of all asks
+/// there.
 pub fn turn_moves_the_machine<D: Disk, P: Policy + Drop>(
     clerk: &mut Clerk<'_, '_, D, P>,
 ) -> Result<Counts, KeeperFault>
-    ensures turns { IfOk result (λ counts. Turns (P.chooses clerk.old.policy) clerk.old clerk.new counts) }
-    ensures fails { result ≡ Err (KeeperFault.Journal JournalFault.Disk) → Fails (P.chooses clerk.old.policy) clerk.old clerk.new }
-    ensures rests { result ≡ Err (KeeperFault.Journal JournalFault.Broken) → IsBrokenTurn clerk.old clerk.new }
-    ensures broken { result ≡ Err (KeeperFault.Journal JournalFault.Broken) → clerk.old.keeper.writer.is_broken ≡ true }
-    ensures causes { IfErr result (λ fault. (fault ≡ KeeperFault.Journal JournalFault.Disk) ⊎ (fault ≡ KeeperFault.Journal JournalFault.Broken)) }
+    ensures turns { IfOk result (λ counts.
+        Turns (P.chooses clerk.old.policy) clerk.old clerk.new counts) }
+    ensures fails { result ≡ Err (KeeperFault.Journal JournalFault.Disk)
+        → Fails (P.chooses clerk.old.policy) clerk.old clerk.new }
+    ensures rests { result ≡ Err (KeeperFault.Journal JournalFault.Broken)
+        → IsBrokenTurn clerk.old clerk.new }
+    ensures broken { result ≡ Err (KeeperFault.Journal JournalFault.Broken)
+        → clerk.old.keeper.writer.is_broken ≡ true }
+    ensures causes { IfErr result (λ fault. (fault ≡ KeeperFault.Journal JournalFault.Disk)
+        ⊎ (fault ≡ KeeperFault.Journal JournalFault.Broken)) }
     ensures kept { (clerk.new.desk ≡ clerk.old.desk) × (clerk.new.policy ≡ clerk.old.policy) }
     ensures moves { Moves clerk.old clerk.new }
     ensures told { MovesWhereTold clerk.old clerk.new }
@@ -140,12 +169,17 @@ pub fn turn_moves_the_machine<D: Disk, P: Policy + Drop>(
 pub fn reopening_moves_the_machine<D: Disk, P: Policy + Drop>(
     clerk: &mut Clerk<'_, '_, D, P>,
 ) -> Result<(), KeeperFault>
-    ensures opens { OnOk result ((D.state clerk.old.keeper.writer.device).is_honest → Reopens clerk.old clerk.new) }
+    ensures opens { OnOk result ((D.state clerk.old.keeper.writer.device).is_honest
+        → Reopens clerk.old clerk.new) }
     // It is refused for a failed call alone, where the device is honest.
-    ensures refused { IfErr result (λ fault. RefusesReopening clerk.old.keeper.writer.plan (D.state clerk.old.keeper.writer.device) (D.state clerk.new.keeper.writer.device) fault) }
-    ensures good { IfErr result (λ fault. (D.state clerk.old.keeper.writer.device).is_honest → fault ≡ KeeperFault.Journal JournalFault.Disk) }
+    ensures refused { IfErr result (λ fault.
+        RefusesReopening clerk.old.keeper.writer.plan (D.state clerk.old.keeper.writer.device)
+        (D.state clerk.new.keeper.writer.device) fault) }
+    ensures good { IfErr result (λ fault. (D.state clerk.old.keeper.writer.device).is_honest
+        → fault ≡ KeeperFault.Journal JournalFault.Disk) }
     ensures stays { OnErr result (Stays clerk.old clerk.new) }
-    ensures same { OnErr result ((clerk.new.keeper.writer.is_broken ≡ true) ⊎ (clerk.new.keeper.writer.is_broken ≡ clerk.old.keeper.writer.is_broken)) }
+    ensures same { OnErr result ((clerk.new.keeper.writer.is_broken ≡ true)
+        ⊎ (clerk.new.keeper.writer.is_broken ≡ clerk.old.keeper.writer.is_broken)) }
     ensures kept { (clerk.new.desk ≡ clerk.old.desk) × (clerk.new.policy ≡ clerk.old.policy) }
     ensures moves { (D.state clerk.old.keeper.writer.device).is_honest → Moves clerk.old clerk.new }
 {

@@ -7,7 +7,8 @@ ghost use Rattle.lift_desk.specs.Seats.{ClerkPlace, IsClerkOf};
 ghost use Rattle.lift_desk.specs.Words.{IsReply};
 ghost use Rattle.lift_policy.specs.Step.{Step};
 ghost use Rattle.lift_clerk.specs.Visits.{Visit, command_at, served};
-ghost use Rattle.lift_clerk.specs.Scanning.{Decides, IsScanned, Scans, terminals_in, terminals_of, replies_in, replies_told, told};
+ghost use Rattle.lift_clerk.specs.Scanning.{Decides, IsScanned, Scans, terminals_in, terminals_of};
+ghost use Rattle.lift_clerk.specs.Scanning.{replies_in, replies_told, told};
 
 use arrayvec::ArrayVec;
 use lift_base::{Reply, Terminal, push_some};
@@ -24,7 +25,8 @@ pub struct Answer {
 }
 
 impl Answer {
-    /// The reply as it is stored: where nothing is safe, it isn't known what becomes of the command.
+    /// The reply as it is stored: where nothing is safe, it isn't known what becomes of the
+    /// command.
     fn told(self, is_safe: bool) -> Reply
         ensures { result ≡ told is_safe self.reply }
     {
@@ -40,10 +42,14 @@ fn decide<D: Disk, P: Policy>(
     ask: &Ask,
 ) -> Reply
     requires room { keeper.old.writer.is_broken ≡ false → length keeper.old.state.batch < 63 }
-    ensures broken { keeper.old.writer.is_broken ≡ true → (result ≡ ReplyValue.Unknown) × (keeper.new ≡ keeper.old) }
+    ensures broken { keeper.old.writer.is_broken ≡ true
+        → (result ≡ ReplyValue.Unknown) × (keeper.new ≡ keeper.old) }
     ensures step { keeper.old.writer.is_broken ≡ false
-        → Step keeper.old.writer.plan (P.chooses policy.now) keeper.old.state terminal ask.now.number ask.now.body result keeper.new.state }
-    ensures grows { keeper.old.writer.is_broken ≡ false → length keeper.new.state.batch ≤ length keeper.old.state.batch + 1 }
+        → Step keeper.old.writer.plan
+        (P.chooses policy.now) keeper.old.state terminal ask.now.number ask.now.body result
+        keeper.new.state }
+    ensures grows { keeper.old.writer.is_broken ≡ false
+        → length keeper.new.state.batch ≤ length keeper.old.state.batch + 1 }
     ensures writer { keeper.new.writer ≡ keeper.old.writer }
 {
     if keeper.is_broken() {
@@ -61,10 +67,13 @@ fn answer_to<D: Disk, P: Policy>(
     ask: &Option<Ask>,
 ) -> Option<Answer>
     requires room { keeper.old.writer.is_broken ≡ false → length keeper.old.state.batch < 63 }
-    ensures terminal { terminals_in (option_to_list result) ≡ terminals_of (command_at terminal ask.now) }
-    ensures decides { Decides keeper.old.writer.is_broken keeper.old.writer.plan (P.chooses policy.now) keeper.old.state
+    ensures terminal { terminals_in (option_to_list result)
+        ≡ terminals_of (command_at terminal ask.now) }
+    ensures decides { Decides keeper.old.writer.is_broken keeper.old.writer.plan
+        (P.chooses policy.now) keeper.old.state
         (command_at terminal ask.now) (replies_in (option_to_list result)) keeper.new.state }
-    ensures grows { keeper.old.writer.is_broken ≡ false → length keeper.new.state.batch ≤ length keeper.old.state.batch + 1 }
+    ensures grows { keeper.old.writer.is_broken ≡ false
+        → length keeper.new.state.batch ≤ length keeper.old.state.batch + 1 }
     ensures writer { keeper.new.writer ≡ keeper.old.writer }
 {
     match ask {
@@ -76,7 +85,8 @@ fn answer_to<D: Disk, P: Policy>(
     }
 }
 
-/// Looks once at each terminal, and decides what is asked there, in rising order, each on the state that the earlier ones left.
+/// Looks once at each terminal, and decides what is asked there, in rising order, each on the state
+/// that the earlier ones left.
 pub fn scan<D: Disk, P: Policy>(
     desk: &Desk,
     seat: &mut ClerkSeat,
@@ -86,7 +96,8 @@ pub fn scan<D: Disk, P: Policy>(
 )
     requires seated { IsClerkOf desk.now seat.old }
     requires settled { keeper.old.writer.is_broken ≡ false → keeper.old.state.batch ≡ [] }
-    ensures scans { Scans (P.chooses policy.now) keeper.old.writer.plan keeper.old.writer.is_broken seat.old seat.new
+    ensures scans { Scans (P.chooses policy.now) keeper.old.writer.plan keeper.old.writer.is_broken
+        seat.old seat.new
         keeper.old.state keeper.new.state answers.new.items (length desk.now) }
     ensures seated { IsClerkOf desk.now seat.new }
     ensures writer { keeper.new.writer ≡ keeper.old.writer }
@@ -104,7 +115,8 @@ pub fn scan<D: Disk, P: Policy>(
 /// Stores the answers: what was decided where it is safe, else Unknown.
 pub fn answer_all(desk: &Desk, seat: &mut ClerkSeat, answers: &ArrayVec<Answer, 63>, is_safe: bool)
     requires seated { IsClerkOf desk.now seat.old }
-    requires scanned { (places : _) × (visits : _) × IsScanned places visits seat.old answers.now.items }
+    requires scanned { (places : _) × (visits : _)
+        × IsScanned places visits seat.old answers.now.items }
     ensures stored { (places : _) (visits : _) → IsScanned places visits seat.old answers.now.items
         → seat.new ≡ served places visits (replies_told is_safe answers.now.items) }
     ensures in_range { All IsReply (replies_told is_safe answers.now.items) }

@@ -25,7 +25,8 @@ fn placed<D: Arm>(rt: &impl Abort, group: &mut Terminals, clerk: &mut Clerk<D, E
     assert!(rt; group.hear(Who::CarA) == Some(Reply::Placed(None)));
 }
 
-/// How many calls are open once a call's batch failed at a device call, the keeper was reopened, and the call asked again.
+/// How many calls are open once a call's batch failed at a device call, the keeper was reopened,
+/// and the call asked again.
 fn recovered<D: Arm>(
     rt: &impl Abort,
     group: &mut Terminals,
@@ -57,7 +58,8 @@ fn answer_again<D: Arm>(
     group.hear(Who::Kiosk0)
 }
 
-/// One device call fails: body, next gate, first sync, gate, second sync. Only behind the gate's write the call is in.
+/// One device call fails: body, next gate, first sync, gate, second sync. Only behind the gate's
+/// write the call is in.
 #[test]
 fn one_call_fails(rt: HostRuntime) -> Result<(), Fail> {
     let building = demo(rt.alloc())?;

@@ -1,6 +1,7 @@
 //! The demo building's group at a desk of its own, with four terminals that ask.
 ghost use Rattle.std.specs.Prelude.{◌≡◌, ◌<◌, ◌≤◌, ◌+◌, length, vec_len, IfOk};
-ghost use Rattle.lift_desk.specs.Seats.{IsSeatOf, IsClerkOf, AreSeatsOf, OwesNothing, clerk_of as new_seats};
+ghost use Rattle.lift_desk.specs.Seats.{IsSeatOf, IsClerkOf, AreSeatsOf, OwesNothing};
+ghost use Rattle.lift_desk.specs.Seats.{clerk_of as new_seats};
 
 use lift_base::{Body, Dir, Floor, Letter, Memory, Number, Party, Reply};
 use lift_building::Building;
@@ -13,7 +14,8 @@ use lift_policy::Etd;
 use std::alloc::{AllocError, Global};
 use std::test::Fail;
 
-/// Ten floors, kiosks on floors 0 and 5; a flight takes 2,000 ms and 1,000 ms for each floor; cars A and B, for 8 persons.
+/// Ten floors, kiosks on floors 0 and 5; a flight takes 2,000 ms and 1,000 ms for each floor; cars
+/// A and B, for 8 persons.
 const DEMO: &str = "\
 floors = 10
 door_ms = 6000
@@ -66,7 +68,8 @@ pub(crate) fn formatted(alloc: Global, building: &Building) -> Result<MemDisk, F
 /// A desk for so many terminals.
 pub(crate) fn open(alloc: Global, terminals: usize) -> Result<DeskParts, AllocError>
     requires { (1 ≤ terminals) × (terminals ≤ 63) }
-    ensures count { IfOk result (λ parts. (length parts.desk ≡ terminals) × (vec_len parts.seats ≡ terminals)) }
+    ensures count { IfOk result (λ parts. (length parts.desk ≡ terminals)
+        × (vec_len parts.seats ≡ terminals)) }
     ensures seats { IfOk result (λ parts. AreSeatsOf parts.desk parts.seats.items) }
     ensures clerk { IfOk result (λ parts. IsClerkOf parts.desk parts.clerk) }
     ensures owes { IfOk result (λ parts. OwesNothing parts.clerk) }

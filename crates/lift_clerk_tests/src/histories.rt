@@ -10,7 +10,8 @@ use std::alloc::Global;
 use std::process::Abort;
 use std::test::Fail;
 
-/// What kiosk 0 is answered to its first call, by a clerk that begins over a device, and what a cut then leaves.
+/// What kiosk 0 is answered to its first call, by a clerk that begins over a device, and what a cut
+/// then leaves.
 fn answer_over(
     alloc: Global,
     rt: &impl Abort,
@@ -36,8 +37,8 @@ fn answer_over(
     Ok((answer, keeper.into_disk().cut(outcome)))
 }
 
-/// The letter that was given is given again behind each cut, and behind a second one. No car is placed there, so that no new
-/// call could have one.
+/// The letter that was given is given again behind each cut, and behind a second one. No car is
+/// placed there, so that no new call could have one.
 #[test]
 fn letters_stand_behind_cuts(rt: HostRuntime) -> Result<(), Fail> {
     let building = demo(rt.alloc())?;

@@ -1,5 +1,6 @@
-//! Tests of `lift_clerk`: turns whose device fails, reopenings, histories behind cuts, and a late session and a drive over a
-//! clerk. Turns of scripts and sessions are data, tried by `tools/try-cases`.
+//! Tests of `lift_clerk`: turns whose device fails, reopenings, histories behind cuts, and a late
+//! session and a drive over a clerk. Turns of scripts and sessions are data, tried by
+//! `tools/try-cases`.
 #![tactic(auto)]
 
 #[cfg(test)]

@@ -19,8 +19,8 @@ moment_at halt (other ∷ halts) (time ∷ times) =
 abbrev pub arrival_at : Plan → ℕ → List Halt → Halt → ℕ
 arrival_at plan floor halts halt = moment_at halt halts (arrivals_of plan floor halts)
 
--- the estimated time to destination of a call among the open calls of its car: when the car is where
--- its passengers leave
+-- the estimated time to destination of a call among the open calls of its car: when the car is
+-- where its passengers leave
 unfoldable pub etd : Plan → Position → List Row → Row → ℕ
 etd plan position rows row =
     arrival_at plan position.floor (stop_list rows position) (halt_at position row row.to)

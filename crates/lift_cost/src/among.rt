@@ -3,7 +3,8 @@
 ghost use Rattle.std.specs.Prelude.{◌≡◌, ◌+◌, ◌*◌, ◌<◌, ◌≤◌, length, sum_by, slice_index};
 ghost use Rattle.lift_stops.specs.StopList.{same_halt, halt_at, stop_list};
 ghost use Rattle.lift_cost.specs.Calls.{AreWithin};
-ghost use Rattle.lift_cost.specs.Cost.{moment_at, arrival_at, total_etd, own_etd, waiting_row, with_call};
+ghost use Rattle.lift_cost.specs.Cost.{moment_at, arrival_at, total_etd, own_etd, waiting_row};
+ghost use Rattle.lift_cost.specs.Cost.{with_call};
 ghost use Rattle.lift_cost.specs.Timetable.{place_of};
 
 use crate::call::{NewCall, waiting_row};
@@ -50,8 +51,8 @@ fn goal_place(position: &Position, row: &Row) -> usize
     place_of(&goal_of(position, row))
 }
 
-/// When a car that leaves the position's floor now, and makes these halts, is at one of them; 0 where it isn't among
-/// them. At most 43,560,000 ms.
+/// When a car that leaves the position's floor now, and makes these halts, is at one of them; 0
+/// where it isn't among them. At most 43,560,000 ms.
 #[tactic(auto, using(crate::proofs::Costs::arrival_short))]
 pub fn arrival_at(building: &Building, position: Position, halts: &[Halt], halt: &Halt) -> u64
     requires { length halts.now ≤ 66 }
@@ -80,7 +81,8 @@ fn weighed(party: Party, time: u32) -> u64
     u64::from(party.get()) * u64::from(time)
 }
 
-/// How much later the passengers of some calls are where they leave, once for each of them, by a table of delays.
+/// How much later the passengers of some calls are where they leave, once for each of them, by a
+/// table of delays.
 fn later_among(position: &Position, rows: &[Row], delays: &[u32; 192]) -> u64
     requires few { length rows.now ≤ 32 }
     ensures value { result ≡ sum_by (λ row. row.party * slice_index delays.now
@@ -94,7 +96,8 @@ fn later_among(position: &Position, rows: &[Row], delays: &[u32; 192]) -> u64
     later
 }
 
-/// What a new call adds to the times of all passengers, and the time of its own. The second halts are those with it.
+/// What a new call adds to the times of all passengers, and the time of its own. The second halts
+/// are those with it.
 pub fn added_among(
     building: &Building,
     position: &Position,

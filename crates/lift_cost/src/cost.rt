@@ -10,8 +10,8 @@ use lift_base::{Position, Row};
 use lift_building::Building;
 use lift_stops::stop_list;
 
-/// The estimated time to destination of one of a car's open calls: how long from now until the car is where its
-/// passengers leave.
+/// The estimated time to destination of one of a car's open calls: how long from now until the car
+/// is where its passengers leave.
 #[tactic(auto, unfolding(crate::specs::Cost::etd))]
 pub fn etd(building: &Building, position: Position, rows: &[Row], row: &Row) -> u64
     requires { length rows.now ≤ 33 }
@@ -23,7 +23,8 @@ pub fn etd(building: &Building, position: Position, rows: &[Row], row: &Row) -> 
     etd_among(building, position, &halts, row)
 }
 
-/// What a new call adds to the times of all passengers of a car, its own with them, and the time of its own.
+/// What a new call adds to the times of all passengers of a car, its own with them, and the time of
+/// its own.
 fn added(building: &Building, position: &Position, rows: &[Row], call: &NewCall) -> (u64, u64)
     requires here { position.now.floor < building.now.floors }
     requires calls { AreWithin building.now.floors rows.now }
@@ -41,8 +42,8 @@ fn added(building: &Building, position: &Position, rows: &[Row], call: &NewCall)
     added_among(building, position, rows, call, &halts, &halts_with)
 }
 
-/// What a new call adds to the times of all passengers of a car, its own with them: each call's time counts once for
-/// each of its persons.
+/// What a new call adds to the times of all passengers of a car, its own with them: each call's
+/// time counts once for each of its persons.
 pub fn total_cost(building: &Building, position: Position, rows: &[Row], call: NewCall) -> u64
     requires here { position.floor < building.now.floors }
     requires calls { AreWithin building.now.floors rows.now }
@@ -75,8 +76,10 @@ pub fn degradation(building: &Building, position: Position, rows: &[Row], call: 
     ensures parts { result + own_etd building.now position rows.now call
         ≡ total_cost building.now position rows.now call }
 
-    // The sum with the new call is the sum without it, the new passengers' own time, and this: nobody arrives sooner.
-    ensures sums { result + own_etd building.now position rows.now call + total_etd building.now position rows.now
+    // The sum with the new call is the sum without it, the new passengers' own time, and this:
+    // nobody arrives sooner.
+    ensures sums { result + own_etd building.now position rows.now call
+        + total_etd building.now position rows.now
         ≡ total_etd building.now position (with_call rows.now call) }
 {
     let (cost, own) = added(building, &position, rows, &call);

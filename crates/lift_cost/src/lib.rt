@@ -1,5 +1,5 @@
-//! What a call costs the passengers of a car: estimated times to destination, and what a new call adds to them. All
-//! times are in ms.
+//! What a call costs the passengers of a car: estimated times to destination, and what a new call
+//! adds to them. All times are in ms.
 #![tactic(auto)]
 
 mod among;

@@ -19,7 +19,8 @@ pub fn etd_of(building: &Building, schedule: &Schedule, row: &Row) -> u64
     etd_among(building, &schedule.position(), schedule.halts(), row)
 }
 
-/// What a new call adds to the times of all passengers of a car, its own with them, and the time of its own.
+/// What a new call adds to the times of all passengers of a car, its own with them, and the time of
+/// its own.
 fn added(building: &Building, schedule: &Schedule, call: &NewCall) -> (u64, u64)
     requires here { schedule.now.position.floor < building.now.floors }
     requires calls { AreWithin building.now.floors schedule.now.rows }
@@ -43,8 +44,8 @@ fn added(building: &Building, schedule: &Schedule, call: &NewCall) -> (u64, u64)
     )
 }
 
-/// What a new call adds to the times of all passengers of a car, its own with them: each call's time counts once for
-/// each of its persons.
+/// What a new call adds to the times of all passengers of a car, its own with them: each call's
+/// time counts once for each of its persons.
 pub fn cost_of(building: &Building, schedule: &Schedule, call: NewCall) -> u64
     requires here { schedule.now.position.floor < building.now.floors }
     requires calls { AreWithin building.now.floors schedule.now.rows }
@@ -77,7 +78,8 @@ pub fn degradation_of(building: &Building, schedule: &Schedule, call: NewCall) -
     ensures parts { result + own_etd building.now schedule.now.position schedule.now.rows call
         ≡ total_cost building.now schedule.now.position schedule.now.rows call }
 
-    // The sum with the new call is the sum without it, the new passengers' own time, and this: nobody arrives sooner.
+    // The sum with the new call is the sum without it, the new passengers' own time, and this:
+    // nobody arrives sooner.
     ensures sums { result + own_etd building.now schedule.now.position schedule.now.rows call
         + total_etd building.now schedule.now.position schedule.now.rows
         ≡ total_etd building.now schedule.now.position (with_call schedule.now.rows call) }

@@ -27,12 +27,14 @@ fn is_at(halts: &[Halt], place: usize, halt: &Halt) -> bool
     place < halts.len() && same_halt(&halts[place], halt)
 }
 
-/// How much later a car is at a floor, in ms: without the new call it comes from one floor, and with it from another one,
-/// which it leaves so much later.
+/// How much later a car is at a floor, in ms: without the new call it comes from one floor, and
+/// with it from another one, which it leaves so much later.
 fn delay_at(building: &Building, floor: Floor, floor_with: Floor, to: Floor, delay: u32) -> u32
     requires short { delay ≤ 43560000 }
-    requires later { flight_ms building.now floor to ≤ delay + flight_ms building.now floor_with to }
-    ensures { result + flight_ms building.now floor to ≡ delay + flight_ms building.now floor_with to }
+    requires later { flight_ms building.now floor to
+        ≤ delay + flight_ms building.now floor_with to }
+    ensures { result + flight_ms building.now floor to
+        ≡ delay + flight_ms building.now floor_with to }
 {
     if floor == floor_with {
         delay
@@ -41,8 +43,8 @@ fn delay_at(building: &Building, floor: Floor, floor_with: Floor, to: Floor, del
     }
 }
 
-/// Writes at each halt's place how much later a car that leaves the floor now is there with the new call, and returns
-/// when it is then at the goal of the new passengers. All in ms.
+/// Writes at each halt's place how much later a car that leaves the floor now is there with the new
+/// call, and returns when it is then at the goal of the new passengers. All in ms.
 pub(crate) fn fill_delays(
     building: &Building,
     floor: Floor,

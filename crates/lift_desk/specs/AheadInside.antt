@@ -5,7 +5,11 @@ use Rattle.lift_desk.specs.Words.{last_of, turn_of}
 use Rattle.lift_desk.specs.Seats.{ClerkPlace, is_seated, view_in, loads_of}
 
 abbrev pub seen : Inside → ClerkPlace
-seen s = record { seated = is_seated s.badge.views; table = s.badge.table_id; view = (view_in s.badge.views).clerk }
+seen s = record {
+  seated = is_seated s.badge.views;
+  table = s.badge.table_id;
+  view = (view_in s.badge.views).clerk;
+}
 
 pub record IsAheadPlace (s : Inside) : Type 0 where
   pub one : is_seated s.badge.views ≡ true → s.badge.views ≡ view_in s.badge.views ∷ []

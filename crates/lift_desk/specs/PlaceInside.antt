@@ -5,7 +5,11 @@ use Rattle.lift_desk.specs.Words.{number_of, last_of, turn_of}
 use Rattle.lift_desk.specs.Seats.{ClerkPlace, is_seated, view_in, loads_of}
 
 abbrev pub seen : Inside → ClerkPlace
-seen s = record { seated = is_seated s.badge.views; table = s.badge.table_id; view = (view_in s.badge.views).clerk }
+seen s = record {
+  seated = is_seated s.badge.views;
+  table = s.badge.table_id;
+  view = (view_in s.badge.views).clerk;
+}
 
 pub record IsPlaced (s : Inside) : Type 0 where
   pub one : is_seated s.badge.views ≡ true → s.badge.views ≡ view_in s.badge.views ∷ []
@@ -13,9 +17,13 @@ pub record IsPlaced (s : Inside) : Type 0 where
   pub in_order : (view_in s.badge.views).looks_ahead ≡ false
   pub loads : s.loads ≡ loads_of (view_in s.badge.views)
   pub turn : s.turn ≡ length (view_in s.badge.views).clerk.taken
-  pub last_taken : turn_of (last_of (view_in s.badge.views).clerk.taken) ≡ length (view_in s.badge.views).clerk.taken
+  pub last_taken : turn_of (last_of (view_in s.badge.views).clerk.taken)
+      ≡ length (view_in s.badge.views).clerk.taken
   pub in_range : s.turn < 1048576
   pub number : s.number ≡ number_of (last_of (view_in s.badge.views).clerk.taken)
-  pub owes : s.owes ≡ true → length (view_in s.badge.views).clerk.taken ≡ suc (length (view_in s.badge.views).clerk.answered)
-  pub even : s.owes ≡ false → length (view_in s.badge.views).clerk.taken ≡ length (view_in s.badge.views).clerk.answered
+  pub owes : s.owes ≡ true
+      → length (view_in s.badge.views).clerk.taken
+      ≡ suc (length (view_in s.badge.views).clerk.answered)
+  pub even : s.owes ≡ false
+      → length (view_in s.badge.views).clerk.taken ≡ length (view_in s.badge.views).clerk.answered
   pub answered : s.answered ≡ last_of (view_in s.badge.views).clerk.answered

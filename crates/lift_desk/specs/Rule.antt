@@ -1,5 +1,7 @@
--- The rule of one terminal's table: its two words, what the terminal knows, and what the clerk knows.
-use Rattle.std.specs.Prelude.{◌≡◌, ◌≢◌, ℕ, suc, ◌≤◌, true, false, List, [], ◌∷◌, map, length, All, Contains}
+-- The rule of one terminal's table: its two words, what the terminal knows, and what the clerk
+-- knows.
+use Rattle.std.specs.Prelude.{◌≡◌, ◌≢◌, ℕ, suc, ◌≤◌, true, false, List, [], ◌∷◌, map, length, All}
+use Rattle.std.specs.Prelude.{Contains}
 use Rattle.std.specs.List.Sorted.{IsStrictlyIncreasing}
 use mathlib.Core.List.{IsPrefix}
 use mathlib.Core.Option.{some}
@@ -19,36 +21,98 @@ no_answers = record { taken = []; answered = []; looks = 0; last = 0; told = [] 
 
 -- a seat that may do nothing
 abbrev pub blank : View
-blank = record { asks = false; answers = false; looks_ahead = false; terminal = no_asks; clerk = no_answers; noted = 0 }
+blank = record {
+  asks = false;
+  answers = false;
+  looks_ahead = false;
+  terminal = no_asks;
+  clerk = no_answers;
+  noted = 0;
+}
 
 -- the first seat, before it is split into the terminal's and the clerk's
 abbrev pub opening_view : View
-opening_view = record { asks = true; answers = true; looks_ahead = false; terminal = no_asks; clerk = no_answers; noted = 0 }
+opening_view = record {
+  asks = true;
+  answers = true;
+  looks_ahead = false;
+  terminal = no_asks;
+  clerk = no_answers;
+  noted = 0;
+}
 
 abbrev pub terminal_view : View
-terminal_view = record { asks = true; answers = false; looks_ahead = false; terminal = no_asks; clerk = no_answers; noted = 0 }
+terminal_view = record {
+  asks = true;
+  answers = false;
+  looks_ahead = false;
+  terminal = no_asks;
+  clerk = no_answers;
+  noted = 0;
+}
 
 abbrev pub clerk_view : View
-clerk_view = record { asks = false; answers = true; looks_ahead = false; terminal = no_asks; clerk = no_answers; noted = 0 }
+clerk_view = record {
+  asks = false;
+  answers = true;
+  looks_ahead = false;
+  terminal = no_asks;
+  clerk = no_answers;
+  noted = 0;
+}
 
 -- what a seat that looks ahead of the clerk begins with
 abbrev pub ahead_of : View → View
-ahead_of v = record { asks = false; answers = false; looks_ahead = true; terminal = no_asks; clerk = record { taken = v.clerk.taken; answered = []; looks = 0; last = 0; told = v.clerk.told }; noted = 0 }
+ahead_of v = record {
+  asks = false;
+  answers = false;
+  looks_ahead = true;
+  terminal = no_asks;
+  clerk = record {
+    taken = v.clerk.taken;
+    answered = [];
+    looks = 0;
+    last = 0;
+    told = v.clerk.told;
+  };
+  noted = 0;
+}
 
 -- a note of the last ask that was taken ahead of the clerk
 abbrev pub ahead_note_of : View → View
-ahead_note_of v = record { asks = false; answers = false; looks_ahead = false; terminal = no_asks; clerk = no_answers; noted = last_of v.clerk.taken }
+ahead_note_of v = record {
+  asks = false;
+  answers = false;
+  looks_ahead = false;
+  terminal = no_asks;
+  clerk = no_answers;
+  noted = last_of v.clerk.taken;
+}
 
 -- the view of a seat that has read a note of this ask
 abbrev pub with_note : View → ℕ → View
-with_note v word = record { asks = v.asks; answers = v.answers; looks_ahead = v.looks_ahead; terminal = v.terminal; clerk = v.clerk; noted = word }
+with_note v word = record {
+  asks = v.asks;
+  answers = v.answers;
+  looks_ahead = v.looks_ahead;
+  terminal = v.terminal;
+  clerk = v.clerk;
+  noted = word;
+}
 
 abbrev pub noted_by : View → View → View
 noted_by v note = with_note v note.noted
 
 -- a seat with the rights of both
 abbrev pub united : View → View → View
-united v c = record { asks = v.asks; answers = c.answers; looks_ahead = false; terminal = v.terminal; clerk = c.clerk; noted = 0 }
+united v c = record {
+  asks = v.asks;
+  answers = c.answers;
+  looks_ahead = false;
+  terminal = v.terminal;
+  clerk = c.clerk;
+  noted = 0;
+}
 
 -- the terminal's part of it, which is told that these words were answered
 abbrev pub terminal_part : View → List ℕ → View
@@ -56,7 +120,13 @@ terminal_part v words = record {
   asks = true;
   answers = false;
   looks_ahead = false;
-  terminal = record { asked = v.terminal.asked; heard = v.terminal.heard; looks = v.terminal.looks; last = v.terminal.last; told = words };
+  terminal = record {
+    asked = v.terminal.asked;
+    heard = v.terminal.heard;
+    looks = v.terminal.looks;
+    last = v.terminal.last;
+    told = words;
+  };
   clerk = no_answers;
   noted = 0;
 }
@@ -68,7 +138,13 @@ clerk_part v words = record {
   answers = true;
   looks_ahead = false;
   terminal = no_asks;
-  clerk = record { taken = v.clerk.taken; answered = v.clerk.answered; looks = v.clerk.looks; last = v.clerk.last; told = words };
+  clerk = record {
+    taken = v.clerk.taken;
+    answered = v.clerk.answered;
+    looks = v.clerk.looks;
+    last = v.clerk.last;
+    told = words;
+  };
   noted = 0;
 }
 
@@ -103,10 +179,13 @@ pub record IsAhead (asked taken : List ℕ) : Type 0 where
   pub asked_all : All (Contains asked) taken
   pub rise : IsStrictlyIncreasing (map turn_of taken)
 
--- One seat at most stores asks and one answers, and what these know is all that there is. What a seat was told began all of it, and still does. What it read in a note was asked
+-- One seat at most stores asks and one answers, and what these know is all that there is. What a
+-- seat was told began all of it, and still does. What it read in a note was asked
 pub record Fits (terminal clerk : ℕ) (l : Lists) (seat : ℕ) (v : View) : Type 0 where
-  pub asks : v.asks ≡ true → (seat ≡ terminal) × (v.terminal.asked ≡ l.asked) × (v.terminal.heard ≡ l.heard)
-  pub answers : v.answers ≡ true → (seat ≡ clerk) × (v.clerk.taken ≡ l.taken) × (v.clerk.answered ≡ l.answered)
+  pub asks : v.asks ≡ true → (seat ≡ terminal) × (v.terminal.asked ≡ l.asked)
+      × (v.terminal.heard ≡ l.heard)
+  pub answers : v.answers ≡ true
+      → (seat ≡ clerk) × (v.clerk.taken ≡ l.taken) × (v.clerk.answered ≡ l.answered)
   pub looks_ahead : v.looks_ahead ≡ true → IsAhead l.asked v.clerk.taken
   pub told_answers : IsPrefix v.terminal.told l.answered
   pub told_asks : IsPrefix v.clerk.told l.asked
@@ -119,4 +198,5 @@ pub record IsKept (s : State (Unit {0}) View) : Type 0 where
   pub lists : Lists
   pub words : s.words ≡ last_of lists.asked ∷ last_of lists.answered ∷ []
   pub in_order : IsInOrder lists
-  pub views : (seat : ℕ) (v : View) → get_elem? s.views seat ≡ some v → Fits terminal clerk lists seat v
+  pub views : (seat : ℕ) (v : View) → get_elem? s.views seat ≡ some v
+      → Fits terminal clerk lists seat v

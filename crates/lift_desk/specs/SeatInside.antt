@@ -13,6 +13,11 @@ pub record IsSeated (s : Inside) : Type 0 where
   pub turn : s.turn ≡ length s.chair.me.0.terminal.asked
   pub in_range : s.turn ≤ 1048575
   pub number : s.number ≡ number_of (last_of s.chair.me.0.terminal.asked)
-  pub waits : s.waits ≡ true → length s.chair.me.0.terminal.asked ≡ suc (length s.chair.me.0.terminal.heard)
-  pub loads : s.loads ≡ record { odd = is_odd s.chair.me.0.terminal.looks; last = s.chair.me.0.terminal.last }
-  pub rests : s.waits ≡ false → length s.chair.me.0.terminal.asked ≡ length s.chair.me.0.terminal.heard
+  pub waits : s.waits ≡ true
+      → length s.chair.me.0.terminal.asked ≡ suc (length s.chair.me.0.terminal.heard)
+  pub loads : s.loads ≡ record {
+    odd = is_odd s.chair.me.0.terminal.looks;
+    last = s.chair.me.0.terminal.last;
+  }
+  pub rests : s.waits ≡ false
+      → length s.chair.me.0.terminal.asked ≡ length s.chair.me.0.terminal.heard

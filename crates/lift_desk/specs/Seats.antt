@@ -1,5 +1,6 @@
 -- Seats and desks as contracts see them.
-use Rattle.std.specs.Prelude.{◌≡◌, ℕ, suc, ◌<◌, Bool, true, false, List, [], ◌∷◌, ◌++◌, map, length, slice_get, slice_index_or, slice_set, Option, Some, None, All}
+use Rattle.std.specs.Prelude.{◌≡◌, ℕ, suc, ◌<◌, Bool, true, false, List, [], ◌∷◌, ◌++◌, map, length}
+use Rattle.std.specs.Prelude.{slice_get, slice_index_or, slice_set, Option, Some, None, All}
 use Rattle.atomic_table.specs.Seated.{TableId}
 use Rattle.lift_base.specs.declared.command.Reply.{Reply}
 use Rattle.lift_desk.specs.declared.view.TerminalView.{TerminalView}
@@ -25,7 +26,15 @@ pub record ClerkPlace : Type 0 where
   pub view : ClerkView
 
 abbrev pub no_table : TableId
-no_table = record { words = 0; slots = 0; views_name = 0; atom = 0; block = 0; offset = 0; slot_names = [] }
+no_table = record {
+  words = 0;
+  slots = 0;
+  views_name = 0;
+  atom = 0;
+  block = 0;
+  offset = 0;
+  slot_names = [];
+}
 
 abbrev pub no_place : ClerkPlace
 no_place = record { seated = false; table = no_table; view = no_answers }
@@ -55,7 +64,8 @@ seat_with seat view = record { table = seat.table; terminal = seat.terminal; vie
 
 -- the clerk's seats, with another view of one terminal's words
 abbrev pub clerk_with : List ClerkPlace → ℕ → ClerkView → List ClerkPlace
-clerk_with clerk terminal view = slice_set clerk terminal (placed_at (slice_index_or clerk terminal no_place).table view)
+clerk_with clerk terminal view =
+    slice_set clerk terminal (placed_at (slice_index_or clerk terminal no_place).table view)
 
 -- the terminal's last ask has not been heard
 abbrev pub Waits : TerminalView → Type 0
@@ -72,29 +82,35 @@ OwesNothing clerk = All (λ (p : ClerkPlace). ¬ Owes p.view) clerk
 -- what the terminal hears of the word loaded
 abbrev pub HearsOf : TerminalView → ℕ → Option Reply → Type 0
 HearsOf v word None = is_awaited v word ≡ false
-HearsOf v word (Some reply) = (is_awaited v word ≡ true) × (word ≡ reply_word (length v.asked) (number_of (last_of v.asked)) reply)
+HearsOf v word (Some reply) = (is_awaited v word ≡ true)
+    × (word ≡ reply_word (length v.asked) (number_of (last_of v.asked)) reply)
 
 -- what the clerk takes of the word loaded
 abbrev pub TakesOf : ClerkView → ℕ → Option Ask → Type 0
 TakesOf v word None = is_new v word ≡ false
-TakesOf v word (Some ask) = (is_new v word ≡ true) × (word ≡ ask_word (suc (length v.taken)) ask.number ask.body)
+TakesOf v word (Some ask) =
+    (is_new v word ≡ true) × (word ≡ ask_word (suc (length v.taken)) ask.number ask.body)
 
 -- the terminal was told of this answer to its last ask, and has not heard it
 abbrev pub IsToldAnswer : TerminalView → Reply → Type 0
-IsToldAnswer v reply = IsReply reply × (v.told ≡ v.heard ++ reply_word (length v.asked) (number_of (last_of v.asked)) reply ∷ [])
+IsToldAnswer v reply = IsReply reply
+    × (v.told ≡ v.heard ++ reply_word (length v.asked) (number_of (last_of v.asked)) reply ∷ [])
 
 -- the clerk was told of this ask, and has not taken it
 abbrev pub IsToldAsk : ClerkView → Ask → Type 0
-IsToldAsk v ask = IsAsk ask × (v.told ≡ v.taken ++ ask_word (suc (length v.taken)) ask.number ask.body ∷ [])
+IsToldAsk v ask = IsAsk ask
+    × (v.told ≡ v.taken ++ ask_word (suc (length v.taken)) ask.number ask.body ∷ [])
 
 -- the last ask that a seat ahead was told of is this one, which is later than all that it has taken
 abbrev pub IsToldAhead : ClerkView → Ask → Type 0
-IsToldAhead v ask = IsAsk ask × (turn_of (last_of v.taken) < length v.told) × (last_of v.told ≡ ask_word (length v.told) ask.number ask.body)
+IsToldAhead v ask = IsAsk ask × (turn_of (last_of v.taken) < length v.told)
+    × (last_of v.told ≡ ask_word (length v.told) ask.number ask.body)
 
 -- the terminals' seats at the start
 abbrev pub seats_from : ℕ → List TableId → List TerminalSeat
 seats_from first [] = []
-seats_from first (table ∷ tables) = record { table = table; terminal = first; view = no_asks } ∷ seats_from (suc first) tables
+seats_from first (table ∷ tables) =
+    record { table = table; terminal = first; view = no_asks } ∷ seats_from (suc first) tables
 
 -- the clerk's seats at the start
 abbrev pub clerk_of : List TableId → List ClerkPlace
@@ -103,7 +119,8 @@ clerk_of desk = map (λ (table : TableId). placed_at table no_answers) desk
 -- what is taken ahead of the answers, of the word loaded
 abbrev pub TakesAheadOf : ClerkView → ℕ → Option Ask → Type 0
 TakesAheadOf v word None = is_new v word ≡ false
-TakesAheadOf v word (Some ask) = (is_new v word ≡ true) × (word ≡ ask_word (turn_of word) ask.number ask.body)
+TakesAheadOf v word (Some ask) =
+    (is_new v word ≡ true) × (word ≡ ask_word (turn_of word) ask.number ask.body)
 
 -- a badge has one view, or none where it stands in for one
 abbrev pub is_seated : List View → Bool
@@ -122,7 +139,8 @@ taken_only v = record { taken = v.taken; answered = []; looks = 0; last = 0; tol
 abbrev pub ahead_from : List ClerkPlace → List ClerkPlace
 ahead_from clerk = map (λ (p : ClerkPlace). placed_at p.table (taken_only p.view)) clerk
 
--- a note of an ask that was taken ahead: its table, and its word; where it is not seated, it stands in for one
+-- a note of an ask that was taken ahead: its table, and its word; where it is not seated, it stands
+-- in for one
 pub record NoteState : Type 0 where
   pub seated : Bool
   pub table : TableId
@@ -130,7 +148,8 @@ pub record NoteState : Type 0 where
 
 -- the note is of this terminal's table
 abbrev pub IsNoteOf : List TableId → ℕ → NoteState → Type 0
-IsNoteOf desk terminal note = (note.seated ≡ true) × (slice_index_or desk terminal no_table ≡ note.table)
+IsNoteOf desk terminal note =
+    (note.seated ≡ true) × (slice_index_or desk terminal no_table ≡ note.table)
 
 -- the word says this ask, and it is later than all that was taken
 abbrev pub Says : ClerkView → ℕ → Ask → Type 0

@@ -1,5 +1,6 @@
 -- What each step changes in the view of the seat that makes it, and what it tells.
-use Rattle.std.specs.Prelude.{◌≡◌, ℕ, suc, ◌≤◌, Bool, true, List, [], ◌∷◌, ◌++◌, length, nat_lt, nat_eq, if◌then◌else◌, ◌&&◌}
+use Rattle.std.specs.Prelude.{◌≡◌, ℕ, suc, ◌≤◌, Bool, true, List, [], ◌∷◌, ◌++◌, length, nat_lt}
+use Rattle.std.specs.Prelude.{nat_eq, if◌then◌else◌, ◌&&◌}
 use mathlib.Core.List.{IsPrefix}
 use Rattle.atomic_table.specs.Table.{Me, Step}
 use Rattle.lift_desk.specs.declared.view.TerminalView.{TerminalView}
@@ -13,23 +14,48 @@ Seated = Me (Unit {0}) View
 
 -- the terminal has stored this ask
 abbrev pub with_ask : TerminalView → ℕ → TerminalView
-with_ask v word = record { asked = v.asked ++ word ∷ []; heard = v.heard; looks = v.looks; last = v.last; told = v.told }
+with_ask v word = record {
+  asked = v.asked ++ word ∷ [];
+  heard = v.heard;
+  looks = v.looks;
+  last = v.last;
+  told = v.told;
+}
 
 -- the clerk has stored this answer
 abbrev pub with_answer : ClerkView → ℕ → ClerkView
-with_answer v word = record { taken = v.taken; answered = v.answered ++ word ∷ []; looks = v.looks; last = v.last; told = v.told }
+with_answer v word = record {
+  taken = v.taken;
+  answered = v.answered ++ word ∷ [];
+  looks = v.looks;
+  last = v.last;
+  told = v.told;
+}
 
 -- the word answers the last ask, which waits for it
 abbrev pub is_awaited : TerminalView → ℕ → Bool
-is_awaited v word = nat_lt (length v.heard) (length v.asked) && (nat_eq (turn_of word) (length v.asked))
+is_awaited v word = nat_lt (length v.heard) (length v.asked) &&
+    (nat_eq (turn_of word) (length v.asked))
 
 -- the terminal has looked at an answer and heard it, if it is the one that it waits for
 abbrev pub with_hearing : TerminalView → ℕ → TerminalView
-with_hearing v word = record { asked = v.asked; heard = if is_awaited v word then v.heard ++ word ∷ [] else v.heard; looks = suc v.looks; last = word; told = v.told }
+with_hearing v word = record {
+  asked = v.asked;
+  heard = if is_awaited v word then v.heard ++ word ∷ [] else v.heard;
+  looks = suc v.looks;
+  last = word;
+  told = v.told;
+}
 
 -- the terminal has looked at an answer
 abbrev pub with_look : TerminalView → ℕ → TerminalView
-with_look v word = record { asked = v.asked; heard = v.heard; looks = suc v.looks; last = word; told = v.told }
+with_look v word = record {
+  asked = v.asked;
+  heard = v.heard;
+  looks = suc v.looks;
+  last = word;
+  told = v.told;
+}
 
 -- the word's turn is above that of each ask that was taken
 abbrev pub is_new : ClerkView → ℕ → Bool
@@ -37,43 +63,73 @@ is_new v word = nat_lt (turn_of (last_of v.taken)) (turn_of word)
 
 -- the clerk has looked at an ask and taken it, if it is new
 abbrev pub with_taking : ClerkView → ℕ → ClerkView
-with_taking v word = record { taken = if is_new v word then v.taken ++ word ∷ [] else v.taken; answered = v.answered; looks = suc v.looks; last = word; told = v.told }
+with_taking v word = record {
+  taken = if is_new v word then v.taken ++ word ∷ [] else v.taken;
+  answered = v.answered;
+  looks = suc v.looks;
+  last = word;
+  told = v.told;
+}
 
 -- the terminal was told that these words were answered
 abbrev pub with_told_answers : TerminalView → List ℕ → TerminalView
-with_told_answers v words = record { asked = v.asked; heard = v.heard; looks = v.looks; last = v.last; told = words }
+with_told_answers v words =
+    record { asked = v.asked; heard = v.heard; looks = v.looks; last = v.last; told = words }
 
 -- the clerk was told that these words were asked
 abbrev pub with_told_asks : ClerkView → List ℕ → ClerkView
-with_told_asks v words = record { taken = v.taken; answered = v.answered; looks = v.looks; last = v.last; told = words }
+with_told_asks v words =
+    record { taken = v.taken; answered = v.answered; looks = v.looks; last = v.last; told = words }
 
 -- what the terminal asked and heard, and what the clerk took and answered of it
 abbrev pub lists_of : TerminalView → ClerkView → Lists
 lists_of t c = record { asked = t.asked; taken = c.taken; answered = c.answered; heard = t.heard }
 
 abbrev pub at_terminal : View → TerminalView → View
-at_terminal v terminal = record { asks = v.asks; answers = v.answers; looks_ahead = v.looks_ahead; terminal = terminal; clerk = v.clerk; noted = v.noted }
+at_terminal v terminal = record {
+  asks = v.asks;
+  answers = v.answers;
+  looks_ahead = v.looks_ahead;
+  terminal = terminal;
+  clerk = v.clerk;
+  noted = v.noted;
+}
 
 abbrev pub at_clerk : View → ClerkView → View
-at_clerk v clerk = record { asks = v.asks; answers = v.answers; looks_ahead = v.looks_ahead; terminal = v.terminal; clerk = clerk; noted = v.noted }
+at_clerk v clerk = record {
+  asks = v.asks;
+  answers = v.answers;
+  looks_ahead = v.looks_ahead;
+  terminal = v.terminal;
+  clerk = clerk;
+  noted = v.noted;
+}
 
 abbrev pub Asked : Step (Unit {0}) → Seated → ℕ → Seated → Type 0
-Asked step before found after = after ≡ (at_terminal before.0 (with_ask before.0.terminal step.first), before.1)
+Asked step before found after =
+    after ≡ (at_terminal before.0 (with_ask before.0.terminal step.first), before.1)
 
 abbrev pub Answered : Step (Unit {0}) → Seated → ℕ → Seated → Type 0
-Answered step before found after = after ≡ (at_clerk before.0 (with_answer before.0.clerk step.first), before.1)
+Answered step before found after =
+    after ≡ (at_clerk before.0 (with_answer before.0.clerk step.first), before.1)
 
--- it is the ask word that is loaded; an ask that is taken is spelled, and all before it was answered; then all that the clerk was told of is taken; an ask that a note says is found, where it is new; what is loaded is the last ask of all, which is taken then
+-- it is the ask word that is loaded; an ask that is taken is spelled, and all before it was
+-- answered; then all that the clerk was told of is taken; an ask that a note says is found, where
+-- it is new; what is loaded is the last ask of all, which is taken then
 abbrev pub Looked : Step (Unit {0}) → Seated → ℕ → Seated → Type 0
 Looked step before found after =
     (step.word ≡ 0)
     × (after ≡ (at_clerk before.0 (with_taking before.0.clerk found), before.1))
-    × (is_new before.0.clerk found ≡ true → IsAskWord found × (turn_of found ≡ suc (length before.0.clerk.taken)) × (length before.0.clerk.answered ≡ length before.0.clerk.taken))
+    × (is_new before.0.clerk found ≡ true
+    → IsAskWord found × (turn_of found ≡ suc (length before.0.clerk.taken))
+    × (length before.0.clerk.answered ≡ length before.0.clerk.taken))
     × IsPrefix before.0.clerk.told (with_taking before.0.clerk found).taken
     × (is_new before.0.clerk before.0.noted ≡ true → found ≡ before.0.noted)
     × (found ≡ last_of (with_taking before.0.clerk found).taken)
 
--- it is the ask word that is loaded; an ask that is taken ahead of the answers is spelled; its turn is no earlier than that of the last ask which the seat was told of, and that ask is the only one with its turn; what is loaded is the last ask of all, which is taken then
+-- it is the ask word that is loaded; an ask that is taken ahead of the answers is spelled; its turn
+-- is no earlier than that of the last ask which the seat was told of, and that ask is the only one
+-- with its turn; what is loaded is the last ask of all, which is taken then
 abbrev pub LookedAhead : Step (Unit {0}) → Seated → ℕ → Seated → Type 0
 LookedAhead step before found after =
     (step.word ≡ 0)
@@ -83,16 +139,21 @@ LookedAhead step before found after =
     × (turn_of found ≡ length before.0.clerk.told → found ≡ last_of before.0.clerk.told)
     × (found ≡ last_of (with_taking before.0.clerk found).taken)
 
--- it is the answer word that is loaded; an answer that is heard is spelled, with the turn and the number of the last ask; then all that the terminal was told of is heard; what is loaded is the last answer of all, which is heard then
+-- it is the answer word that is loaded; an answer that is heard is spelled, with the turn and the
+-- number of the last ask; then all that the terminal was told of is heard; what is loaded is the
+-- last answer of all, which is heard then
 abbrev pub Heard : Step (Unit {0}) → Seated → ℕ → Seated → Type 0
 Heard step before found after =
     (step.word ≡ 1)
     × (after ≡ (at_terminal before.0 (with_hearing before.0.terminal found), before.1))
-    × (is_awaited before.0.terminal found ≡ true → IsReplyWord found × (turn_of found ≡ length before.0.terminal.asked) × (number_of found ≡ number_of (last_of before.0.terminal.asked)))
+    × (is_awaited before.0.terminal found ≡ true
+    → IsReplyWord found × (turn_of found ≡ length before.0.terminal.asked)
+    × (number_of found ≡ number_of (last_of before.0.terminal.asked)))
     × IsPrefix before.0.terminal.told (with_hearing before.0.terminal found).heard
     × (found ≡ last_of (with_hearing before.0.terminal found).heard)
 
--- a seat with both rights loads the answer word, which is the last that was answered; what was answered begins with what was heard
+-- a seat with both rights loads the answer word, which is the last that was answered; what was
+-- answered begins with what was heard
 abbrev pub Met : Step (Unit {0}) → Seated → ℕ → Seated → Type 0
 Met step before found after =
     (step.word ≡ 1)
@@ -102,4 +163,5 @@ Met step before found after =
 
 -- nothing changes, and the words of a seat with both rights are in order
 abbrev pub Compared : Step (Unit {0}) → Seated → ℕ → Seated → Type 0
-Compared step before found after = (after ≡ before) × IsInOrder (lists_of before.0.terminal before.0.clerk)
+Compared step before found after =
+    (after ≡ before) × IsInOrder (lists_of before.0.terminal before.0.clerk)

@@ -1,12 +1,15 @@
--- A word of the desk: 20 bits of turn, 24 bits of number, and 20 bits that spell an ask or an answer.
-use Rattle.std.specs.Prelude.{◌≡◌, ℕ, ◌+◌, ◌*◌, ◌/◌, ◌%◌, ◌^◌, ◌<◌, ◌≤◌, List, [], ◌∷◌, Option, Some, None}
+-- A word of the desk: 20 bits of turn, 24 bits of number, and 20 bits that spell an ask or an
+-- answer.
+use Rattle.std.specs.Prelude.{◌≡◌, ℕ, ◌+◌, ◌*◌, ◌/◌, ◌%◌, ◌^◌, ◌<◌, ◌≤◌, List, [], ◌∷◌, Option}
+use Rattle.std.specs.Prelude.{Some, None}
 use Rattle.lift_base.specs.declared.travel.Dir.{Dir}
 use Rattle.lift_base.specs.declared.travel.Dir.TheVariants.{Up, Down}
 use Rattle.lift_base.specs.declared.travel.Stop.{Stop as StopAt}
 use Rattle.lift_base.specs.declared.command.Body.{Body}
 use Rattle.lift_base.specs.declared.command.Body.TheVariants.{Call, Stop, Place}
 use Rattle.lift_base.specs.declared.command.Reply.{Reply}
-use Rattle.lift_base.specs.declared.command.Reply.TheVariants.{Car, Stopped, Placed, Refused, Unknown}
+use Rattle.lift_base.specs.declared.command.Reply.TheVariants.{Car, Stopped, Placed, Refused}
+use Rattle.lift_base.specs.declared.command.Reply.TheVariants.{Unknown}
 use Rattle.lift_base.specs.Command.{reason_number}
 
 -- the turn in bits 63 to 44
@@ -22,7 +25,8 @@ abbrev pub dir_bit : Dir → ℕ
 dir_bit Up = 0
 dir_bit Down = 1
 
--- the kind in bits 19 and 18, a call's party in bits 10 to 7, else the direction in bit 6, the floor in bits 5 to 0
+-- the kind in bits 19 and 18, a call's party in bits 10 to 7, else the direction in bit 6, the
+-- floor in bits 5 to 0
 abbrev pub body_bits : Body → ℕ
 body_bits (Call floor party) = 1 * 2 ^ 18 + party * 2 ^ 7 + floor
 body_bits (Stop floor dir) = 2 * 2 ^ 18 + dir_bit dir * 2 ^ 6 + floor

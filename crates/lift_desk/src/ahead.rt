@@ -1,5 +1,6 @@
 //! A seat that looks ahead of the clerk at one table: it takes asks and answers none.
-ghost use Rattle.std.specs.Prelude.{◌≡◌, ℕ, ◌<◌, ◌≤◌, ◌^◌, IfSome, IsSome, Some, length, true, false, []};
+ghost use Rattle.std.specs.Prelude.{◌≡◌, ℕ, ◌<◌, ◌≤◌, ◌^◌, IfSome, IsSome, Some, length, true};
+ghost use Rattle.std.specs.Prelude.{false, []};
 ghost use Rattle.lift_desk.specs.declared.words.Ask.{Ask};
 ghost use Rattle.lift_desk.specs.Words.{turn_of, last_of, ask_word};
 ghost use Rattle.lift_desk.specs.Steps.{with_taking};
@@ -65,17 +66,22 @@ impl AheadPlace {
     }
 
     pub(crate) fn take(&mut self, table: &DeskTable) -> Option<Ask>
-        requires table { (self.old.table ≡ table.now.shared.table_id) × (table.now.shared.table_id.words ≡ 2) }
+        requires table { (self.old.table ≡ table.now.shared.table_id)
+            × (table.now.shared.table_id.words ≡ 2) }
         requires seated { self.old.seated ≡ true }
-        ensures looked { (word : ℕ) × (self.new ≡ placed_at self.old.table (with_taking self.old.view word))
+        ensures looked { (word : ℕ)
+            × (self.new ≡ placed_at self.old.table (with_taking self.old.view word))
             × TakesAheadOf self.old.view word result }
         ensures in_range { IfSome result IsAsk }
-        ensures last { IfSome result (λ ask. last_of self.new.view.taken ≡ ask_word (turn_of (last_of self.new.view.taken)) ask.number ask.body) }
+        ensures last { IfSome result (λ ask.
+            last_of self.new.view.taken
+            ≡ ask_word (turn_of (last_of self.new.view.taken)) ask.number ask.body) }
         ensures turn { IsSome result → turn_of (last_of self.new.view.taken) < 2 ^ 20 }
         ensures last_word { self.new.view.last ≡ last_of self.new.view.taken }
         ensures known { length self.old.view.told ≤ turn_of (last_of self.new.view.taken) }
         ensures finds { (ask : Ask) → IsToldAhead self.old.view ask
-            → IsSome result × (turn_of (last_of self.new.view.taken) ≡ length self.old.view.told → result ≡ Some ask) }
+            → IsSome result × (turn_of (last_of self.new.view.taken) ≡ length self.old.view.told
+            → result ≡ Some ask) }
     {
         let badge = mem::replace(&mut self.badge, Badge::blank());
         let mut seat = badge.into_seat::<()>();
@@ -92,10 +98,15 @@ impl AheadPlace {
 
     // A note of the last ask that was taken.
     pub(crate) fn note(&mut self, table: &DeskTable) -> Note
-        requires table { (self.old.table ≡ table.now.shared.table_id) × (table.now.shared.table_id.words ≡ 2) }
+        requires table { (self.old.table ≡ table.now.shared.table_id)
+            × (table.now.shared.table_id.words ≡ 2) }
         requires seated { self.old.seated ≡ true }
         ensures same { self.new ≡ self.old }
-        ensures note { result ≡ record { seated = true; table = self.old.table; word = last_of self.old.view.taken } }
+        ensures note { result ≡ record {
+          seated = true;
+          table = self.old.table;
+          word = last_of self.old.view.taken;
+        } }
     {
         let badge = mem::replace(&mut self.badge, Badge::blank());
         let mut seat = badge.into_seat::<()>();

@@ -1,13 +1,19 @@
 //! The desk: a table for each terminal, with the terminal's seat and the clerk's.
-ghost use Rattle.std.specs.Prelude.{◌≡◌, ℕ, ◌<◌, ◌≤◌, ◌^◌, ◌↔◌, IsTrue, IsSome, suc, length, OnOk, OnErr, IfOk, IfSome, Some, Err, [], ◌∷◌, ◌++◌, slice_get, vec_len};
+ghost use Rattle.std.specs.Prelude.{◌≡◌, ℕ, ◌<◌, ◌≤◌, ◌^◌, ◌↔◌, IsTrue, IsSome, suc, length, OnOk};
+ghost use Rattle.std.specs.Prelude.{OnErr, IfOk, IfSome, Some, Err, [], ◌∷◌, ◌++◌, slice_get};
+ghost use Rattle.std.specs.Prelude.{vec_len};
 ghost use Rattle.lift_base.specs.declared.command.Reply.{Reply};
 ghost use Rattle.lift_desk.specs.declared.words.Ask.{Ask};
 ghost use Rattle.lift_desk.specs.Rule.{terminal_view, clerk_view, IsInOrder};
 ghost use mathlib.Core.List.{IsPrefix};
 ghost use Rattle.lift_desk.specs.Words.{turn_of, last_of, number_of, ask_word, reply_word, IsReply};
-ghost use Rattle.lift_desk.specs.Steps.{with_ask, with_answer, with_hearing, with_look, with_taking, with_told_answers, with_told_asks, lists_of};
+ghost use Rattle.lift_desk.specs.Steps.{with_ask, with_answer, with_hearing, with_look};
+ghost use Rattle.lift_desk.specs.Steps.{with_taking, with_told_answers, with_told_asks, lists_of};
 ghost use Rattle.lift_desk.specs.Spelled.{IsAsk};
-ghost use Rattle.lift_desk.specs.Seats.{IsSeatOf, IsClerkOf, seat_with, clerk_with, view_at, Waits, Owes, OwesNothing, HearsOf, TakesOf, IsToldAnswer, IsToldAsk, IsToldAhead, IsNoteOf, Says, seats_from, clerk_of, ahead_from, TakesAheadOf, AreSeatsOf};
+ghost use Rattle.lift_desk.specs.Seats.{IsSeatOf, IsClerkOf, seat_with, clerk_with, view_at, Waits};
+ghost use Rattle.lift_desk.specs.Seats.{Owes, OwesNothing, HearsOf, TakesOf, IsToldAnswer};
+ghost use Rattle.lift_desk.specs.Seats.{IsToldAsk, IsToldAhead, IsNoteOf, Says, seats_from};
+ghost use Rattle.lift_desk.specs.Seats.{clerk_of, ahead_from, TakesAheadOf, AreSeatsOf};
 
 use crate::ahead::AheadPlace;
 use crate::note::Note;
@@ -20,8 +26,8 @@ use lift_base::{Body, Memory, Number, Reply, Terminal};
 use std::alloc::{AllocError, Global};
 use std::marker::Model;
 
-/// The words that 1 to 63 terminals share with the clerk: for each its last ask, and the last answer to it.
-/// Terminals are numbered from 0. Contracts see which table each terminal has.
+/// The words that 1 to 63 terminals share with the clerk: for each its last ask, and the last
+/// answer to it. Terminals are numbered from 0. Contracts see which table each terminal has.
 #[derive(Drop)]
 pub struct Desk {
     tables: Vec<DeskTable>,
@@ -109,10 +115,12 @@ impl Model for TakeSeat {
 }
 
 impl Desk {
-    /// A desk of so many terminals, with all its seats. An error comes only where a growth was refused.
+    /// A desk of so many terminals, with all its seats. An error comes only where a growth was
+    /// refused.
     pub fn open(alloc: Global, terminals: usize) -> Result<DeskParts, Memory>
         requires { (1 ≤ terminals) × (terminals ≤ 63) }
-        ensures count { IfOk result (λ parts. (length parts.desk ≡ terminals) × (vec_len parts.seats ≡ terminals)) }
+        ensures count { IfOk result (λ parts. (length parts.desk ≡ terminals)
+            × (vec_len parts.seats ≡ terminals)) }
         ensures seats { IfOk result (λ parts. parts.seats.items ≡ seats_from 0 parts.desk) }
         ensures clerk { IfOk result (λ parts. parts.clerk ≡ clerk_of parts.desk) }
         ensures seats_at { IfOk result (λ parts. AreSeatsOf parts.desk parts.seats.items) }
@@ -144,8 +152,8 @@ impl Desk {
         self.tables.len()
     }
 
-    /// Stores an ask with the terminal's next turn. It is refused while the last ask has not been heard, and then where
-    /// turn 1,048,575 was used; a refusal stores nothing.
+    /// Stores an ask with the terminal's next turn. It is refused while the last ask has not been
+    /// heard, and then where turn 1,048,575 was used; a refusal stores nothing.
     pub fn ask(&self, seat: &mut Seat, number: Number, body: Body) -> Result<(), AskRefusal>
         requires { IsSeatOf self.now seat.old }
         ensures waiting { (result ≡ Err AskRefusal.Waiting) ↔ Waits seat.old.view }
@@ -153,7 +161,8 @@ impl Desk {
             ↔ (¬ (Waits seat.old.view) × (length seat.old.view.asked ≡ 1048575)) }
         ensures ok { OnOk result (seat.new ≡ seat_with seat.old
             (with_ask seat.old.view (ask_word (suc (length seat.old.view.asked)) number body))) }
-        ensures pending { OnOk result (Waits seat.new.view × (number_of (last_of seat.new.view.asked) ≡ number)) }
+        ensures pending { OnOk result (Waits seat.new.view
+            × (number_of (last_of seat.new.view.asked) ≡ number)) }
         ensures in_range { OnOk result (IsAsk (record { number = number; body = body })) }
         ensures err { OnErr result (seat.new ≡ seat.old) }
         ensures stays { IsSeatOf self.now seat.new }
@@ -162,13 +171,16 @@ impl Desk {
         seat.ask(table, number, body)
     }
 
-    /// Looks once for the answer to the last ask, and gives it once. It looks also where no answer is awaited.
+    /// Looks once for the answer to the last ask, and gives it once. It looks also where no answer
+    /// is awaited.
     pub fn hear(&self, seat: &mut Seat) -> Option<Reply>
         requires { IsSeatOf self.now seat.old }
-        ensures looked { (word : ℕ) × (seat.new ≡ seat_with seat.old (with_hearing seat.old.view word))
+        ensures looked { (word : ℕ)
+            × (seat.new ≡ seat_with seat.old (with_hearing seat.old.view word))
             × HearsOf seat.old.view word result }
         ensures rests { IsSome result → ¬ (Waits seat.new.view) }
-        // The word loaded is the last that was answered, 0 for none; so all that was answered is heard then.
+        // The word loaded is the last that was answered, 0 for none; so all that was answered is
+        // heard then.
         ensures last_word { seat.new.view.last ≡ last_of seat.new.view.heard }
         // All answers that the terminal was told of are heard then.
         ensures known { IsPrefix seat.old.view.told seat.new.view.heard }
@@ -185,17 +197,23 @@ impl Desk {
         requires clerk { IsClerkOf self.now clerk.old }
         requires terminal { terminal < length self.now }
         ensures looked { (word : ℕ)
-            × (clerk.new ≡ clerk_with clerk.old terminal (with_taking (view_at clerk.old terminal) word))
+            × (clerk.new ≡ clerk_with clerk.old terminal
+            (with_taking (view_at clerk.old terminal) word))
             × TakesOf (view_at clerk.old terminal) word result }
         ensures even { IsSome result
-            → length (view_at clerk.old terminal).answered ≡ length (view_at clerk.old terminal).taken }
+            → length (view_at clerk.old terminal).answered
+            ≡ length (view_at clerk.old terminal).taken }
         ensures owes { IfSome result (λ ask. Owes (view_at clerk.new terminal)
             × (number_of (last_of (view_at clerk.new terminal).taken) ≡ ask.number)) }
-        // The word loaded is the last that was asked, 0 for none; so all that was asked is taken then.
-        ensures last_word { (view_at clerk.new terminal).last ≡ last_of (view_at clerk.new terminal).taken }
+        // The word loaded is the last that was asked, 0 for none; so all that was asked is taken
+        // then.
+        ensures last_word { (view_at clerk.new terminal).last
+            ≡ last_of (view_at clerk.new terminal).taken }
         // All asks that the clerk was told of are taken then.
-        ensures known { IsPrefix (view_at clerk.old terminal).told (view_at clerk.new terminal).taken }
-        ensures finds { (ask : Ask) → IsToldAsk (view_at clerk.old terminal) ask → result ≡ Some ask }
+        ensures known { IsPrefix (view_at clerk.old terminal).told
+            (view_at clerk.new terminal).taken }
+        ensures finds { (ask : Ask) → IsToldAsk (view_at clerk.old terminal) ask
+            → result ≡ Some ask }
         // So the word has no other reading.
         ensures in_range { IfSome result IsAsk }
         ensures stays { IsClerkOf self.now clerk.new }
@@ -206,25 +224,31 @@ impl Desk {
         place.look(table, None)
     }
 
-    /// Looks once for an ask of the terminal that is new to the clerk, by a seat that reads a note first: an ask that a seat
-    /// ahead took is found, where it is new to the clerk too.
+    /// Looks once for an ask of the terminal that is new to the clerk, by a seat that reads a note
+    /// first: an ask that a seat ahead took is found, where it is new to the clerk too.
     pub fn look_for(&self, clerk: &mut ClerkSeat, terminal: Terminal, note: Note) -> Option<Ask>
         requires clerk { IsClerkOf self.now clerk.old }
         requires terminal { terminal < length self.now }
         requires note { IsNoteOf self.now terminal note }
         ensures looked { (word : ℕ)
-            × (clerk.new ≡ clerk_with clerk.old terminal (with_taking (view_at clerk.old terminal) word))
+            × (clerk.new ≡ clerk_with clerk.old terminal
+            (with_taking (view_at clerk.old terminal) word))
             × TakesOf (view_at clerk.old terminal) word result }
         ensures even { IsSome result
-            → length (view_at clerk.old terminal).answered ≡ length (view_at clerk.old terminal).taken }
+            → length (view_at clerk.old terminal).answered
+            ≡ length (view_at clerk.old terminal).taken }
         ensures owes { IfSome result (λ ask. Owes (view_at clerk.new terminal)
             × (number_of (last_of (view_at clerk.new terminal).taken) ≡ ask.number)) }
-        ensures last_word { (view_at clerk.new terminal).last ≡ last_of (view_at clerk.new terminal).taken }
-        ensures known { IsPrefix (view_at clerk.old terminal).told (view_at clerk.new terminal).taken }
-        ensures finds { (ask : Ask) → IsToldAsk (view_at clerk.old terminal) ask → result ≡ Some ask }
+        ensures last_word { (view_at clerk.new terminal).last
+            ≡ last_of (view_at clerk.new terminal).taken }
+        ensures known { IsPrefix (view_at clerk.old terminal).told
+            (view_at clerk.new terminal).taken }
+        ensures finds { (ask : Ask) → IsToldAsk (view_at clerk.old terminal) ask
+            → result ≡ Some ask }
         // The ask that was noted, and no other, where none as late was taken here.
         ensures noted { (ask : Ask) → Says (view_at clerk.old terminal) note.word ask
-            → (result ≡ Some ask) × ((view_at clerk.new terminal).taken ≡ (view_at clerk.old terminal).taken ++ note.word ∷ []) }
+            → (result ≡ Some ask) × ((view_at clerk.new terminal).taken
+            ≡ (view_at clerk.old terminal).taken ++ note.word ∷ []) }
         ensures in_range { IfSome result IsAsk }
         ensures stays { IsClerkOf self.now clerk.new }
     {
@@ -241,7 +265,8 @@ impl Desk {
         requires owes { Owes (view_at clerk.old terminal) }
         ensures answered { let view = view_at clerk.old terminal in
             clerk.new ≡ clerk_with clerk.old terminal
-            (with_answer view (reply_word (length view.taken) (number_of (last_of view.taken)) reply)) }
+            (with_answer view (reply_word (length view.taken)
+            (number_of (last_of view.taken)) reply)) }
         ensures rests { ¬ (Owes (view_at clerk.new terminal)) }
         ensures in_range { IsReply reply }
         ensures stays { IsClerkOf self.now clerk.new }
@@ -252,15 +277,20 @@ impl Desk {
         place.answer(table, reply)
     }
 
-    /// Tells the clerk what the terminal has asked so far, and the terminal what the clerk has answered so far: behind a
-    /// later look that ask is taken, and behind a later `hear` that answer is heard. It stores nothing, and gives nothing of what it loads.
+    /// Tells the clerk what the terminal has asked so far, and the terminal what the clerk has
+    /// answered so far: behind a later look that ask is taken, and behind a later `hear` that
+    /// answer is heard. It stores nothing, and gives nothing of what it loads.
     pub fn tell(&self, seat: &mut Seat, clerk: &mut ClerkSeat)
         requires seat { IsSeatOf self.now seat.old }
         requires clerk { IsClerkOf self.now clerk.old }
-        ensures seat { seat.new ≡ seat_with seat.old (with_told_answers seat.old.view (view_at clerk.old seat.old.terminal).answered) }
-        ensures clerk { clerk.new ≡ clerk_with clerk.old seat.old.terminal (with_told_asks (view_at clerk.old seat.old.terminal) seat.old.view.asked) }
+        ensures seat { seat.new ≡ seat_with seat.old
+            (with_told_answers seat.old.view (view_at clerk.old seat.old.terminal).answered) }
+        ensures clerk { clerk.new
+            ≡ clerk_with clerk.old seat.old.terminal
+            (with_told_asks (view_at clerk.old seat.old.terminal) seat.old.view.asked) }
         // What the two have stored fits together.
-        ensures in_order { IsInOrder (lists_of seat.old.view (view_at clerk.old seat.old.terminal)) }
+        ensures in_order { IsInOrder
+            (lists_of seat.old.view (view_at clerk.old seat.old.terminal)) }
         ensures seat_stays { IsSeatOf self.now seat.new }
         ensures stays { IsClerkOf self.now clerk.new }
     {
@@ -270,8 +300,8 @@ impl Desk {
         place.tell(table, seat)
     }
 
-    /// Looks once at the terminal's answer word, and says whether it is the last word that the clerk stored there, 0 for
-    /// none. It always is, since nobody else stores there.
+    /// Looks once at the terminal's answer word, and says whether it is the last word that the
+    /// clerk stored there, 0 for none. It always is, since nobody else stores there.
     pub fn meet(&self, seat: &mut Seat, clerk: &mut ClerkSeat) -> bool
         requires seat { IsSeatOf self.now seat.old }
         requires clerk { IsClerkOf self.now clerk.old }
@@ -280,7 +310,8 @@ impl Desk {
         ensures meets { IsTrue result }
         ensures stays { IsSeatOf self.now seat.new }
         ensures clerk { clerk.new ≡ clerk.old }
-        ensures heard { IsPrefix seat.old.view.heard (view_at clerk.old seat.old.terminal).answered }
+        ensures heard { IsPrefix seat.old.view.heard
+            (view_at clerk.old seat.old.terminal).answered }
     {
         let at = usize::from(seat.terminal.get());
         let table = &self.tables[at];
@@ -288,7 +319,8 @@ impl Desk {
         place.meet(table, seat)
     }
 
-    /// Cuts off seats that take asks ahead of the answers. They begin with what the clerk took and was told of, and the clerk keeps the right to answer.
+    /// Cuts off seats that take asks ahead of the answers. They begin with what the clerk took and
+    /// was told of, and the clerk keeps the right to answer.
     pub fn split(&self, clerk: ClerkSeat) -> (TakeSeat, ClerkSeat)
         requires { IsClerkOf self.now clerk }
         ensures ahead { result.0 ≡ ahead_from clerk }
@@ -310,19 +342,24 @@ impl Desk {
         requires ahead { IsClerkOf self.now ahead.old }
         requires terminal { terminal < length self.now }
         ensures looked { (word : ℕ)
-            × (ahead.new ≡ clerk_with ahead.old terminal (with_taking (view_at ahead.old terminal) word))
+            × (ahead.new ≡ clerk_with ahead.old terminal
+            (with_taking (view_at ahead.old terminal) word))
             × TakesAheadOf (view_at ahead.old terminal) word result }
         // The word loaded is the last that was asked, 0 for none, and it is taken, now or earlier.
-        ensures last_word { (view_at ahead.new terminal).last ≡ last_of (view_at ahead.new terminal).taken }
+        ensures last_word { (view_at ahead.new terminal).last
+            ≡ last_of (view_at ahead.new terminal).taken }
         // The last ask that the seats were told of, or a later one, is taken then.
-        ensures known { length (view_at ahead.old terminal).told ≤ turn_of (last_of (view_at ahead.new terminal).taken) }
+        ensures known { length (view_at ahead.old terminal).told
+            ≤ turn_of (last_of (view_at ahead.new terminal).taken) }
         ensures finds { (ask : Ask) → IsToldAhead (view_at ahead.old terminal) ask
-            → IsSome result × (turn_of (last_of (view_at ahead.new terminal).taken) ≡ length (view_at ahead.old terminal).told → result ≡ Some ask) }
+            → IsSome result × (turn_of (last_of (view_at ahead.new terminal).taken)
+            ≡ length (view_at ahead.old terminal).told → result ≡ Some ask) }
         ensures in_range { IfSome result IsAsk }
         // The last ask that the seats took is the one that the call gives.
         ensures last { IfSome result (λ ask. last_of (view_at ahead.new terminal).taken
             ≡ ask_word (turn_of (last_of (view_at ahead.new terminal).taken)) ask.number ask.body) }
-        ensures turn { IsSome result → turn_of (last_of (view_at ahead.new terminal).taken) < 2 ^ 20 }
+        ensures turn { IsSome result
+            → turn_of (last_of (view_at ahead.new terminal).taken) < 2 ^ 20 }
         ensures stays { IsClerkOf self.now ahead.new }
     {
         let at = usize::from(terminal.get());

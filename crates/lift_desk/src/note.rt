@@ -6,8 +6,8 @@ use crate::view::View;
 use atomic_table::Badge;
 use std::marker::Model;
 
-/// Says of one ask that a seat ahead took it, or stands in for such a note. It has no rights at the desk and no bytes, and may
-/// go to another thread. Contracts see its table and the ask's word.
+/// Says of one ask that a seat ahead took it, or stands in for such a note. It has no rights at the
+/// desk and no bytes, and may go to another thread. Contracts see its table and the ask's word.
 #[derive(Drop)]
 pub struct Note {
     badge: Badge<View>,
@@ -49,7 +49,8 @@ impl Note {
 
     pub(crate) fn into_seat(self) -> Chair
         requires { self.seated ≡ true }
-        ensures { (result.table_id ≡ self.table) × (result.me.0.noted ≡ self.word) × (result.me.1 ≡ []) }
+        ensures { (result.table_id ≡ self.table) × (result.me.0.noted ≡ self.word)
+            × (result.me.1 ≡ []) }
     {
         let Note { badge } = self;
         badge.into_seat::<()>()

@@ -1,12 +1,15 @@
 //! The clerk's seat at one table.
-ghost use Rattle.std.specs.Prelude.{◌≡◌, ℕ, ◌<◌, ◌^◌, ◌↔◌, IsTrue, IsSome, IfSome, Some, suc, length, true, false, [], ◌∷◌, ◌++◌};
+ghost use Rattle.std.specs.Prelude.{◌≡◌, ℕ, ◌<◌, ◌^◌, ◌↔◌, IsTrue, IsSome, IfSome, Some, suc};
+ghost use Rattle.std.specs.Prelude.{length, true, false, [], ◌∷◌, ◌++◌};
 ghost use mathlib.Core.List.{IsPrefix};
 ghost use Rattle.lift_desk.specs.Words.{turn_of, last_of, number_of, reply_word};
 ghost use Rattle.lift_desk.specs.declared.words.Ask.{Ask};
 ghost use Rattle.lift_desk.specs.Rule.{clerk_view, no_answers, with_note, IsInOrder};
-ghost use Rattle.lift_desk.specs.Steps.{with_answer, with_look, with_taking, with_told_answers, with_told_asks, lists_of};
+ghost use Rattle.lift_desk.specs.Steps.{with_answer, with_look, with_taking, with_told_answers};
+ghost use Rattle.lift_desk.specs.Steps.{with_told_asks, lists_of};
 ghost use Rattle.lift_desk.specs.Spelled.{IsAsk};
-ghost use Rattle.lift_desk.specs.Seats.{ClerkPlace, placed_at, taken_only, Owes, TakesOf, IsToldAsk, Says, seat_with};
+ghost use Rattle.lift_desk.specs.Seats.{ClerkPlace, placed_at, taken_only, Owes, TakesOf};
+ghost use Rattle.lift_desk.specs.Seats.{IsToldAsk, Says, seat_with};
 
 use crate::ahead::AheadPlace;
 use crate::loads::{ASK, Loads};
@@ -61,10 +64,12 @@ impl Default for Place {
 
 // The seat reads a note, if there is one.
 fn read_note(table: &DeskTable, seat: &mut Chair, note: Option<Note>)
-    requires table { (seat.old.table_id ≡ table.now.shared.table_id) × (table.now.shared.table_id.words ≡ 2) }
+    requires table { (seat.old.table_id ≡ table.now.shared.table_id)
+        × (table.now.shared.table_id.words ≡ 2) }
     requires note { IfSome note (λ n. (n.seated ≡ true) × (n.table ≡ seat.old.table_id)) }
     ensures same { (seat.new.table_id ≡ seat.old.table_id) × (seat.new.id ≡ seat.old.id) }
-    ensures noted { (word : ℕ) × (seat.new.me ≡ (with_note seat.old.me.0 word, seat.old.me.1)) × IfSome note (λ n. word ≡ n.word) }
+    ensures noted { (word : ℕ) × (seat.new.me ≡ (with_note seat.old.me.0 word, seat.old.me.1))
+        × IfSome note (λ n. word ≡ n.word) }
 {
     match note {
         Some(note) => table.shared.join_seat::<Notes>(seat, note.into_seat()),
@@ -89,13 +94,16 @@ impl Place {
 
     // Reads the note of an ask that was taken ahead, if there is one, and then looks once.
     pub(crate) fn look(&mut self, table: &DeskTable, note: Option<Note>) -> Option<Ask>
-        requires table { (self.old.table ≡ table.now.shared.table_id) × (table.now.shared.table_id.words ≡ 2) }
+        requires table { (self.old.table ≡ table.now.shared.table_id)
+            × (table.now.shared.table_id.words ≡ 2) }
         requires seated { self.old.seated ≡ true }
         requires note { IfSome note (λ n. (n.seated ≡ true) × (n.table ≡ self.old.table)) }
-        ensures looked { (word : ℕ) × (self.new ≡ placed_at self.old.table (with_taking self.old.view word))
+        ensures looked { (word : ℕ)
+            × (self.new ≡ placed_at self.old.table (with_taking self.old.view word))
             × TakesOf self.old.view word result }
         ensures even { IsSome result → length self.old.view.answered ≡ length self.old.view.taken }
-        ensures owes { IfSome result (λ ask. Owes self.new.view × (number_of (last_of self.new.view.taken) ≡ ask.number)) }
+        ensures owes { IfSome result (λ ask.
+            Owes self.new.view × (number_of (last_of self.new.view.taken) ≡ ask.number)) }
         ensures in_range { IfSome result IsAsk }
         ensures last_word { self.new.view.last ≡ last_of self.new.view.taken }
         ensures known { IsPrefix self.old.view.told self.new.view.taken }
@@ -120,11 +128,13 @@ impl Place {
     }
 
     pub(crate) fn answer(&mut self, table: &DeskTable, reply: Reply)
-        requires table { (self.old.table ≡ table.now.shared.table_id) × (table.now.shared.table_id.words ≡ 2) }
+        requires table { (self.old.table ≡ table.now.shared.table_id)
+            × (table.now.shared.table_id.words ≡ 2) }
         requires seated { self.old.seated ≡ true }
         requires owes { Owes self.old.view }
         ensures answered { let view = self.old.view in self.new ≡ placed_at self.old.table
-            (with_answer view (reply_word (length view.taken) (number_of (last_of view.taken)) reply)) }
+            (with_answer view (reply_word (length view.taken)
+            (number_of (last_of view.taken)) reply)) }
         ensures rests { ¬ (Owes self.new.view) }
     {
         let word = reply_word(self.turn, self.number, reply);
@@ -138,10 +148,13 @@ impl Place {
 
     // Tells this seat what the terminal asked, and the terminal what was answered.
     pub(crate) fn tell(&mut self, table: &DeskTable, seat: &mut Seat)
-        requires table { (self.old.table ≡ table.now.shared.table_id) × (table.now.shared.table_id.words ≡ 2) }
+        requires table { (self.old.table ≡ table.now.shared.table_id)
+            × (table.now.shared.table_id.words ≡ 2) }
         requires seated { (self.old.seated ≡ true) × (seat.old.table ≡ self.old.table) }
-        ensures place { self.new ≡ placed_at self.old.table (with_told_asks self.old.view seat.old.view.asked) }
-        ensures seat { seat.new ≡ seat_with seat.old (with_told_answers seat.old.view self.old.view.answered) }
+        ensures place { self.new
+            ≡ placed_at self.old.table (with_told_asks self.old.view seat.old.view.asked) }
+        ensures seat { seat.new ≡ seat_with seat.old
+            (with_told_answers seat.old.view self.old.view.answered) }
         ensures in_order { IsInOrder (lists_of seat.old.view self.old.view) }
     {
         let badge = mem::replace(&mut self.badge, Badge::blank());
@@ -156,11 +169,14 @@ impl Place {
         self.owes
     }
 
-    // Whether the terminal's answer word, which it looks at once, is the last word that was answered.
+    // Whether the terminal's answer word, which it looks at once, is the last word that was
+    // answered.
     pub(crate) fn meet(&mut self, table: &DeskTable, seat: &mut Seat) -> bool
-        requires table { (self.old.table ≡ table.now.shared.table_id) × (table.now.shared.table_id.words ≡ 2) }
+        requires table { (self.old.table ≡ table.now.shared.table_id)
+            × (table.now.shared.table_id.words ≡ 2) }
         requires seated { (self.old.seated ≡ true) × (seat.old.table ≡ self.old.table) }
-        ensures looked { seat.new ≡ seat_with seat.old (with_look seat.old.view (last_of self.old.view.answered)) }
+        ensures looked { seat.new
+            ≡ seat_with seat.old (with_look seat.old.view (last_of self.old.view.answered)) }
         ensures meets { IsTrue result }
         ensures same { self.new ≡ self.old }
         ensures heard { IsPrefix seat.old.view.heard self.old.view.answered }
@@ -173,7 +189,8 @@ impl Place {
 
     // A seat ahead of this one, which begins with what this one took.
     pub(crate) fn split(&mut self, table: &DeskTable) -> AheadPlace
-        requires table { (self.old.table ≡ table.now.shared.table_id) × (table.now.shared.table_id.words ≡ 2) }
+        requires table { (self.old.table ≡ table.now.shared.table_id)
+            × (table.now.shared.table_id.words ≡ 2) }
         requires seated { self.old.seated ≡ true }
         ensures same { self.new ≡ self.old }
         ensures ahead { result ≡ placed_at self.old.table (taken_only self.old.view) }
@@ -187,8 +204,10 @@ impl Place {
 
     // Takes back the seat ahead of this one.
     pub(crate) fn join(&mut self, table: &DeskTable, ahead: AheadPlace)
-        requires table { (self.old.table ≡ table.now.shared.table_id) × (table.now.shared.table_id.words ≡ 2) }
-        requires seated { (self.old.seated ≡ true) × (ahead.seated ≡ true) × (ahead.table ≡ self.old.table) }
+        requires table { (self.old.table ≡ table.now.shared.table_id)
+            × (table.now.shared.table_id.words ≡ 2) }
+        requires seated { (self.old.seated ≡ true) × (ahead.seated ≡ true)
+            × (ahead.table ≡ self.old.table) }
         ensures { self.new ≡ self.old }
     {
         let badge = mem::replace(&mut self.badge, Badge::blank());

@@ -1,10 +1,12 @@
 //! A terminal's seat at its table.
-ghost use Rattle.std.specs.Prelude.{◌≡◌, ℕ, ◌<◌, ◌^◌, ◌↔◌, suc, length, [], true, false, OnOk, OnErr, IfSome, IsSome, Some, Err};
+ghost use Rattle.std.specs.Prelude.{◌≡◌, ℕ, ◌<◌, ◌^◌, ◌↔◌, suc, length, [], true, false, OnOk};
+ghost use Rattle.std.specs.Prelude.{OnErr, IfSome, IsSome, Some, Err};
 ghost use Rattle.atomic_table.specs.Seated.{TableId};
 ghost use Rattle.lift_base.specs.declared.command.Reply.{Reply};
 ghost use Rattle.lift_desk.specs.Words.{turn_of, last_of, number_of, ask_word, IsReply};
 ghost use Rattle.lift_desk.specs.Spelled.{IsAsk};
-ghost use Rattle.lift_desk.specs.Steps.{with_ask, with_hearing, with_look, with_told_answers, with_told_asks, lists_of};
+ghost use Rattle.lift_desk.specs.Steps.{with_ask, with_hearing, with_look, with_told_answers};
+ghost use Rattle.lift_desk.specs.Steps.{with_told_asks, lists_of};
 ghost use mathlib.Core.List.{IsPrefix};
 ghost use Rattle.lift_desk.specs.Seats.{TerminalSeat, seat_with, Waits, HearsOf, IsToldAnswer};
 ghost use Rattle.lift_desk.specs.Rule.{terminal_view, no_asks, IsInOrder};
@@ -34,7 +36,8 @@ pub enum AskRefusal {
     Spent,
 }
 
-/// A terminal's seat at the desk. Contracts see its table, its terminal, and what it asked, heard and read.
+/// A terminal's seat at the desk. Contracts see its table, its terminal, and what it asked, heard
+/// and read.
 #[derive(Drop)]
 pub struct Seat {
     pub(crate) terminal: Terminal,
@@ -82,7 +85,8 @@ impl Seat {
     /// The number of the ask whose answer was not heard yet; none where each was heard.
     pub fn pending(&self) -> Option<Number>
         ensures some { IsSome result ↔ Waits self.now.view }
-        ensures number { IfSome result (λ number. number ≡ number_of (last_of self.now.view.asked)) }
+        ensures number { IfSome result (λ number.
+            number ≡ number_of (last_of self.now.view.asked)) }
     {
         if self.waits { Some(self.number) } else { None }
     }
@@ -93,13 +97,15 @@ impl Seat {
         number: Number,
         body: Body,
     ) -> Result<(), AskRefusal>
-        requires { (self.old.table ≡ table.now.shared.table_id) × (table.now.shared.table_id.words ≡ 2) }
+        requires { (self.old.table ≡ table.now.shared.table_id)
+            × (table.now.shared.table_id.words ≡ 2) }
         ensures waiting { (result ≡ Err AskRefusal.Waiting) ↔ Waits self.old.view }
         ensures spent { (result ≡ Err AskRefusal.Spent)
             ↔ (¬ (Waits self.old.view) × (length self.old.view.asked ≡ LAST_TURN)) }
         ensures ok { OnOk result (self.new ≡ seat_with self.old
             (with_ask self.old.view (ask_word (suc (length self.old.view.asked)) number body))) }
-        ensures pending { OnOk result (Waits self.new.view × (number_of (last_of self.new.view.asked) ≡ number)) }
+        ensures pending { OnOk result (Waits self.new.view
+            × (number_of (last_of self.new.view.asked) ≡ number)) }
         ensures in_range { OnOk result (IsAsk (record { number = number; body = body })) }
         ensures err { OnErr result (self.new ≡ self.old) }
     {
@@ -119,8 +125,10 @@ impl Seat {
     }
 
     pub(crate) fn hear(&mut self, table: &DeskTable) -> Option<Reply>
-        requires { (self.old.table ≡ table.now.shared.table_id) × (table.now.shared.table_id.words ≡ 2) }
-        ensures looked { (word : ℕ) × (self.new ≡ seat_with self.old (with_hearing self.old.view word))
+        requires { (self.old.table ≡ table.now.shared.table_id)
+            × (table.now.shared.table_id.words ≡ 2) }
+        ensures looked { (word : ℕ)
+            × (self.new ≡ seat_with self.old (with_hearing self.old.view word))
             × HearsOf self.old.view word result }
         ensures rests { IsSome result → ¬ (Waits self.new.view) }
         ensures in_range { IfSome result IsReply }
@@ -136,11 +144,15 @@ impl Seat {
         read_reply(word)
     }
 
-    // Takes the clerk's rights, compares all words with them, and gives them back. Each of the two is told what the other has stored.
+    // Takes the clerk's rights, compares all words with them, and gives them back. Each of the two
+    // is told what the other has stored.
     pub(crate) fn share(&mut self, table: &DeskTable, clerk: Chair) -> Chair
-        requires table { (self.old.table ≡ table.now.shared.table_id) × (table.now.shared.table_id.words ≡ 2) }
-        requires clerk { (clerk.table_id ≡ self.old.table) × (clerk.me.1 ≡ []) × (clerk.me.0.answers ≡ true) }
-        ensures told { self.new ≡ seat_with self.old (with_told_answers self.old.view clerk.me.0.clerk.answered) }
+        requires table { (self.old.table ≡ table.now.shared.table_id)
+            × (table.now.shared.table_id.words ≡ 2) }
+        requires clerk { (clerk.table_id ≡ self.old.table) × (clerk.me.1 ≡ [])
+            × (clerk.me.0.answers ≡ true) }
+        ensures told { self.new ≡ seat_with self.old
+            (with_told_answers self.old.view clerk.me.0.clerk.answered) }
         ensures clerk { (result.table_id ≡ self.old.table) × (result.me.1 ≡ []) }
         ensures rights { (result.me.0.answers ≡ true) × (result.me.0.looks_ahead ≡ false) }
         ensures view { result.me.0.clerk ≡ with_told_asks clerk.me.0.clerk self.old.view.asked }
@@ -151,10 +163,13 @@ impl Seat {
         table.shared.split_seat::<Seats>(&mut self.chair)
     }
 
-    // One look, by a seat that has the clerk's rights for it and gives them back. Nobody is told anything.
+    // One look, by a seat that has the clerk's rights for it and gives them back. Nobody is told
+    // anything.
     pub(crate) fn meet(&mut self, table: &DeskTable, clerk: Chair) -> (u64, Chair)
-        requires table { (self.old.table ≡ table.now.shared.table_id) × (table.now.shared.table_id.words ≡ 2) }
-        requires clerk { (clerk.table_id ≡ self.old.table) × (clerk.me.1 ≡ []) × (clerk.me.0.answers ≡ true) }
+        requires table { (self.old.table ≡ table.now.shared.table_id)
+            × (table.now.shared.table_id.words ≡ 2) }
+        requires clerk { (clerk.table_id ≡ self.old.table) × (clerk.me.1 ≡ [])
+            × (clerk.me.0.answers ≡ true) }
         ensures looked { self.new ≡ seat_with self.old (with_look self.old.view result.0) }
         ensures last { result.0 ≡ last_of clerk.me.0.clerk.answered }
         ensures heard { IsPrefix self.old.view.heard clerk.me.0.clerk.answered }

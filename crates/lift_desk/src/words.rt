@@ -1,10 +1,13 @@
-//! A word of the desk: 20 bits of turn, 24 bits of number, and 20 bits that spell an ask or an answer.
+//! A word of the desk: 20 bits of turn, 24 bits of number, and 20 bits that spell an ask or an
+//! answer.
 ghost use Rattle.std.specs.Prelude.{◌≡◌, ℕ, ◌<◌, ◌≤◌, ◌^◌, ◌↔◌, IsSome, IfSome, Some};
 ghost use Rattle.lift_base.specs.declared.command.Body.{Body};
 ghost use Rattle.lift_base.specs.declared.command.Reply.{Reply};
 ghost use Rattle.lift_base.specs.declared.travel.Dir.{Dir};
 ghost use Rattle.lift_desk.specs.declared.words.Ask.{Ask};
-ghost use Rattle.lift_desk.specs.Words.{turn_of, number_of, dir_bit, body_bits, ask_word, stop_bits, reply_bits, reply_word, IsBody, IsNext, IsReply, IsAskWord, IsReplyWord};
+ghost use Rattle.lift_desk.specs.Words.{turn_of, number_of, dir_bit, body_bits, ask_word};
+ghost use Rattle.lift_desk.specs.Words.{stop_bits, reply_bits, reply_word, IsBody, IsNext, IsReply};
+ghost use Rattle.lift_desk.specs.Words.{IsAskWord, IsReplyWord};
 ghost use Rattle.lift_desk.specs.Spelled.{IsAsk};
 
 use lift_base::{Body, Dir, Floor, Letter, Number, Party, Reason, Reply, Stop};
@@ -81,7 +84,8 @@ fn read_body(bits: u64) -> Option<Body>
     }
 }
 
-/// The word of an ask: the turn, 1 to 1,048,575, in bits 63 to 44, the number in bits 43 to 20, and the body below.
+/// The word of an ask: the turn, 1 to 1,048,575, in bits 63 to 44, the number in bits 43 to 20, and
+/// the body below.
 pub fn ask_word(turn: u32, number: Number, body: Body) -> u64
     requires { (1 ≤ turn) × (turn < 2 ^ 20) }
     ensures word { result ≡ ask_word turn number body }
@@ -99,7 +103,8 @@ pub fn read_ask(word: u64) -> Option<Ask>
     ensures value { IfSome result (λ ask. word ≡ ask_word (turn_of word) ask.number ask.body) }
     ensures number { IfSome result (λ ask. number_of word ≡ ask.number) }
     ensures in_range { IfSome result IsAsk }
-    ensures known { (turn : ℕ) (ask : Ask) → 1 ≤ turn → IsAsk ask → word ≡ ask_word turn ask.number ask.body → result ≡ Some ask }
+    ensures known { (turn : ℕ) (ask : Ask) → 1 ≤ turn → IsAsk ask
+        → word ≡ ask_word turn ask.number ask.body → result ≡ Some ask }
 {
     if turn_of(word) == 0 {
         return None;
@@ -152,7 +157,8 @@ fn reply_bits(reply: &Reply) -> u64
 }
 
 fn read_bits_of_reply(bits: u64) -> Option<Reply>
-    ensures known { (reply : Reply) → IsReply reply → bits ≡ reply_bits reply → result ≡ Some reply }
+    ensures known { (reply : Reply) → IsReply reply → bits ≡ reply_bits reply
+        → result ≡ Some reply }
     ensures spelled { IfSome result (λ reply. (bits ≡ reply_bits reply) × IsReply reply) }
 {
     let argument = bits % CODE;
@@ -186,7 +192,8 @@ pub fn reply_word(turn: u32, number: Number, reply: Reply) -> u64
 /// The answer that a word spells; none for a word that spells no answer.
 pub fn read_reply(word: u64) -> Option<Reply>
     ensures valid { IsSome result ↔ IsReplyWord word }
-    ensures value { IfSome result (λ reply. word ≡ reply_word (turn_of word) (number_of word) reply) }
+    ensures value { IfSome result (λ reply.
+        word ≡ reply_word (turn_of word) (number_of word) reply) }
     ensures in_range { IfSome result IsReply }
     ensures known { (turn number : ℕ) (reply : Reply) → 1 ≤ turn → number < 2 ^ 24 → IsReply reply
         → word ≡ reply_word turn number reply → result ≡ Some reply }

@@ -18,7 +18,8 @@ pub fn ask_and_take(
     requires clerk { IsClerkOf desk.now clerk.old }
     requires terminal { seat.old.terminal < length desk.now }
     requires even { IsEven seat.old.view (view_at clerk.old seat.old.terminal) }
-    ensures exact { length seat.old.view.asked < 1048575 → result ≡ Some (record { number = number; body = body }) }
+    ensures exact { length seat.old.view.asked < 1048575
+        → result ≡ Some (record { number = number; body = body }) }
     ensures owed { IsSome result → IsOwed seat.new.view (view_at clerk.new seat.new.terminal) }
     ensures same { seat.new.terminal ≡ seat.old.terminal }
     ensures stays { IsSeatOf desk.now seat.new × IsClerkOf desk.now clerk.new }

@@ -5,8 +5,9 @@ ghost use Rattle.lift_desk.specs.Seats.{IsClerkOf, view_at};
 use lift_base::{Reply, Terminal};
 use lift_desk::{ClerkSeat, Desk};
 
-/// Looks once at each terminal, in rising order, and answers each ask that is new: the first 16 terminals by the car of
-/// their own number, the others by Unknown. The number of the asks answered.
+/// Looks once at each terminal, in rising order, and answers each ask that is new: the first 16
+/// terminals by the car of their own number, the others by Unknown. The number of the asks
+/// answered.
 pub fn scan(desk: &Desk, clerk: &mut ClerkSeat) -> u8
     requires { IsClerkOf desk.now clerk.old }
     ensures stays { IsClerkOf desk.now clerk.new }

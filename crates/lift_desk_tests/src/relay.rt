@@ -5,7 +5,8 @@ ghost use Rattle.lift_desk.specs.Seats.{IsClerkOf, view_at};
 use lift_base::{Reply, Terminal};
 use lift_desk::{ClerkSeat, Desk};
 
-/// Takes an ask of the terminal ahead, looks at it again, and answers it. The number of the asks answered, 0 or 1.
+/// Takes an ask of the terminal ahead, looks at it again, and answers it. The number of the asks
+/// answered, 0 or 1.
 pub fn relay_once(
     desk: &Desk,
     clerk: ClerkSeat,
@@ -16,7 +17,8 @@ pub fn relay_once(
     requires terminal { terminal < length desk.now }
     ensures stays { IsClerkOf desk.now result.0 }
     ensures looks { (view_at result.0 terminal).looks ≡ suc (view_at clerk terminal).looks }
-    ensures answers { length (view_at result.0 terminal).answered ≡ length (view_at clerk terminal).answered + result.1 }
+    ensures answers { length (view_at result.0 terminal).answered
+        ≡ length (view_at clerk terminal).answered + result.1 }
 {
     let (mut ahead, mut clerk) = desk.split(clerk);
     let first = desk.take(&mut ahead, terminal).is_some();

@@ -110,7 +110,8 @@ fn other_words_spell_nothing(rt: HostRuntime) -> Result<(), Fail> {
     ] {
         assert!(rt; read_ask(word).is_none(), "{word}");
     }
-    // a stop without its bit, a car past P, a code past 5, an argument of Unknown, reasons 0, 9 and 12, no turn
+    // a stop without its bit, a car past P, a code past 5, an argument of Unknown, reasons 0, 9 and
+    // 12, no turn
     for word in [
         0x0000_2000_0010_2001,
         0x0000_1000_0010_1010,
@@ -128,7 +129,8 @@ fn other_words_spell_nothing(rt: HostRuntime) -> Result<(), Fail> {
 
 fn open(alloc: Global, terminals: usize) -> Result<DeskParts, AllocError>
     requires { (1 ≤ terminals) × (terminals ≤ 63) }
-    ensures count { IfOk result (λ parts. (length parts.desk ≡ terminals) × (vec_len parts.seats ≡ terminals)) }
+    ensures count { IfOk result (λ parts. (length parts.desk ≡ terminals)
+        × (vec_len parts.seats ≡ terminals)) }
     ensures seats { IfOk result (λ parts. AreSeatsOf parts.desk parts.seats.items) }
     ensures clerk { IfOk result (λ parts. IsClerkOf parts.desk parts.clerk) }
 {
@@ -354,7 +356,8 @@ fn all_three<R: Threads + Sync>(
     second: Seat,
 ) -> (ClerkSeat, (Visit, Visit))
     requires { IsClerkOf desk.now clerk × IsSeatOf desk.now first × IsSeatOf desk.now second }
-    ensures { IsClerkOf desk.now result.0 × IsSeatOf desk.now result.1.0.0 × IsSeatOf desk.now result.1.1.0 }
+    ensures { IsClerkOf desk.now result.0 × IsSeatOf desk.now result.1.0.0
+        × IsSeatOf desk.now result.1.1.0 }
 {
     thread::join(
         rt,

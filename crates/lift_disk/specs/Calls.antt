@@ -25,7 +25,9 @@ there_and_back (Write sector bytes) = refl
 there_and_back (Sync loose) = refl
 
 abbrev pub calls_code : Coded (List Call)
-calls_code = coded_list (code_by ((ℕ × List ℕ) ⊎ List Bool) (coded⊎ (coded× coded_ℕ (coded_list coded_ℕ)) (coded_list coded_bool)) to_parts of_parts there_and_back)
+calls_code = coded_list (code_by ((ℕ × List ℕ)
+    ⊎ List Bool) (coded⊎ (coded× coded_ℕ (coded_list coded_ℕ)) (coded_list coded_bool)) to_parts
+    of_parts there_and_back)
 
 abbrev pub image_code : Coded Image
 image_code = coded_list (coded_list coded_ℕ)

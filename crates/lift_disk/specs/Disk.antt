@@ -1,6 +1,7 @@
 -- What a device holds, what its calls do to it, and what a crash may leave of it.
 use Rattle.lift_disk.specs.Trace.{Access}
-use Rattle.std.specs.Prelude.{◌≡◌, ◌⊎◌, ◌↔◌, ◌<◌, ◌≤◌, ◌+◌, ℕ, Bool, true, List, length, replicate, slice_get, slice_set, Some, Result, OnOk, OnErr}
+use Rattle.std.specs.Prelude.{◌≡◌, ◌⊎◌, ◌↔◌, ◌<◌, ◌≤◌, ◌+◌, ℕ, Bool, true, List, length, replicate}
+use Rattle.std.specs.Prelude.{slice_get, slice_set, Some, Result, OnOk, OnErr}
 
 -- the sectors, each the list of its bytes
 abbrev pub Image : Type 0
@@ -20,7 +21,8 @@ pub record DiskState : Type 1 where
   pub trace : List Access
   -- it does what the definitions below say
   pub is_honest : Type 0
-  -- It fails only where it was told to, or where it wants memory, and a failed call changes no byte of the image as read.
+  -- It fails only where it was told to, or where it wants memory, and a failed call changes no byte
+  -- of the image as read.
   pub is_inert : Type 0
   -- the image as read
   pub image : Image
@@ -30,7 +32,8 @@ pub record DiskState : Type 1 where
   pub is_loose : ℕ → Type 0
   -- no call has failed since the last successful sync
   pub is_steady : Type 0
-  -- The sector was written with these bytes, and no call has failed since: they are read once a sync succeeds, if none fails before it.
+  -- The sector was written with these bytes, and no call has failed since: they are read once a
+  -- sync succeeds, if none fails before it.
   pub settles : ℕ → List ℕ → Type 0
   -- a growth inside the device was refused, now or earlier
   pub is_short : Bool
@@ -56,11 +59,13 @@ IsWhole disk = disk.is_honest → length disk.image ≡ disk.size
 
 -- This moment is one of those since an earlier one.
 abbrev pub CountsNow : DiskState → Type 0
-CountsNow disk = disk.is_honest → (t : ℕ) (left : Image) → t ≤ disk.moment → MayLeave disk left → disk.left_since t left
+CountsNow disk = disk.is_honest → (t : ℕ) (left : Image) → t ≤ disk.moment → MayLeave disk left
+    → disk.left_since t left
 
 -- Since this moment there is no other.
 abbrev pub LeavesNoOther : DiskState → Type 0
-LeavesNoOther disk = disk.is_honest → (left : Image) → disk.left_since disk.moment left → MayLeave disk left
+LeavesNoOther disk = disk.is_honest → (left : Image) → disk.left_since disk.moment left
+    → MayLeave disk left
 
 -- A crash now may take back what the loose sectors hold: the others are as the last sync left them.
 abbrev pub MayLose : DiskState → Type 0
@@ -69,14 +74,18 @@ MayLose disk = disk.is_honest → MayLeave disk disk.synced
 -- this is the image with that byte all over the loose sectors
 pub record IsFilled (byte : ℕ) (disk : DiskState) (left : Image) : Type 0 where
   pub size : length left ≡ length disk.image
-  pub loose : (i : ℕ) → i < length disk.image → disk.is_loose i → slice_get left i ≡ Some (replicate 512 byte)
+  pub loose : (i : ℕ) → i < length disk.image → disk.is_loose i
+      → slice_get left i ≡ Some (replicate 512 byte)
   pub others : (i : ℕ) → ¬ disk.is_loose i → slice_get left i ≡ slice_get disk.image i
 
--- Time goes on: a crash since t might have left what it might have left before, or what it may leave now.
+-- Time goes on: a crash since t might have left what it might have left before, or what it may
+-- leave now.
 pub record Elapses (old new : DiskState) : Type 0 where
   pub later : old.moment ≤ new.moment
-  pub nothing_else : (t : ℕ) (left : Image) → t ≤ old.moment → new.left_since t left → old.left_since t left ⊎ MayLeave new left
-  pub keeps : (t : ℕ) (left : Image) → t ≤ old.moment → old.left_since t left → new.left_since t left
+  pub nothing_else : (t : ℕ) (left : Image) → t ≤ old.moment → new.left_since t left
+      → old.left_since t left ⊎ MayLeave new left
+  pub keeps : (t : ℕ) (left : Image) → t ≤ old.moment → old.left_since t left
+      → new.left_since t left
 
 -- what every call keeps, whether it fails or not
 pub record GoesOn (old new : DiskState) : Type 0 where
@@ -109,11 +118,15 @@ pub record FailsAsTold {T E : Type 0} (result : Result T E) (old new : DiskState
   pub err : OnErr result (old.is_inert → old.fails_at (old.calls + 1))
   pub short : new.is_short ≡ old.is_short
 
--- An inert device fails this call exactly where it was told to, or where a growth was refused in it: then it is short from now on.
-pub record FailsAsToldOrShort {T E : Type 0} (result : Result T E) (old new : DiskState) : Type 0 where
+-- An inert device fails this call exactly where it was told to, or where a growth was refused in
+-- it: then it is short from now on.
+pub record FailsAsToldOrShort {T E : Type 0} (result : Result T E)
+    (old new : DiskState) : Type 0 where
   pub ok : OnOk result (old.is_inert → ¬ old.fails_at (old.calls + 1))
   pub same : OnOk result (new.is_short ≡ old.is_short)
-  pub err : OnErr result (old.is_inert → old.fails_at (old.calls + 1) × (new.is_short ≡ old.is_short) ⊎ ¬ old.fails_at (old.calls + 1) × (new.is_short ≡ true))
+  pub err : OnErr result (old.is_inert
+      → old.fails_at (old.calls + 1) × (new.is_short ≡ old.is_short)
+      ⊎ ¬ old.fails_at (old.calls + 1) × (new.is_short ≡ true))
   pub short : old.is_short ≡ true → new.is_short ≡ true
 
 -- One sector more is loose, and nothing but loose sectors has changed.
@@ -132,7 +145,8 @@ StaysLoose old new = (i : ℕ) → old.is_loose i → new.is_loose i
 
 -- what was written and has stood since still does
 abbrev pub StaysWritten : DiskState → DiskState → Type 0
-StaysWritten old new = old.is_honest → (i : ℕ) (bytes : List ℕ) → old.settles i bytes → new.settles i bytes
+StaysWritten old new = old.is_honest → (i : ℕ) (bytes : List ℕ) → old.settles i bytes
+    → new.settles i bytes
 
 -- these bytes are written in the sector, and what was written in others still stands
 pub record Settles (sector : ℕ) (bytes : List ℕ) (old new : DiskState) : Type 0 where
@@ -141,7 +155,8 @@ pub record Settles (sector : ℕ) (bytes : List ℕ) (old new : DiskState) : Typ
 
 -- what was written is read
 abbrev pub ReadsAsWritten : DiskState → DiskState → Type 0
-ReadsAsWritten old new = (i : ℕ) (bytes : List ℕ) → old.settles i bytes → slice_get new.image i ≡ Some bytes
+ReadsAsWritten old new = (i : ℕ) (bytes : List ℕ) → old.settles i bytes
+    → slice_get new.image i ≡ Some bytes
 
 -- the image of the last sync is the same
 abbrev pub KeepsSynced : DiskState → DiskState → Type 0
@@ -153,7 +168,8 @@ KeepsImage old new = old.is_honest → old.is_inert → new.image ≡ old.image
 
 -- an inert device reads as before, with these bytes in the sector
 abbrev pub SetsSector : ℕ → List ℕ → DiskState → DiskState → Type 0
-SetsSector sector bytes old new = old.is_honest → old.is_inert → new.image ≡ slice_set old.image sector bytes
+SetsSector sector bytes old new = old.is_honest → old.is_inert
+    → new.image ≡ slice_set old.image sector bytes
 
 -- this is read, and it stays so until a call fails
 pub record IsSteadyAt (image : Image) (disk : DiskState) : Type 0 where
@@ -197,7 +213,8 @@ pub record LeavesOnly (old new : DiskState) (P : Image → Type 0) : Type 0 wher
   pub later : old.is_honest → old.moment ≤ new.moment
   pub each : old.is_honest → (left : Image) → new.left_since old.moment left → P left
   -- for a run that began earlier
-  pub before : old.is_honest → (t : ℕ) (left : Image) → t ≤ old.moment → new.left_since t left → old.left_since t left ⊎ P left
+  pub before : old.is_honest → (t : ℕ) (left : Image) → t ≤ old.moment → new.left_since t left
+      → old.left_since t left ⊎ P left
 
 -- every image that a crash now may leave has P, if the device is honest
 abbrev pub LeavesNow : DiskState → (Image → Type 0) → Type 0
@@ -207,7 +224,8 @@ LeavesNow disk P = disk.is_honest → (left : Image) → MayLeave disk left → 
 abbrev pub LooseWithin : (ℕ → Type 0) → DiskState → Type 0
 LooseWithin changed disk = disk.is_honest → (i : ℕ) → disk.is_loose i → changed i
 
--- From old to new no sector but these was touched, so a crash at any moment leaves the others as they were.
+-- From old to new no sector but these was touched, so a crash at any moment leaves the others as
+-- they were.
 pub record TouchesOnly (changed : ℕ → Type 0) (old new : DiskState) : Type 0 where
   pub size : new.size ≡ old.size
   pub moments : LeavesOnly old new (ChangesWithin changed old.image)

@@ -1,4 +1,5 @@
--- When the devices that can be told to fail do so. A number of calls left, if it was armed, and how many calls were made.
+-- When the devices that can be told to fail do so. A number of calls left, if it was armed, and how
+-- many calls were made.
 use Rattle.std.specs.Prelude.{◌≡◌, ◌+◌, ◌<◌, ℕ, Option, Some, None}
 use Rattle.lift_disk.specs.Disk.{DiskState}
 use Rattle.lift_disk.specs.Outcomes.{state_of}
@@ -19,7 +20,13 @@ IfArmed fails None made call = ⊥
 IfArmed fails (Some calls) made call = fails calls made call
 
 abbrev pub fuse_state_of : FuseDisk → DiskState
-fuse_state_of d = record (state_of d.inner) { fails_at = IfArmed AllAfter d.calls_left d.inner.calls.count }
+fuse_state_of d = record (state_of d.inner) {
+  fails_at = IfArmed AllAfter d.calls_left
+      d.inner.calls.count;
+}
 
 abbrev pub flaky_state_of : FlakyDisk → DiskState
-flaky_state_of d = record (state_of d.inner) { fails_at = IfArmed OnlyLast d.calls_left d.inner.calls.count }
+flaky_state_of d = record (state_of d.inner) {
+  fails_at = IfArmed OnlyLast d.calls_left
+      d.inner.calls.count;
+}

@@ -1,8 +1,11 @@
--- The calls of a file that have succeeded, in their order, and the calls of a device that they stand for.
-use Rattle.std.specs.Prelude.{◌≡◌, ◌++◌, ◌+◌, ◌*◌, ◌==◌, [], ◌∷◌, ℕ, List, Result, OnOk, OnErr, refl, cond}
+-- The calls of a file that have succeeded, in their order, and the calls of a device that they
+-- stand for.
+use Rattle.std.specs.Prelude.{◌≡◌, ◌++◌, ◌+◌, ◌*◌, ◌==◌, [], ◌∷◌, ℕ, List, Result, OnOk, OnErr}
+use Rattle.std.specs.Prelude.{refl, cond}
 use Rattle.std.specs.Coded.{Coded, code_by, coded×, coded_ℕ, coded_list}
 use Rattle.lift_disk.specs.Trace.{Access}
-use Rattle.lift_disk.specs.Trace.Access.{Read as ReadSector, Write as WriteSector, Sync as SyncSectors}
+use Rattle.lift_disk.specs.Trace.Access.{Read as ReadSector, Write as WriteSector}
+use Rattle.lift_disk.specs.Trace.Access.{Sync as SyncSectors}
 
 pub data FileCall : Type 0 where
   -- the offset in bytes, and the bytes that it gave
@@ -25,7 +28,9 @@ to_parts (SetLength bytes) = (3, (bytes, []))
 to_parts SyncAll = (4, (0, []))
 
 abbrev pub of_parts : ℕ × (ℕ × List ℕ) → FileCall
-of_parts p = cond (p.0 == 0) (Read p.1.0 p.1.1) (cond (p.0 == 1) (Write p.1.0 p.1.1) (cond (p.0 == 2) SyncData (cond (p.0 == 3) (SetLength p.1.0) SyncAll)))
+of_parts p = cond (p.0 == 0) (Read p.1.0 p.1.1)
+    (cond (p.0 == 1) (Write p.1.0 p.1.1)
+    (cond (p.0 == 2) SyncData (cond (p.0 == 3) (SetLength p.1.0) SyncAll)))
 
 pub there_and_back : (call : FileCall) → of_parts (to_parts call) ≡ call
 there_and_back (Read offset bytes) = refl
@@ -35,9 +40,12 @@ there_and_back (SetLength bytes) = refl
 there_and_back SyncAll = refl
 
 abbrev pub file_calls_code : Coded (List FileCall)
-file_calls_code = coded_list (code_by (ℕ × (ℕ × List ℕ)) (coded× coded_ℕ (coded× coded_ℕ (coded_list coded_ℕ))) to_parts of_parts there_and_back)
+file_calls_code = coded_list
+    (code_by (ℕ × (ℕ × List ℕ)) (coded× coded_ℕ (coded× coded_ℕ (coded_list coded_ℕ))) to_parts
+    of_parts there_and_back)
 
--- the calls of a file that stand for these of a device, but for the bytes that reads gave: a sector is 512 bytes
+-- the calls of a file that stand for these of a device, but for the bytes that reads gave: a sector
+-- is 512 bytes
 abbrev pub in_bytes : List Access → List FileCall
 in_bytes [] = []
 in_bytes (ReadSector sector ∷ calls) = Read (sector * 512) [] ∷ in_bytes calls
@@ -54,7 +62,8 @@ without_given (SetLength bytes ∷ calls) = SetLength bytes ∷ without_given ca
 without_given (SyncAll ∷ calls) = SyncAll ∷ without_given calls
 
 -- One call more if it succeeded, else one failure more.
-pub record MakesCall {T E : Type 0} (result : Result T E) (call : FileCall) (old_calls new_calls : List FileCall) (old_failures new_failures : ℕ) : Type 0 where
+pub record MakesCall {T E : Type 0} (result : Result T E) (call : FileCall)
+    (old_calls new_calls : List FileCall) (old_failures new_failures : ℕ) : Type 0 where
   pub listed : OnOk result (new_calls ≡ old_calls ++ call ∷ [])
   pub unfailed : OnOk result (new_failures ≡ old_failures)
   pub unlisted : OnErr result (new_calls ≡ old_calls)

@@ -10,7 +10,8 @@ use Rattle.lift_disk.specs.declared.file.FileDisk.{FileDisk}
 abbrev pub sectors_in : ℕ → ℕ
 sectors_in bytes = if nat_lt (bytes / 512) 4294967295 then bytes / 512 else 4294967295
 
--- Its sectors, its counts and its calls: a failed one is one of its file. Nothing shows that it is honest, so nothing is said of what it holds.
+-- Its sectors, its counts and its calls: a failed one is one of its file. Nothing shows that it is
+-- honest, so nothing is said of what it holds.
 abbrev pub sector_file_state_of : {F : Type 0} → SectorFile F → DiskState
 sector_file_state_of d = record {
   size = d.sectors;

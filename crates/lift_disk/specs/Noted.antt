@@ -9,7 +9,8 @@ use Rattle.lift_disk.specs.declared.call.Change.TheVariants as change
 use Rattle.lift_disk.specs.Trace.{Access}
 use Rattle.lift_disk.specs.Trace.Access.{Read, Write, Sync}
 use Rattle.lift_disk.specs.FileCalls.{FileCall}
-use Rattle.lift_disk.specs.FileCalls.FileCall.{Read as ReadBytes, Write as WriteBytes, SyncData, SetLength, SyncAll}
+use Rattle.lift_disk.specs.FileCalls.FileCall.{Read as ReadBytes, Write as WriteBytes, SyncData}
+use Rattle.lift_disk.specs.FileCalls.FileCall.{SetLength, SyncAll}
 use Rattle.lift_disk.specs.Disk.{Image}
 use Rattle.lift_disk.specs.Calls.{Call, writes_of}
 use Rattle.lift_disk.specs.Calls.Call.{Write as Written, Sync as Synced}

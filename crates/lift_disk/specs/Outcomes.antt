@@ -1,13 +1,15 @@
 -- What is said of the devices in memory.
 use Rattle.std.specs.Prelude.{◌≡◌, ◌+◌, ◌↔◌, ℕ, Option, Some, None}
-use Rattle.lift_disk.specs.Disk.{DiskState, Image, MayLeave, GoesOn, Touches, TouchesNothing, StaysLoose, IsFilled}
+use Rattle.lift_disk.specs.Disk.{DiskState, Image, MayLeave, GoesOn, Touches, TouchesNothing}
+use Rattle.lift_disk.specs.Disk.{StaysLoose, IsFilled}
 use Rattle.lift_disk.specs.Memory.{memory_state}
 use Rattle.lift_disk.specs.declared.memory.MemDisk.{MemDisk}
 use Rattle.lift_disk.specs.declared.outcome.Outcome.{Outcome}
 use Rattle.lift_disk.specs.declared.outcome.Outcome.TheVariants.{Keep, Lose, Fill}
 
 abbrev pub state_of : MemDisk → DiskState
-state_of m = memory_state m.history.first m.history.calls m.image.items m.synced.items m.loose.items m.is_steady m.failures.count m.calls.count m.writes.count m.trace.calls
+state_of m = memory_state m.history.first m.history.calls m.image.items m.synced.items m.loose.items
+    m.is_steady m.failures.count m.calls.count m.writes.count m.trace.calls
 
 -- which sector a failed call makes loose
 abbrev pub SpoilsSector : Option ℕ → DiskState → DiskState → Type 0
@@ -31,7 +33,8 @@ IsLeftBy Keep old left = left ≡ old.image
 IsLeftBy Lose old left = left ≡ old.synced
 IsLeftBy (Fill byte) old left = IsFilled byte old left
 
--- The power was cut: a crash may have left what is read now, and all else that is said of the device stays, but for its moments.
+-- The power was cut: a crash may have left what is read now, and all else that is said of the
+-- device stays, but for its moments.
 pub record IsCut (old new : DiskState) : Type 0 where
   pub left : MayLeave old new.image
   pub size : new.size ≡ old.size

@@ -1,9 +1,13 @@
--- Calls on neighbouring sectors at once, and a device that holds writes back until they can be made as one.
-use Rattle.std.specs.Prelude.{◌≡◌, ◌≢◌, ◌↔◌, ◌⊎◌, ◌≤◌, ◌<◌, ◌+◌, ◌-◌, ℕ, zero, suc, List, [], ◌∷◌, length, false, slice_get, slice_set, flat_map, Some, Result, OnOk, OnErr, refl}
+-- Calls on neighbouring sectors at once, and a device that holds writes back until they can be made
+-- as one.
+use Rattle.std.specs.Prelude.{◌≡◌, ◌≢◌, ◌↔◌, ◌⊎◌, ◌≤◌, ◌<◌, ◌+◌, ◌-◌, ℕ, zero, suc, List, [], ◌∷◌}
+use Rattle.std.specs.Prelude.{length, false, slice_get, slice_set, flat_map, Some, Result, OnOk}
+use Rattle.std.specs.Prelude.{OnErr, refl}
 use Rattle.std.proofs.Common.{arith, sym, ap, ◌∙◌}
 use Rattle.std.proofs.lemmas.List.{length-set}
 use Rattle.lift_disk.specs.Trace.{Access}
-use Rattle.lift_disk.specs.Disk.{DiskState, Image, ChangesWithin, Elapses, Touches, TouchesNothing, StaysLoose, StaysWritten, KeepsSynced, IsSteadyAt}
+use Rattle.lift_disk.specs.Disk.{DiskState, Image, ChangesWithin, Elapses, Touches, TouchesNothing}
+use Rattle.lift_disk.specs.Disk.{StaysLoose, StaysWritten, KeepsSynced, IsSteadyAt}
 
 -- one of so many sectors from that one on
 abbrev pub IsInRun : ℕ → ℕ → ℕ → Type 0
@@ -20,12 +24,15 @@ with_run from (bytes ∷ run) image = with_run (from + 1) run (slice_set image f
 
 -- so many sectors from that one on are these
 abbrev pub HoldsRun : ℕ → ℕ → List (List ℕ) → Image → Type 0
-HoldsRun from count run image = (i : ℕ) → IsInRun from count i → slice_get image i ≡ slice_get run (i - from)
+HoldsRun from count run image = (i : ℕ) → IsInRun from count i
+    → slice_get image i ≡ slice_get run (i - from)
 
 -- these sectors are written from that one on, and what was written in others still stands
 pub record SettlesRun (from : ℕ) (run : List (List ℕ)) (old new : DiskState) : Type 0 where
-  pub here : (i : ℕ) (bytes : List ℕ) → from ≤ i → slice_get run (i - from) ≡ Some bytes → new.settles i bytes
-  pub others : (i : ℕ) (other : List ℕ) → ¬ IsInRun from (length run) i → old.settles i other → new.settles i other
+  pub here : (i : ℕ) (bytes : List ℕ) → from ≤ i → slice_get run (i - from) ≡ Some bytes
+      → new.settles i bytes
+  pub others : (i : ℕ) (other : List ℕ) → ¬ IsInRun from (length run) i → old.settles i other
+      → new.settles i other
 
 -- One sector more is loose. It is no call, and changes nothing else that is said of the device.
 pub record Announces (sector : ℕ) (old new : DiskState) : Type 0 where
@@ -45,8 +52,9 @@ pub record Announces (sector : ℕ) (old new : DiskState) : Type 0 where
   pub steady : old.is_steady → new.is_steady
   pub time : old.is_honest → Elapses old new
 
--- What is said of a device over another one, where these sectors, from that one on, are still to be written. They are read as if they were.
--- Its failed calls are those of the other one. How that may fail isn't said.
+-- What is said of a device over another one, where these sectors, from that one on, are still to be
+-- written. They are read as if they were. Its failed calls are those of the other one. How that may
+-- fail isn't said.
 abbrev pub buffered : DiskState → ℕ → List (List ℕ) → ℕ → ℕ → List Access → DiskState
 buffered disk from pending calls writes trace = record {
   size = disk.size;
@@ -60,7 +68,8 @@ buffered disk from pending calls writes trace = record {
   synced = disk.synced;
   is_loose = disk.is_loose;
   is_steady = disk.is_steady;
-  settles = λ i bytes. ((from ≤ i) × (slice_get pending (i - from) ≡ Some bytes)) ⊎ (¬ IsInRun from (length pending) i × disk.settles i bytes);
+  settles = λ i bytes. ((from ≤ i) × (slice_get pending (i - from) ≡ Some bytes))
+      ⊎ (¬ IsInRun from (length pending) i × disk.settles i bytes);
   is_short = false;
   fails_at = λ _. ⊥;
   moment = disk.moment;
@@ -99,40 +108,55 @@ pub record KeepsWrites (old new : DiskState) : Type 0 where
   pub steady : old.is_honest → old.is_steady → IsSteadyAt old.image new
 
 -- the rest of a list behind a write to another place
-get_other : {X : Type 0} (xs : List X) (i k : ℕ) (x : X) → k ≢ i → slice_get (slice_set xs i x) k ≡ slice_get xs k
+get_other : {X : Type 0} (xs : List X) (i k : ℕ) (x : X) → k ≢ i
+    → slice_get (slice_set xs i x) k ≡ slice_get xs k
 get_other [] i k x other = refl
 get_other (y ∷ xs) zero zero x other = absurd (other refl)
 get_other (y ∷ xs) zero (suc k) x other = refl
 get_other (y ∷ xs) (suc i) zero x other = refl
 get_other (y ∷ xs) (suc i) (suc k) x other = get_other xs i k x (λ same. other (ap suc same))
 
-pub run_length : (run : List (List ℕ)) (from : ℕ) (image : Image) → length (with_run from run image) ≡ length image
+pub run_length : (run : List (List ℕ)) (from : ℕ) (image : Image)
+    → length (with_run from run image) ≡ length image
 run_length [] from image = refl
-run_length (bytes ∷ run) from image = run_length run (from + 1) (slice_set image from bytes) ∙ length-set image from bytes
+run_length (bytes ∷ run) from image =
+    run_length run (from + 1) (slice_set image from bytes) ∙ length-set image from bytes
 
 -- the sectors before and behind a run stay
-pub run_outside : (run : List (List ℕ)) (from : ℕ) (image : Image) (i : ℕ) → ¬ IsInRun from (length run) i → slice_get (with_run from run image) i ≡ slice_get image i
+pub run_outside : (run : List (List ℕ)) (from : ℕ) (image : Image) (i : ℕ)
+    → ¬ IsInRun from (length run) i → slice_get (with_run from run image) i ≡ slice_get image i
 run_outside [] from image i not = refl
 run_outside (bytes ∷ run) from image i not =
-    run_outside run (from + 1) (slice_set image from bytes) i (λ is. not (omega (arith, is.0), omega (arith, is.1)))
+    run_outside run (from + 1) (slice_set image from bytes) i (λ is.
+    not (omega (arith, is.0), omega (arith, is.1)))
     ∙ get_other image from i bytes (λ same. not (omega (arith, same), omega (arith, same)))
 
 -- what is still to be written lies in loose sectors
-pub run_loose : (loose : ℕ → Type 0) (run : List (List ℕ)) (from : ℕ) (image : Image) → ((i : ℕ) → ¬ loose i → ¬ IsInRun from (length run) i) → ChangesWithin loose image (with_run from run image)
-run_loose loose run from image announced = record { size = run_length run from image; others = λ i not. run_outside run from image i (announced i not) }
+pub run_loose : (loose : ℕ → Type 0) (run : List (List ℕ)) (from : ℕ) (image : Image)
+    → ((i : ℕ) → ¬ loose i → ¬ IsInRun from (length run) i)
+    → ChangesWithin loose image (with_run from run image)
+run_loose loose run from image announced =
+    record {
+      size = run_length run from image;
+      others = λ i not.
+          run_outside run from image i (announced i not);
+    }
 
 -- so that a crash may leave the same with it and without it
-pub left_without : (loose : ℕ → Type 0) (image more left : Image) → ChangesWithin loose image more → ChangesWithin loose more left → ChangesWithin loose image left
+pub left_without : (loose : ℕ → Type 0) (image more left : Image) → ChangesWithin loose image more
+    → ChangesWithin loose more left → ChangesWithin loose image left
 left_without loose image more left first second = record {
   size = second.size ∙ first.size;
   others = λ i not. second.others i not ∙ first.others i not;
 }
 
-pub left_with : (loose : ℕ → Type 0) (image more left : Image) → ChangesWithin loose image more → ChangesWithin loose image left → ChangesWithin loose more left
+pub left_with : (loose : ℕ → Type 0) (image more left : Image) → ChangesWithin loose image more
+    → ChangesWithin loose image left → ChangesWithin loose more left
 left_with loose image more left first second = record {
   size = second.size ∙ sym first.size;
   others = λ i not. second.others i not ∙ sym (first.others i not);
 }
 
-pub run_whole : (run : List (List ℕ)) (from : ℕ) (image : Image) (size : ℕ) → length image ≡ size → length (with_run from run image) ≡ size
+pub run_whole : (run : List (List ℕ)) (from : ℕ) (image : Image) (size : ℕ) → length image ≡ size
+    → length (with_run from run image) ≡ size
 run_whole run from image size whole = run_length run from image ∙ whole

@@ -23,12 +23,15 @@ there_and_back (Write place bytes) = refl
 there_and_back Sync = refl
 
 abbrev pub access_code : Coded Access
-access_code = code_by (ℕ × (ℕ × List ℕ)) (coded× coded_ℕ (coded× coded_ℕ (coded_list coded_ℕ))) to_parts of_parts there_and_back
+access_code = code_by (ℕ
+    × (ℕ × List ℕ)) (coded× coded_ℕ (coded× coded_ℕ (coded_list coded_ℕ))) to_parts of_parts
+    there_and_back
 
 abbrev pub trace_code : Coded (List Access)
 trace_code = coded_list access_code
 
 -- one call more if it succeeded, else none
-pub record Records {T E : Type 0} (result : Result T E) (call : Access) (old new : List Access) : Type 0 where
+pub record Records {T E : Type 0} (result : Result T E) (call : Access)
+    (old new : List Access) : Type 0 where
   pub ok : OnOk result (new ≡ old ++ call ∷ [])
   pub err : OnErr result (new ≡ old)

@@ -1,7 +1,10 @@
 //! A device that reads ahead, and holds neighbouring writes back until it makes them as one.
-ghost use Rattle.std.specs.Prelude.{◌≡◌, ◌≤◌, ◌<◌, ◌+◌, [], ℕ, length, slice_get, Some, IsTrue, OnOk, IfOk, IfSome, IfNone};
+ghost use Rattle.std.specs.Prelude.{◌≡◌, ◌≤◌, ◌<◌, ◌+◌, [], ℕ, length, slice_get, Some, IsTrue};
+ghost use Rattle.std.specs.Prelude.{OnOk, IfOk, IfSome, IfNone};
 ghost use Rattle.lift_disk.specs.Disk.{MayLeave};
-ghost use Rattle.lift_disk.specs.Runs.{CountsFault, HoldsRun, IsInRun, KeepsWrites, Opens, Rests, left_with, left_without, run_loose, run_whole, waiting, with_run};
+ghost use Rattle.lift_disk.specs.Runs.{CountsFault, HoldsRun, IsInRun, KeepsWrites, Opens, Rests};
+ghost use Rattle.lift_disk.specs.Runs.{left_with, left_without, run_loose, run_whole, waiting};
+ghost use Rattle.lift_disk.specs.Runs.{with_run};
 
 use crate::runs::{MOST_AHEAD, RunDisk};
 use crate::trace::{Made, ProofTrace};
@@ -12,8 +15,9 @@ use lift_base::ProofCount;
 /// At most so many writes are held back.
 const MOST_HELD: usize = 16;
 
-/// A device over another one. It reads 16 sectors at once, and makes up to 16 writes of neighbouring sectors, each behind
-/// the one before, as one: at the next write elsewhere, or at the next sync. A call that finds such a write failing fails.
+/// A device over another one. It reads 16 sectors at once, and makes up to 16 writes of
+/// neighbouring sectors, each behind the one before, as one: at the next write elsewhere, or at the
+/// next sync. A call that finds such a write failing fails.
 #[derive(Drop)]
 pub struct Buffered<R: RunDisk + Drop> {
     device: R,
@@ -28,25 +32,30 @@ pub struct Buffered<R: RunDisk + Drop> {
     writes: ProofCount,
     trace: ProofTrace,
     ghost inside: { from + length pending.items ≤ (R.state device).size },
-    ghost announced: { (R.state device).is_honest → (i : ℕ) → ¬ (R.state device).is_loose i → ¬ IsInRun from (length pending.items) i },
+    ghost announced: { (R.state device).is_honest → (i : ℕ) → ¬ (R.state device).is_loose i
+        → ¬ IsInRun from (length pending.items) i },
     ghost count: { ahead_count ≤ 16 },
-    ghost read: { (R.state device).is_honest → HoldsRun ahead_from ahead_count ahead (R.state device).image },
+    ghost read: { (R.state device).is_honest
+        → HoldsRun ahead_from ahead_count ahead (R.state device).image },
 }
 
 impl<R: RunDisk + Drop> Buffered<R> {
     ghost use Rattle.lift_disk.specs.Below.{below, held_back};
 
-    /// A device of which nothing was read or written yet. It makes no call of the other one and announces nothing.
+    /// A device of which nothing was read or written yet. It makes no call of the other one and
+    /// announces nothing.
     pub fn over(device: R) -> Buffered<R>
         ensures below { below result ≡ device }
         ensures none_held { held_back result ≡ [] }
         ensures size { (⟦<Buffered<R> as Disk>⟧.state result).size ≡ (R.state device).size }
-        ensures failures { (⟦<Buffered<R> as Disk>⟧.state result).failures ≡ (R.state device).failures }
+        ensures failures { (⟦<Buffered<R> as Disk>⟧.state result).failures
+            ≡ (R.state device).failures }
         ensures calls { (⟦<Buffered<R> as Disk>⟧.state result).calls ≡ 0 }
         ensures writes { (⟦<Buffered<R> as Disk>⟧.state result).writes ≡ 0 }
         ensures trace { (⟦<Buffered<R> as Disk>⟧.state result).trace ≡ [] }
         ensures image { (⟦<Buffered<R> as Disk>⟧.state result).image ≡ (R.state device).image }
-        ensures honest { (R.state device).is_honest → (⟦<Buffered<R> as Disk>⟧.state result).is_honest }
+        ensures honest { (R.state device).is_honest
+            → (⟦<Buffered<R> as Disk>⟧.state result).is_honest }
     {
         Buffered {
             device,
@@ -64,7 +73,8 @@ impl<R: RunDisk + Drop> Buffered<R> {
     /// The other device. What is still held back is not written: a crash might have left the same.
     pub fn into_inner(self) -> R
         ensures below { result ≡ below self }
-        ensures left { (R.state result).is_honest → MayLeave (⟦<Buffered<R> as Disk>⟧.state self) (R.state result).image }
+        ensures left { (R.state result).is_honest
+            → MayLeave (⟦<Buffered<R> as Disk>⟧.state self) (R.state result).image }
     {
         let Buffered { device, .. } = self;
         device
@@ -73,8 +83,10 @@ impl<R: RunDisk + Drop> Buffered<R> {
     /// What is still to be written to a sector.
     fn held_back(&self, sector: u32) -> Option<&[u8; 512]>
         ensures some { IfSome result (λ bytes. (R.state self.now.device).is_honest
-            → slice_get (with_run self.now.from self.now.pending.items (R.state self.now.device).image) sector ≡ Some bytes.now) }
-        ensures none { IfNone result (¬ IsInRun self.now.from (length self.now.pending.items) sector) }
+            → slice_get (with_run self.now.from self.now.pending.items
+            (R.state self.now.device).image) sector ≡ Some bytes.now) }
+        ensures none { IfNone result
+            (¬ IsInRun self.now.from (length self.now.pending.items) sector) }
     {
         if sector < self.from {
             return None;
@@ -88,7 +100,8 @@ impl<R: RunDisk + Drop> Buffered<R> {
 
     /// What was read ahead of a sector.
     fn read_ahead(&self, sector: u32) -> Option<&[u8; 512]>
-        ensures { IfSome result (λ bytes. (R.state self.now.device).is_honest → slice_get (R.state self.now.device).image sector ≡ Some bytes.now) }
+        ensures { IfSome result (λ bytes. (R.state self.now.device).is_honest
+            → slice_get (R.state self.now.device).image sector ≡ Some bytes.now) }
     {
         if sector < self.ahead_from {
             return None;
@@ -102,8 +115,12 @@ impl<R: RunDisk + Drop> Buffered<R> {
 
     /// Makes the writes that were held back, as one. Behind it none is, also where it fails.
     fn flush(&mut self) -> Result<(), DiskFault>
-        ensures rests { Rests (waiting (R.state self.old.device) self.old.from self.old.pending.items) (waiting (R.state self.new.device) self.new.from self.new.pending.items) }
-        ensures keeps { OnOk result (KeepsWrites (waiting (R.state self.old.device) self.old.from self.old.pending.items) (waiting (R.state self.new.device) self.new.from self.new.pending.items)) }
+        ensures rests { Rests (waiting
+            (R.state self.old.device) self.old.from self.old.pending.items)
+            (waiting (R.state self.new.device) self.new.from self.new.pending.items) }
+        ensures keeps { OnOk result
+            (KeepsWrites (waiting (R.state self.old.device) self.old.from self.old.pending.items)
+            (waiting (R.state self.new.device) self.new.from self.new.pending.items)) }
         ensures none { self.new.pending.items ≡ [] }
         ensures forgets { self.new.ahead_count ≡ 0 }
         ensures faults { CountsFault result (R.state self.old.device) (R.state self.new.device) }
@@ -121,7 +138,8 @@ impl<R: RunDisk + Drop> Buffered<R> {
 
     /// Whether the sector is the next behind those that are held back, and one more has room.
     fn is_next(&self, sector: u32) -> bool
-        ensures { IsTrue result → (self.now.from + length self.now.pending.items ≡ sector) × (length self.now.pending.items < 16) }
+        ensures { IsTrue result → (self.now.from + length self.now.pending.items ≡ sector)
+            × (length self.now.pending.items < 16) }
     {
         let held = self.pending.len();
         held < MOST_HELD && self.from as usize + held == sector as usize
@@ -130,8 +148,12 @@ impl<R: RunDisk + Drop> Buffered<R> {
     /// Makes the sector the next behind those that are held back.
     fn make_room(&mut self, sector: u32) -> Result<(), DiskFault>
         requires { sector < (R.state self.old.device).size }
-        ensures opens { Opens sector (waiting (R.state self.old.device) self.old.from self.old.pending.items) (waiting (R.state self.new.device) self.new.from self.new.pending.items) }
-        ensures keeps { OnOk result (KeepsWrites (waiting (R.state self.old.device) self.old.from self.old.pending.items) (waiting (R.state self.new.device) self.new.from self.new.pending.items)) }
+        ensures opens { Opens sector
+            (waiting (R.state self.old.device) self.old.from self.old.pending.items)
+            (waiting (R.state self.new.device) self.new.from self.new.pending.items) }
+        ensures keeps { OnOk result
+            (KeepsWrites (waiting (R.state self.old.device) self.old.from self.old.pending.items)
+            (waiting (R.state self.new.device) self.new.from self.new.pending.items)) }
         ensures next { OnOk result (self.new.from + length self.new.pending.items ≡ sector) }
         ensures room { OnOk result (length self.new.pending.items < 16) }
         ensures faults { CountsFault result (R.state self.old.device) (R.state self.new.device) }
@@ -150,9 +172,14 @@ impl<R: RunDisk + Drop> Buffered<R> {
     /// Reads 16 sectors from this one on, or as many as there are.
     fn look_ahead(&mut self, sector: u32) -> Result<(), DiskFault>
         requires { sector < (R.state self.old.device).size }
-        ensures rests { Rests (waiting (R.state self.old.device) self.old.from self.old.pending.items) (waiting (R.state self.new.device) self.new.from self.new.pending.items) }
-        ensures keeps { OnOk result (KeepsWrites (waiting (R.state self.old.device) self.old.from self.old.pending.items) (waiting (R.state self.new.device) self.new.from self.new.pending.items)) }
-        ensures gives { OnOk result ((R.state self.old.device).is_honest → slice_get (R.state self.new.device).image sector ≡ slice_get self.new.ahead 0) }
+        ensures rests { Rests (waiting
+            (R.state self.old.device) self.old.from self.old.pending.items)
+            (waiting (R.state self.new.device) self.new.from self.new.pending.items) }
+        ensures keeps { OnOk result
+            (KeepsWrites (waiting (R.state self.old.device) self.old.from self.old.pending.items)
+            (waiting (R.state self.new.device) self.new.from self.new.pending.items)) }
+        ensures gives { OnOk result ((R.state self.old.device).is_honest
+            → slice_get (R.state self.new.device).image sector ≡ slice_get self.new.ahead 0) }
         ensures pending { (self.new.from ≡ self.old.from) × (self.new.pending ≡ self.old.pending) }
         ensures faults { CountsFault result (R.state self.old.device) (R.state self.new.device) }
         ensures counts { (self.new.calls ≡ self.old.calls) × (self.new.writes ≡ self.old.writes) }
@@ -170,9 +197,15 @@ impl<R: RunDisk + Drop> Buffered<R> {
     /// The sector's bytes, as they are to be read.
     fn fetch(&mut self, sector: u32) -> Result<[u8; 512], DiskFault>
         requires { sector < (R.state self.old.device).size }
-        ensures rests { Rests (waiting (R.state self.old.device) self.old.from self.old.pending.items) (waiting (R.state self.new.device) self.new.from self.new.pending.items) }
-        ensures keeps { OnOk result (KeepsWrites (waiting (R.state self.old.device) self.old.from self.old.pending.items) (waiting (R.state self.new.device) self.new.from self.new.pending.items)) }
-        ensures gives { IfOk result (λ bytes. (R.state self.old.device).is_honest → slice_get (waiting (R.state self.new.device) self.new.from self.new.pending.items).image sector ≡ Some bytes) }
+        ensures rests { Rests (waiting
+            (R.state self.old.device) self.old.from self.old.pending.items)
+            (waiting (R.state self.new.device) self.new.from self.new.pending.items) }
+        ensures keeps { OnOk result
+            (KeepsWrites (waiting (R.state self.old.device) self.old.from self.old.pending.items)
+            (waiting (R.state self.new.device) self.new.from self.new.pending.items)) }
+        ensures gives { IfOk result (λ bytes. (R.state self.old.device).is_honest
+            → slice_get (waiting (R.state self.new.device) self.new.from
+            self.new.pending.items).image sector ≡ Some bytes) }
         ensures faults { CountsFault result (R.state self.old.device) (R.state self.new.device) }
         ensures counts { (self.new.calls ≡ self.old.calls) × (self.new.writes ≡ self.old.writes) }
         ensures trace { self.new.trace ≡ self.old.trace }
@@ -191,19 +224,30 @@ impl<R: RunDisk + Drop> Buffered<R> {
 impl<R: RunDisk + Drop> Disk for Buffered<R> {
     ghost use Rattle.lift_disk.specs.Runs.{buffered};
 
-    ghost state = { λ d. buffered (R.state d.device) d.from d.pending.items d.calls.count d.writes.count d.trace.calls };
+    ghost state = { λ d. buffered (R.state d.device) d.from d.pending.items d.calls.count
+        d.writes.count d.trace.calls };
 
-    ghost whole = { λ d honest. run_whole d.pending.items d.from (R.state d.device).image (R.state d.device).size (R.whole d.device honest) };
+    ghost whole = { λ d honest.
+        run_whole d.pending.items d.from (R.state d.device).image (R.state d.device).size
+        (R.whole d.device honest) };
 
     ghost counts_now = { λ d honest t left late now. R.counts_now d.device honest t left late
-        (left_without (R.state d.device).is_loose (R.state d.device).image (with_run d.from d.pending.items (R.state d.device).image) left
-        (run_loose (R.state d.device).is_loose d.pending.items d.from (R.state d.device).image (d.announced honest)) now) };
+        (left_without (R.state d.device).is_loose (R.state d.device).image
+        (with_run d.from d.pending.items (R.state d.device).image) left
+        (run_loose (R.state d.device).is_loose d.pending.items d.from (R.state d.device).image
+        (d.announced honest)) now) };
 
-    ghost only_now = { λ d honest left since. left_with (R.state d.device).is_loose (R.state d.device).image (with_run d.from d.pending.items (R.state d.device).image) left
-        (run_loose (R.state d.device).is_loose d.pending.items d.from (R.state d.device).image (d.announced honest)) (R.only_now d.device honest left since) };
+    ghost only_now = { λ d honest left since.
+        left_with (R.state d.device).is_loose (R.state d.device).image
+        (with_run d.from d.pending.items (R.state d.device).image) left
+        (run_loose (R.state d.device).is_loose d.pending.items d.from (R.state d.device).image
+        (d.announced honest)) (R.only_now d.device honest left since) };
 
-    ghost may_lose = { λ d honest. left_with (R.state d.device).is_loose (R.state d.device).image (with_run d.from d.pending.items (R.state d.device).image) (R.state d.device).synced
-        (run_loose (R.state d.device).is_loose d.pending.items d.from (R.state d.device).image (d.announced honest)) (R.may_lose d.device honest) };
+    ghost may_lose = { λ d honest.
+        left_with (R.state d.device).is_loose (R.state d.device).image
+        (with_run d.from d.pending.items (R.state d.device).image) (R.state d.device).synced
+        (run_loose (R.state d.device).is_loose d.pending.items d.from (R.state d.device).image
+        (d.announced honest)) (R.may_lose d.device honest) };
 
     fn sectors(&self) -> u32 {
         self.device.sectors()

@@ -1,4 +1,5 @@
-//! What was done to a device in memory, as only proofs read it. It takes no memory, and its methods do nothing at run time.
+//! What was done to a device in memory, as only proofs read it. It takes no memory, and its methods
+//! do nothing at run time.
 ghost use Rattle.std.specs.Prelude.{◌≡◌, ◌++◌, [], ◌∷◌, List};
 ghost use Rattle.std.specs.Borrow.{ftrue};
 ghost use Rattle.lift_disk.specs.Disk.{Image};
@@ -44,7 +45,8 @@ impl ProofHistory {
     /// What is known behind this.
     #[inline(always)]
     fn then(&self, _change: &Change<'_>) -> ProofHistory
-        ensures { (result.first ≡ first_after _change.now self.now.first) × (result.calls ≡ calls_after _change.now self.now.calls) }
+        ensures { (result.first ≡ first_after _change.now self.now.first)
+            × (result.calls ≡ calls_after _change.now self.now.calls) }
     {
         ProofHistory {}
     }
@@ -60,7 +62,8 @@ impl ProofHistory {
     /// Records a write.
     #[inline(always)]
     pub(crate) fn note_write(&mut self, sector: u32, bytes: &[u8; 512])
-        ensures { (self.new.first ≡ self.old.first) × (self.new.calls ≡ self.old.calls ++ Write sector bytes.now ∷ []) }
+        ensures { (self.new.first ≡ self.old.first)
+            × (self.new.calls ≡ self.old.calls ++ Write sector bytes.now ∷ []) }
     {
         *self = self.then(&Change::Write(sector, bytes));
     }
@@ -68,7 +71,8 @@ impl ProofHistory {
     /// Records the writes of these sectors, from that one on.
     #[inline(always)]
     pub(crate) fn note_run(&mut self, sector: u32, run: &[[u8; 512]])
-        ensures { (self.new.first ≡ self.old.first) × (self.new.calls ≡ self.old.calls ++ writes_of sector run.now) }
+        ensures { (self.new.first ≡ self.old.first)
+            × (self.new.calls ≡ self.old.calls ++ writes_of sector run.now) }
     {
         *self = self.then(&Change::WriteRun(sector, run));
     }
@@ -76,7 +80,8 @@ impl ProofHistory {
     /// Records a sync, with the sectors that were loose until then.
     #[inline(always)]
     pub(crate) fn note_sync(&mut self, loose: &[bool])
-        ensures { (self.new.first ≡ self.old.first) × (self.new.calls ≡ self.old.calls ++ Sync loose.now ∷ []) }
+        ensures { (self.new.first ≡ self.old.first)
+            × (self.new.calls ≡ self.old.calls ++ Sync loose.now ∷ []) }
     {
         *self = self.then(&Change::Sync(loose));
     }

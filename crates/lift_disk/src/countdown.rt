@@ -1,11 +1,14 @@
-//! How many calls are left until one fails, where a device was armed. Each call of these stands for a call of the device.
+//! How many calls are left until one fails, where a device was armed. Each call of these stands for
+//! a call of the device.
 ghost use Rattle.std.specs.Prelude.{◌≡◌, ◌+◌, ◌<◌, ◌↔◌, ℕ, IsTrue};
 ghost use Rattle.lift_disk.specs.Faults.{AllAfter, OnlyLast, IfArmed};
 
 /// Whether this call fails, as each one does once none is left to pass.
 pub(crate) fn is_blown(calls_left: &mut Option<u32>) -> bool
     ensures now { (made : ℕ) → IsTrue result ↔ IfArmed AllAfter calls_left.old made (made + 1) }
-    ensures later { (made call : ℕ) → made + 1 < call → IfArmed AllAfter calls_left.new (made + 1) call ↔ IfArmed AllAfter calls_left.old made call }
+    ensures later { (made call : ℕ) → made + 1 < call
+        → IfArmed AllAfter calls_left.new (made + 1) call
+        ↔ IfArmed AllAfter calls_left.old made call }
 {
     match *calls_left {
         None => false,
@@ -20,7 +23,9 @@ pub(crate) fn is_blown(calls_left: &mut Option<u32>) -> bool
 /// Whether this call is the one that fails.
 pub(crate) fn is_due(calls_left: &mut Option<u32>) -> bool
     ensures now { (made : ℕ) → IsTrue result ↔ IfArmed OnlyLast calls_left.old made (made + 1) }
-    ensures later { (made call : ℕ) → made + 1 < call → IfArmed OnlyLast calls_left.new (made + 1) call ↔ IfArmed OnlyLast calls_left.old made call }
+    ensures later { (made call : ℕ) → made + 1 < call
+        → IfArmed OnlyLast calls_left.new (made + 1) call
+        ↔ IfArmed OnlyLast calls_left.old made call }
 {
     match *calls_left {
         None | Some(0) => false,

@@ -38,13 +38,16 @@ pub struct FileDisk {
     device: SectorFile<File>,
 }
 
-/// A file of whole sectors that is read 16 sectors at once, and whose neighbouring writes are made as one.
+/// A file of whole sectors that is read 16 sectors at once, and whose neighbouring writes are made
+/// as one.
 pub type BufferedFile = Buffered<FileDisk>;
 
 impl FileDisk {
     ghost use Rattle.lift_disk.specs.Files.{file_state_of, file_making_of, file_calls_of};
 
-    /// Opens a file that is there. Its whole sectors count, 4,294,967,295 at most; the end that is less than one doesn't. A pipe or a terminal isn't opened, so that nothing waits for its other end.
+    /// Opens a file that is there. Its whole sectors count, 4,294,967,295 at most; the end that is
+    /// less than one doesn't. A pipe or a terminal isn't opened, so that nothing waits for its
+    /// other end.
     pub fn open<R: Files<File = File>>(rt: &R, path: &str) -> Result<FileDisk, FileFault>
         ensures making { IfOk result (λ disk. file_making_of disk ≡ []) }
         ensures uncalled { IfOk result (λ disk. file_calls_of disk ≡ []) }
@@ -67,7 +70,8 @@ impl FileDisk {
         path: &str,
         sectors: u32,
     ) -> Result<FileDisk, FileFault>
-        ensures making { IfOk result (λ disk. file_making_of disk ≡ SetLength (sectors * 512) ∷ SyncAll ∷ []) }
+        ensures making { IfOk result (λ disk.
+            file_making_of disk ≡ SetLength (sectors * 512) ∷ SyncAll ∷ []) }
         ensures uncalled { IfOk result (λ disk. file_calls_of disk ≡ []) }
         ensures size { IfOk result (λ disk. (file_state_of disk).size ≡ sectors) }
         ensures failures { IfOk result (λ disk. (file_state_of disk).failures ≡ 0) }
@@ -119,13 +123,16 @@ impl Disk for FileDisk {
 
     fn read(&mut self, sector: u32, buffer: &mut [u8; 512]) -> Result<(), DiskFault>
         // beside what each device promises: these are the bytes that its file gave
-        ensures given { OnOk result (file_calls_of self.new ≡ file_calls_of self.old ++ ReadBytes (sector * 512) buffer.new ∷ []) }
+        ensures given { OnOk result (file_calls_of self.new
+            ≡ file_calls_of self.old ++ ReadBytes (sector * 512) buffer.new ∷ []) }
         ensures goes_on { GoesOn (file_state_of self.old) (file_state_of self.new) }
         ensures cause { HasCause result (file_state_of self.old) (file_state_of self.new) }
-        ensures counted { OnErr result ((file_state_of self.new).failures ≡ (file_state_of self.old).failures + 1) }
+        ensures counted { OnErr result ((file_state_of self.new).failures
+            ≡ (file_state_of self.old).failures + 1) }
         ensures told { FailsAsTold result (file_state_of self.old) (file_state_of self.new) }
         ensures writes { (file_state_of self.new).writes ≡ (file_state_of self.old).writes }
-        ensures recorded { Records result (Read sector) (file_state_of self.old).trace (file_state_of self.new).trace }
+        ensures recorded { Records result (Read sector) (file_state_of self.old).trace
+            (file_state_of self.new).trace }
     {
         self.device.read(sector, buffer)
     }

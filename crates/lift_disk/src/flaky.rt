@@ -7,7 +7,8 @@ ghost use Rattle.lift_disk.specs.Memory.{no_other};
 use crate::countdown::is_due;
 use crate::{Arm, Disk, DiskFault, MemDisk};
 
-/// Passes everything until it is armed, and then fails one call: the first where it was armed with 1, none where it was armed with 0.
+/// Passes everything until it is armed, and then fails one call: the first where it was armed with
+/// 1, none where it was armed with 0.
 #[derive(Drop)]
 pub struct FlakyDisk {
     inner: MemDisk,
@@ -48,7 +49,9 @@ impl Disk for FlakyDisk {
 
     ghost counts_now = { λ d _ t left le now. inl now };
 
-    ghost only_now = { λ d _ left since. no_other d.inner.history.first d.inner.history.calls d.inner.image.items d.inner.loose.items left since };
+    ghost only_now = { λ d _ left since.
+        no_other d.inner.history.first d.inner.history.calls d.inner.image.items d.inner.loose.items
+        left since };
 
     ghost may_lose = { λ d _. d.inner.kept };
 

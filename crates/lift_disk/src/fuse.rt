@@ -48,7 +48,9 @@ impl Disk for FuseDisk {
 
     ghost counts_now = { λ d _ t left le now. inl now };
 
-    ghost only_now = { λ d _ left since. no_other d.inner.history.first d.inner.history.calls d.inner.image.items d.inner.loose.items left since };
+    ghost only_now = { λ d _ left since.
+        no_other d.inner.history.first d.inner.history.calls d.inner.image.items d.inner.loose.items
+        left since };
 
     ghost may_lose = { λ d _. d.inner.kept };
 

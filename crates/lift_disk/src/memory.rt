@@ -1,5 +1,7 @@
-//! A device in memory. Proofs know its calls, so they know what a crash at any past moment might have left.
-ghost use Rattle.std.specs.Prelude.{◌≡◌, ◌≤◌, ◌<◌, ◌+◌, ◌^◌, ◌++◌, [], ◌∷◌, ℕ, length, replicate, true, false, refl, OnOk, OnErr, IfOk, IfSome};
+//! A device in memory. Proofs know its calls, so they know what a crash at any past moment might
+//! have left.
+ghost use Rattle.std.specs.Prelude.{◌≡◌, ◌≤◌, ◌<◌, ◌+◌, ◌^◌, ◌++◌, [], ◌∷◌, ℕ, length, replicate};
+ghost use Rattle.std.specs.Prelude.{true, false, refl, OnOk, OnErr, IfOk, IfSome};
 ghost use Rattle.std.proofs.Common.{inl};
 ghost use Rattle.lift_disk.specs.Disk.{ChangesWithin, IsSynced, IsUnarmed};
 ghost use Rattle.lift_disk.specs.Memory.{IsFlagged, IsWithin, image_after, no_other};
@@ -40,7 +42,8 @@ impl MemDisk {
 
     /// So many sectors of zeros, all of them on the disk. Refused only for want of memory.
     pub fn new(alloc: Global, sectors: u32) -> Result<MemDisk, Memory>
-        ensures zeros { IfOk result (λ disk. (state_of disk).image ≡ replicate sectors (replicate 512 0)) }
+        ensures zeros { IfOk result (λ disk.
+            (state_of disk).image ≡ replicate sectors (replicate 512 0)) }
         ensures synced { IfOk result (λ disk. IsSynced (state_of disk)) }
         ensures same { IfOk result (λ disk. (state_of disk).synced ≡ (state_of disk).image) }
         ensures honest { IfOk result (λ disk. (state_of disk).is_honest) }
@@ -124,7 +127,8 @@ impl Disk for MemDisk {
 
     ghost counts_now = { λ m _ t left le now. inl now };
 
-    ghost only_now = { λ m _ left since. no_other m.history.first m.history.calls m.image.items m.loose.items left since };
+    ghost only_now = { λ m _ left since.
+        no_other m.history.first m.history.calls m.image.items m.loose.items left since };
 
     ghost may_lose = { λ m _. m.kept };
 

@@ -1,5 +1,6 @@
 //! The work on the fields of a device in memory.
-ghost use Rattle.std.specs.Prelude.{◌≡◌, ◌≤◌, ◌+◌, ℕ, length, replicate, slice_get, Some, false, IfOk};
+ghost use Rattle.std.specs.Prelude.{◌≡◌, ◌≤◌, ◌+◌, ℕ, length, replicate, slice_get, Some, false};
+ghost use Rattle.std.specs.Prelude.{IfOk};
 ghost use Rattle.lift_disk.specs.Disk.{ChangesWithin};
 ghost use Rattle.lift_disk.specs.Memory.{IsFlagged, IsWithin, LeavesBy};
 ghost use Rattle.lift_disk.specs.Runs.{HoldsRun, with_run};
@@ -73,8 +74,10 @@ pub(crate) fn write_sectors(sectors: &mut Vec<[u8; 512]>, from: usize, run: &[[u
 fn fill(sectors: &mut Vec<[u8; 512]>, loose: &[bool], byte: u8)
     requires { length loose.now ≡ length sectors.old.items }
     ensures size { length sectors.new.items ≡ length sectors.old.items }
-    ensures loose { (i : ℕ) → IsFlagged loose.now i → slice_get sectors.new.items i ≡ Some (replicate 512 byte) }
-    ensures others { (i : ℕ) → ¬ IsFlagged loose.now i → slice_get sectors.new.items i ≡ slice_get sectors.old.items i }
+    ensures loose { (i : ℕ) → IsFlagged loose.now i
+        → slice_get sectors.new.items i ≡ Some (replicate 512 byte) }
+    ensures others { (i : ℕ) → ¬ IsFlagged loose.now i
+        → slice_get sectors.new.items i ≡ slice_get sectors.old.items i }
 {
     for i in 0..loose.len() {
         if loose[i] {

@@ -1,6 +1,8 @@
 //! Devices that take several neighbouring sectors in one call.
 ghost use Rattle.std.specs.Prelude.{◌≡◌, ◌≤◌, ◌<◌, ◌+◌, ℕ, OnOk, OnErr, length};
-ghost use Rattle.lift_disk.specs.Disk.{StaysWritten, GoesOn, HasCause, FailsAsTold, FailsAsToldOrShort, TouchesNothing, StaysLoose, KeepsSynced, IsSteadyAt};
+ghost use Rattle.lift_disk.specs.Disk.{StaysWritten, GoesOn, HasCause, FailsAsTold};
+ghost use Rattle.lift_disk.specs.Disk.{FailsAsToldOrShort, TouchesNothing, StaysLoose, KeepsSynced};
+ghost use Rattle.lift_disk.specs.Disk.{IsSteadyAt};
 ghost use Rattle.lift_disk.specs.Runs.{Announces, HoldsRun, IsInRun, SettlesRun, joined, with_run};
 ghost use Rattle.lift_disk.specs.Trace.{Records};
 ghost use Rattle.lift_disk.specs.Trace.Access.{Read, Write};
@@ -12,8 +14,8 @@ pub const MOST_AHEAD: usize = 16;
 
 /// A device that also takes several neighbouring sectors in one call.
 pub trait RunDisk: Disk {
-    /// Says that a sector is to be written. It is no call: from now on a crash may leave any bytes at all in the sector,
-    /// as if its write had begun.
+    /// Says that a sector is to be written. It is no call: from now on a crash may leave any bytes
+    /// at all in the sector, as if its write had begun.
     fn announce(&mut self, sector: u32)
         requires { sector < (Self.state self.old).size }
         ensures { Announces sector (Self.state self.old) (Self.state self.new) };
@@ -29,33 +31,47 @@ pub trait RunDisk: Disk {
         requires inside { sector + count ≤ (Self.state self.old).size }
         ensures goes_on { GoesOn (Self.state self.old) (Self.state self.new) }
         ensures cause { HasCause result (Self.state self.old) (Self.state self.new) }
-        ensures counted { OnErr result ((Self.state self.new).failures ≡ (Self.state self.old).failures + 1) }
+        ensures counted { OnErr result ((Self.state self.new).failures
+            ≡ (Self.state self.old).failures + 1) }
         ensures told { FailsAsTold result (Self.state self.old) (Self.state self.new) }
         ensures writes { (Self.state self.new).writes ≡ (Self.state self.old).writes }
-        ensures recorded { Records result (Read sector) (Self.state self.old).trace (Self.state self.new).trace }
+        ensures recorded { Records result (Read sector) (Self.state self.old).trace
+            (Self.state self.new).trace }
         ensures written { OnOk result (StaysWritten (Self.state self.old) (Self.state self.new)) }
-        ensures touched { (Self.state self.old).is_honest → TouchesNothing (Self.state self.old) (Self.state self.new) }
-        ensures loose { (Self.state self.old).is_honest → StaysLoose (Self.state self.old) (Self.state self.new) }
-        ensures gives { OnOk result ((Self.state self.old).is_honest → HoldsRun sector count buffer.new (Self.state self.new).image) }
-        ensures steady { OnOk result ((Self.state self.old).is_honest → (Self.state self.old).is_steady
+        ensures touched { (Self.state self.old).is_honest
+            → TouchesNothing (Self.state self.old) (Self.state self.new) }
+        ensures loose { (Self.state self.old).is_honest
+            → StaysLoose (Self.state self.old) (Self.state self.new) }
+        ensures gives { OnOk result ((Self.state self.old).is_honest
+            → HoldsRun sector count buffer.new (Self.state self.new).image) }
+        ensures steady { OnOk result ((Self.state self.old).is_honest
+            → (Self.state self.old).is_steady
             → IsSteadyAt (Self.state self.old).image (Self.state self.new)) }
         ensures kept { KeepsSynced (Self.state self.old) (Self.state self.new) };
 
-    /// Writes these sectors from that one on, each of which was announced. Until a sync succeeds a crash may leave any
-    /// bytes at all in each of them, also where the write failed.
+    /// Writes these sectors from that one on, each of which was announced. Until a sync succeeds a
+    /// crash may leave any bytes at all in each of them, also where the write failed.
     fn write_run(&mut self, sector: u32, run: &[[u8; 512]]) -> Result<(), DiskFault>
         requires inside { sector + length run.now ≤ (Self.state self.old).size }
-        requires announced { (Self.state self.old).is_honest → (i : ℕ) → ¬ (Self.state self.old).is_loose i → ¬ IsInRun sector (length run.now) i }
+        requires announced { (Self.state self.old).is_honest → (i : ℕ)
+            → ¬ (Self.state self.old).is_loose i → ¬ IsInRun sector (length run.now) i }
         ensures goes_on { GoesOn (Self.state self.old) (Self.state self.new) }
         ensures cause { HasCause result (Self.state self.old) (Self.state self.new) }
-        ensures counted { OnErr result ((Self.state self.new).failures ≡ (Self.state self.old).failures + 1) }
+        ensures counted { OnErr result ((Self.state self.new).failures
+            ≡ (Self.state self.old).failures + 1) }
         ensures told { FailsAsToldOrShort result (Self.state self.old) (Self.state self.new) }
         ensures writes { (Self.state self.new).writes ≡ (Self.state self.old).writes + 1 }
-        ensures recorded { Records result (Write sector (joined run.now)) (Self.state self.old).trace (Self.state self.new).trace }
-        ensures settles { OnOk result ((Self.state self.old).is_honest → SettlesRun sector run.now (Self.state self.old) (Self.state self.new)) }
-        ensures touched { (Self.state self.old).is_honest → TouchesNothing (Self.state self.old) (Self.state self.new) }
-        ensures loose { (Self.state self.old).is_honest → StaysLoose (Self.state self.old) (Self.state self.new) }
-        ensures steady { OnOk result ((Self.state self.old).is_honest → (Self.state self.old).is_steady
-            → IsSteadyAt (with_run sector run.now (Self.state self.old).image) (Self.state self.new)) }
+        ensures recorded { Records result (Write sector (joined run.now))
+            (Self.state self.old).trace (Self.state self.new).trace }
+        ensures settles { OnOk result ((Self.state self.old).is_honest
+            → SettlesRun sector run.now (Self.state self.old) (Self.state self.new)) }
+        ensures touched { (Self.state self.old).is_honest
+            → TouchesNothing (Self.state self.old) (Self.state self.new) }
+        ensures loose { (Self.state self.old).is_honest
+            → StaysLoose (Self.state self.old) (Self.state self.new) }
+        ensures steady { OnOk result ((Self.state self.old).is_honest
+            → (Self.state self.old).is_steady
+            → IsSteadyAt (with_run sector run.now (Self.state self.old).image)
+            (Self.state self.new)) }
         ensures kept { KeepsSynced (Self.state self.old) (Self.state self.new) };
 }

@@ -24,7 +24,8 @@ pub(crate) fn offset_of(sector: u32) -> u64
     u64::from(sector) * SECTOR_BYTES
 }
 
-/// A device on anything that takes the calls of a file: each of its calls is one of the file's, at the sector's offset.
+/// A device on anything that takes the calls of a file: each of its calls is one of the file's, at
+/// the sector's offset.
 #[derive(Drop)]
 pub struct SectorFile<F: Drop> {
     file: TracedFile<F>,
@@ -78,13 +79,19 @@ impl<F: FileExt + OpenFile + Drop> Disk for SectorFile<F> {
 
     fn read(&mut self, sector: u32, buffer: &mut [u8; 512]) -> Result<(), DiskFault>
         // beside what each device promises: these are the bytes that its file gave
-        ensures given { OnOk result (calls_below self.new ≡ calls_below self.old ++ ReadBytes (sector * 512) buffer.new ∷ []) }
+        ensures given { OnOk result (calls_below self.new
+            ≡ calls_below self.old ++ ReadBytes (sector * 512) buffer.new ∷ []) }
         ensures goes_on { GoesOn (sector_file_state_of self.old) (sector_file_state_of self.new) }
-        ensures cause { HasCause result (sector_file_state_of self.old) (sector_file_state_of self.new) }
-        ensures counted { OnErr result ((sector_file_state_of self.new).failures ≡ (sector_file_state_of self.old).failures + 1) }
-        ensures told { FailsAsTold result (sector_file_state_of self.old) (sector_file_state_of self.new) }
-        ensures writes { (sector_file_state_of self.new).writes ≡ (sector_file_state_of self.old).writes }
-        ensures recorded { Records result (Read sector) (sector_file_state_of self.old).trace (sector_file_state_of self.new).trace }
+        ensures cause { HasCause result (sector_file_state_of self.old)
+            (sector_file_state_of self.new) }
+        ensures counted { OnErr result ((sector_file_state_of self.new).failures
+            ≡ (sector_file_state_of self.old).failures + 1) }
+        ensures told { FailsAsTold result (sector_file_state_of self.old)
+            (sector_file_state_of self.new) }
+        ensures writes { (sector_file_state_of self.new).writes
+            ≡ (sector_file_state_of self.old).writes }
+        ensures recorded { Records result (Read sector) (sector_file_state_of self.old).trace
+            (sector_file_state_of self.new).trace }
     {
         self.calls = ProofCount::next(&self.calls);
         if self.file.read(buffer, offset_of(sector)).is_err() {

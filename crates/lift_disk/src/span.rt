@@ -20,8 +20,10 @@ impl Span {
     /// The shortest span that has these sectors and one more.
     pub(crate) fn with(self, sector: u32) -> Span
         requires { self.from ≤ self.end }
-        ensures holds { (i : ℕ) → IsWithin self.from self.end i ⊎ (i ≡ sector) → IsWithin result.from result.end i }
-        ensures shortest { (from end : ℕ) → ((i : ℕ) → IsWithin self.from self.end i ⊎ (i ≡ sector) → IsWithin from end i)
+        ensures holds { (i : ℕ) → IsWithin self.from self.end i ⊎ (i ≡ sector)
+            → IsWithin result.from result.end i }
+        ensures shortest { (from end : ℕ)
+            → ((i : ℕ) → IsWithin self.from self.end i ⊎ (i ≡ sector) → IsWithin from end i)
             → (from ≤ result.from) × (result.end ≤ end) }
         ensures order { result.from ≤ result.end }
         ensures bound { (size : ℕ) → self.end ≤ size → sector < size → result.end ≤ size }

@@ -1,4 +1,5 @@
-//! The calls that have succeeded, as a list that only proofs read. It takes no memory, and its methods do nothing at run time.
+//! The calls that have succeeded, as a list that only proofs read. It takes no memory, and its
+//! methods do nothing at run time.
 ghost use Rattle.std.specs.Prelude.{◌≡◌, ◌++◌, [], ◌∷◌, List};
 ghost use Rattle.std.specs.Borrow.{ftrue};
 ghost use Rattle.lift_disk.specs.Trace.{Access, trace_code};

@@ -10,8 +10,8 @@ use std::fs::{File, Files, OpenFile, OpenOptions};
 use std::io;
 use std::os::unix::fs::FileExt;
 
-/// A file with the list of its calls that have succeeded and the count of those that have failed, which only proofs
-/// read. The only way to the file is by the calls below, so both bind.
+/// A file with the list of its calls that have succeeded and the count of those that have failed,
+/// which only proofs read. The only way to the file is by the calls below, so both bind.
 #[derive(Drop)]
 pub struct TracedFile<F: Drop> {
     file: F,
@@ -91,7 +91,8 @@ impl<F: FileExt + OpenFile + Drop> TracedFile<F> {
 
     /// Reads so many bytes as the buffer has from this offset on.
     pub(crate) fn read(&mut self, buffer: &mut [u8], offset: u64) -> Result<(), DiskFault>
-        ensures made { MakesCall result (Read offset buffer.new) (calls_of self.old) (calls_of self.new) (failures_of self.old) (failures_of self.new) }
+        ensures made { MakesCall result (Read offset buffer.new) (calls_of self.old)
+            (calls_of self.new) (failures_of self.old) (failures_of self.new) }
         ensures making { making_of self.new ≡ making_of self.old }
     {
         if self.file.read_exact_at(buffer, offset).is_err() {
@@ -104,7 +105,8 @@ impl<F: FileExt + OpenFile + Drop> TracedFile<F> {
 
     /// Writes these bytes from this offset on.
     pub(crate) fn write(&mut self, bytes: &[u8], offset: u64) -> Result<(), DiskFault>
-        ensures made { MakesCall result (Write offset bytes.now) (calls_of self.old) (calls_of self.new) (failures_of self.old) (failures_of self.new) }
+        ensures made { MakesCall result (Write offset bytes.now) (calls_of self.old)
+            (calls_of self.new) (failures_of self.old) (failures_of self.new) }
         ensures making { making_of self.new ≡ making_of self.old }
     {
         if self.file.write_all_at(bytes, offset).is_err() {
@@ -117,7 +119,8 @@ impl<F: FileExt + OpenFile + Drop> TracedFile<F> {
 
     /// By `fdatasync`: the bytes and what is needed to find them, without the file's times.
     pub(crate) fn sync(&mut self) -> Result<(), DiskFault>
-        ensures made { MakesCall result SyncData (calls_of self.old) (calls_of self.new) (failures_of self.old) (failures_of self.new) }
+        ensures made { MakesCall result SyncData (calls_of self.old) (calls_of self.new)
+            (failures_of self.old) (failures_of self.new) }
         ensures making { making_of self.new ≡ making_of self.old }
     {
         if self.file.sync_data().is_err() {

@@ -5,7 +5,8 @@ use std::fs;
 use std::process::Abort;
 use std::test::Fail;
 
-/// What is held back is read at once, over what was read ahead too; it is in the file once it was synced.
+/// What is held back is read at once, over what was read ahead too; it is in the file once it was
+/// synced.
 #[test]
 fn what_is_held_back_is_read_and_then_written(rt: HostRuntime) -> Result<(), Fail> {
     let path = "lift_disk_buffered.image";
@@ -49,7 +50,8 @@ fn what_is_held_back_is_read_and_then_written(rt: HostRuntime) -> Result<(), Fai
     Ok(())
 }
 
-/// Over 40 sectors of zeros 18 neighbours were written: the first 16 as one, the last two are still held back.
+/// Over 40 sectors of zeros 18 neighbours were written: the first 16 as one, the last two are still
+/// held back.
 fn holding<R: AllocGlobal + Abort>(rt: &R) -> Buffered<MemDisk> {
     let mut disk = Buffered::over(MemDisk::new(rt.alloc(), 40).ok().expect(rt, "memory"));
     for sector in 3..21 {
@@ -68,8 +70,8 @@ fn has<D: Disk>(disk: &mut D, bytes: [u8; 5]) -> bool {
         && get(disk, 21) == Some(behind)
 }
 
-/// What is held back is read; a cut loses it, and what was written but not synced is loose; a device over what is left
-/// begins anew.
+/// What is held back is read; a cut loses it, and what was written but not synced is loose; a
+/// device over what is left begins anew.
 #[test]
 fn a_cut_loses_what_is_held_back(rt: HostRuntime) {
     for (outcome, left) in [

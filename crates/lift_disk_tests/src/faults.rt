@@ -50,7 +50,8 @@ fn a_flaky_device_fails_one_call(rt: HostRuntime) {
     }
 }
 
-/// A failed write changes no byte, and makes its sector loose; the device in memory that is given back fails no call.
+/// A failed write changes no byte, and makes its sector loose; the device in memory that is given
+/// back fails no call.
 #[test]
 fn a_failed_write_spoils_its_sector(rt: HostRuntime) {
     let mut fuse = FuseDisk::new(memory(&rt));
@@ -70,7 +71,8 @@ fn a_failed_write_spoils_its_sector(rt: HostRuntime) {
     assert!(rt; holds(&mut inner.cut(Outcome::Fill(4)), [4, 4, 8, 4]));
 }
 
-/// Twenty rounds of calls on a device that was made: each succeeds, and it is never short of memory.
+/// Twenty rounds of calls on a device that was made: each succeeds, and it is never short of
+/// memory.
 #[test]
 fn a_call_takes_no_memory(rt: HostRuntime) {
     let Ok(inner) = MemDisk::new(rt.alloc(), 4) else {

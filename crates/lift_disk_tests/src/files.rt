@@ -29,7 +29,8 @@ fn a_file_keeps_its_sectors(rt: HostRuntime) -> Result<(), Fail> {
     Ok(())
 }
 
-/// Only whole sectors of a file count; a folder, a device of the system and a missing file are told.
+/// Only whole sectors of a file count; a folder, a device of the system and a missing file are
+/// told.
 #[test]
 fn what_is_no_device_is_refused(rt: HostRuntime) -> Result<(), Fail> {
     let path = "lift_disk_length.image";

@@ -1,4 +1,5 @@
-//! Tests of `lift_disk`: what no contract can say of memory and of a real file, and each public call once.
+//! Tests of `lift_disk`: what no contract can say of memory and of a real file, and each public
+//! call once.
 #![tactic(auto)]
 
 #[cfg(test)]

@@ -3,7 +3,8 @@ use crate::calls::{get, holds, put};
 use lift_disk::{Disk, MemDisk, Outcome};
 use std::process::Abort;
 
-/// Four sectors: 1 and 2 are safe in the first two, then 3 and 4 were written to the second and third, and a write of the fourth failed.
+/// Four sectors: 1 and 2 are safe in the first two, then 3 and 4 were written to the second and
+/// third, and a write of the fourth failed.
 fn written<R: AllocGlobal + Abort>(rt: &R) -> MemDisk {
     let mut disk = MemDisk::new(rt.alloc(), 4).ok().expect(rt, "memory");
     assert!(rt; put(&mut disk, 0, 1) && put(&mut disk, 1, 2));

@@ -7,7 +7,8 @@ use std::io;
 use std::os::unix::fs::FileExt;
 use std::test::Fail;
 
-/// Where the file was read and written last, how often it was synced, its length, and whether it was made safe with that.
+/// Where the file was read and written last, how often it was synced, its length, and whether it
+/// was made safe with that.
 #[derive(Drop)]
 struct Notes {
     read: Cell<u64>,

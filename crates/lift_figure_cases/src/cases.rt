@@ -1,4 +1,5 @@
-//! Cases as text: the lines of their files, the words of a line, and whether each case comes out as it says.
+//! Cases as text: the lines of their files, the words of a line, and whether each case comes out as
+//! it says.
 
 mod records;
 mod report;

@@ -120,8 +120,8 @@ pub(crate) fn rows_after(rows: &[Row], number: u8, dir: Dir) -> ArrayVec<Row, 32
     left
 }
 
-/// Whether a schedule that is changed so many times, by a fixed list of calls, stops and moves, is each time as from
-/// nothing. The building has ten floors.
+/// Whether a schedule that is changed so many times, by a fixed list of calls, stops and moves, is
+/// each time as from nothing. The building has ten floors.
 pub(crate) fn are_changes_as_from_nothing(building: &Building, count: u32, seed: u32) -> bool {
     let mut numbers = Numbers { seed };
     let mut rows: ArrayVec<Row, 32> = ArrayVec::new();

@@ -1,4 +1,5 @@
-//! Many calls and many commands, and whether each car's schedule is then as it is made from nothing.
+//! Many calls and many commands, and whether each car's schedule is then as it is made from
+//! nothing.
 ghost use Rattle.std.specs.Prelude.{◌<◌};
 ghost use Rattle.lift_policy.specs.View.{IsViewIn};
 
@@ -27,7 +28,8 @@ fn number(value: u32) -> Number {
     Number::new(value).unwrap_or_default()
 }
 
-/// The call of this place: of kiosks 0, at floor 0, and 1, at floor 5, in turn, to each of the other nine floors in turn.
+/// The call of this place: of kiosks 0, at floor 0, and 1, at floor 5, in turn, to each of the
+/// other nine floors in turn.
 fn call_at(place: u32) -> (Terminal, Number, Body) {
     let to = if place % 2 == 0 {
         1 + place / 2 % 9
@@ -64,7 +66,8 @@ fn plain_cost(building: &Building, view: &View, call: &NewCall, car: Letter) -> 
     }
 }
 
-/// Whether a schedule is that of these calls, and its halts are those that are made from nothing and call by call.
+/// Whether a schedule is that of these calls, and its halts are those that are made from nothing
+/// and call by call.
 fn is_as_from_nothing(schedule: &Schedule, rows: &[Row]) -> bool {
     if rows.len() > 32 {
         return false;
@@ -80,7 +83,8 @@ fn is_as_from_nothing(schedule: &Schedule, rows: &[Row]) -> bool {
         && schedule.next_stop() == next_stop(rows, *position)
 }
 
-/// Whether a car with so many calls has the halts and the cost of a new call that are made from nothing.
+/// Whether a car with so many calls has the halts and the cost of a new call that are made from
+/// nothing.
 fn is_car_as_from_nothing(
     building: &Building,
     view: &View,
@@ -149,8 +153,8 @@ impl Numbers {
         }
     }
 
-    /// Half are calls of the two kiosks; the others tell of the first three cars: of two each a stop where the car goes
-    /// next, and one of a stop and a place anywhere.
+    /// Half are calls of the two kiosks; the others tell of the first three cars: of two each a
+    /// stop where the car goes next, and one of a stop and a place anywhere.
     fn command(&mut self, decider: &Decider) -> (Terminal, Body) {
         let kind = self.next() % 8;
         let car = letter(self.next() % 3);
@@ -197,7 +201,8 @@ fn told(reply: &Reply, body: &Body) -> Option<Position> {
     }
 }
 
-/// Whether a car that told its position has the schedule of its open calls there; another has none, and no calls.
+/// Whether a car that told its position has the schedule of its open calls there; another has none,
+/// and no calls.
 fn is_car_right(decider: &Decider, car: Letter, position: &Option<Position>) -> bool {
     let rows = decider.register().open_rows(car);
     let view = decider.view();
@@ -210,8 +215,8 @@ fn is_car_right(decider: &Decider, car: Letter, position: &Option<Position>) -> 
     }
 }
 
-/// Whether each of the three cars' schedules is as from nothing after each of so many commands of a fixed list, and
-/// calls were served and many were open at once.
+/// Whether each of the three cars' schedules is as from nothing after each of so many commands of a
+/// fixed list, and calls were served and many were open at once.
 pub(crate) fn are_commands_as_from_nothing(decider: &mut Decider, count: u32, seed: u32) -> bool {
     let mut numbers = Numbers { seed };
     let mut positions = [None; 3];

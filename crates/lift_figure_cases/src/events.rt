@@ -40,8 +40,8 @@ fn plain_event(word: &str) -> Result<Event, Trouble> {
     }
 }
 
-/// An event of a verb and its words: `ask K0 1 call 5`, `take K0 A`, `take A`, `answer K0`, `hear K0`, `cut safe` or
-/// `reopen with-batch`.
+/// An event of a verb and its words: `ask K0 1 call 5`, `take K0 A`, `take A`, `answer K0`, `hear
+/// K0`, `cut safe` or `reopen with-batch`.
 fn event_of(words: &[&str]) -> Result<Event, Trouble> {
     match words {
         [word] => plain_event(word),
@@ -121,7 +121,8 @@ impl<'b> Run<'b> {
         Ok(())
     }
 
-    /// `run entries`: how many entries were accepted, how many of them are safe, and how many batches are queued.
+    /// `run entries`: how many entries were accepted, how many of them are safe, and how many
+    /// batches are queued.
     fn entries(&self, came: &mut String) -> Result<(), Trouble> {
         let (accepted, safe) = (self.world.accepted().len(), self.world.safe());
         let queued = self.world.queued();

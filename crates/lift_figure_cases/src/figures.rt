@@ -1,4 +1,5 @@
-//! What the lines of a case are put to: a car's trip, the calls of a group, its decisions, and a run of events.
+//! What the lines of a case are put to: a car's trip, the calls of a group, its decisions, and a
+//! run of events.
 use crate::cases::{Subject, Trouble, count_of, yes_or_no};
 use crate::changes::are_changes_as_from_nothing;
 use crate::events::Run;
@@ -30,7 +31,8 @@ impl<'b> Figures<'b> {
         }
     }
 
-    /// `changes 500 from 1 = yes`: whether a schedule is as from nothing after each of so many changes.
+    /// `changes 500 from 1 = yes`: whether a schedule is as from nothing after each of so many
+    /// changes.
     fn changes(&self, words: &[&str], came: &mut String) -> Result<(), Trouble> {
         match words {
             [count, _from, seed] => {

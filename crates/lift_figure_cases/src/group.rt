@@ -1,4 +1,5 @@
-//! The decisions of a group: what its terminals are answered, what each policy picks, and what calls cost each car.
+//! The decisions of a group: what its terminals are answered, what each policy picks, and what
+//! calls cost each car.
 ghost use Rattle.std.specs.Prelude.{◌<◌};
 ghost use Rattle.lift_policy.specs.View.{IsViewIn};
 
@@ -205,7 +206,8 @@ impl<'b> Calls<'b> {
         Ok(push_stop(came, stop)?)
     }
 
-    /// `group crowd 0 to 496`: the calls of a fixed list, by the fewest open calls; how many found a car.
+    /// `group crowd 0 to 496`: the calls of a fixed list, by the fewest open calls; how many found
+    /// a car.
     fn crowd(&mut self, words: &[&str], came: &mut String) -> Result<(), Trouble> {
         match words {
             [from, _to, to] => {
@@ -217,7 +219,8 @@ impl<'b> Calls<'b> {
         }
     }
 
-    /// `group same 31`: whether each of 16 cars has so many calls, and halts and costs as from nothing.
+    /// `group same 31`: whether each of 16 cars has so many calls, and halts and costs as from
+    /// nothing.
     fn same(&self, words: &[&str], came: &mut String) -> Result<(), Trouble> {
         match words {
             [count] => {
@@ -231,8 +234,9 @@ impl<'b> Calls<'b> {
         }
     }
 
-    /// `group commands 500 from 7`: a fixed list of commands, after each of which each car's schedule is as from nothing;
-    /// then the register has calls that were served, and had many that were open at once.
+    /// `group commands 500 from 7`: a fixed list of commands, after each of which each car's
+    /// schedule is as from nothing; then the register has calls that were served, and had many that
+    /// were open at once.
     fn commands(&mut self, words: &[&str], came: &mut String) -> Result<(), Trouble> {
         match words {
             [count, _from, seed] => {

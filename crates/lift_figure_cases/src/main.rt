@@ -1,5 +1,5 @@
-//! Tries the cases of the files that its words name: stop lists, schedules, times, costs, picks, registers, decisions
-//! and runs of events.
+//! Tries the cases of the files that its words name: stop lists, schedules, times, costs, picks,
+//! registers, decisions and runs of events.
 #![tactic(auto)]
 
 mod cases;

@@ -1,4 +1,5 @@
-//! One car with its calls: its halts, when it is there, and what calls cost, each by all ways that there are.
+//! One car with its calls: its halts, when it is there, and what calls cost, each by all ways that
+//! there are.
 ghost use Rattle.std.specs.Prelude.{◌≡◌, ◌<◌, ◌≤◌, length, true};
 ghost use Rattle.lift_cost.specs.Calls.{AreWithin};
 
@@ -81,7 +82,8 @@ pub(crate) fn are_within(floors: u8, rows: &[Row]) -> bool
     true
 }
 
-/// The total cost and the degradation of a new call from nothing; none where a floor or a place is missing.
+/// The total cost and the degradation of a new call from nothing; none where a floor or a place is
+/// missing.
 pub(crate) fn plain_costs(
     building: &Building,
     position: &Position,
@@ -287,7 +289,8 @@ impl Trip {
         Ok(push_numbers(came, &moments)?)
     }
 
-    /// `car cost 0 3 x2`: the total cost of a new call, and how much of it is the delay of other passengers, in ms.
+    /// `car cost 0 3 x2`: the total cost of a new call, and how much of it is the delay of other
+    /// passengers, in ms.
     fn cost(&self, building: &Building, words: &[&str], came: &mut String) -> Result<(), Trouble> {
         let call = &call_of(words)?;
         let costs = plain_costs(building, &self.position, &self.rows, call).ok_or(Trouble::Words)?;
@@ -298,7 +301,8 @@ impl Trip {
         Ok(write!(came, "{cost} {delay}")?)
     }
 
-    /// `car times`: until each of its calls' passengers are where they go, in ms, in order of allotment.
+    /// `car times`: until each of its calls' passengers are where they go, in ms, in order of
+    /// allotment.
     fn times(&self, building: &Building, came: &mut String) -> Result<(), Trouble> {
         for row in &self.rows {
             let time = etd(building, self.position, &self.rows, row);

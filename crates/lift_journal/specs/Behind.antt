@@ -6,7 +6,8 @@ use Rattle.lift_disk.specs.Disk.{DiskState, Image}
 use Rattle.lift_disk.specs.Trace.{Access}
 use Rattle.lift_disk.specs.Trace.Access.{Read, Sync}
 use Rattle.lift_journal.specs.declared.fault.JournalFault.{JournalFault}
-use Rattle.lift_journal.specs.declared.fault.JournalFault.TheVariants.{Disk, NotFormatted, Damaged, Full, Broken}
+use Rattle.lift_journal.specs.declared.fault.JournalFault.TheVariants.{Disk, NotFormatted, Damaged}
+use Rattle.lift_journal.specs.declared.fault.JournalFault.TheVariants.{Full, Broken}
 use Rattle.lift_journal.specs.Layout.{Batch}
 use Rattle.lift_journal.specs.Walk.{Reaches, IsDamagedAt}
 use Rattle.lift_journal.specs.Calls.{reads_from, StopsIn}
@@ -19,9 +20,10 @@ pub record IsHalf (size start end : ℕ) : Type 0 where
   pub starts : (start ≡ 2) ⊎ (start ≡ shape.half + 2)
   pub ends : end ≡ start + shape.half
 
--- Behind those calls a half was read in a row, up to a gate that batches reach, and two sectors behind it at most. The call
--- for the next one failed.
-pub record FailsIn (before : List Access) (start end : ℕ) (is_known : Type 0) (image : Image) (old new : DiskState) : Type 0 where
+-- Behind those calls a half was read in a row, up to a gate that batches reach, and two sectors
+-- behind it at most. The call for the next one failed.
+pub record FailsIn (before : List Access) (start end : ℕ) (is_known : Type 0) (image : Image)
+    (old new : DiskState) : Type 0 where
   pub gate : ℕ
   pub more : ℕ
   pub low : start ≤ gate
@@ -30,8 +32,10 @@ pub record FailsIn (before : List Access) (start end : ℕ) (is_known : Type 0) 
   pub made : new.trace ≡ old.trace ++ (before ++ reads_from start (gate - start + more))
   pub reached : is_known → (batches : List Batch) × Reaches image start end gate batches
 
--- Behind those calls a half was read in a row, up to the sector that is damaged, and two behind it at most.
-pub record FindsIn (sector : ℕ) (before : List Access) (start end : ℕ) (is_known : Type 0) (image : Image) (old new : DiskState) : Type 0 where
+-- Behind those calls a half was read in a row, up to the sector that is damaged, and two behind it
+-- at most.
+pub record FindsIn (sector : ℕ) (before : List Access) (start end : ℕ) (is_known : Type 0)
+    (image : Image) (old new : DiskState) : Type 0 where
   pub more : ℕ
   pub low : start ≤ sector
   pub few : more ≤ 2
@@ -40,31 +44,39 @@ pub record FindsIn (sector : ℕ) (before : List Access) (start end : ℕ) (is_k
   pub damaged : is_known → IsDamagedAt image start end sector
 
 -- this has ended the reading of a half
-abbrev pub EndsIn : JournalFault → List Access → ℕ → ℕ → Type 0 → Image → DiskState → DiskState → Type 0
-EndsIn Disk before start end is_known image old new = FailsIn before start end is_known image old new
+abbrev pub EndsIn : JournalFault → List Access → ℕ → ℕ → Type 0 → Image → DiskState → DiskState
+    → Type 0
+EndsIn Disk before start end is_known image old new =
+    FailsIn before start end is_known image old new
 EndsIn NotFormatted before start end is_known image old new = ⊥
-EndsIn (Damaged sector) before start end is_known image old new = FindsIn sector before start end is_known image old new
+EndsIn (Damaged sector) before start end is_known image old new =
+    FindsIn sector before start end is_known image old new
 EndsIn Full before start end is_known image old new = ⊥
 EndsIn Broken before start end is_known image old new = ⊥
 
 -- the same of one of the halves
 abbrev pub EndsInHalf : JournalFault → List Access → Type 0 → Image → DiskState → DiskState → Type 0
-EndsInHalf fault before is_known image old new = (start end : ℕ) × IsHalf old.size start end × EndsIn fault before start end is_known image old new
+EndsInHalf fault before is_known image old new = (start end : ℕ) × IsHalf old.size start end
+    × EndsIn fault before start end is_known image old new
 
 -- what was read of a stamp that was refused
 abbrev pub StampBehind : JournalFault → DiskState → DiskState → Type 0
 StampBehind Disk old new = new.trace ≡ old.trace
-StampBehind NotFormatted old new = (old.size < 2) × (new.trace ≡ old.trace) ⊎ (2 ≤ old.size) × (new.trace ≡ old.trace ++ Read 1 ∷ [])
+StampBehind NotFormatted old new = (old.size < 2) × (new.trace ≡ old.trace)
+    ⊎ (2 ≤ old.size) × (new.trace ≡ old.trace ++ Read 1 ∷ [])
 StampBehind (Damaged sector) old new = ⊥
 StampBehind Full old new = ⊥
 StampBehind Broken old new = ⊥
 
--- Which calls an opening has made that was refused: the sync, the stamp and the pick, and then a half up to the sector that
--- refuses it, each of them as far as it came.
+-- Which calls an opening has made that was refused: the sync, the stamp and the pick, and then a
+-- half up to the sector that refuses it, each of them as far as it came.
 abbrev pub RefusedBehind : JournalFault → DiskState → DiskState → Type 0
-RefusedBehind Disk old new = StopsIn (Sync ∷ Read 1 ∷ Read 0 ∷ []) old new ⊎ EndsInHalf Disk (Sync ∷ Read 1 ∷ Read 0 ∷ []) old.is_honest new.image old new
+RefusedBehind Disk old new = StopsIn (Sync ∷ Read 1 ∷ Read 0 ∷ []) old new
+    ⊎ EndsInHalf Disk (Sync ∷ Read 1 ∷ Read 0 ∷ []) old.is_honest new.image old new
 RefusedBehind NotFormatted old new =
-    (old.size < 2) × (new.trace ≡ old.trace ++ Sync ∷ []) ⊎ (2 ≤ old.size) × (new.trace ≡ old.trace ++ Sync ∷ Read 1 ∷ [])
-RefusedBehind (Damaged sector) old new = EndsInHalf (Damaged sector) (Sync ∷ Read 1 ∷ Read 0 ∷ []) old.is_honest new.image old new
+    (old.size < 2) × (new.trace ≡ old.trace ++ Sync ∷ [])
+    ⊎ (2 ≤ old.size) × (new.trace ≡ old.trace ++ Sync ∷ Read 1 ∷ [])
+RefusedBehind (Damaged sector) old new =
+    EndsInHalf (Damaged sector) (Sync ∷ Read 1 ∷ Read 0 ∷ []) old.is_honest new.image old new
 RefusedBehind Full old new = ⊥
 RefusedBehind Broken old new = ⊥

@@ -1,5 +1,6 @@
 -- Which calls of the device a format, an append, a checkpoint and an opening make, in their order.
-use Rattle.std.specs.Prelude.{◌≡◌, ◌≤◌, ◌<◌, ◌+◌, ◌++◌, ℕ, zero, suc, Bool, if◌then◌else◌, List, [], ◌∷◌, length, take, drop, Result, OnOk, OnErr}
+use Rattle.std.specs.Prelude.{◌≡◌, ◌≤◌, ◌<◌, ◌+◌, ◌++◌, ℕ, zero, suc, Bool, if◌then◌else◌, List, []}
+use Rattle.std.specs.Prelude.{◌∷◌, length, take, drop, Result, OnOk, OnErr}
 use Rattle.lift_base.specs.declared.history.Shape.{Shape}
 use Rattle.lift_disk.specs.Disk.{DiskState, Image}
 use Rattle.lift_disk.specs.Trace.{Access}
@@ -27,29 +28,37 @@ puts sector bytes = Write sector bytes ∷ Sync ∷ []
 
 -- The first half is picked and its first gate is closed; once that is safe, the stamp is written.
 abbrev pub format_calls : Shape → List Access
-format_calls shape = (Write 0 unmarked ∷ Write 2 unmarked ∷ Sync ∷ []) ++ puts 1 (filled 1 (stamp_bytes shape))
+format_calls shape = (Write 0 unmarked ∷ Write 2 unmarked ∷ Sync ∷ [])
+    ++ puts 1 (filled 1 (stamp_bytes shape))
 
--- Behind the closed gate the body is written and another closed gate; once that is safe, the gate is opened.
+-- Behind the closed gate the body is written and another closed gate; once that is safe, the gate
+-- is opened.
 abbrev pub append_calls : ℕ → Image → List Access
-append_calls gate body = (writes_from (gate + 1) body ++ Write (gate + 1 + length body) unmarked ∷ Sync ∷ []) ++ puts gate marked
+append_calls gate body =
+    (writes_from (gate + 1) body ++ Write (gate + 1 + length body) unmarked ∷ Sync ∷ [])
+    ++ puts gate marked
 
 -- the sectors of a batch's body
 abbrev pub body_of : ℕ → Batch → Image
-body_of number batch = let text = filled 2 (batch_bytes number batch) in take (size_of batch) (take 512 text ∷ drop 512 text ∷ [])
+body_of number batch = let text = filled 2 (batch_bytes number batch) in
+    take (size_of batch) (take 512 text ∷ drop 512 text ∷ [])
 
 -- Batches are written in a row, from this number on: each its body, and then its gate open.
 abbrev pub draft_calls : (gate number : ℕ) → List Batch → List Access
 draft_calls gate number [] = []
 draft_calls gate number (batch ∷ batches) =
-    (writes_from (gate + 1) (body_of number batch) ++ Write gate marked ∷ []) ++ draft_calls (gate + (1 + size_of batch)) (number + 1) batches
+    (writes_from (gate + 1) (body_of number batch) ++ Write gate marked ∷ [])
+    ++ draft_calls (gate + (1 + size_of batch)) (number + 1) batches
 
 -- what is written to pick a half
 abbrev pub pick_of : Bool → List ℕ
 pick_of is_second = if is_second then marked else unmarked
 
--- From this sector on the batches of a checkpoint are written, and behind them a closed gate is made safe; then the pick.
+-- From this sector on the batches of a checkpoint are written, and behind them a closed gate is
+-- made safe; then the pick.
 abbrev pub checkpoint_calls : ℕ → List ℕ → List Batch → List Access
-checkpoint_calls start pick batches = draft_calls start 1 batches ++ (puts (start + used batches) unmarked ++ puts 0 pick)
+checkpoint_calls start pick batches =
+    draft_calls start 1 batches ++ (puts (start + used batches) unmarked ++ puts 0 pick)
 
 -- So many calls of these were made, and not all.
 pub record StopsIn (calls : List Access) (old new : DiskState) : Type 0 where
@@ -58,18 +67,22 @@ pub record StopsIn (calls : List Access) (old new : DiskState) : Type 0 where
   pub made : new.trace ≡ old.trace ++ take count calls
 
 -- These calls were made, one after another; where one failed, those before it.
-pub record Follows {T E : Type 0} (result : Result T E) (calls : List Access) (old new : DiskState) : Type 0 where
+pub record Follows {T E : Type 0} (result : Result T E) (calls : List Access)
+    (old new : DiskState) : Type 0 where
   pub all : OnOk result (new.trace ≡ old.trace ++ calls)
   pub front : OnErr result (StopsIn calls old new)
 
 -- from this sector on some were read in a row, each once: so many at most, and none from the end on
 abbrev pub HasRead : (first most end : ℕ) → DiskState → DiskState → Type 0
-HasRead first most end old new = (count : ℕ) × (count ≤ most) × (first + count ≤ end) × (new.trace ≡ old.trace ++ reads_from first count)
+HasRead first most end old new = (count : ℕ) × (count ≤ most) × (first + count ≤ end)
+    × (new.trace ≡ old.trace ++ reads_from first count)
 
 -- this sector was read, and two behind it at most, in a row below the end
 abbrev pub HasReadAt : (sector end : ℕ) → DiskState → DiskState → Type 0
-HasReadAt sector end old new = (more : ℕ) × (more ≤ 2) × (sector + more < end) × (new.trace ≡ old.trace ++ reads_from sector (1 + more))
+HasReadAt sector end old new = (more : ℕ) × (more ≤ 2) × (sector + more < end)
+    × (new.trace ≡ old.trace ++ reads_from sector (1 + more))
 
--- The opening of a device: a sync, the stamp, the pick, and so many sectors of the picked half in a row.
+-- The opening of a device: a sync, the stamp, the pick, and so many sectors of the picked half in a
+-- row.
 abbrev pub opening_calls : ℕ → ℕ → List Access
 opening_calls start count = Sync ∷ Read 1 ∷ Read 0 ∷ reads_from start count

@@ -1,7 +1,8 @@
 -- The numbers by which reports and fault lines name faults.
 use Rattle.std.specs.Prelude.{ℕ}
 use Rattle.lift_journal.specs.declared.fault.JournalFault.{JournalFault}
-use Rattle.lift_journal.specs.declared.fault.JournalFault.TheVariants.{Disk, NotFormatted, Damaged, Full, Broken}
+use Rattle.lift_journal.specs.declared.fault.JournalFault.TheVariants.{Disk, NotFormatted, Damaged}
+use Rattle.lift_journal.specs.declared.fault.JournalFault.TheVariants.{Full, Broken}
 
 abbrev pub fault_number : JournalFault → ℕ
 fault_number Disk = 1

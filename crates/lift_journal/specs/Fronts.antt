@@ -3,7 +3,8 @@ use Rattle.std.specs.Prelude.{◌≤◌, ◌+◌}
 use Rattle.lift_record.specs.Version.{version_number}
 use Rattle.lift_journal.specs.declared.batch.Stored.{Stored}
 use Rattle.lift_journal.specs.declared.fault.JournalFault.{JournalFault}
-use Rattle.lift_journal.specs.declared.fault.JournalFault.TheVariants.{Disk, NotFormatted, Damaged, Full, Broken}
+use Rattle.lift_journal.specs.declared.fault.JournalFault.TheVariants.{Disk, NotFormatted, Damaged}
+use Rattle.lift_journal.specs.declared.fault.JournalFault.TheVariants.{Full, Broken}
 use Rattle.lift_journal.specs.declared.walk.Front.{Front}
 use Rattle.lift_journal.specs.Layout.{bodies}
 use Rattle.lift_journal.specs.Order.{IsInOrderBehind, last_behind}

@@ -1,5 +1,6 @@
 -- A journal, as its callers see it.
-use Rattle.std.specs.Prelude.{◌≡◌, ◌⊎◌, ◌<◌, ◌≤◌, ◌+◌, ◌*◌, ℕ, Bool, true, false, List, ◌++◌, Option, Some, None, length, take, slice_get, All}
+use Rattle.std.specs.Prelude.{◌≡◌, ◌⊎◌, ◌<◌, ◌≤◌, ◌+◌, ◌*◌, ℕ, Bool, true, false, List, ◌++◌}
+use Rattle.std.specs.Prelude.{Option, Some, None, length, take, slice_get, All}
 use Rattle.std.specs.Option.{option_map}
 use Rattle.lift_base.specs.declared.history.Record.{Record}
 use Rattle.lift_base.specs.declared.history.Shape.{Shape}
@@ -54,13 +55,15 @@ pub record StandsAt (shape : Shape) (start gate number : ℕ) (disk : DiskState)
   pub at : gate ≡ start_of shape.half disk.image + used batches
   pub counts : number ≡ 1 + length batches
 
-pub record IsJournal (shape : Shape) (start gate number : ℕ) (is_broken : Bool) (opened : ℕ) (disk : DiskState) : Type 0 where
+pub record IsJournal (shape : Shape) (start gate number : ℕ) (is_broken : Bool) (opened : ℕ)
+    (disk : DiskState) : Type 0 where
   pub place : HasPlace disk.size shape start gate number
   pub counted : opened ≤ disk.failures
   pub failed : is_broken ≡ true → opened < disk.failures
   pub stands : is_broken ≡ false → disk.is_honest → StandsAt shape start gate number disk
 
--- what a caller sees of a cursor: the sectors of the half before its gate, and how many batches it has given
+-- what a caller sees of a cursor: the sectors of the half before its gate, and how many batches it
+-- has given
 pub record CursorView : Type 0 where
   pub skipped : ℕ
   pub given : ℕ

@@ -1,5 +1,7 @@
 -- Which batches an image holds. This looks at one image at rest.
-use Rattle.std.specs.Prelude.{◌≡◌, ◌<◌, ◌≤◌, ◌+◌, ◌-◌, ◌*◌, ℕ, suc, Bool, true, false, if◌then◌else◌, ◌==◌, nat_lt, List, [], ◌∷◌, ◌++◌, length, take, drop, replicate, slice_get, unwrap_or, All}
+use Rattle.std.specs.Prelude.{◌≡◌, ◌<◌, ◌≤◌, ◌+◌, ◌-◌, ◌*◌, ℕ, suc, Bool, true, false}
+use Rattle.std.specs.Prelude.{if◌then◌else◌, ◌==◌, nat_lt, List, [], ◌∷◌, ◌++◌, length, take, drop}
+use Rattle.std.specs.Prelude.{replicate, slice_get, unwrap_or, All}
 use Rattle.std.specs.Int.{w32, to_be_bytes}
 use Rattle.std.specs.List.{concat, flat_map}
 use Rattle.lift_base.specs.declared.history.Record.{Record}
@@ -60,7 +62,8 @@ pub record IsRecordIn (version : Version) (content : Record) : Type 0 where
 -- the header of a batch with this number, and its records
 abbrev pub batch_bytes : ℕ → Batch → List ℕ
 batch_bytes number batch =
-    header_bytes batch.version (length batch.records) number ++ flat_map (spelling_of batch.version) batch.records
+    header_bytes batch.version (length batch.records) number
+    ++ flat_map (spelling_of batch.version) batch.records
 
 -- these sectors hold the batch: the header, the records and zeros
 pub record IsBody (number : ℕ) (batch : Batch) (sectors : Image) : Type 0 where
@@ -69,14 +72,15 @@ pub record IsBody (number : ℕ) (batch : Batch) (sectors : Image) : Type 0 wher
   pub lawful : All (IsRecordIn batch.version) batch.records
   pub spelled : concat sectors ≡ filled (size_of batch) (batch_bytes number batch)
 
--- From their first sector on these hold the batches, the first of them with this number: each batch behind an open
--- gate, and a closed gate at the end.
+-- From their first sector on these hold the batches, the first of them with this number: each batch
+-- behind an open gate, and a closed gate at the end.
 abbrev pub IsChain : List Batch → ℕ → Image → Type 0
 IsChain [] number [] = ⊥
 IsChain [] number (gate ∷ rest) = IsClosed gate
 IsChain (batch ∷ batches) number [] = ⊥
 IsChain (batch ∷ batches) number (gate ∷ rest) =
-    IsOpen gate × IsBody number batch (take (size_of batch) rest) × IsChain batches (number + 1) (drop (size_of batch) rest)
+    IsOpen gate × IsBody number batch (take (size_of batch) rest)
+    × IsChain batches (number + 1) (drop (size_of batch) rest)
 
 -- From this version on versions never fall.
 abbrev pub NeverFall : Version → List Batch → Type 0
@@ -104,7 +108,8 @@ start_of half image = if picks_second image then half + 2 else 2
 -- the name of the format, the numbers of floors, cars and kiosks, and the sectors of a half
 abbrev pub stamp_bytes : Shape → List ℕ
 stamp_bytes shape =
-    76 ∷ 73 ∷ 70 ∷ 84 ∷ 74 ∷ 82 ∷ 78 ∷ 76 ∷ shape.floors ∷ shape.cars ∷ shape.kiosks ∷ 0 ∷ to_be_bytes w32 shape.half
+    76 ∷ 73 ∷ 70 ∷ 84 ∷ 74 ∷ 82 ∷ 78 ∷ 76 ∷ shape.floors ∷ shape.cars ∷ shape.kiosks ∷ 0
+    ∷ to_be_bytes w32 shape.half
 
 -- a formatted image of this shape
 pub record IsStamped (shape : Shape) (image : Image) : Type 0 where
@@ -112,7 +117,8 @@ pub record IsStamped (shape : Shape) (image : Image) : Type 0 where
   pub size : 2 * shape.half + 2 ≤ length image
   pub stamp : sector_at image 1 ≡ filled 1 (stamp_bytes shape)
 
--- batches that may stand in one chain: versions never fall, and the records are a checkpoint or none, and then entries
+-- batches that may stand in one chain: versions never fall, and the records are a checkpoint or
+-- none, and then entries
 pub record IsSound (batches : List Batch) : Type 0 where
   pub versions : NeverFall One batches
   pub ordered : IsInOrder (records_of batches)
@@ -125,7 +131,8 @@ pub record Holds (shape : Shape) (batches : List Batch) (image : Image) : Type 0
   pub sound : IsSound batches
 
 -- the image holds these batches, in this half
-pub record HoldsIn (shape : Shape) (is_second : Bool) (batches : List Batch) (image : Image) : Type 0 where
+pub record HoldsIn (shape : Shape) (is_second : Bool) (batches : List Batch)
+    (image : Image) : Type 0 where
   pub holds : Holds shape batches image
   pub picks : Picks is_second image
 
@@ -134,7 +141,8 @@ abbrev pub IsBehind : ℕ → ℕ → Type 0
 IsBehind gate i = gate < i
 
 -- Behind the closed gate at the end stands one batch more, and a closed gate behind it.
-pub record IsPrepared (shape : Shape) (batches : List Batch) (batch : Batch) (gate : ℕ) (image : Image) : Type 0 where
+pub record IsPrepared (shape : Shape) (batches : List Batch) (batch : Batch) (gate : ℕ)
+    (image : Image) : Type 0 where
   pub holds : Holds shape batches image
   pub at : gate ≡ start_of shape.half image + used batches
   pub room : used batches + size_of batch + 2 ≤ shape.half

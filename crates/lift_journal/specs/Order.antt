@@ -1,5 +1,6 @@
--- In which order records stand: first the open calls of a checkpoint by rising car, then the last commands of its
--- terminals by rising terminal, then its count of done calls; behind it, or without one, entries.
+-- In which order records stand: first the open calls of a checkpoint by rising car, then the last
+-- commands of its terminals by rising terminal, then its count of done calls; behind it, or without
+-- one, entries.
 use Rattle.std.specs.Prelude.{ℕ, ◌<◌, ◌≤◌, List, [], ◌∷◌, Option, Some, None}
 use Rattle.lift_base.specs.declared.history.Record.{Record}
 use Rattle.lift_base.specs.declared.history.Record.TheVariants.{Allot, Stop, Row, Last, Done}

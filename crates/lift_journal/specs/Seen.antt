@@ -1,5 +1,6 @@
 -- What is read of a batch.
-use Rattle.std.specs.Prelude.{◌≡◌, ◌+◌, ◌*◌, ◌-◌, ◌++◌, ◌<◌, ◌≤◌, ℕ, List, Option, Some, None, length, take, replicate, All}
+use Rattle.std.specs.Prelude.{◌≡◌, ◌+◌, ◌*◌, ◌-◌, ◌++◌, ◌<◌, ◌≤◌, ℕ, List, Option, Some, None}
+use Rattle.std.specs.Prelude.{length, take, replicate, All}
 use Rattle.std.specs.List.{flat_map}
 use Rattle.lift_base.specs.declared.history.Record.{Record}
 use Rattle.lift_record.specs.declared.version.Version.{Version}
@@ -12,7 +13,8 @@ use Rattle.lift_journal.specs.Layout.{Batch, IsRecordIn, IsOpen, IsClosed, secto
 use Rattle.lift_journal.specs.Walk.{IsBatchAt}
 
 -- the text begins with so many records
-pub record IsRecordsIn (version : Version) (text : List ℕ) (count : ℕ) (records : List Record) : Type 0 where
+pub record IsRecordsIn (version : Version) (text : List ℕ) (count : ℕ)
+    (records : List Record) : Type 0 where
   pub counted : length records ≡ count
   pub lawful : All (IsRecordIn version) records
   pub spelled : flat_map (spelling_of version) records ≡ take (16 * count) text
@@ -20,7 +22,8 @@ pub record IsRecordsIn (version : Version) (text : List ℕ) (count : ℕ) (reco
 -- the records and zeros, as they stand behind the header in two sectors
 pub record IsTailOf (version : Version) (records : List Record) (tail : List ℕ) : Type 0 where
   pub lawful : All (IsRecordIn version) records
-  pub spelled : tail ≡ flat_map (spelling_of version) records ++ replicate (1008 - 16 * length records) 0
+  pub spelled : tail ≡ flat_map (spelling_of version) records
+      ++ replicate (1008 - 16 * length records) 0
 
 -- zeros in place of a second body sector
 abbrev pub zeros : List ℕ
@@ -44,5 +47,7 @@ ShowsBody image gate end number (Some stored) = IsBatchAt image gate end number 
 -- this stands at a gate
 abbrev pub ShowsAt : Image → ℕ → ℕ → ℕ → AtGate → Type 0
 ShowsAt image gate end number Closed = IsClosed (sector_at image gate)
-ShowsAt image gate end number (BatchAt stored) = IsOpen (sector_at image gate) × IsBatchAt image gate end number (batch_of stored)
-ShowsAt image gate end number Damaged = IsOpen (sector_at image gate) × ((batch : Batch) → ¬ IsBatchAt image gate end number batch)
+ShowsAt image gate end number (BatchAt stored) = IsOpen (sector_at image gate)
+    × IsBatchAt image gate end number (batch_of stored)
+ShowsAt image gate end number Damaged = IsOpen (sector_at image gate)
+    × ((batch : Batch) → ¬ IsBatchAt image gate end number batch)

@@ -1,10 +1,13 @@
 -- What the steps of a call do to a device, and what they leave of its image.
-use Rattle.std.specs.Prelude.{◌≡◌, ◌⊎◌, ◌<◌, ◌≤◌, ◌+◌, ℕ, List, [], ◌∷◌, ◌++◌, length, take, drop, Result, OnOk, OnErr, IfErr}
+use Rattle.std.specs.Prelude.{◌≡◌, ◌⊎◌, ◌<◌, ◌≤◌, ◌+◌, ℕ, List, [], ◌∷◌, ◌++◌, length, take, drop}
+use Rattle.std.specs.Prelude.{Result, OnOk, OnErr, IfErr}
 use Rattle.lift_base.specs.declared.history.Shape.{Shape}
 use Rattle.lift_disk.specs.Disk.{DiskState, Image, IsSynced, KeepsImage, RunsOn, TouchesOnly}
 use Rattle.lift_journal.specs.declared.fault.JournalFault.{JournalFault}
-use Rattle.lift_journal.specs.declared.fault.JournalFault.TheVariants.{Disk, NotFormatted, Damaged, Full, Broken}
-use Rattle.lift_journal.specs.Layout.{Batch, filled, Holds, IsBody, size_of, used, start_of, IsSound}
+use Rattle.lift_journal.specs.declared.fault.JournalFault.TheVariants.{Disk, NotFormatted, Damaged}
+use Rattle.lift_journal.specs.declared.fault.JournalFault.TheVariants.{Full, Broken}
+use Rattle.lift_journal.specs.Layout.{Batch, filled, Holds, IsBody, size_of, used, start_of}
+use Rattle.lift_journal.specs.Layout.{IsSound}
 use Rattle.lift_journal.specs.Told.{NoneFails, LastFails}
 
 -- these sectors stand in a row from the first one on, and the others are as they were
@@ -32,15 +35,18 @@ pub record IsSyncedAt (image : Image) (disk : DiskState) : Type 0 where
   pub same : disk.image ≡ image
 
 -- A run of so many calls, so many of them writes, that stops at the first that fails.
-pub record Makes {T E : Type 0} (result : Result T E) (made written : ℕ) (old new : DiskState) : Type 0 where
+pub record Makes {T E : Type 0} (result : Result T E) (made written : ℕ)
+    (old new : DiskState) : Type 0 where
   pub calls : OnOk result (new.calls ≡ old.calls + made)
   pub writes : OnOk result (new.writes ≡ old.writes + written)
   pub most_calls : new.calls ≤ old.calls + made
   pub most_writes : new.writes ≤ old.writes + written
 
--- What a cut that loses would leave of an inert device: what it would have left before, or what is read.
+-- What a cut that loses would leave of an inert device: what it would have left before, or what is
+-- read.
 abbrev pub SavesAsRead : DiskState → DiskState → Type 0
-SavesAsRead old new = old.is_honest → old.is_inert → (new.synced ≡ old.synced) ⊎ (new.synced ≡ new.image)
+SavesAsRead old new = old.is_honest → old.is_inert → (new.synced ≡ old.synced)
+    ⊎ (new.synced ≡ new.image)
 
 -- calls that wrote nothing
 pub record ReadsOnly (old new : DiskState) : Type 0 where
@@ -76,13 +82,16 @@ HasItsCause Full old new = ReadsWell old new
 HasItsCause Broken old new = ReadsWell old new
 
 -- calls that write nothing, and what they have found
-pub record Examines {T : Type 0} (result : Result T JournalFault) (old new : DiskState) : Type 0 where
+pub record Examines {T : Type 0} (result : Result T JournalFault)
+    (old new : DiskState) : Type 0 where
   pub only : ReadsOnly old new
   pub ok : OnOk result (ReadsWell old new)
   pub err : IfErr result (λ fault. HasItsCause fault old new)
 
--- The image holds these batches, nothing is in doubt, and there is room behind the closed gate for the body of one more.
-pub record IsReady (shape : Shape) (batches : List Batch) (batch : Batch) (gate : ℕ) (body : Image) (disk : DiskState) : Type 0 where
+-- The image holds these batches, nothing is in doubt, and there is room behind the closed gate for
+-- the body of one more.
+pub record IsReady (shape : Shape) (batches : List Batch) (batch : Batch) (gate : ℕ) (body : Image)
+    (disk : DiskState) : Type 0 where
   pub synced : IsSynced disk
   pub holds : Holds shape batches disk.image
   pub at : gate ≡ start_of shape.half disk.image + used batches
@@ -92,7 +101,8 @@ pub record IsReady (shape : Shape) (batches : List Batch) (batch : Batch) (gate 
   pub sound : IsSound (batches ++ batch ∷ [])
 
 -- The image holds these batches, and a crash leaves just that.
-pub record IsSettled (shape : Shape) (batches : List Batch) (start : ℕ) (disk : DiskState) : Type 0 where
+pub record IsSettled (shape : Shape) (batches : List Batch) (start : ℕ)
+    (disk : DiskState) : Type 0 where
   pub synced : IsSynced disk
   pub holds : Holds shape batches disk.image
   pub from : start_of shape.half disk.image ≡ start

@@ -1,19 +1,23 @@
--- Which calls of a run fail. An inert device fails those that it was told to, and those for which it wants memory.
+-- Which calls of a run fail. An inert device fails those that it was told to, and those for which
+-- it wants memory.
 use Rattle.std.specs.Prelude.{◌≡◌, ◌⊎◌, ◌<◌, ◌≤◌, ℕ, true, Result, OnOk, OnErr, IfErr}
 use Rattle.lift_disk.specs.Disk.{DiskState}
 use Rattle.lift_journal.specs.declared.fault.JournalFault.{JournalFault}
-use Rattle.lift_journal.specs.declared.fault.JournalFault.TheVariants.{Disk, NotFormatted, Damaged, Full, Broken}
+use Rattle.lift_journal.specs.declared.fault.JournalFault.TheVariants.{Disk, NotFormatted, Damaged}
+use Rattle.lift_journal.specs.declared.fault.JournalFault.TheVariants.{Full, Broken}
 
 -- no call of the run failed: none was told to, and none wanted memory
 pub record NoneFails (old new : DiskState) : Type 0 where
   pub told : old.is_inert → (call : ℕ) → old.calls < call → call ≤ new.calls → ¬ old.fails_at call
   pub short : new.is_short ≡ old.is_short
 
--- The last call of the run failed: it was told to, or the device is short from it on. No call before it was told to.
+-- The last call of the run failed: it was told to, or the device is short from it on. No call
+-- before it was told to.
 pub record LastFails (old new : DiskState) : Type 0 where
   pub some : old.calls < new.calls
   pub before : old.is_inert → (call : ℕ) → old.calls < call → call < new.calls → ¬ old.fails_at call
-  pub last : old.is_inert → old.fails_at new.calls × (new.is_short ≡ old.is_short) ⊎ ¬ old.fails_at new.calls × (new.is_short ≡ true)
+  pub last : old.is_inert → old.fails_at new.calls × (new.is_short ≡ old.is_short)
+      ⊎ ¬ old.fails_at new.calls × (new.is_short ≡ true)
   pub short : old.is_short ≡ true → new.is_short ≡ true
 
 -- a run that stops at the first call that fails
@@ -30,6 +34,7 @@ FailsBy Full old new = NoneFails old new
 FailsBy Broken old new = NoneFails old new
 
 -- a call of the journal, whose run stops at the first call of the device that fails
-pub record AnswersAsTold {T : Type 0} (result : Result T JournalFault) (old new : DiskState) : Type 0 where
+pub record AnswersAsTold {T : Type 0} (result : Result T JournalFault)
+    (old new : DiskState) : Type 0 where
   pub ok : OnOk result (NoneFails old new)
   pub err : IfErr result (λ fault. FailsBy fault old new)

@@ -4,14 +4,17 @@ use Rattle.lift_record.specs.declared.version.Version.{Version}
 use Rattle.lift_record.specs.declared.version.Version.TheVariants.{One}
 use Rattle.lift_disk.specs.Disk.{Image}
 use Rattle.lift_journal.specs.Order.{IsInOrder, IsComplete}
-use Rattle.lift_journal.specs.Layout.{Batch, records_of, sector_at, IsOpen, IsClosed, size_of, IsBody, IsChain, IsSound, NeverFall, used}
+use Rattle.lift_journal.specs.Layout.{Batch, records_of, sector_at, IsOpen, IsClosed, size_of}
+use Rattle.lift_journal.specs.Layout.{IsBody, IsChain, IsSound, NeverFall, used}
 
--- the batches from the first sector on, each behind an open gate; what stands behind them is left open
+-- the batches from the first sector on, each behind an open gate; what stands behind them is left
+-- open
 abbrev pub IsFront : List Batch → ℕ → Image → Type 0
 IsFront [] number sectors = Unit {0}
 IsFront (batch ∷ batches) number [] = ⊥
 IsFront (batch ∷ batches) number (gate ∷ rest) =
-    IsOpen gate × IsBody number batch (take (size_of batch) rest) × IsFront batches (number + 1) (drop (size_of batch) rest)
+    IsOpen gate × IsBody number batch (take (size_of batch) rest)
+    × IsFront batches (number + 1) (drop (size_of batch) rest)
 
 -- behind this gate stands this batch, with the place of the next gate below the end
 pub record IsBatchAt (image : Image) (gate end number : ℕ) (batch : Batch) : Type 0 where
@@ -34,13 +37,15 @@ pub record Reaches (image : Image) (start end gate : ℕ) (batches : List Batch)
   pub sound : IsSoundFront batches
   pub at : gate ≡ start + used batches
 
--- A gate below the end that batches reach is damaged: it is open, and no batch that may stand behind them is there, or
--- it is closed, and they end within a checkpoint.
+-- A gate below the end that batches reach is damaged: it is open, and no batch that may stand
+-- behind them is there, or it is closed, and they end within a checkpoint.
 pub record IsDamagedAt (image : Image) (start end gate : ℕ) : Type 0 where
   pub batches : List Batch
   pub below : gate < end
   pub reached : Reaches image start end gate batches
-  pub broken : (IsOpen (sector_at image gate) × ((batch : Batch) → IsBatchAt image gate end (1 + length batches) batch → ¬ IsSoundFront (batches ++ batch ∷ [])))
+  pub broken : (IsOpen (sector_at image gate)
+      × ((batch : Batch) → IsBatchAt image gate end (1 + length batches) batch
+      → ¬ IsSoundFront (batches ++ batch ∷ [])))
       ⊎ (IsClosed (sector_at image gate) × ¬ IsComplete (records_of batches))
 
 -- the chain ends at this closed gate

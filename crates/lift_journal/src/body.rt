@@ -1,5 +1,6 @@
 //! The spelling of a batch.
-ghost use Rattle.std.specs.Prelude.{◌≡◌, ◌≤◌, ◌<◌, ◌+◌, ◌*◌, ◌++◌, length, take, drop, replicate, All, [], ◌∷◌};
+ghost use Rattle.std.specs.Prelude.{◌≡◌, ◌≤◌, ◌<◌, ◌+◌, ◌*◌, ◌++◌, length, take, drop, replicate};
+ghost use Rattle.std.specs.Prelude.{All, [], ◌∷◌};
 ghost use Rattle.std.specs.List.{flat_map};
 ghost use Rattle.lift_base.specs.Records.{IsLawful};
 ghost use Rattle.lift_record.specs.Record.{spelling_of};
@@ -21,7 +22,8 @@ fn put_text(text: &mut [u8; 1024], batch: &[Record], number: u32)
     requires few { length batch.now ≤ 63 }
     requires numbered { 1 ≤ number }
     requires lawful { All IsLawful batch.now }
-    ensures text { text.new ≡ filled 2 (header_bytes Two (length batch.now) number ++ flat_map (spelling_of Two) batch.now) }
+    ensures text { text.new ≡ filled 2 (header_bytes Two (length batch.now) number
+        ++ flat_map (spelling_of Two) batch.now) }
     ensures typed { All (IsRecordIn Two) batch.now }
 {
     put(text, 0, &encode_header(batch.len() as u16, number));
@@ -48,15 +50,18 @@ pub fn body_count(count: usize) -> usize
     if count < 32 { 1 } else { 2 }
 }
 
-/// Puts the body of a batch of the second version into two sectors of zeros, of which it is as many as the batch takes.
+/// Puts the body of a batch of the second version into two sectors of zeros, of which it is as many
+/// as the batch takes.
 pub fn put_body(text: &mut [u8; 1024], batch: &[Record], number: u32)
     requires blank { text.old ≡ replicate 1024 0 }
     requires some { 1 ≤ length batch.now }
     requires few { length batch.now ≤ 63 }
     requires numbered { 1 ≤ number }
     requires lawful { All IsLawful batch.now }
-    ensures spelled { IsBody number (record { version = Two; records = batch.now }) (take (bodies (length batch.now)) (take 512 text.new ∷ drop 512 text.new ∷ [])) }
-    ensures exact { take (bodies (length batch.now)) (take 512 text.new ∷ drop 512 text.new ∷ []) ≡ body_of number (new_batch batch.now) }
+    ensures spelled { IsBody number (record { version = Two; records = batch.now })
+        (take (bodies (length batch.now)) (take 512 text.new ∷ drop 512 text.new ∷ [])) }
+    ensures exact { take (bodies (length batch.now)) (take 512 text.new ∷ drop 512 text.new ∷ [])
+        ≡ body_of number (new_batch batch.now) }
 {
     put_text(text, batch, number);
 }

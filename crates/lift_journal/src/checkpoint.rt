@@ -1,16 +1,21 @@
-//! The steps of a checkpoint: a register's records are written into the half that isn't picked, which is then picked.
-ghost use Rattle.std.specs.Prelude.{◌≡◌, ◌≤◌, ◌<◌, ◌+◌, ◌^◌, ◌⊎◌, ◌++◌, [], ◌∷◌, ℕ, length, take, drop, slice_get, slice_set, OnOk, OnErr, IfOk};
-ghost use Rattle.lift_disk.specs.Disk.{HasCause, LooseWithin, TouchesOnly, LeavesOnly, ChangesWithin, IsSteadyAt, IsSynced, RunsOn};
+//! The steps of a checkpoint: a register's records are written into the half that isn't picked,
+//! which is then picked.
+ghost use Rattle.std.specs.Prelude.{◌≡◌, ◌≤◌, ◌<◌, ◌+◌, ◌^◌, ◌⊎◌, ◌++◌, [], ◌∷◌, ℕ, length, take};
+ghost use Rattle.std.specs.Prelude.{drop, slice_get, slice_set, OnOk, OnErr, IfOk};
+ghost use Rattle.lift_disk.specs.Disk.{HasCause, LooseWithin, TouchesOnly, LeavesOnly};
+ghost use Rattle.lift_disk.specs.Disk.{ChangesWithin, IsSteadyAt, IsSynced, RunsOn};
 ghost use Rattle.lift_register.specs.Base.{base_records};
 ghost use Rattle.lift_journal.specs.Layout.{sector_at, used};
-ghost use Rattle.lift_journal.specs.Steps.{Makes, overwritten, IsInRange, IsSyncedAt, marked, unmarked};
+ghost use Rattle.lift_journal.specs.Steps.{Makes, overwritten, IsInRange, IsSyncedAt, marked};
+ghost use Rattle.lift_journal.specs.Steps.{unmarked};
 ghost use Rattle.lift_journal.specs.Walk.{Reaches};
 ghost use Rattle.lift_journal.specs.Checkpoint.{batch_count, checkpoint_of, sectors_for};
 ghost use Rattle.lift_journal.specs.Switch.{IsOtherHalf, HasWritten, StopsSwitch, StopsWriting};
 ghost use Rattle.lift_journal.specs.Stops.{Misses};
 ghost use Rattle.lift_journal.specs.Told.{StopsAsTold};
 ghost use Rattle.lift_disk.specs.Trace.Access.{Write};
-ghost use Rattle.lift_journal.specs.Calls.{Follows, writes_from, puts, draft_calls, checkpoint_calls};
+ghost use Rattle.lift_journal.specs.Calls.{Follows, writes_from, puts, draft_calls};
+ghost use Rattle.lift_journal.specs.Calls.{checkpoint_calls};
 
 use crate::body::{body_count, put_body, sectors_of};
 use crate::device::{mark, write_sectors};
@@ -72,37 +77,49 @@ fn write_open_batch<D: Disk>(disk: &mut D, gate: u32, body: &[[u8; 512]]) -> Res
     requires there { gate + 1 + length body.now ≤ (D.state disk.old).size }
     requires fits { gate + 1 + length body.now < 2 ^ 32 }
     ensures runs { RunsOn (D.state disk.old) (D.state disk.new) }
-    ensures made { Makes result (1 + length body.now) (1 + length body.now) (D.state disk.old) (D.state disk.new) }
+    ensures made { Makes result (1 + length body.now) (1 + length body.now) (D.state disk.old)
+        (D.state disk.new) }
     ensures cause { HasCause result (D.state disk.old) (D.state disk.new) }
-    ensures follows { Follows result (writes_from (gate + 1) body.now ++ Write gate marked ∷ []) (D.state disk.old) (D.state disk.new) }
+    ensures follows { Follows result (writes_from (gate + 1) body.now ++ Write gate marked ∷ [])
+        (D.state disk.old) (D.state disk.new) }
     ensures told { StopsAsTold result (D.state disk.old) (D.state disk.new) }
     ensures touched { (low high : ℕ) → low ≤ gate → gate + 1 + length body.now ≤ high
         → LooseWithin (IsInRange low high) (D.state disk.old)
         → TouchesOnly (IsInRange low high) (D.state disk.old) (D.state disk.new) }
     ensures written { OnOk result ((D.state disk.old).is_honest → (D.state disk.old).is_steady
-        → IsSteadyAt (slice_set (overwritten (D.state disk.old).image (gate + 1) body.now) gate marked) (D.state disk.new)) }
+        → IsSteadyAt (slice_set (overwritten (D.state disk.old).image (gate + 1) body.now) gate
+        marked) (D.state disk.new)) }
 {
     write_sectors(disk, gate + 1, body)?;
     disk.write(gate, &mark())
 }
 
-/// Writes the batches of a register's checkpoint from this sector on, and answers where its closing gate goes.
+/// Writes the batches of a register's checkpoint from this sector on, and answers where its closing
+/// gate goes.
 fn write_batches<D: Disk>(disk: &mut D, register: &Register, start: u32) -> Result<u32, DiskFault>
     requires there { start + 64 ≤ (D.state disk.old).size }
     requires fits { start + 64 < 2 ^ 32 }
     ensures runs { RunsOn (D.state disk.old) (D.state disk.new) }
-    ensures made { Makes result (sectors_for (length (base_records register.now))) (sectors_for (length (base_records register.now))) (D.state disk.old) (D.state disk.new) }
+    ensures made { Makes result (sectors_for (length (base_records register.now)))
+        (sectors_for (length (base_records register.now))) (D.state disk.old) (D.state disk.new) }
     ensures cause { HasCause result (D.state disk.old) (D.state disk.new) }
     ensures told { StopsAsTold result (D.state disk.old) (D.state disk.new) }
-    ensures follows { Follows result (draft_calls start 1 (checkpoint_of (base_records register.now))) (D.state disk.old) (D.state disk.new) }
+    ensures follows { Follows result
+        (draft_calls start 1 (checkpoint_of (base_records register.now))) (D.state disk.old)
+        (D.state disk.new) }
     ensures touched { LooseWithin (IsInRange start (start + 64)) (D.state disk.old)
         → TouchesOnly (IsInRange start (start + 64)) (D.state disk.old) (D.state disk.new) }
-    ensures gate { IfOk result (λ gate. (gate ≡ start + sectors_for (length (base_records register.now))) × (gate < start + 64)) }
-    ensures placed { IfOk result (λ gate. gate ≡ start + used (checkpoint_of (base_records register.now))) }
-    ensures steady { OnOk result ((D.state disk.old).is_honest → (D.state disk.old).is_steady → (D.state disk.new).is_steady) }
-    ensures reached { IfOk result (λ gate. (D.state disk.old).is_honest → (D.state disk.old).is_steady
+    ensures gate { IfOk result (λ gate.
+        (gate ≡ start + sectors_for (length (base_records register.now))) × (gate < start + 64)) }
+    ensures placed { IfOk result (λ gate.
+        gate ≡ start + used (checkpoint_of (base_records register.now))) }
+    ensures steady { OnOk result ((D.state disk.old).is_honest → (D.state disk.old).is_steady
+        → (D.state disk.new).is_steady) }
+    ensures reached { IfOk result (λ gate. (D.state disk.old).is_honest
+        → (D.state disk.old).is_steady
         → (end : ℕ) → start + 64 ≤ end → end ≤ (D.state disk.old).size
-        → Reaches (D.state disk.new).image start end gate (checkpoint_of (base_records register.now))) }
+        → Reaches (D.state disk.new).image start end gate
+        (checkpoint_of (base_records register.now))) }
 {
     let mut gate = start;
     for index in 0..batches_for(register.base_len()) {
@@ -125,11 +142,13 @@ fn put_sector<D: Disk>(disk: &mut D, sector: u32, bytes: &[u8; 512]) -> Result<(
     ensures cause { HasCause result (D.state disk.old) (D.state disk.new) }
     ensures follows { Follows result (puts sector bytes.now) (D.state disk.old) (D.state disk.new) }
     ensures told { StopsAsTold result (D.state disk.old) (D.state disk.new) }
-    ensures touched { (low high : ℕ) → low ≤ sector → sector < high → LooseWithin (IsInRange low high) (D.state disk.old)
+    ensures touched { (low high : ℕ) → low ≤ sector → sector < high
+        → LooseWithin (IsInRange low high) (D.state disk.old)
         → TouchesOnly (IsInRange low high) (D.state disk.old) (D.state disk.new) }
     ensures stored { OnOk result ((D.state disk.old).is_honest → (D.state disk.old).is_steady
         → IsSyncedAt (slice_set (D.state disk.old).image sector bytes.now) (D.state disk.new)) }
-    ensures misses { OnErr result ((D.state disk.old).is_honest → (D.state disk.old).is_inert → Misses sector bytes.now (D.state disk.old) (D.state disk.new)) }
+    ensures misses { OnErr result ((D.state disk.old).is_honest → (D.state disk.old).is_inert
+        → Misses sector bytes.now (D.state disk.old) (D.state disk.new)) }
 {
     disk.write(sector, bytes)?;
     disk.sync()
@@ -141,16 +160,22 @@ fn switch_half<D: Disk>(disk: &mut D, gate: u32, pick: &[u8; 512]) -> Result<(),
     ensures runs { RunsOn (D.state disk.old) (D.state disk.new) }
     ensures made { Makes result 4 2 (D.state disk.old) (D.state disk.new) }
     ensures cause { HasCause result (D.state disk.old) (D.state disk.new) }
-    ensures follows { Follows result (puts gate unmarked ++ puts 0 pick.now) (D.state disk.old) (D.state disk.new) }
+    ensures follows { Follows result (puts gate unmarked ++ puts 0 pick.now) (D.state disk.old)
+        (D.state disk.new) }
     ensures told { StopsAsTold result (D.state disk.old) (D.state disk.new) }
-    // Until the chain is closed and safe, a crash leaves the pick; after it, just the pick is in doubt.
-    ensures any_moment { (low high : ℕ) → low ≤ gate → gate < high → LooseWithin (IsInRange low high) (D.state disk.old)
+    // Until the chain is closed and safe, a crash leaves the pick; after it, just the pick is in
+    // doubt.
+    ensures any_moment { (low high : ℕ) → low ≤ gate → gate < high
+        → LooseWithin (IsInRange low high) (D.state disk.old)
         → ((D.state disk.old).is_honest → (D.state disk.old).is_steady)
-        → LeavesOnly (D.state disk.old) (D.state disk.new) (λ left. ChangesWithin (IsInRange low high) (D.state disk.old).image left
+        → LeavesOnly (D.state disk.old) (D.state disk.new) (λ left.
+        ChangesWithin (IsInRange low high) (D.state disk.old).image left
         ⊎ ChangesWithin (λ i. i ≡ 0) (slice_set (D.state disk.old).image gate unmarked) left) }
     ensures picked { OnOk result ((D.state disk.old).is_honest → (D.state disk.old).is_steady
-        → IsSyncedAt (slice_set (slice_set (D.state disk.old).image gate unmarked) 0 pick.now) (D.state disk.new)) }
-    ensures stops { OnErr result ((low high : ℕ) → low ≤ gate → gate < high → LooseWithin (IsInRange low high) (D.state disk.old)
+        → IsSyncedAt (slice_set (slice_set (D.state disk.old).image gate unmarked) 0 pick.now)
+        (D.state disk.new)) }
+    ensures stops { OnErr result ((low high : ℕ) → low ≤ gate → gate < high
+        → LooseWithin (IsInRange low high) (D.state disk.old)
         → (D.state disk.old).is_honest → (D.state disk.old).is_inert → (D.state disk.old).is_steady
         → StopsSwitch low high gate pick.now (D.state disk.old) (D.state disk.new)) }
 {
@@ -158,8 +183,8 @@ fn switch_half<D: Disk>(disk: &mut D, gate: u32, pick: &[u8; 512]) -> Result<(),
     put_sector(disk, 0, pick)
 }
 
-/// Writes a register's checkpoint into the half that begins at this sector, picks that half, and answers where its
-/// closing gate stands.
+/// Writes a register's checkpoint into the half that begins at this sector, picks that half, and
+/// answers where its closing gate stands.
 pub fn write_checkpoint<D: Disk>(
     disk: &mut D,
     register: &Register,
@@ -170,24 +195,35 @@ pub fn write_checkpoint<D: Disk>(
     requires there { start + 64 ≤ (D.state disk.old).size }
     requires fits { start + 64 < 2 ^ 32 }
     ensures runs { RunsOn (D.state disk.old) (D.state disk.new) }
-    ensures made { Makes result (sectors_for (length (base_records register.now)) + 4) (sectors_for (length (base_records register.now)) + 2) (D.state disk.old) (D.state disk.new) }
+    ensures made { Makes result (sectors_for (length (base_records register.now)) + 4)
+        (sectors_for (length (base_records register.now)) + 2) (D.state disk.old)
+        (D.state disk.new) }
     ensures cause { HasCause result (D.state disk.old) (D.state disk.new) }
     ensures told { StopsAsTold result (D.state disk.old) (D.state disk.new) }
-    ensures follows { Follows result (checkpoint_calls start pick.now (checkpoint_of (base_records register.now))) (D.state disk.old) (D.state disk.new) }
-    ensures gate { IfOk result (λ gate. (gate ≡ start + sectors_for (length (base_records register.now))) × (gate < start + 64)) }
+    ensures follows { Follows result
+        (checkpoint_calls start pick.now (checkpoint_of (base_records register.now)))
+        (D.state disk.old) (D.state disk.new) }
+    ensures gate { IfOk result (λ gate.
+        (gate ≡ start + sectors_for (length (base_records register.now))) × (gate < start + 64)) }
     ensures any_moment { (end : ℕ) → start + 64 ≤ end → end ≤ (D.state disk.old).size
         → ((D.state disk.old).is_honest → IsSynced (D.state disk.old))
-        → LeavesOnly (D.state disk.old) (D.state disk.new) (λ left. ChangesWithin (IsInRange start (start + 64)) (D.state disk.old).image left
-        ⊎ HasWritten start end (checkpoint_of (base_records register.now)) (D.state disk.old).image left) }
-    ensures synced { OnOk result ((D.state disk.old).is_honest → IsSynced (D.state disk.old) → IsSynced (D.state disk.new)) }
+        → LeavesOnly (D.state disk.old) (D.state disk.new) (λ left.
+        ChangesWithin (IsInRange start (start + 64)) (D.state disk.old).image left
+        ⊎ HasWritten start end (checkpoint_of (base_records register.now))
+        (D.state disk.old).image left) }
+    ensures synced { OnOk result ((D.state disk.old).is_honest → IsSynced (D.state disk.old)
+        → IsSynced (D.state disk.new)) }
     ensures picked { OnOk result ((D.state disk.old).is_honest → IsSynced (D.state disk.old)
         → sector_at (D.state disk.new).image 0 ≡ pick.now) }
     ensures written { OnOk result ((end : ℕ) → start + 64 ≤ end → end ≤ (D.state disk.old).size
         → (D.state disk.old).is_honest → IsSynced (D.state disk.old)
-        → HasWritten start end (checkpoint_of (base_records register.now)) (D.state disk.old).image (D.state disk.new).image) }
+        → HasWritten start end (checkpoint_of (base_records register.now)) (D.state disk.old).image
+        (D.state disk.new).image) }
     ensures stops { OnErr result ((end : ℕ) → start + 64 ≤ end → end ≤ (D.state disk.old).size
         → (D.state disk.old).is_honest → (D.state disk.old).is_inert → IsSynced (D.state disk.old)
-        → StopsWriting start end (checkpoint_of (base_records register.now)) (sectors_for (length (base_records register.now))) pick.now (D.state disk.old) (D.state disk.new)) }
+        → StopsWriting start end (checkpoint_of (base_records register.now))
+        (sectors_for (length (base_records register.now))) pick.now (D.state disk.old)
+        (D.state disk.new)) }
 {
     let gate = write_batches(disk, register, start)?;
     switch_half(disk, gate, pick)?;

@@ -1,9 +1,11 @@
 //! The journal's writes, in steps of a few device calls each.
-ghost use Rattle.std.specs.Prelude.{◌≡◌, ◌≤◌, ◌<◌, ◌+◌, ◌^◌, ◌++◌, [], ◌∷◌, ◌⊎◌, ℕ, List, length, OnOk, OnErr, slice_set};
+ghost use Rattle.std.specs.Prelude.{◌≡◌, ◌≤◌, ◌<◌, ◌+◌, ◌^◌, ◌++◌, [], ◌∷◌, ◌⊎◌, ℕ, List, length};
+ghost use Rattle.std.specs.Prelude.{OnOk, OnErr, slice_set};
 ghost use Rattle.lift_disk.specs.Disk.{HasCause, LooseWithin, TouchesOnly, IsSteadyAt, RunsOn};
 ghost use Rattle.lift_disk.specs.Disk.{LeavesOnly, IsSynced};
 ghost use Rattle.lift_journal.specs.Layout.{Batch, Holds, start_of};
-ghost use Rattle.lift_journal.specs.Steps.{Makes, overwritten, IsInRange, marked, unmarked, IsReady, IsSettled, IsSyncedAt};
+ghost use Rattle.lift_journal.specs.Steps.{Makes, overwritten, IsInRange, marked, unmarked};
+ghost use Rattle.lift_journal.specs.Steps.{IsReady, IsSettled, IsSyncedAt};
 ghost use Rattle.lift_journal.specs.Stops.{Misses, StopsShort};
 ghost use Rattle.lift_journal.specs.Told.{StopsAsTold};
 ghost use Rattle.lift_disk.specs.Trace.Access.{Write, Sync};
@@ -21,9 +23,11 @@ pub fn write_sectors<D: Disk>(
     requires there { first + length sectors.now ≤ (D.state disk.old).size }
     requires fits { first + length sectors.now < 2 ^ 32 }
     ensures runs { RunsOn (D.state disk.old) (D.state disk.new) }
-    ensures made { Makes result (length sectors.now) (length sectors.now) (D.state disk.old) (D.state disk.new) }
+    ensures made { Makes result (length sectors.now) (length sectors.now) (D.state disk.old)
+        (D.state disk.new) }
     ensures cause { HasCause result (D.state disk.old) (D.state disk.new) }
-    ensures follows { Follows result (writes_from first sectors.now) (D.state disk.old) (D.state disk.new) }
+    ensures follows { Follows result (writes_from first sectors.now) (D.state disk.old)
+        (D.state disk.new) }
     ensures told { StopsAsTold result (D.state disk.old) (D.state disk.new) }
     ensures touched { (low high : ℕ) → low ≤ first → first + length sectors.now ≤ high
         → LooseWithin (IsInRange low high) (D.state disk.old)
@@ -56,14 +60,20 @@ fn store_behind<D: Disk>(disk: &mut D, gate: u32, body: &[[u8; 512]]) -> Result<
     requires there { gate + 1 + length body.now < (D.state disk.old).size }
     requires fits { gate + 1 + length body.now < 2 ^ 32 }
     ensures runs { RunsOn (D.state disk.old) (D.state disk.new) }
-    ensures made { Makes result (length body.now + 2) (length body.now + 1) (D.state disk.old) (D.state disk.new) }
+    ensures made { Makes result (length body.now + 2) (length body.now + 1) (D.state disk.old)
+        (D.state disk.new) }
     ensures cause { HasCause result (D.state disk.old) (D.state disk.new) }
-    ensures follows { Follows result (writes_from (gate + 1) body.now ++ Write (gate + 1 + length body.now) unmarked ∷ Sync ∷ []) (D.state disk.old) (D.state disk.new) }
+    ensures follows { Follows result (writes_from (gate + 1) body.now
+        ++ Write (gate + 1 + length body.now) unmarked ∷ Sync ∷ []) (D.state disk.old)
+        (D.state disk.new) }
     ensures told { StopsAsTold result (D.state disk.old) (D.state disk.new) }
-    ensures touched { LooseWithin (IsInRange (gate + 1) (gate + length body.now + 2)) (D.state disk.old)
-        → TouchesOnly (IsInRange (gate + 1) (gate + length body.now + 2)) (D.state disk.old) (D.state disk.new) }
+    ensures touched { LooseWithin (IsInRange (gate + 1) (gate + length body.now + 2))
+        (D.state disk.old)
+        → TouchesOnly (IsInRange (gate + 1) (gate + length body.now + 2)) (D.state disk.old)
+        (D.state disk.new) }
     ensures stored { OnOk result ((D.state disk.old).is_honest → (D.state disk.old).is_steady
-        → IsSyncedAt (slice_set (overwritten (D.state disk.old).image (gate + 1) body.now) (gate + 1 + length body.now) unmarked) (D.state disk.new)) }
+        → IsSyncedAt (slice_set (overwritten (D.state disk.old).image (gate + 1) body.now)
+        (gate + 1 + length body.now) unmarked) (D.state disk.new)) }
 {
     write_sectors(disk, gate + 1, body)?;
     disk.write(gate + 1 + body.len() as u32, &CLOSED_GATE)?;
@@ -82,7 +92,8 @@ fn open_gate<D: Disk>(disk: &mut D, gate: u32) -> Result<(), DiskFault>
         → TouchesOnly (IsInRange gate (gate + 1)) (D.state disk.old) (D.state disk.new) }
     ensures opened { OnOk result ((D.state disk.old).is_honest → (D.state disk.old).is_steady
         → IsSyncedAt (slice_set (D.state disk.old).image gate marked) (D.state disk.new)) }
-    ensures misses { OnErr result ((D.state disk.old).is_honest → (D.state disk.old).is_inert → Misses gate marked (D.state disk.old) (D.state disk.new)) }
+    ensures misses { OnErr result ((D.state disk.old).is_honest → (D.state disk.old).is_inert
+        → Misses gate marked (D.state disk.old) (D.state disk.new)) }
 {
     disk.write(gate, &mark())?;
     disk.sync()
@@ -93,19 +104,27 @@ pub fn write_batch<D: Disk>(disk: &mut D, gate: u32, body: &[[u8; 512]]) -> Resu
     requires there { gate + 1 + length body.now < (D.state disk.old).size }
     requires fits { gate + 1 + length body.now < 2 ^ 32 }
     ensures runs { RunsOn (D.state disk.old) (D.state disk.new) }
-    ensures made { Makes result (length body.now + 4) (length body.now + 2) (D.state disk.old) (D.state disk.new) }
+    ensures made { Makes result (length body.now + 4) (length body.now + 2) (D.state disk.old)
+        (D.state disk.new) }
     ensures cause { HasCause result (D.state disk.old) (D.state disk.new) }
-    ensures follows { Follows result (append_calls gate body.now) (D.state disk.old) (D.state disk.new) }
+    ensures follows { Follows result (append_calls gate body.now) (D.state disk.old)
+        (D.state disk.new) }
     ensures told { StopsAsTold result (D.state disk.old) (D.state disk.new) }
     ensures any_moment { (shape : Shape) (batches : List Batch) (batch : Batch)
-        → ((D.state disk.old).is_honest → IsReady shape batches batch gate body.now (D.state disk.old))
-        → LeavesOnly (D.state disk.old) (D.state disk.new) (λ left. Holds shape batches left ⊎ Holds shape (batches ++ batch ∷ []) left) }
+        → ((D.state disk.old).is_honest
+        → IsReady shape batches batch gate body.now (D.state disk.old))
+        → LeavesOnly (D.state disk.old) (D.state disk.new) (λ left. Holds shape batches left
+        ⊎ Holds shape (batches ++ batch ∷ []) left) }
     ensures touched { ((D.state disk.old).is_honest → IsSynced (D.state disk.old))
-        → TouchesOnly (IsInRange gate (gate + length body.now + 2)) (D.state disk.old) (D.state disk.new) }
-    ensures written { OnOk result ((shape : Shape) (batches : List Batch) (batch : Batch) → (D.state disk.old).is_honest
+        → TouchesOnly (IsInRange gate (gate + length body.now + 2)) (D.state disk.old)
+        (D.state disk.new) }
+    ensures written { OnOk result ((shape : Shape) (batches : List Batch) (batch : Batch)
+        → (D.state disk.old).is_honest
         → IsReady shape batches batch gate body.now (D.state disk.old)
-        → IsSettled shape (batches ++ batch ∷ []) (start_of shape.half (D.state disk.old).image) (D.state disk.new)) }
-    ensures stops { OnErr result ((shape : Shape) (batches : List Batch) (batch : Batch) → (D.state disk.old).is_honest → (D.state disk.old).is_inert
+        → IsSettled shape (batches ++ batch ∷ []) (start_of shape.half (D.state disk.old).image)
+        (D.state disk.new)) }
+    ensures stops { OnErr result ((shape : Shape) (batches : List Batch) (batch : Batch)
+        → (D.state disk.old).is_honest → (D.state disk.old).is_inert
         → IsReady shape batches batch gate body.now (D.state disk.old)
         → StopsShort shape batches batch (length body.now) (D.state disk.old) (D.state disk.new)) }
 {

@@ -1,5 +1,6 @@
 //! The making of an empty journal.
-ghost use Rattle.std.specs.Prelude.{◌≡◌, ◌≤◌, ◌<◌, ◌+◌, ◌*◌, [], ◌∷◌, false, OnOk, Some, slice_get, slice_set};
+ghost use Rattle.std.specs.Prelude.{◌≡◌, ◌≤◌, ◌<◌, ◌+◌, ◌*◌, [], ◌∷◌, false, OnOk, Some, slice_get};
+ghost use Rattle.std.specs.Prelude.{slice_set};
 ghost use Rattle.lift_base.specs.History.{IsWithinLimits};
 ghost use Rattle.lift_disk.specs.Disk.{HasCause, RunsOn, IsSynced, TouchesOnly};
 ghost use Rattle.lift_journal.specs.Layout.{filled, stamp_bytes, Picks};
@@ -20,11 +21,15 @@ fn empty_half<D: Disk>(disk: &mut D) -> Result<(), DiskFault>
     ensures cause { HasCause result (D.state disk.old) (D.state disk.new) }
     ensures told { StopsAsTold result (D.state disk.old) (D.state disk.new) }
     ensures made { Makes result 3 2 (D.state disk.old) (D.state disk.new) }
-    ensures touched { TouchesOnly (IsFormatted (D.state disk.old)) (D.state disk.old) (D.state disk.new) }
-    ensures follows { Follows result (Write 0 unmarked ∷ Write 2 unmarked ∷ Sync ∷ []) (D.state disk.old) (D.state disk.new) }
+    ensures touched { TouchesOnly (IsFormatted (D.state disk.old)) (D.state disk.old)
+        (D.state disk.new) }
+    ensures follows { Follows result (Write 0 unmarked ∷ Write 2 unmarked ∷ Sync ∷ [])
+        (D.state disk.old) (D.state disk.new) }
     // Whatever was in doubt before.
-    ensures picked { OnOk result ((D.state disk.old).is_honest → slice_get (D.state disk.new).image 0 ≡ Some unmarked) }
-    ensures closed { OnOk result ((D.state disk.old).is_honest → slice_get (D.state disk.new).image 2 ≡ Some unmarked) }
+    ensures picked { OnOk result ((D.state disk.old).is_honest
+        → slice_get (D.state disk.new).image 0 ≡ Some unmarked) }
+    ensures closed { OnOk result ((D.state disk.old).is_honest
+        → slice_get (D.state disk.new).image 2 ≡ Some unmarked) }
     ensures synced { OnOk result ((D.state disk.old).is_honest → IsSynced (D.state disk.new)) }
 {
     disk.write(0, &[0; 512])?;
@@ -39,18 +44,21 @@ fn put_stamp<D: Disk>(disk: &mut D, shape: &Shape) -> Result<(), DiskFault>
     ensures cause { HasCause result (D.state disk.old) (D.state disk.new) }
     ensures told { StopsAsTold result (D.state disk.old) (D.state disk.new) }
     ensures made { Makes result 2 1 (D.state disk.old) (D.state disk.new) }
-    ensures touched { TouchesOnly (IsFormatted (D.state disk.old)) (D.state disk.old) (D.state disk.new) }
-    ensures follows { Follows result (puts 1 (filled 1 (stamp_bytes shape.now))) (D.state disk.old) (D.state disk.new) }
+    ensures touched { TouchesOnly (IsFormatted (D.state disk.old)) (D.state disk.old)
+        (D.state disk.new) }
+    ensures follows { Follows result (puts 1 (filled 1 (stamp_bytes shape.now))) (D.state disk.old)
+        (D.state disk.new) }
     ensures stored { OnOk result ((D.state disk.old).is_honest → (D.state disk.old).is_steady
-        → IsSyncedAt (slice_set (D.state disk.old).image 1 (filled 1 (stamp_bytes shape.now))) (D.state disk.new)) }
+        → IsSyncedAt (slice_set (D.state disk.old).image 1 (filled 1 (stamp_bytes shape.now)))
+        (D.state disk.new)) }
     ensures synced { OnOk result ((D.state disk.old).is_honest → IsSynced (D.state disk.new)) }
 {
     disk.write(1, &stamp_of(shape))?;
     disk.sync()
 }
 
-/// Makes an empty journal of this shape, over whatever the device holds. The other sectors stay as they are.
-/// After a fault it is begun again.
+/// Makes an empty journal of this shape, over whatever the device holds. The other sectors stay as
+/// they are. After a fault it is begun again.
 pub fn format<D: Disk>(disk: &mut D, shape: Shape) -> Result<(), DiskFault>
     requires within { IsWithinLimits shape }
     requires room { 2 * shape.half + 2 ≤ (D.state disk.old).size }
@@ -59,12 +67,15 @@ pub fn format<D: Disk>(disk: &mut D, shape: Shape) -> Result<(), DiskFault>
     ensures told { StopsAsTold result (D.state disk.old) (D.state disk.new) }
     ensures made { Makes result 5 3 (D.state disk.old) (D.state disk.new) }
     // Also where it fails, no other sector is touched.
-    ensures touched { TouchesOnly (IsFormatted (D.state disk.old)) (D.state disk.old) (D.state disk.new) }
+    ensures touched { TouchesOnly (IsFormatted (D.state disk.old)) (D.state disk.old)
+        (D.state disk.new) }
     ensures synced { OnOk result ((D.state disk.old).is_honest → IsSynced (D.state disk.new)) }
     ensures follows { Follows result (format_calls shape) (D.state disk.old) (D.state disk.new) }
     // Whatever was in doubt before: its first sync settles that.
-    ensures empty { OnOk result ((D.state disk.old).is_honest → ReadsAs shape [] [] (D.state disk.new).image) }
-    ensures half { OnOk result ((D.state disk.old).is_honest → Picks false (D.state disk.new).image) }
+    ensures empty { OnOk result ((D.state disk.old).is_honest
+        → ReadsAs shape [] [] (D.state disk.new).image) }
+    ensures half { OnOk result ((D.state disk.old).is_honest
+        → Picks false (D.state disk.new).image) }
 {
     empty_half(disk)?;
     put_stamp(disk, &shape)

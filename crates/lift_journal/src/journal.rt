@@ -1,18 +1,22 @@
 //! Batches of records, each in the journal whole or not at all.
-ghost use Rattle.std.specs.Prelude.{ℕ, ◌≡◌, ◌≤◌, ◌<◌, ◌+◌, ◌-◌, ◌++◌, ◌⊎◌, ◌↔◌, if◌then◌else◌, None, List, [], ◌∷◌, IsTrue, length, OnOk, true, false, not, All, Ok, Err, IsErrOf, IfOk, IfErr, IfSome, OnErr};
+ghost use Rattle.std.specs.Prelude.{ℕ, ◌≡◌, ◌≤◌, ◌<◌, ◌+◌, ◌-◌, ◌++◌, ◌⊎◌, ◌↔◌, if◌then◌else◌};
+ghost use Rattle.std.specs.Prelude.{None, List, [], ◌∷◌, IsTrue, length, OnOk, true, false, not};
+ghost use Rattle.std.specs.Prelude.{All, Ok, Err, IsErrOf, IfOk, IfErr, IfSome, OnErr};
 ghost use Rattle.lift_base.specs.declared.history.Record.{Record as RecordValue};
 ghost use Rattle.lift_base.specs.History.{IsWithinLimits};
 ghost use Rattle.lift_base.specs.Records.{IsLawful};
 ghost use Rattle.lift_disk.specs.Disk.{LeavesNow, LeavesOnly, MayLeave, IsSynced, Image, RunsOn};
 ghost use Rattle.lift_register.specs.Base.{base_records};
 ghost use Rattle.lift_journal.specs.Checkpoint.{batch_count, checkpoint_of, sectors_for};
-ghost use Rattle.lift_journal.specs.Layout.{bodies, IsBody, Batch, new_batch, records_of, Holds, Picks, used};
+ghost use Rattle.lift_journal.specs.Layout.{bodies, IsBody, Batch, new_batch, records_of, Holds};
+ghost use Rattle.lift_journal.specs.Layout.{Picks, used};
 ghost use Rattle.std.specs.Option.{option_map};
 ghost use Rattle.lift_journal.specs.Order.{IsEntry};
 ghost use Rattle.lift_journal.specs.Steps.{Makes, ReadsOnly, IsSyncedAt};
 ghost use Rattle.lift_journal.specs.Stops.{StopsShort, StopsCheckpoint};
 ghost use Rattle.lift_journal.specs.Told.{AnswersAsTold};
-ghost use Rattle.lift_journal.specs.Calls.{half_start, append_calls, pick_of, checkpoint_calls, opening_calls, reads_from, StopsIn, HasRead, HasReadAt};
+ghost use Rattle.lift_journal.specs.Calls.{half_start, append_calls, pick_of, checkpoint_calls};
+ghost use Rattle.lift_journal.specs.Calls.{opening_calls, reads_from, StopsIn, HasRead, HasReadAt};
 ghost use Rattle.lift_journal.specs.Behind.{RefusedBehind};
 ghost use Rattle.lift_journal.specs.Fronts.{IsOfCursor};
 
@@ -52,9 +56,19 @@ impl<D: Disk> Model for Journal<D> {
 
     ghost Value = { JournalView D };
 
-    ghost view = { λ j. record { device = j.device; shape = j.shape; is_second = nat_lt 2 j.start; used = j.gate - j.start; number = j.number; opened = (D.state j.opened.value).failures; is_broken = j.is_broken } };
+    ghost view = { λ j. record {
+      device = j.device;
+      shape = j.shape;
+      is_second = nat_lt 2 j.start;
+      used = j.gate - j.start;
+      number = j.number;
+      opened = (D.state j.opened.value).failures;
+      is_broken = j.is_broken;
+    } };
 
-    ghost invariant = { λ j. IsJournal j.shape j.start j.gate j.number j.is_broken (D.state j.opened.value).failures (D.state j.device) };
+    ghost invariant = { λ j.
+        IsJournal j.shape j.start j.gate j.number j.is_broken (D.state j.opened.value).failures
+        (D.state j.device) };
 }
 
 /// A place in the list of batches, for [`Journal::next`].
@@ -77,7 +91,8 @@ impl Model for Cursor {
     ghost inverse = { λ c. record { skipped = c.skipped; given = c.given } };
 }
 
-/// Where a journal stood before it was opened again, for [`Journal::return_to`]: all of it but the device.
+/// Where a journal stood before it was opened again, for [`Journal::return_to`]: all of it but the
+/// device.
 #[derive(Drop)]
 pub struct FormerPlace<D: Disk> {
     shape: Shape,
@@ -95,13 +110,25 @@ impl<D: Disk> Model for FormerPlace<D> {
 
     ghost Value = { JournalView D };
 
-    ghost view = { λ f. record { device = f.device.value; shape = f.shape; is_second = nat_lt 2 f.start; used = f.gate - f.start; number = f.number; opened = (D.state f.opened.value).failures; is_broken = f.is_broken } };
+    ghost view = { λ f. record {
+      device = f.device.value;
+      shape = f.shape;
+      is_second = nat_lt 2 f.start;
+      used = f.gate - f.start;
+      number = f.number;
+      opened =
+          (D.state f.opened.value).failures;
+      is_broken = f.is_broken;
+    } };
 
-    ghost invariant = { λ f. IsJournal f.shape f.start f.gate f.number f.is_broken (D.state f.opened.value).failures (D.state f.device.value) };
+    ghost invariant = { λ f.
+        IsJournal f.shape f.start f.gate f.number f.is_broken (D.state f.opened.value).failures
+        (D.state f.device.value) };
 }
 
 impl<D: Disk> Journal<D> {
-    ghost use Rattle.lift_journal.specs.Journal.{CursorView, ReadsAs, StandsFor, IsCursorIn, IsNext};
+    ghost use Rattle.lift_journal.specs.Journal.{CursorView, ReadsAs, StandsFor, IsCursorIn};
+    ghost use Rattle.lift_journal.specs.Journal.{IsNext};
     ghost use Rattle.lift_journal.specs.Opening.{Opens, Refuses};
 
     /// The installation that the device was formatted for.
@@ -115,9 +142,12 @@ impl<D: Disk> Journal<D> {
     /// Whether a batch of so many records (1 to 63) has room.
     pub fn room(&self, count: usize) -> bool
         ensures room { IsTrue result ↔ (self.now.used + bodies count + 2 ≤ self.now.shape.half) }
-        ensures used { self.now.is_broken ≡ false → (D.state self.now.device).is_honest → (batches : List Batch)
-            → LeavesNow (D.state self.now.device) (Holds self.now.shape batches) → self.now.used ≡ used batches }
-        ensures half { self.now.is_broken ≡ false → LeavesNow (D.state self.now.device) (Picks self.now.is_second) }
+        ensures used { self.now.is_broken ≡ false → (D.state self.now.device).is_honest
+            → (batches : List Batch)
+            → LeavesNow (D.state self.now.device) (Holds self.now.shape batches)
+            → self.now.used ≡ used batches }
+        ensures half { self.now.is_broken ≡ false
+            → LeavesNow (D.state self.now.device) (Picks self.now.is_second) }
     {
         (self.gate - self.start) as usize + body_count(count) + 2 <= self.shape.half as usize
     }
@@ -129,18 +159,24 @@ impl<D: Disk> Journal<D> {
         self.device
     }
 
-    /// Opens a device that a crash may have left. It writes nothing. An `Err` hands the device back.
+    /// Opens a device that a crash may have left. It writes nothing. An `Err` hands the device
+    /// back.
     pub fn open(disk: D) -> Result<Journal<D>, (D, JournalFault)>
-        ensures opens { IfOk result (λ journal. Opens (D.state disk) (D.state journal.device) journal.shape journal.used) }
+        ensures opens { IfOk result (λ journal.
+            Opens (D.state disk) (D.state journal.device) journal.shape journal.used) }
         ensures whole { IfOk result (λ journal. journal.is_broken ≡ false) }
-        ensures opened { IfOk result (λ journal. journal.opened ≡ (D.state journal.device).failures) }
-        ensures half { IfOk result (λ journal. LeavesNow (D.state journal.device) (Picks journal.is_second)) }
+        ensures opened { IfOk result (λ journal.
+            journal.opened ≡ (D.state journal.device).failures) }
+        ensures half { IfOk result (λ journal.
+            LeavesNow (D.state journal.device) (Picks journal.is_second)) }
         ensures refused { IfErr result (λ err. Refuses (D.state disk) (D.state err.0) err.1) }
-        // A sync, the stamp, the pick, and the picked half up to its closing gate, sector by sector; where it is refused, up to the sector that
-        // refuses it.
+        // A sync, the stamp, the pick, and the picked half up to its closing gate, sector by
+        // sector; where it is refused, up to the sector that refuses it.
         ensures calls { IfOk result (λ journal. (D.state journal.device).trace
-            ≡ (D.state disk).trace ++ opening_calls (half_start journal.is_second journal.shape.half) (journal.used + 1)) }
-        ensures calls_before { IfErr result (λ err. RefusedBehind err.1 (D.state disk) (D.state err.0)) }
+            ≡ (D.state disk).trace ++ opening_calls
+            (half_start journal.is_second journal.shape.half) (journal.used + 1)) }
+        ensures calls_before { IfErr result (λ err.
+            RefusedBehind err.1 (D.state disk) (D.state err.0)) }
     {
         let mut device = disk;
         match find_place(&mut device) {
@@ -168,50 +204,77 @@ impl<D: Disk> Journal<D> {
 
         ensures acknowledged { OnOk result ((base entries : List RecordValue)
             → StandsFor self.old.shape base entries (D.state self.old.device)
-            → StandsFor self.new.shape base (entries ++ batch.now.items) (D.state self.new.device)) }
+            → StandsFor self.new.shape base (entries ++ batch.now.items)
+            (D.state self.new.device)) }
 
-        // A crash at any moment of the call leaves the entries from before it, or these and the batch.
+        // A crash at any moment of the call leaves the entries from before it, or these and the
+        // batch.
         ensures any_moment { (base entries : List RecordValue)
             → StandsFor self.old.shape base entries (D.state self.old.device)
             → LeavesOnly (D.state self.old.device) (D.state self.new.device)
-            (λ left. ReadsAs self.old.shape base entries left ⊎ ReadsAs self.old.shape base (entries ++ batch.now.items) left) }
+            (λ left. ReadsAs self.old.shape base entries left
+            ⊎ ReadsAs self.old.shape base (entries ++ batch.now.items) left) }
 
         // The same by batches: the new one is the last of them.
-        ensures listed { OnOk result ((batches : List Batch) → LeavesNow (D.state self.old.device) (Holds self.old.shape batches)
-            → LeavesNow (D.state self.new.device) (Holds self.new.shape (batches ++ new_batch batch.now.items ∷ []))) }
-        ensures any_moment_listed { (batches : List Batch) → LeavesNow (D.state self.old.device) (Holds self.old.shape batches)
+        ensures listed { OnOk result ((batches : List Batch)
+            → LeavesNow (D.state self.old.device) (Holds self.old.shape batches)
+            → LeavesNow (D.state self.new.device)
+            (Holds self.new.shape (batches ++ new_batch batch.now.items ∷ []))) }
+        ensures any_moment_listed { (batches : List Batch)
+            → LeavesNow (D.state self.old.device) (Holds self.old.shape batches)
             → LeavesOnly (D.state self.old.device) (D.state self.new.device)
-            (λ left. Holds self.old.shape batches left ⊎ Holds self.old.shape (batches ++ new_batch batch.now.items ∷ []) left) }
+            (λ left. Holds self.old.shape batches left
+            ⊎ Holds self.old.shape (batches ++ new_batch batch.now.items ∷ []) left) }
         // The half that is picked stays so.
-        ensures half { self.old.is_broken ≡ false → LeavesOnly (D.state self.old.device) (D.state self.new.device) (Picks self.old.is_second) }
-        ensures cursors { (batches : List Batch) (cursor : CursorView) → IsCursorIn batches cursor → IsCursorIn (batches ++ new_batch batch.now.items ∷ []) cursor }
+        ensures half { self.old.is_broken ≡ false
+            → LeavesOnly (D.state self.old.device) (D.state self.new.device)
+            (Picks self.old.is_second) }
+        ensures cursors { (batches : List Batch) (cursor : CursorView) → IsCursorIn batches cursor
+            → IsCursorIn (batches ++ new_batch batch.now.items ∷ []) cursor }
 
         ensures runs { RunsOn (D.state self.old.device) (D.state self.new.device) }
-        ensures made { Makes result (bodies (length batch.now.items) + 4) (bodies (length batch.now.items) + 2) (D.state self.old.device) (D.state self.new.device) }
+        ensures made { Makes result (bodies (length batch.now.items) + 4)
+            (bodies (length batch.now.items) + 2) (D.state self.old.device)
+            (D.state self.new.device) }
         // The body and the next gate, a sync, the gate, a sync; where one fails, those before it.
-        ensures calls { OnOk result ((body : Image) × IsBody self.old.number (new_batch batch.now.items) body
+        ensures calls { OnOk result ((body : Image)
+            × IsBody self.old.number (new_batch batch.now.items) body
             × ((D.state self.new.device).trace ≡ (D.state self.old.device).trace
-            ++ append_calls (half_start self.old.is_second self.old.shape.half + self.old.used) body)) }
-        ensures calls_before { IsErrOf result JournalFault.Disk → (body : Image) × IsBody self.old.number (new_batch batch.now.items) body
-            × StopsIn (append_calls (half_start self.old.is_second self.old.shape.half + self.old.used) body) (D.state self.old.device) (D.state self.new.device) }
+            ++ append_calls (half_start self.old.is_second self.old.shape.half + self.old.used)
+            body)) }
+        ensures calls_before { IsErrOf result JournalFault.Disk
+            → (body : Image) × IsBody self.old.number (new_batch batch.now.items) body
+            × StopsIn (append_calls (half_start self.old.is_second self.old.shape.half
+            + self.old.used) body) (D.state self.old.device) (D.state self.new.device) }
         ensures told { AnswersAsTold result (D.state self.old.device) (D.state self.new.device) }
-        ensures stops { IsErrOf result JournalFault.Disk → (D.state self.old.device).is_honest → (D.state self.old.device).is_inert → (batches : List Batch)
+        ensures stops { IsErrOf result JournalFault.Disk → (D.state self.old.device).is_honest
+            → (D.state self.old.device).is_inert → (batches : List Batch)
             → LeavesNow (D.state self.old.device) (Holds self.old.shape batches)
-            → StopsShort self.old.shape batches (new_batch batch.now.items) (bodies (length batch.now.items)) (D.state self.old.device) (D.state self.new.device) }
-        ensures failed { IsErrOf result JournalFault.Disk → (D.state self.old.device).failures < (D.state self.new.device).failures }
+            → StopsShort self.old.shape batches (new_batch batch.now.items)
+            (bodies (length batch.now.items)) (D.state self.old.device)
+            (D.state self.new.device) }
+        ensures failed { IsErrOf result JournalFault.Disk
+            → (D.state self.old.device).failures < (D.state self.new.device).failures }
         ensures breaks { IsErrOf result JournalFault.Disk → self.new.is_broken ≡ true }
-        ensures whole { OnOk result ((D.state self.new.device).failures ≡ (D.state self.old.device).failures) }
+        ensures whole { OnOk result ((D.state self.new.device).failures
+            ≡ (D.state self.old.device).failures) }
         ensures stays { OnOk result (self.new.is_broken ≡ false) }
-        ensures full { IsErrOf result JournalFault.Full ↔ (self.old.is_broken ≡ false) × (self.old.shape.half < self.old.used + bodies (length batch.now.items) + 2) }
+        ensures full { IsErrOf result JournalFault.Full
+            ↔ (self.old.is_broken ≡ false)
+            × (self.old.shape.half < self.old.used + bodies (length batch.now.items) + 2) }
         ensures broken { IsErrOf result JournalFault.Broken ↔ (self.old.is_broken ≡ true) }
-        ensures refused { IsErrOf result JournalFault.Full ⊎ IsErrOf result JournalFault.Broken → self.new ≡ self.old }
-        ensures causes { IfErr result (λ fault. (fault ≡ JournalFault.Disk) ⊎ (fault ≡ JournalFault.Full) ⊎ (fault ≡ JournalFault.Broken)) }
+        ensures refused { IsErrOf result JournalFault.Full ⊎ IsErrOf result JournalFault.Broken
+            → self.new ≡ self.old }
+        ensures causes { IfErr result (λ fault. (fault ≡ JournalFault.Disk)
+            ⊎ (fault ≡ JournalFault.Full) ⊎ (fault ≡ JournalFault.Broken)) }
         ensures shape { self.new.shape ≡ self.old.shape }
         ensures second { self.new.is_second ≡ self.old.is_second }
         ensures opened { self.new.opened ≡ self.old.opened }
-        ensures used { OnOk result (self.new.used ≡ self.old.used + bodies (length batch.now.items) + 1) }
+        ensures used { OnOk result (self.new.used
+            ≡ self.old.used + bodies (length batch.now.items) + 1) }
         ensures number { OnOk result (self.new.number ≡ self.old.number + 1) }
-        ensures kept { OnErr result ((self.new.used ≡ self.old.used) × (self.new.number ≡ self.old.number)) }
+        ensures kept { OnErr result ((self.new.used ≡ self.old.used)
+            × (self.new.number ≡ self.old.number)) }
     {
         if self.is_broken {
             return Err(JournalFault::Broken);
@@ -232,55 +295,83 @@ impl<D: Disk> Journal<D> {
         Ok(())
     }
 
-    /// Puts a checkpoint of this register in the place of all batches, in the half that isn't picked. At `Ok` it is safe.
+    /// Puts a checkpoint of this register in the place of all batches, in the half that isn't
+    /// picked. At `Ok` it is safe.
     pub fn replace(&mut self, register: &Register) -> Result<(), JournalFault>
-        // A crash at any moment of the call leaves the records from before it, or the checkpoint alone.
+        // A crash at any moment of the call leaves the records from before it, or the checkpoint
+        // alone.
         ensures any_moment { (base entries : List RecordValue)
             → StandsFor self.old.shape base entries (D.state self.old.device)
             → LeavesOnly (D.state self.old.device) (D.state self.new.device)
-            (λ left. ReadsAs self.old.shape base entries left ⊎ ReadsAs self.old.shape (base_records register.now) [] left) }
+            (λ left. ReadsAs self.old.shape base entries left
+            ⊎ ReadsAs self.old.shape (base_records register.now) [] left) }
 
         // The same by batches.
-        ensures any_moment_listed { (batches : List Batch) → LeavesNow (D.state self.old.device) (Holds self.old.shape batches)
+        ensures any_moment_listed { (batches : List Batch)
+            → LeavesNow (D.state self.old.device) (Holds self.old.shape batches)
             → LeavesOnly (D.state self.old.device) (D.state self.new.device)
-            (λ left. Holds self.old.shape batches left ⊎ Holds self.old.shape (checkpoint_of (base_records register.now)) left) }
+            (λ left. Holds self.old.shape batches left
+            ⊎ Holds self.old.shape (checkpoint_of (base_records register.now)) left) }
 
-        ensures replaced { OnOk result (StandsFor self.new.shape (base_records register.now) [] (D.state self.new.device)) }
-        ensures synced { OnOk result ((D.state self.new.device).is_honest → IsSynced (D.state self.new.device)) }
-        ensures batches { OnOk result (LeavesNow (D.state self.new.device) (Holds self.new.shape (checkpoint_of (base_records register.now)))) }
+        ensures replaced { OnOk result
+            (StandsFor self.new.shape (base_records register.now) [] (D.state self.new.device)) }
+        ensures synced { OnOk result ((D.state self.new.device).is_honest
+            → IsSynced (D.state self.new.device)) }
+        ensures batches { OnOk result
+            (LeavesNow (D.state self.new.device)
+            (Holds self.new.shape (checkpoint_of (base_records register.now)))) }
         ensures runs { RunsOn (D.state self.old.device) (D.state self.new.device) }
-        ensures made { Makes result (sectors_for (length (base_records register.now)) + 4) (sectors_for (length (base_records register.now)) + 2)
+        ensures made { Makes result (sectors_for (length (base_records register.now)) + 4)
+            (sectors_for (length (base_records register.now)) + 2)
             (D.state self.old.device) (D.state self.new.device) }
-        // In the half that isn't picked: each batch and its gate, a closed gate, a sync, the pick, a sync; where one fails, those before it.
-        ensures calls { OnOk result ((D.state self.new.device).trace ≡ (D.state self.old.device).trace
-            ++ checkpoint_calls (half_start (not self.old.is_second) self.old.shape.half) (pick_of (not self.old.is_second)) (checkpoint_of (base_records register.now))) }
+        // In the half that isn't picked: each batch and its gate, a closed gate, a sync, the pick,
+        // a sync; where one fails, those before it.
+        ensures calls { OnOk result ((D.state self.new.device).trace
+            ≡ (D.state self.old.device).trace
+            ++ checkpoint_calls (half_start (not self.old.is_second) self.old.shape.half)
+            (pick_of (not self.old.is_second)) (checkpoint_of (base_records register.now))) }
         ensures calls_before { IsErrOf result JournalFault.Disk
-            → StopsIn (checkpoint_calls (half_start (not self.old.is_second) self.old.shape.half) (pick_of (not self.old.is_second)) (checkpoint_of (base_records register.now)))
+            → StopsIn (checkpoint_calls (half_start (not self.old.is_second) self.old.shape.half)
+            (pick_of (not self.old.is_second)) (checkpoint_of (base_records register.now)))
             (D.state self.old.device) (D.state self.new.device) }
         ensures told { AnswersAsTold result (D.state self.old.device) (D.state self.new.device) }
 
         // Where it stopped says which half a cut leaves picked.
-        ensures stops { IsErrOf result JournalFault.Disk → (D.state self.old.device).is_honest → (D.state self.old.device).is_inert → (batches : List Batch)
+        ensures stops { IsErrOf result JournalFault.Disk → (D.state self.old.device).is_honest
+            → (D.state self.old.device).is_inert → (batches : List Batch)
             → LeavesNow (D.state self.old.device) (Holds self.old.shape batches)
-            → StopsCheckpoint self.old.shape self.old.is_second batches (checkpoint_of (base_records register.now)) (sectors_for (length (base_records register.now)))
+            → StopsCheckpoint self.old.shape self.old.is_second batches
+            (checkpoint_of (base_records register.now))
+            (sectors_for (length (base_records register.now)))
             (D.state self.old.device) (D.state self.new.device) }
-        ensures half { OnOk result (LeavesNow (D.state self.new.device) (Picks self.new.is_second)) }
+        ensures half { OnOk result
+            (LeavesNow (D.state self.new.device) (Picks self.new.is_second)) }
         ensures switched { OnOk result (self.new.is_second ≡ not self.old.is_second) }
-        ensures kept { OnErr result ((self.new.is_second ≡ self.old.is_second) × (self.new.used ≡ self.old.used)) }
+        ensures kept { OnErr result ((self.new.is_second ≡ self.old.is_second)
+            × (self.new.used ≡ self.old.used)) }
         ensures unnumbered { OnErr result (self.new.number ≡ self.old.number) }
-        ensures used { OnOk result (self.new.used ≡ sectors_for (length (base_records register.now))) }
-        ensures number { OnOk result (self.new.number ≡ batch_count (length (base_records register.now)) + 1) }
+        ensures used { OnOk result (self.new.used
+            ≡ sectors_for (length (base_records register.now))) }
+        ensures number { OnOk result (self.new.number
+            ≡ batch_count (length (base_records register.now)) + 1) }
         // Behind a checkpoint any batch has room.
-        ensures roomy { OnOk result ((count : ℕ) → self.new.used + bodies count + 2 ≤ self.new.shape.half) }
-        ensures joined { records_of (checkpoint_of (base_records register.now)) ≡ base_records register.now }
-        ensures counted { self.old.is_broken ≡ false → used (checkpoint_of (base_records register.now)) ≡ sectors_for (length (base_records register.now)) }
-        ensures failed { IsErrOf result JournalFault.Disk → (D.state self.old.device).failures < (D.state self.new.device).failures }
+        ensures roomy { OnOk result ((count : ℕ)
+            → self.new.used + bodies count + 2 ≤ self.new.shape.half) }
+        ensures joined { records_of (checkpoint_of (base_records register.now))
+            ≡ base_records register.now }
+        ensures counted { self.old.is_broken ≡ false
+            → used (checkpoint_of (base_records register.now))
+            ≡ sectors_for (length (base_records register.now)) }
+        ensures failed { IsErrOf result JournalFault.Disk
+            → (D.state self.old.device).failures < (D.state self.new.device).failures }
         ensures breaks { IsErrOf result JournalFault.Disk → self.new.is_broken ≡ true }
-        ensures whole { OnOk result ((D.state self.new.device).failures ≡ (D.state self.old.device).failures) }
+        ensures whole { OnOk result ((D.state self.new.device).failures
+            ≡ (D.state self.old.device).failures) }
         ensures stays { OnOk result (self.new.is_broken ≡ false) }
         ensures broken { IsErrOf result JournalFault.Broken ↔ (self.old.is_broken ≡ true) }
         ensures refused { IsErrOf result JournalFault.Broken → self.new ≡ self.old }
-        ensures causes { IfErr result (λ fault. (fault ≡ JournalFault.Disk) ⊎ (fault ≡ JournalFault.Broken)) }
+        ensures causes { IfErr result (λ fault. (fault ≡ JournalFault.Disk)
+            ⊎ (fault ≡ JournalFault.Broken)) }
         ensures shape { self.new.shape ≡ self.old.shape }
         ensures opened { self.new.opened ≡ self.old.opened }
     {
@@ -303,7 +394,8 @@ impl<D: Disk> Journal<D> {
         }
     }
 
-    /// The place of the first batch. [`Journal::next`] takes it until the next reopening or checkpoint.
+    /// The place of the first batch. [`Journal::next`] takes it until the next reopening or
+    /// checkpoint.
     pub fn first(&self) -> Cursor
         ensures start { (batches : List Batch) → IsCursorIn batches result }
         ensures none { result.given ≡ 0 }
@@ -319,36 +411,56 @@ impl<D: Disk> Journal<D> {
         &mut self,
         cursor: &mut Cursor,
     ) -> Result<Option<ArrayVec<Record, 63>>, JournalFault>
-        ensures gives { IfOk result (λ found. (D.state self.old.device).is_honest → (batches : List Batch) → Holds self.old.shape batches (D.state self.old.device).image
-            → IsCursorIn batches cursor.old → IsNext batches cursor.old cursor.new (option_map (λ l. l.items) found)) }
-        ensures kept { OnOk result ((D.state self.old.device).is_honest → IsSyncedAt (D.state self.old.device).image (D.state self.new.device)) }
+        ensures gives { IfOk result (λ found. (D.state self.old.device).is_honest
+            → (batches : List Batch) → Holds self.old.shape batches (D.state self.old.device).image
+            → IsCursorIn batches cursor.old
+            → IsNext batches cursor.old cursor.new (option_map (λ l. l.items) found)) }
+        ensures kept { OnOk result ((D.state self.old.device).is_honest
+            → IsSyncedAt (D.state self.old.device).image (D.state self.new.device)) }
         ensures reads { ReadsOnly (D.state self.old.device) (D.state self.new.device) }
-        ensures failures { OnOk result ((D.state self.new.device).failures ≡ (D.state self.old.device).failures) }
+        ensures failures { OnOk result ((D.state self.new.device).failures
+            ≡ (D.state self.old.device).failures) }
         ensures stays { OnOk result (self.new.is_broken ≡ false) }
-        ensures failed { IsErrOf result JournalFault.Disk → (D.state self.old.device).failures < (D.state self.new.device).failures }
+        ensures failed { IsErrOf result JournalFault.Disk
+            → (D.state self.old.device).failures < (D.state self.new.device).failures }
         ensures breaks { IsErrOf result JournalFault.Disk → self.new.is_broken ≡ true }
         ensures cursor_stays { OnErr result (cursor.new ≡ cursor.old) }
-        ensures damaged_stays { (s : _) → IsErrOf result (JournalFault.Damaged s) → ((D.state self.new.device).failures ≡ (D.state self.old.device).failures) × (self.new.is_broken ≡ false) }
-        ensures damaged { (s : _) → IsErrOf result (JournalFault.Damaged s) → (D.state self.old.device).is_honest → (batches : List Batch)
-            → Holds self.old.shape batches (D.state self.old.device).image → IsCursorIn batches cursor.old → ⊥ }
+        ensures damaged_stays { (s : _) → IsErrOf result (JournalFault.Damaged s)
+            → ((D.state self.new.device).failures ≡ (D.state self.old.device).failures)
+            × (self.new.is_broken ≡ false) }
+        ensures damaged { (s : _) → IsErrOf result (JournalFault.Damaged s)
+            → (D.state self.old.device).is_honest → (batches : List Batch)
+            → Holds self.old.shape batches (D.state self.old.device).image
+            → IsCursorIn batches cursor.old → ⊥ }
         ensures broken { IsErrOf result JournalFault.Broken ↔ (self.old.is_broken ≡ true) }
         ensures refused { IsErrOf result JournalFault.Broken → self.new ≡ self.old }
         ensures told { AnswersAsTold result (D.state self.old.device) (D.state self.new.device) }
         ensures causes { IfErr result (λ fault. IsOfCursor fault) }
-        ensures same { (self.new.shape ≡ self.old.shape) × (self.new.used ≡ self.old.used) × (self.new.opened ≡ self.old.opened) }
+        ensures same { (self.new.shape ≡ self.old.shape) × (self.new.used ≡ self.old.used)
+            × (self.new.opened ≡ self.old.opened) }
         ensures second { self.new.is_second ≡ self.old.is_second }
         ensures number { self.new.number ≡ self.old.number }
-        // The gate and its body in a row, and at the end no call; where it is refused, as far as that came.
-        ensures calls { IfOk result (λ found. IfSome found (λ records. (D.state self.new.device).trace ≡ (D.state self.old.device).trace
-            ++ reads_from (half_start self.old.is_second self.old.shape.half + cursor.old.skipped) (1 + bodies (length records.items)))) }
+        // The gate and its body in a row, and at the end no call; where it is refused, as far as
+        // that came.
+        ensures calls { IfOk result (λ found.
+            IfSome found (λ records.
+            (D.state self.new.device).trace ≡ (D.state self.old.device).trace
+            ++ reads_from (half_start self.old.is_second self.old.shape.half + cursor.old.skipped)
+            (1 + bodies (length records.items)))) }
         ensures rests { result ≡ Ok None → (self.new ≡ self.old) × (cursor.new ≡ cursor.old) }
-        ensures calls_failed { IsErrOf result JournalFault.Disk → HasRead (half_start self.old.is_second self.old.shape.half + cursor.old.skipped) 2
-            (half_start self.old.is_second self.old.shape.half + self.old.shape.half) (D.state self.old.device) (D.state self.new.device) }
+        ensures calls_failed { IsErrOf result JournalFault.Disk
+            → HasRead (half_start self.old.is_second self.old.shape.half + cursor.old.skipped) 2
+            (half_start self.old.is_second self.old.shape.half + self.old.shape.half)
+            (D.state self.old.device) (D.state self.new.device) }
         ensures calls_damaged { (s : _) → IsErrOf result (JournalFault.Damaged s)
-            → HasReadAt s (half_start self.old.is_second self.old.shape.half + self.old.shape.half) (D.state self.old.device) (D.state self.new.device) }
-        ensures moves { IfOk result (λ found. IfSome found (λ records. (cursor.new.skipped ≡ cursor.old.skipped + (1 + bodies (length records.items)))
+            → HasReadAt s (half_start self.old.is_second self.old.shape.half + self.old.shape.half)
+            (D.state self.old.device) (D.state self.new.device) }
+        ensures moves { IfOk result (λ found.
+            IfSome found (λ records.
+            (cursor.new.skipped ≡ cursor.old.skipped + (1 + bodies (length records.items)))
             × (cursor.new.given ≡ cursor.old.given + 1))) }
-        // At any device: the end is told only behind all used sectors, and damage only of the cursor's own gate.
+        // At any device: the end is told only behind all used sectors, and damage only of the
+        // cursor's own gate.
         ensures ends { result ≡ Ok None → self.old.used ≤ cursor.old.skipped }
         ensures at_gate { (s : _) → IsErrOf result (JournalFault.Damaged s)
             → s ≡ (if self.old.is_second then self.old.shape.half + 2 else 2) + cursor.old.skipped }
@@ -380,20 +492,29 @@ impl<D: Disk> Journal<D> {
         }
     }
 
-    /// Opens it again, also after a fault. It writes nothing. A fault of the device leaves it broken, a refusal for
-    /// another cause as it was.
+    /// Opens it again, also after a fault. It writes nothing. A fault of the device leaves it
+    /// broken, a refusal for another cause as it was.
     pub fn reopen(&mut self) -> Result<(), JournalFault>
-        ensures opens { OnOk result (Opens (D.state self.old.device) (D.state self.new.device) self.new.shape self.new.used) }
+        ensures opens { OnOk result
+            (Opens (D.state self.old.device)
+            (D.state self.new.device) self.new.shape self.new.used) }
         ensures whole { OnOk result (self.new.is_broken ≡ false) }
         ensures opened { OnOk result (self.new.opened ≡ (D.state self.new.device).failures) }
-        ensures half { OnOk result (LeavesNow (D.state self.new.device) (Picks self.new.is_second)) }
-        ensures refused { IfErr result (λ fault. Refuses (D.state self.old.device) (D.state self.new.device) fault) }
+        ensures half { OnOk result
+            (LeavesNow (D.state self.new.device) (Picks self.new.is_second)) }
+        ensures refused { IfErr result (λ fault.
+            Refuses (D.state self.old.device) (D.state self.new.device) fault) }
         ensures calls { OnOk result ((D.state self.new.device).trace
-            ≡ (D.state self.old.device).trace ++ opening_calls (half_start self.new.is_second self.new.shape.half) (self.new.used + 1)) }
-        ensures calls_before { IfErr result (λ fault. RefusedBehind fault (D.state self.old.device) (D.state self.new.device)) }
+            ≡ (D.state self.old.device).trace
+            ++ opening_calls (half_start self.new.is_second self.new.shape.half)
+            (self.new.used + 1)) }
+        ensures calls_before { IfErr result (λ fault.
+            RefusedBehind fault (D.state self.old.device) (D.state self.new.device)) }
         ensures breaks { IsErrOf result JournalFault.Disk → self.new.is_broken ≡ true }
-        ensures stays { IfErr result (λ fault. (fault ≡ JournalFault.Disk) ⊎ (self.new.is_broken ≡ self.old.is_broken)) }
-        ensures same { OnErr result ((self.new.shape ≡ self.old.shape) × (self.new.used ≡ self.old.used) × (self.new.opened ≡ self.old.opened)) }
+        ensures stays { IfErr result (λ fault. (fault ≡ JournalFault.Disk)
+            ⊎ (self.new.is_broken ≡ self.old.is_broken)) }
+        ensures same { OnErr result ((self.new.shape ≡ self.old.shape)
+            × (self.new.used ≡ self.old.used) × (self.new.opened ≡ self.old.opened)) }
         ensures second { OnErr result (self.new.is_second ≡ self.old.is_second) }
         ensures number { OnErr result (self.new.number ≡ self.old.number) }
     {
@@ -403,21 +524,31 @@ impl<D: Disk> Journal<D> {
         }
     }
 
-    /// Opens it again as [`Journal::reopen`] does, and gives where it stood, for a caller who may yet refuse what it finds.
+    /// Opens it again as [`Journal::reopen`] does, and gives where it stood, for a caller who may
+    /// yet refuse what it finds.
     pub fn reopen_from(&mut self) -> Result<FormerPlace<D>, JournalFault>
         ensures former { IfOk result (λ former. former ≡ self.old) }
         ensures reads { ReadsOnly (D.state self.old.device) (D.state self.new.device) }
-        ensures opens { OnOk result (Opens (D.state self.old.device) (D.state self.new.device) self.new.shape self.new.used) }
+        ensures opens { OnOk result
+            (Opens (D.state self.old.device)
+            (D.state self.new.device) self.new.shape self.new.used) }
         ensures whole { OnOk result (self.new.is_broken ≡ false) }
         ensures opened { OnOk result (self.new.opened ≡ (D.state self.new.device).failures) }
-        ensures half { OnOk result (LeavesNow (D.state self.new.device) (Picks self.new.is_second)) }
-        ensures refused { IfErr result (λ fault. Refuses (D.state self.old.device) (D.state self.new.device) fault) }
+        ensures half { OnOk result
+            (LeavesNow (D.state self.new.device) (Picks self.new.is_second)) }
+        ensures refused { IfErr result (λ fault.
+            Refuses (D.state self.old.device) (D.state self.new.device) fault) }
         ensures calls { OnOk result ((D.state self.new.device).trace
-            ≡ (D.state self.old.device).trace ++ opening_calls (half_start self.new.is_second self.new.shape.half) (self.new.used + 1)) }
-        ensures calls_before { IfErr result (λ fault. RefusedBehind fault (D.state self.old.device) (D.state self.new.device)) }
+            ≡ (D.state self.old.device).trace
+            ++ opening_calls (half_start self.new.is_second self.new.shape.half)
+            (self.new.used + 1)) }
+        ensures calls_before { IfErr result (λ fault.
+            RefusedBehind fault (D.state self.old.device) (D.state self.new.device)) }
         ensures breaks { IsErrOf result JournalFault.Disk → self.new.is_broken ≡ true }
-        ensures stays { IfErr result (λ fault. (fault ≡ JournalFault.Disk) ⊎ (self.new.is_broken ≡ self.old.is_broken)) }
-        ensures same { OnErr result ((self.new.shape ≡ self.old.shape) × (self.new.used ≡ self.old.used) × (self.new.opened ≡ self.old.opened)) }
+        ensures stays { IfErr result (λ fault. (fault ≡ JournalFault.Disk)
+            ⊎ (self.new.is_broken ≡ self.old.is_broken)) }
+        ensures same { OnErr result ((self.new.shape ≡ self.old.shape)
+            × (self.new.used ≡ self.old.used) × (self.new.opened ≡ self.old.opened)) }
         ensures second { OnErr result (self.new.is_second ≡ self.old.is_second) }
         ensures number { OnErr result (self.new.number ≡ self.old.number) }
     {
@@ -450,13 +581,17 @@ impl<D: Disk> Journal<D> {
         }
     }
 
-    /// Goes back to where it stood before [`Journal::reopen_from`], as if that had been refused. It makes no device call.
+    /// Goes back to where it stood before [`Journal::reopen_from`], as if that had been refused. It
+    /// makes no device call.
     pub fn return_to(&mut self, former: FormerPlace<D>)
         requires reads { ReadsOnly (D.state former.device) (D.state self.old.device) }
-        requires safe { self.old.is_broken ≡ false → (D.state self.old.device).is_honest → IsSynced (D.state self.old.device) }
-        requires failed { self.old.is_broken ≡ true → (D.state former.device).failures < (D.state self.old.device).failures }
+        requires safe { self.old.is_broken ≡ false → (D.state self.old.device).is_honest
+            → IsSynced (D.state self.old.device) }
+        requires failed { self.old.is_broken ≡ true
+            → (D.state former.device).failures < (D.state self.old.device).failures }
         ensures device { self.new.device ≡ self.old.device }
-        ensures same { (self.new.shape ≡ former.shape) × (self.new.used ≡ former.used) × (self.new.opened ≡ former.opened) }
+        ensures same { (self.new.shape ≡ former.shape) × (self.new.used ≡ former.used)
+            × (self.new.opened ≡ former.opened) }
         ensures second { self.new.is_second ≡ former.is_second }
         ensures number { self.new.number ≡ former.number }
         ensures breaks { self.old.is_broken ≡ true → self.new.is_broken ≡ true }
@@ -477,8 +612,10 @@ impl<D: Arm> Journal<D> {
     /// Tells the device anew which calls to fail. It changes no image.
     pub fn arm(&mut self, calls: u32)
         ensures same { IsUnchanged (D.state self.old.device) (D.state self.new.device) }
-        ensures told { IsTold (D.fails_by calls (D.state self.old.device).calls) (D.state self.new.device) }
-        ensures rest { (self.new.shape ≡ self.old.shape) × (self.new.used ≡ self.old.used) × (self.new.opened ≡ self.old.opened) × (self.new.is_broken ≡ self.old.is_broken) }
+        ensures told { IsTold (D.fails_by calls (D.state self.old.device).calls)
+            (D.state self.new.device) }
+        ensures rest { (self.new.shape ≡ self.old.shape) × (self.new.used ≡ self.old.used)
+            × (self.new.opened ≡ self.old.opened) × (self.new.is_broken ≡ self.old.is_broken) }
         ensures second { self.new.is_second ≡ self.old.is_second }
         ensures number { self.new.number ≡ self.old.number }
     {

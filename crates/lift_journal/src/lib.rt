@@ -1,4 +1,5 @@
-//! The journal: batches of records on a device of sectors, each in it whole or not at all, whatever a power cut leaves.
+//! The journal: batches of records on a device of sectors, each in it whole or not at all, whatever
+//! a power cut leaves.
 #![tactic(auto)]
 
 mod batch;

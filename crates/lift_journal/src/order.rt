@@ -1,6 +1,7 @@
 //! The order of the records in a chain.
 ghost use Rattle.std.specs.Prelude.{◌≡◌, ◌↔◌, IsTrue};
-ghost use Rattle.lift_journal.specs.Order.{IsEntry, MayFollow, MayFollowRow, MayFollowLast, IsInOrderBehind, last_behind, MayEnd};
+ghost use Rattle.lift_journal.specs.Order.{IsEntry, MayFollow, MayFollowRow, MayFollowLast};
+ghost use Rattle.lift_journal.specs.Order.{IsInOrderBehind, last_behind, MayEnd};
 
 use lift_base::{Letter, Record, Terminal};
 

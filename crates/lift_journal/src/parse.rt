@@ -1,5 +1,6 @@
 //! The reading of a batch.
-ghost use Rattle.std.specs.Prelude.{◌≡◌, ◌≤◌, ◌-◌, ◌++◌, ◌↔◌, IsTrue, IfSome, IfNone, Some, List, length, take, drop, replicate};
+ghost use Rattle.std.specs.Prelude.{◌≡◌, ◌≤◌, ◌-◌, ◌++◌, ◌↔◌, IsTrue, IfSome, IfNone, Some, List};
+ghost use Rattle.std.specs.Prelude.{length, take, drop, replicate};
 ghost use Rattle.lift_base.specs.declared.history.Record.{Record as RecordValue};
 ghost use Rattle.lift_record.specs.Header.{IsHeaderSpelling};
 ghost use Rattle.lift_journal.specs.Seen.{IsRecordsIn, IsTailOf};
@@ -11,7 +12,8 @@ use lift_record::{Header, Version, decode, decode_header};
 
 /// The header at the front of a body, if it is one and has this number.
 pub fn header_of(first: &[u8; 512], number: u32) -> Option<Header>
-    ensures { (header : _) → (result ≡ Some header ↔ (IsHeaderSpelling (take 16 first.now) header × (header.number ≡ number))) }
+    ensures { (header : _) → (result ≡ Some header
+        ↔ (IsHeaderSpelling (take 16 first.now) header × (header.number ≡ number))) }
 {
     let header = decode_header(&sixteen(first, 0))?;
     if header.number == number {
@@ -24,8 +26,10 @@ pub fn header_of(first: &[u8; 512], number: u32) -> Option<Header>
 /// So many records behind the header of this text, if they are spelled there.
 fn read_records(version: Version, text: &[u8; 1024], count: usize) -> Option<ArrayVec<Record, 63>>
     requires { count ≤ 63 }
-    ensures some { IfSome result (λ records. IsRecordsIn version (drop 16 text.now) count records.items) }
-    ensures none { IfNone result ((records : List RecordValue) → ¬ IsRecordsIn version (drop 16 text.now) count records) }
+    ensures some { IfSome result (λ records.
+        IsRecordsIn version (drop 16 text.now) count records.items) }
+    ensures none { IfNone result ((records : List RecordValue)
+        → ¬ IsRecordsIn version (drop 16 text.now) count records) }
 {
     let mut records = ArrayVec::new();
     for k in 0..count {
@@ -65,8 +69,10 @@ pub fn parse(
     second: &[u8; 512],
 ) -> Option<ArrayVec<Record, 63>>
     requires { count ≤ 63 }
-    ensures some { IfSome result (λ records. (length records.items ≡ count) × IsTailOf version records.items (drop 16 (first.now ++ second.now))) }
-    ensures none { IfNone result ((records : List RecordValue) → length records ≡ count → ¬ IsTailOf version records (drop 16 (first.now ++ second.now))) }
+    ensures some { IfSome result (λ records. (length records.items ≡ count)
+        × IsTailOf version records.items (drop 16 (first.now ++ second.now))) }
+    ensures none { IfNone result ((records : List RecordValue) → length records ≡ count
+        → ¬ IsTailOf version records (drop 16 (first.now ++ second.now))) }
 {
     let text = joined(first, second);
     let Some(records) = read_records(version, &text, count) else {

@@ -1,5 +1,6 @@
 //! Where a formatted device goes on. This reads and writes nothing.
-ghost use Rattle.std.specs.Prelude.{ℕ, ◌≡◌, ◌⊎◌, ◌≤◌, ◌<◌, ◌+◌, ◌-◌, ◌*◌, ◌++◌, [], ◌∷◌, IsErrOf, IfOk, IfErr, OnOk};
+ghost use Rattle.std.specs.Prelude.{ℕ, ◌≡◌, ◌⊎◌, ◌≤◌, ◌<◌, ◌+◌, ◌-◌, ◌*◌, ◌++◌, [], ◌∷◌, IsErrOf};
+ghost use Rattle.std.specs.Prelude.{IfOk, IfErr, OnOk};
 ghost use Rattle.lift_base.specs.declared.history.Shape.{Shape as ShapeValue};
 ghost use Rattle.lift_base.specs.History.{IsWithinLimits};
 ghost use Rattle.lift_disk.specs.Disk.{IsSynced, Image, MayLeave};
@@ -37,12 +38,17 @@ pub struct Place {
 fn read_shape<D: Disk>(disk: &mut D) -> Result<Shape, JournalFault>
     ensures examines { Examines result (D.state disk.old) (D.state disk.new) }
     ensures causes { IfErr result (λ fault. IsOfStamp fault) }
-    ensures stamped { IfOk result (λ shape. IsWithinLimits shape × (2 * shape.half + 2 ≤ (D.state disk.old).size)
-        × ((D.state disk.old).is_honest → IsSynced (D.state disk.old) → IsStamped shape (D.state disk.old).image)) }
-    ensures not_formatted { IsErrOf result JournalFault.NotFormatted → (D.state disk.old).is_honest → IsSynced (D.state disk.old)
+    ensures stamped { IfOk result (λ shape.
+        IsWithinLimits shape × (2 * shape.half + 2 ≤ (D.state disk.old).size)
+        × ((D.state disk.old).is_honest → IsSynced (D.state disk.old)
+        → IsStamped shape (D.state disk.old).image)) }
+    ensures not_formatted { IsErrOf result JournalFault.NotFormatted → (D.state disk.old).is_honest
+        → IsSynced (D.state disk.old)
         → (shape : ShapeValue) → IsStamped shape (D.state disk.old).image → ⊥ }
-    ensures read { OnOk result ((D.state disk.new).trace ≡ (D.state disk.old).trace ++ Read 1 ∷ []) }
-    ensures behind { IfErr result (λ fault. StampBehind fault (D.state disk.old) (D.state disk.new)) }
+    ensures read { OnOk result ((D.state disk.new).trace ≡ (D.state disk.old).trace ++ Read 1
+        ∷ []) }
+    ensures behind { IfErr result (λ fault.
+        StampBehind fault (D.state disk.old) (D.state disk.new)) }
 {
     if disk.sectors() < 2 {
         return Err(JournalFault::NotFormatted);
@@ -63,14 +69,23 @@ fn place_of<D: Disk>(disk: &mut D, shape: Shape) -> Result<Place, JournalFault>
     ensures examines { Examines result (D.state disk.old) (D.state disk.new) }
     ensures causes { IfErr result (λ fault. IsOfChain fault) }
     ensures shape { IfOk result (λ place. place.shape ≡ shape) }
-    ensures place { IfOk result (λ place. HasPlace (D.state disk.new).size place.shape place.start place.gate place.number) }
-    ensures stands { IfOk result (λ place. (D.state disk.old).is_honest → IsSynced (D.state disk.old) → IsStamped shape (D.state disk.old).image
+    ensures place { IfOk result (λ place.
+        HasPlace (D.state disk.new).size place.shape place.start place.gate place.number) }
+    ensures stands { IfOk result (λ place. (D.state disk.old).is_honest
+        → IsSynced (D.state disk.old) → IsStamped shape (D.state disk.old).image
         → StandsAt place.shape place.start place.gate place.number (D.state disk.new)) }
-    ensures damaged { (s : _) → IsErrOf result (JournalFault.Damaged s) → (D.state disk.old).is_honest → IsSynced (D.state disk.old)
-        → IsDamagedAt (D.state disk.old).image (start_of shape.half (D.state disk.old).image) (start_of shape.half (D.state disk.old).image + shape.half) s }
-    ensures read { IfOk result (λ place. (D.state disk.new).trace ≡ (D.state disk.old).trace ++ Read 0 ∷ reads_from place.start (place.gate - place.start + 1)) }
-    ensures behind { IfErr result (λ fault. (fault ≡ JournalFault.Disk) × ((D.state disk.new).trace ≡ (D.state disk.old).trace)
-        ⊎ EndsInHalf fault (Read 0 ∷ []) ((D.state disk.old).is_honest × IsSynced (D.state disk.old)) (D.state disk.old).image (D.state disk.old) (D.state disk.new)) }
+    ensures damaged { (s : _) → IsErrOf result (JournalFault.Damaged s)
+        → (D.state disk.old).is_honest → IsSynced (D.state disk.old)
+        → IsDamagedAt (D.state disk.old).image (start_of shape.half (D.state disk.old).image)
+        (start_of shape.half (D.state disk.old).image + shape.half) s }
+    ensures read { IfOk result (λ place.
+        (D.state disk.new).trace ≡ (D.state disk.old).trace ++ Read 0
+        ∷ reads_from place.start (place.gate - place.start + 1)) }
+    ensures behind { IfErr result (λ fault. (fault ≡ JournalFault.Disk)
+        × ((D.state disk.new).trace ≡ (D.state disk.old).trace)
+        ⊎ EndsInHalf fault (Read 0 ∷ []) ((D.state disk.old).is_honest
+        × IsSynced (D.state disk.old)) (D.state disk.old).image (D.state disk.old)
+        (D.state disk.new)) }
 {
     let Ok(is_second) = read_mark(disk, 0) else {
         return Err(JournalFault::Disk);
@@ -93,12 +108,19 @@ pub fn find_place<D: Disk>(disk: &mut D) -> Result<Place, JournalFault>
     ensures failures { OnOk result ((D.state disk.new).failures ≡ (D.state disk.old).failures) }
     ensures told { OnOk result (NoneFails (D.state disk.old) (D.state disk.new)) }
     ensures settled { OnOk result ((D.state disk.old).is_honest → IsSynced (D.state disk.new)) }
-    ensures place { IfOk result (λ place. HasPlace (D.state disk.new).size place.shape place.start place.gate place.number) }
-    ensures stands { IfOk result (λ place. (D.state disk.old).is_honest → StandsAt place.shape place.start place.gate place.number (D.state disk.new)) }
-    ensures refused { IfErr result (λ fault. RefusedFor fault (D.state disk.old) (D.state disk.new)) }
-    ensures cause { IfErr result (λ fault. HasItsCause fault (D.state disk.old) (D.state disk.new)) }
-    ensures read { IfOk result (λ place. (D.state disk.new).trace ≡ (D.state disk.old).trace ++ opening_calls place.start (place.gate - place.start + 1)) }
-    ensures behind { IfErr result (λ fault. RefusedBehind fault (D.state disk.old) (D.state disk.new)) }
+    ensures place { IfOk result (λ place.
+        HasPlace (D.state disk.new).size place.shape place.start place.gate place.number) }
+    ensures stands { IfOk result (λ place. (D.state disk.old).is_honest
+        → StandsAt place.shape place.start place.gate place.number (D.state disk.new)) }
+    ensures refused { IfErr result (λ fault.
+        RefusedFor fault (D.state disk.old) (D.state disk.new)) }
+    ensures cause { IfErr result (λ fault.
+        HasItsCause fault (D.state disk.old) (D.state disk.new)) }
+    ensures read { IfOk result (λ place.
+        (D.state disk.new).trace ≡ (D.state disk.old).trace
+        ++ opening_calls place.start (place.gate - place.start + 1)) }
+    ensures behind { IfErr result (λ fault.
+        RefusedBehind fault (D.state disk.old) (D.state disk.new)) }
 {
     if settle(disk).is_err() {
         return Err(JournalFault::Disk);

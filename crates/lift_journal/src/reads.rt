@@ -1,5 +1,6 @@
 //! The journal's reads: they write nothing and stop at the first call that fails.
-ghost use Rattle.std.specs.Prelude.{◌≡◌, ◌≤◌, ◌<◌, ◌+◌, ◌-◌, ◌++◌, if◌then◌else◌, length, take, OnOk, OnErr, IfOk, IfSome, true, false};
+ghost use Rattle.std.specs.Prelude.{◌≡◌, ◌≤◌, ◌<◌, ◌+◌, ◌-◌, ◌++◌, if◌then◌else◌, length, take};
+ghost use Rattle.std.specs.Prelude.{OnOk, OnErr, IfOk, IfSome, true, false};
 ghost use Rattle.lift_disk.specs.Disk.{IsSynced};
 ghost use Rattle.lift_record.specs.Header.{IsHeaderSpelling};
 ghost use Rattle.lift_journal.specs.Layout.{sector_at, is_marked, bodies};
@@ -40,7 +41,8 @@ pub fn read_sector<D: Disk>(disk: &mut D, sector: u32) -> Result<[u8; 512], Disk
     ensures length { IfOk result (λ bytes. length bytes ≡ 512) }
     ensures gives { IfOk result (λ bytes. (D.state disk.old).is_honest → IsSynced (D.state disk.old)
         → sector_at (D.state disk.old).image sector ≡ bytes) }
-    ensures read { OnOk result ((D.state disk.new).trace ≡ (D.state disk.old).trace ++ reads_from sector 1) }
+    ensures read { OnOk result ((D.state disk.new).trace ≡ (D.state disk.old).trace
+        ++ reads_from sector 1) }
     ensures unread { OnErr result ((D.state disk.new).trace ≡ (D.state disk.old).trace) }
 {
     let mut buffer = [0; 512];
@@ -53,10 +55,12 @@ fn read_second<D: Disk>(disk: &mut D, sector: u32, is_wanted: bool) -> Result<[u
     requires { is_wanted ≡ true → sector < (D.state disk.old).size }
     ensures looks { Looks result (D.state disk.old) (D.state disk.new) }
     ensures length { IfOk result (λ bytes. length bytes ≡ 512) }
-    ensures gives { IfOk result (λ bytes. is_wanted ≡ true → (D.state disk.old).is_honest → IsSynced (D.state disk.old)
+    ensures gives { IfOk result (λ bytes. is_wanted ≡ true → (D.state disk.old).is_honest
+        → IsSynced (D.state disk.old)
         → sector_at (D.state disk.old).image sector ≡ bytes) }
     ensures zeros { IfOk result (λ bytes. is_wanted ≡ false → bytes ≡ zeros) }
-    ensures read { OnOk result ((D.state disk.new).trace ≡ (D.state disk.old).trace ++ reads_from sector (if is_wanted then 1 else 0)) }
+    ensures read { OnOk result ((D.state disk.new).trace ≡ (D.state disk.old).trace
+        ++ reads_from sector (if is_wanted then 1 else 0)) }
     ensures unread { OnErr result ((D.state disk.new).trace ≡ (D.state disk.old).trace) }
 {
     if !is_wanted {
@@ -79,11 +83,13 @@ fn read_rest<D: Disk>(
     ensures looks { Looks result (D.state disk.old) (D.state disk.new) }
     ensures fits { IfOk result (λ found. IfSome found (λ stored. FitsBelow gate end stored)) }
     ensures seen { IfOk result (λ found. (D.state disk.old).is_honest → IsSynced (D.state disk.old)
-        → sector_at (D.state disk.old).image (gate + 1) ≡ first.now → ShowsBody (D.state disk.old).image gate end header.number found) }
+        → sector_at (D.state disk.old).image (gate + 1) ≡ first.now
+        → ShowsBody (D.state disk.old).image gate end header.number found) }
     ensures row { OnOk result (HasRead (gate + 2) 1 end (D.state disk.old) (D.state disk.new)) }
     ensures unread { OnErr result (HasRead (gate + 2) 0 end (D.state disk.old) (D.state disk.new)) }
     ensures whole { IfOk result (λ found. IfSome found (λ stored.
-        (D.state disk.new).trace ≡ (D.state disk.old).trace ++ reads_from (gate + 2) (bodies (length stored.records.items) - 1))) }
+        (D.state disk.new).trace ≡ (D.state disk.old).trace
+        ++ reads_from (gate + 2) (bodies (length stored.records.items) - 1))) }
 {
     let count = header.count as usize;
     let bodies = body_count(count) as u32;
@@ -100,7 +106,8 @@ fn read_rest<D: Disk>(
     }
 }
 
-/// The batch of this number behind an open gate, if one is there whose next gate stands below the end.
+/// The batch of this number behind an open gate, if one is there whose next gate stands below the
+/// end.
 fn read_body<D: Disk>(
     disk: &mut D,
     gate: u32,
@@ -117,7 +124,8 @@ fn read_body<D: Disk>(
     ensures row { OnOk result (HasRead (gate + 1) 2 end (D.state disk.old) (D.state disk.new)) }
     ensures unread { OnErr result (HasRead (gate + 1) 1 end (D.state disk.old) (D.state disk.new)) }
     ensures whole { IfOk result (λ found. IfSome found (λ stored.
-        (D.state disk.new).trace ≡ (D.state disk.old).trace ++ reads_from (gate + 1) (bodies (length stored.records.items)))) }
+        (D.state disk.new).trace ≡ (D.state disk.old).trace
+        ++ reads_from (gate + 1) (bodies (length stored.records.items)))) }
 {
     if end - gate <= 2 {
         return Ok(None);
@@ -139,9 +147,11 @@ fn has_mark(sector: &[u8; 512]) -> bool
 pub fn read_mark<D: Disk>(disk: &mut D, sector: u32) -> Result<bool, DiskFault>
     requires { sector < (D.state disk.old).size }
     ensures looks { Looks result (D.state disk.old) (D.state disk.new) }
-    ensures gives { IfOk result (λ marked. (D.state disk.old).is_honest → IsSynced (D.state disk.old)
+    ensures gives { IfOk result (λ marked. (D.state disk.old).is_honest
+        → IsSynced (D.state disk.old)
         → is_marked (sector_at (D.state disk.old).image sector) ≡ marked) }
-    ensures read { OnOk result ((D.state disk.new).trace ≡ (D.state disk.old).trace ++ reads_from sector 1) }
+    ensures read { OnOk result ((D.state disk.new).trace ≡ (D.state disk.old).trace
+        ++ reads_from sector 1) }
     ensures unread { OnErr result ((D.state disk.new).trace ≡ (D.state disk.old).trace) }
 {
     let bytes = read_sector(disk, sector)?;
@@ -154,14 +164,18 @@ pub fn look<D: Disk>(disk: &mut D, gate: u32, end: u32, number: u32) -> Result<A
     requires inside { end ≤ (D.state disk.old).size }
     requires numbered { 1 ≤ number }
     ensures looks { Looks result (D.state disk.old) (D.state disk.new) }
-    ensures fits { IfOk result (λ at. (stored : _) → at ≡ AtGate.Batch stored → FitsBelow gate end stored) }
+    ensures fits { IfOk result (λ at. (stored : _) → at ≡ AtGate.Batch stored
+        → FitsBelow gate end stored) }
     ensures seen { IfOk result (λ at. (D.state disk.old).is_honest → IsSynced (D.state disk.old)
         → ShowsAt (D.state disk.old).image gate end number at) }
-    ensures damaged { IfOk result (λ at. at ≡ AtGate.Damaged → HasReadAt gate end (D.state disk.old) (D.state disk.new)) }
+    ensures damaged { IfOk result (λ at. at ≡ AtGate.Damaged
+        → HasReadAt gate end (D.state disk.old) (D.state disk.new)) }
     ensures unread { OnErr result (HasRead gate 2 end (D.state disk.old) (D.state disk.new)) }
     ensures whole { IfOk result (λ at. (stored : _) → at ≡ AtGate.Batch stored
-        → (D.state disk.new).trace ≡ (D.state disk.old).trace ++ reads_from gate (1 + bodies (length stored.records.items))) }
-    ensures closed { IfOk result (λ at. at ≡ AtGate.Closed → (D.state disk.new).trace ≡ (D.state disk.old).trace ++ reads_from gate 1) }
+        → (D.state disk.new).trace ≡ (D.state disk.old).trace
+        ++ reads_from gate (1 + bodies (length stored.records.items))) }
+    ensures closed { IfOk result (λ at. at ≡ AtGate.Closed
+        → (D.state disk.new).trace ≡ (D.state disk.old).trace ++ reads_from gate 1) }
 {
     if !read_mark(disk, gate)? {
         return Ok(AtGate::Closed);

@@ -38,8 +38,10 @@ pub fn stamp_of(shape: &Shape) -> [u8; 512]
 
 /// The shape that a stamp spells, if it spells one.
 pub fn read_stamp(stamp: &[u8; 512]) -> Option<Shape>
-    ensures some { IfSome result (λ shape. IsWithinLimits shape × (stamp.now ≡ filled 1 (stamp_bytes shape))) }
-    ensures none { IfNone result ((shape : ShapeValue) → IsWithinLimits shape → stamp.now ≢ filled 1 (stamp_bytes shape)) }
+    ensures some { IfSome result (λ shape.
+        IsWithinLimits shape × (stamp.now ≡ filled 1 (stamp_bytes shape))) }
+    ensures none { IfNone result ((shape : ShapeValue) → IsWithinLimits shape
+        → stamp.now ≢ filled 1 (stamp_bytes shape)) }
 {
     let shape = Shape {
         floors: stamp[8],

@@ -1,5 +1,6 @@
 //! The way along a chain to its closed gate.
-ghost use Rattle.std.specs.Prelude.{◌≡◌, ◌≤◌, ◌<◌, ◌+◌, ◌-◌, ◌++◌, ◌^◌, ◌↔◌, [], IsTrue, IsErrOf, IfOk, IfErr, None};
+ghost use Rattle.std.specs.Prelude.{◌≡◌, ◌≤◌, ◌<◌, ◌+◌, ◌-◌, ◌++◌, ◌^◌, ◌↔◌, [], IsTrue, IsErrOf};
+ghost use Rattle.std.specs.Prelude.{IfOk, IfErr, None};
 ghost use Rattle.lift_disk.specs.Disk.{IsSynced};
 ghost use Rattle.lift_record.specs.declared.version.Version.TheVariants.{One};
 ghost use Rattle.lift_journal.specs.Steps.{Examines};
@@ -69,12 +70,18 @@ pub fn walk<D: Disk>(disk: &mut D, start: u32, end: u32) -> Result<Front, Journa
     ensures causes { IfErr result (λ fault. IsOfChain fault) }
     ensures found { IfOk result (λ at. (D.state disk.old).is_honest → IsSynced (D.state disk.old)
         → EndsAt (D.state disk.old).image start end at.gate at.number) }
-    ensures place { IfOk result (λ at. (start ≤ at.gate) × (at.gate < end) × (1 ≤ at.number) × (at.number ≤ at.gate)) }
-    ensures damaged { (s : _) → IsErrOf result (JournalFault.Damaged s) → (D.state disk.old).is_honest → IsSynced (D.state disk.old)
+    ensures place { IfOk result (λ at. (start ≤ at.gate) × (at.gate < end) × (1 ≤ at.number)
+        × (at.number ≤ at.gate)) }
+    ensures damaged { (s : _) → IsErrOf result (JournalFault.Damaged s)
+        → (D.state disk.old).is_honest → IsSynced (D.state disk.old)
         → IsDamagedAt (D.state disk.old).image start end s }
-    ensures behind { IfErr result (λ fault. EndsIn fault [] start end ((D.state disk.old).is_honest × IsSynced (D.state disk.old)) (D.state disk.old).image
+    ensures behind { IfErr result (λ fault.
+        EndsIn fault [] start end ((D.state disk.old).is_honest × IsSynced (D.state disk.old))
+        (D.state disk.old).image
         (D.state disk.old) (D.state disk.new)) }
-    ensures whole { IfOk result (λ at. (D.state disk.new).trace ≡ (D.state disk.old).trace ++ reads_from start (at.gate - start + 1)) }
+    ensures whole { IfOk result (λ at.
+        (D.state disk.new).trace ≡ (D.state disk.old).trace
+        ++ reads_from start (at.gate - start + 1)) }
 {
     let mut front = Front::at(start);
     loop {

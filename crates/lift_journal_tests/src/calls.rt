@@ -1,4 +1,5 @@
-//! The calls of the device that a format, an opening, an append and a checkpoint make, and the bytes that they write.
+//! The calls of the device that a format, an opening, an append and a checkpoint make, and the
+//! bytes that they write.
 use crate::listing::{add, add_stops, make};
 use crate::noting::{Call, NotingDisk};
 use crate::records::{allot, demo};
@@ -8,8 +9,9 @@ use lift_disk::{Disk, MemDisk};
 use lift_journal::Journal;
 use std::test::Fail;
 
-/// A format, an opening, a call of two persons, a batch of 63 stops, and two checkpoints: zeros in sectors 0 and 2 and the
-/// stamp; a sync and reads; a body, the next gate, and its own gate once these are synced; a base, and the pick once it is.
+/// A format, an opening, a call of two persons, a batch of 63 stops, and two checkpoints: zeros in
+/// sectors 0 and 2 and the stamp; a sync and reads; a body, the next gate, and its own gate once
+/// these are synced; a base, and the pick once it is.
 const CALLS: [Call; 32] = [
     Call::Write(0, 0),
     Call::Write(2, 0),

@@ -38,7 +38,8 @@ fn batches_come_in_order(rt: HostRuntime) -> Result<(), Fail> {
     Ok(())
 }
 
-/// A batch is read by three calls at most; each of them failing leaves the journal broken and the cursor where it is.
+/// A batch is read by three calls at most; each of them failing leaves the journal broken and the
+/// cursor where it is.
 #[test]
 fn a_failed_read_is_told(rt: HostRuntime) -> Result<(), Fail> {
     let mut disk = MemDisk::new(rt.alloc(), 130).ok().ok_or("memory")?;

@@ -1,5 +1,5 @@
-//! A call that is stopped, a power cut, and a recovery that is stopped too and begun again: in the end the journal lists
-//! what stood there before the call, or what the call was to leave.
+//! A call that is stopped, a power cut, and a recovery that is stopped too and begun again: in the
+//! end the journal lists what stood there before the call, or what the call was to leave.
 use crate::cuts::Failing;
 use crate::listing::{add_stops, lists, make};
 use crate::records::{demo, stop, stops};
@@ -102,8 +102,9 @@ impl<'a> Work<'a> {
         disk
     }
 
-    /// Whether the call has taken effect, where this call of the device was the first to fail and the cut left this: the
-    /// last call but one writes the sector by which it does, and the last one syncs it.
+    /// Whether the call has taken effect, where this call of the device was the first to fail and
+    /// the cut left this: the last call but one writes the sector by which it does, and the last
+    /// one syncs it.
     fn is_done(&self, failed: u32, outcome: Outcome) -> bool {
         if failed > self.calls {
             return true;
@@ -122,8 +123,8 @@ impl<'a> Work<'a> {
     }
 }
 
-/// Begins a recovery on a device that is to fail: reopens the journal where no power is cut, else opens what the cut
-/// leaves. An `Err` is a fault of the device, and hands it back.
+/// Begins a recovery on a device that is to fail: reopens the journal where no power is cut, else
+/// opens what the cut leaves. An `Err` is a fault of the device, and hands it back.
 fn recover<D: Failing + Drop>(
     rt: &impl Abort,
     mut journal: Journal<D>,
@@ -164,8 +165,8 @@ fn recover_again<D: Failing + Drop>(
     Journal::open(device).ok().expect(rt, "a journal")
 }
 
-/// The calls of the device that are the first to fail, in the call and in the recovery, and what becomes of the loose
-/// sectors behind each of these failures, if the power is cut.
+/// The calls of the device that are the first to fail, in the call and in the recovery, and what
+/// becomes of the loose sectors behind each of these failures, if the power is cut.
 #[derive(Clone, Copy)]
 struct Failures {
     work: u32,
@@ -175,8 +176,8 @@ struct Failures {
 }
 
 impl Failures {
-    /// What became of the sector by which the call takes effect, if it was loose. Once the recovery's sync, its first
-    /// call, has succeeded, no cut changes it.
+    /// What became of the sector by which the call takes effect, if it was loose. Once the
+    /// recovery's sync, its first call, has succeeded, no cut changes it.
     fn outcome(&self) -> Outcome {
         let first = self.cut.unwrap_or(Outcome::Keep);
         match self.cut_again {
@@ -236,8 +237,8 @@ fn stop_both(rt: &impl Abort, disk: MemDisk, work: &Work, failures: &Failures) -
     stop_at::<FlakyDisk>(rt, disk, work, failures)
 }
 
-/// Each call of the recovery fails in turn, and none where it is one behind the last. After the first of them, the sync,
-/// loose sectors end in each way.
+/// Each call of the recovery fails in turn, and none where it is one behind the last. After the
+/// first of them, the sync, loose sectors end in each way.
 fn stop_recoveries(rt: &impl Abort, mut disk: MemDisk, work: &Work, first: &Failures) -> MemDisk {
     for cut_again in CUTS {
         let failures = Failures {
@@ -259,7 +260,8 @@ fn stop_recoveries(rt: &impl Abort, mut disk: MemDisk, work: &Work, first: &Fail
     disk
 }
 
-/// Each call of the device fails in turn, and none where it is one behind the last; loose sectors end in each way.
+/// Each call of the device fails in turn, and none where it is one behind the last; loose sectors
+/// end in each way.
 fn stop_all<R: AllocGlobal + Abort>(rt: &R, work: &Work) {
     let mut disk = MemDisk::new(rt.alloc(), 130).ok().expect(rt, "memory");
     for failed in 1..work.calls.wrapping_add(2) {
@@ -275,8 +277,9 @@ fn stop_all<R: AllocGlobal + Abort>(rt: &R, work: &Work) {
     }
 }
 
-/// A batch of 63 stops, behind batches of the first version and of the second: an opening syncs, reads the stamp and the
-/// pick, two sectors for each batch, three for the long one, and the closing gate.
+/// A batch of 63 stops, behind batches of the first version and of the second: an opening syncs,
+/// reads the stamp and the pick, two sectors for each batch, three for the long one, and the
+/// closing gate.
 #[test]
 fn a_long_append_recovers(rt: HostRuntime) {
     for version in [1, 2] {
@@ -309,7 +312,8 @@ fn a_checkpoint_of_old_batches_recovers(rt: HostRuntime) {
     stop_all(&rt, &work);
 }
 
-/// A checkpoint of 67 records, in batches of two sectors and of one, over a smaller one and back into the first half.
+/// A checkpoint of 67 records, in batches of two sectors and of one, over a smaller one and back
+/// into the first half.
 #[test]
 fn a_long_checkpoint_recovers(rt: HostRuntime) {
     let register = medium(&rt);

@@ -69,7 +69,8 @@ pub(crate) fn small<R: AllocGlobal + Abort>(rt: &R, number: u32) -> Register {
     register
 }
 
-/// A register of 67 records, in two batches: 32 open calls for each of two cars, two last commands, and no call done.
+/// A register of 67 records, in two batches: 32 open calls for each of two cars, two last commands,
+/// and no call done.
 pub(crate) fn medium<R: AllocGlobal + Abort>(rt: &R) -> Register {
     let building = Building::read(rt.alloc(), LARGEST)
         .ok()
@@ -98,7 +99,8 @@ fn place_behind(register: &Register, place: usize, records: &[Record]) -> Option
     Some(next)
 }
 
-/// Whether the journal holds just the register's records, in batches of 63; the last one may be shorter.
+/// Whether the journal holds just the register's records, in batches of 63; the last one may be
+/// shorter.
 pub(crate) fn is_checkpoint<D: Disk>(journal: &mut Journal<D>, register: &Register) -> bool {
     let mut cursor = journal.first();
     let mut place = 0;

@@ -24,4 +24,5 @@ pub record ReadsBehind (first : List Access) (old new : DiskState) : Type 0 wher
 
 -- One sync comes before all reads. Where an opening is refused, it may have failed.
 abbrev pub SyncsBeforeReading : KeeperFault → DiskState → DiskState → Type 0
-SyncsBeforeReading fault old new = ((fault ≡ Journal Disk) × (new.trace ≡ old.trace)) ⊎ ReadsBehind (Sync ∷ []) old new
+SyncsBeforeReading fault old new = ((fault ≡ Journal Disk) × (new.trace ≡ old.trace))
+    ⊎ ReadsBehind (Sync ∷ []) old new

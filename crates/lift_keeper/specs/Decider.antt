@@ -16,7 +16,8 @@ pub record DeciderState : Type 0 where
 
 -- what decisions read and change, of a register, the cars' schedules and the batch so far
 abbrev pub state_of : RegisterState → List (Option ScheduleState) → List Entry → State
-state_of register schedules batch = record { register = register; positions = positions_of schedules; batch = batch }
+state_of register schedules batch =
+    record { register = register; positions = positions_of schedules; batch = batch }
 
 -- these calls; no car has told where it is
 abbrev pub starting : RegisterState → State
@@ -31,7 +32,8 @@ pub record IsBatch (entries : List Entry) : Type 0 where
   pub limit : length entries ≤ 63
   pub written : All (λ (e : Entry). IsRecord (record_of e)) entries
 
--- what is true of each decider: what decisions read is possible in the building, and no call was lost
+-- what is true of each decider: what decisions read is possible in the building, and no call was
+-- lost
 pub record IsPossible (plan : Plan) (state : State) : Type 0 where
   pub building : IsBuilding plan
   pub inside : IsStateIn plan state

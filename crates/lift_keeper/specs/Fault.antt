@@ -2,7 +2,8 @@
 use Rattle.std.specs.Prelude.{ℕ}
 use Rattle.lift_journal.specs.Fault.{fault_number as journal_number}
 use Rattle.lift_keeper.specs.declared.fault.KeeperFault.{KeeperFault}
-use Rattle.lift_keeper.specs.declared.fault.KeeperFault.TheVariants.{Journal, OtherBuilding, BadEntry}
+use Rattle.lift_keeper.specs.declared.fault.KeeperFault.TheVariants.{Journal, OtherBuilding}
+use Rattle.lift_keeper.specs.declared.fault.KeeperFault.TheVariants.{BadEntry}
 
 abbrev pub fault_number : KeeperFault → ℕ
 fault_number (Journal fault) = journal_number fault

@@ -9,7 +9,8 @@ use Rattle.lift_journal.specs.Journal.{ReadsAs}
 use Rattle.lift_journal.specs.Layout.{Picks, used}
 use Rattle.lift_keeper.specs.Recovery.{IsRegisterOf}
 
--- the image is a journal of the building; it reads as a checkpoint and entries that fit, and this is their register
+-- the image is a journal of the building; it reads as a checkpoint and entries that fit, and this
+-- is their register
 pub record IsImageOf (plan : Plan) (register : RegisterState) (image : Image) : Type 0 where
   pub half : ℕ
   pub base : List Record
@@ -19,10 +20,13 @@ pub record IsImageOf (plan : Plan) (register : RegisterState) (image : Image) : 
 
 -- the image reads as this register, or as the one with this batch
 abbrev pub IsInDoubt : Plan → RegisterState → List Entry → Image → Type 0
-IsInDoubt plan register batch image = IsImageOf plan register image ⊎ IsImageOf plan (register_of register batch) image
+IsInDoubt plan register batch image = IsImageOf plan register image
+    ⊎ IsImageOf plan (register_of register batch) image
 
--- the same, with so many sectors in a half: this half is picked, and so many of its sectors are used
-pub record IsImageIn (plan : Plan) (half : ℕ) (is_second : Bool) (taken : ℕ) (register : RegisterState) (image : Image) : Type 0 where
+-- the same, with so many sectors in a half: this half is picked, and so many of its sectors are
+-- used
+pub record IsImageIn (plan : Plan) (half : ℕ) (is_second : Bool) (taken : ℕ)
+    (register : RegisterState) (image : Image) : Type 0 where
   pub base : List Record
   pub entries : List Record
   pub reads : ReadsAs (shape_of plan half) base entries image

@@ -1,5 +1,6 @@
 -- What records make of a register, taken in one after another.
-use Rattle.std.specs.Prelude.{ℕ, ◌≡◌, ◌+◌, Bool, true, false, List, [], ◌∷◌, Option, Some, None, take, slice_get}
+use Rattle.std.specs.Prelude.{ℕ, ◌≡◌, ◌+◌, Bool, true, false, List, [], ◌∷◌, Option, Some, None}
+use Rattle.std.specs.Prelude.{take, slice_get}
 use Rattle.lift_base.specs.declared.history.Entry.{Entry}
 use Rattle.lift_base.specs.declared.history.Entry.TheVariants.{Allot as Allotting, Stop as Stopping}
 use Rattle.lift_base.specs.declared.history.Record.{Record}
@@ -15,16 +16,20 @@ use Rattle.lift_register.specs.WellFormed.{IsWellFormed}
 
 -- the record can be taken in now, as an entry or as a part of a checkpoint
 abbrev pub RecordFits : Plan → RegisterState → Record → Type 0
-RecordFits plan register (Allot kiosk number from to car party) = Fits plan register (Allotting kiosk number from to car party)
-RecordFits plan register (Stop car number floor dir) = Fits plan register (Stopping car number floor dir)
+RecordFits plan register (Allot kiosk number from to car party) =
+    Fits plan register (Allotting kiosk number from to car party)
+RecordFits plan register (Stop car number floor dir) =
+    Fits plan register (Stopping car number floor dir)
 RecordFits plan register (Row row) = BaseFits plan register (Row row)
 RecordFits plan register (Last terminal last) = BaseFits plan register (Last terminal last)
 RecordFits plan register (Done count) = BaseFits plan register (Done count)
 
 -- the register with the record taken in
 abbrev pub with_next : RegisterState → Record → RegisterState
-with_next register (Allot kiosk number from to car party) = register_of register (Allotting kiosk number from to car party ∷ [])
-with_next register (Stop car number floor dir) = register_of register (Stopping car number floor dir ∷ [])
+with_next register (Allot kiosk number from to car party) =
+    register_of register (Allotting kiosk number from to car party ∷ [])
+with_next register (Stop car number floor dir) =
+    register_of register (Stopping car number floor dir ∷ [])
 with_next register (Row row) = with_record register (Row row)
 with_next register (Last terminal last) = with_record register (Last terminal last)
 with_next register (Done count) = with_record register (Done count)
@@ -37,7 +42,8 @@ with_all register (content ∷ later) = with_all (with_next register content) la
 -- each record fits where it comes
 abbrev pub AllFit : Plan → RegisterState → List Record → Type 0
 AllFit plan register [] = Unit {0}
-AllFit plan register (content ∷ later) = RecordFits plan register content × AllFit plan (with_next register content) later
+AllFit plan register (content ∷ later) = RecordFits plan register content
+    × AllFit plan (with_next register content) later
 
 -- the first of the records that doesn't fit, counted from 0
 pub record IsFirstMisfit (plan : Plan) (records : List Record) (place : ℕ) : Type 0 where
@@ -47,21 +53,24 @@ pub record IsFirstMisfit (plan : Plan) (records : List Record) (place : ℕ) : T
   pub fails : ¬ RecordFits plan (with_all empty (take place records)) misfit
 
 -- the records of these batches fit one after another from nothing, and make this register
-pub record MakesRegister (plan : Plan) (batches : List Batch) (register : RegisterState) : Type 0 where
+pub record MakesRegister (plan : Plan) (batches : List Batch)
+    (register : RegisterState) : Type 0 where
   pub fit : AllFit plan empty (records_of batches)
   pub is : register ≡ with_all empty (records_of batches)
 
 -- the accepted commands among these records
 abbrev pub entries_of : List Record → List Entry
 entries_of [] = []
-entries_of (Allot kiosk number from to car party ∷ later) = Allotting kiosk number from to car party ∷ entries_of later
+entries_of (Allot kiosk number from to car party ∷ later) =
+    Allotting kiosk number from to car party ∷ entries_of later
 entries_of (Stop car number floor dir ∷ later) = Stopping car number floor dir ∷ entries_of later
 entries_of (Row row ∷ later) = entries_of later
 entries_of (Last terminal last ∷ later) = entries_of later
 entries_of (Done count ∷ later) = entries_of later
 
 -- the checkpoint fits, and the entries behind it; this is the register of the two
-pub record IsRegisterOf (plan : Plan) (base entries : List Record) (register : RegisterState) : Type 0 where
+pub record IsRegisterOf (plan : Plan) (base entries : List Record)
+    (register : RegisterState) : Type 0 where
   pub base_fits : BaseFitFrom plan empty base
   pub entries_fit : FitFrom plan (with_records empty base) (entries_of entries)
   pub is : register ≡ register_of (with_records empty base) (entries_of entries)
@@ -94,7 +103,8 @@ beginning plan = record { plan = plan; register = empty; is_open = false; taken 
 -- the record can be taken in now: it fits, and no entry stands within a checkpoint
 abbrev pub Passes : RecoveryState → Record → Type 0
 Passes state (Allot kiosk number from to car party) =
-    (state.is_open ≡ false) × Fits state.plan state.register (Allotting kiosk number from to car party)
+    (state.is_open ≡ false) × Fits state.plan state.register
+    (Allotting kiosk number from to car party)
 Passes state (Stop car number floor dir) =
     (state.is_open ≡ false) × Fits state.plan state.register (Stopping car number floor dir)
 Passes state (Row row) = BaseFits state.plan state.register (Row row)

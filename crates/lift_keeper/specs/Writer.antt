@@ -1,5 +1,6 @@
 -- What a writer holds: the register that is safe on its device.
-use Rattle.std.specs.Prelude.{◌≡◌, ◌<◌, ◌≤◌, ◌+◌, ◌==◌, ◌++◌, ℕ, Bool, true, false, not, if◌then◌else◌, nat_le, List, [], length}
+use Rattle.std.specs.Prelude.{◌≡◌, ◌<◌, ◌≤◌, ◌+◌, ◌==◌, ◌++◌, ℕ, Bool, true, false, not}
+use Rattle.std.specs.Prelude.{if◌then◌else◌, nat_le, List, [], length}
 use Rattle.lift_base.specs.declared.history.Entry.{Entry}
 use Rattle.lift_base.specs.declared.history.Record.{Record}
 use Rattle.lift_base.specs.declared.history.Shape.{Shape}
@@ -21,7 +22,8 @@ use Rattle.lift_keeper.specs.Recovery.{IsRegisterOf}
 pub record WriterView (D : Type 0) : Type 0 where
   pub plan : Plan
   pub device : D
-  -- the sectors of a half; the second half is picked; the sectors of the picked half before its closing gate
+  -- the sectors of a half; the second half is picked; the sectors of the picked half before its
+  -- closing gate
   pub half : ℕ
   pub is_second : Bool
   pub used : ℕ
@@ -35,7 +37,8 @@ pub record WriterView (D : Type 0) : Type 0 where
   pub is_broken : Bool
 
 -- every crash now leaves the same batches in this half, and this is the register of their records
-pub record Keeps (plan : Plan) (shape : Shape) (is_second : Bool) (taken : ℕ) (register : RegisterState) (disk : DiskState) : Type 0 where
+pub record Keeps (plan : Plan) (shape : Shape) (is_second : Bool) (taken : ℕ)
+    (register : RegisterState) (disk : DiskState) : Type 0 where
   pub of_building : shape ≡ shape_of plan shape.half
   pub batches : List Batch
   pub base : List Record
@@ -48,14 +51,16 @@ pub record Keeps (plan : Plan) (shape : Shape) (is_second : Bool) (taken : ℕ) 
   pub counts : taken ≡ used batches
 
 -- the register is possible in the building, and an honest device keeps it
-pub record Guards (plan : Plan) (shape : Shape) (is_second : Bool) (taken : ℕ) (register : RegisterState) (disk : DiskState) : Type 0 where
+pub record Guards (plan : Plan) (shape : Shape) (is_second : Bool) (taken : ℕ)
+    (register : RegisterState) (disk : DiskState) : Type 0 where
   pub lawful : IsWellFormed register
   pub belongs : BelongsTo plan register
   pub balanced : IsBalanced register
   pub keeps : disk.is_honest → Keeps plan shape is_second taken register disk
 
 -- what is true of every writer
-pub record IsWriter {D : Type 0} (plan : Plan) (journal : JournalView D) (register : RegisterState) (doubt : List Entry) (opened : ℕ) (is_broken : Bool) (disk : DiskState) : Type 0 where
+pub record IsWriter {D : Type 0} (plan : Plan) (journal : JournalView D) (register : RegisterState)
+    (doubt : List Entry) (opened : ℕ) (is_broken : Bool) (disk : DiskState) : Type 0 where
   pub lawful : IsWellFormed register
   pub belongs : BelongsTo plan register
   pub balanced : IsBalanced register
@@ -63,65 +68,88 @@ pub record IsWriter {D : Type 0} (plan : Plan) (journal : JournalView D) (regist
   pub failed : is_broken ≡ true → opened < disk.failures
   pub whole : is_broken ≡ false → journal.is_broken ≡ false
   pub settled : is_broken ≡ false → doubt ≡ []
-  pub keeps : is_broken ≡ false → disk.is_honest → Keeps plan journal.shape journal.is_second journal.used register disk
+  pub keeps : is_broken ≡ false → disk.is_honest
+      → Keeps plan journal.shape journal.is_second journal.used register disk
   pub leaves : is_broken ≡ true → LeavesNow disk (IsInDoubt plan register doubt)
 
 -- a batch of so many entries has room behind so many used sectors of a half
 abbrev pub has_room : (used half count : ℕ) → Bool
 has_room used half count = nat_le (used + bodies count + 2) half
 
--- how many device calls the checkpoint takes that a batch without room needs, and how many of them are writes
+-- how many device calls the checkpoint takes that a batch without room needs, and how many of them
+-- are writes
 abbrev pub room_calls : RegisterState → (used half count : ℕ) → ℕ
-room_calls register used half count = if has_room used half count then 0 else sectors_for (length (base_records register)) + 4
+room_calls register used half count =
+    if has_room used half count then 0 else sectors_for (length (base_records register)) + 4
 
 abbrev pub room_writes : RegisterState → (used half count : ℕ) → ℕ
-room_writes register used half count = if has_room used half count then 0 else sectors_for (length (base_records register)) + 2
+room_writes register used half count =
+    if has_room used half count then 0 else sectors_for (length (base_records register)) + 2
 
 -- the sectors that are used once there is room, and the half that is picked then
 abbrev pub room_used : RegisterState → (used half count : ℕ) → ℕ
-room_used register used half count = if has_room used half count then used else sectors_for (length (base_records register))
+room_used register used half count =
+    if has_room used half count then used else sectors_for (length (base_records register))
 
 abbrev pub room_second : Bool → (used half count : ℕ) → Bool
-room_second is_second used half count = if has_room used half count then is_second else not is_second
+room_second is_second used half count =
+    if has_room used half count then is_second else not is_second
 
--- how many device calls a commit of so many entries makes, how many of them are writes, and the sectors used behind it
+-- how many device calls a commit of so many entries makes, how many of them are writes, and the
+-- sectors used behind it
 abbrev pub commit_calls : RegisterState → (used half count : ℕ) → ℕ
-commit_calls register used half count = if count == 0 then 0 else room_calls register used half count + (bodies count + 4)
+commit_calls register used half count =
+    if count == 0 then 0 else room_calls register used half count + (bodies count + 4)
 
 abbrev pub commit_writes : RegisterState → (used half count : ℕ) → ℕ
-commit_writes register used half count = if count == 0 then 0 else room_writes register used half count + (bodies count + 2)
+commit_writes register used half count =
+    if count == 0 then 0 else room_writes register used half count + (bodies count + 2)
 
 abbrev pub commit_used : RegisterState → (used half count : ℕ) → ℕ
-commit_used register used half count = if count == 0 then used else room_used register used half count + (bodies count + 1)
+commit_used register used half count =
+    if count == 0 then used else room_used register used half count + (bodies count + 1)
 
 abbrev pub commit_second : Bool → (used half count : ℕ) → Bool
-commit_second is_second used half count = if count == 0 then is_second else room_second is_second used half count
+commit_second is_second used half count =
+    if count == 0 then is_second else room_second is_second used half count
 
 -- the register in the other half, as a checkpoint alone
 abbrev pub IsFolded : Plan → ℕ → Bool → RegisterState → Image → Type 0
-IsFolded plan half is_second register image = IsImageIn plan half (not is_second) (sectors_for (length (base_records register))) register image
+IsFolded plan half is_second register image =
+    IsImageIn plan half (not is_second) (sectors_for (length (base_records register))) register
+    image
 
--- A checkpoint has failed: which half a fill leaves picked goes by its byte, and it is the same register in both.
+-- A checkpoint has failed: which half a fill leaves picked goes by its byte, and it is the same
+-- register in both.
 abbrev pub StopsFolding : Plan → ℕ → Bool → ℕ → RegisterState → DiskState → DiskState → Type 0
 StopsFolding plan half is_second taken register old new =
-    StopsAtMark (IsImageIn plan half is_second taken register) (IsFolded plan half is_second register)
-    (FirstIf is_second (IsImageIn plan half is_second taken register) (IsFolded plan half is_second register))
-    (FirstIf is_second (IsFolded plan half is_second register) (IsImageIn plan half is_second taken register))
+    StopsAtMark (IsImageIn plan half is_second taken register)
+    (IsFolded plan half is_second register)
+    (FirstIf is_second (IsImageIn plan half is_second taken register)
+    (IsFolded plan half is_second register))
+    (FirstIf is_second (IsFolded plan half is_second register)
+    (IsImageIn plan half is_second taken register))
     (sectors_for (length (base_records register)) + 2) old new
 
--- The appending of a batch has failed, so many calls behind the beginning: a fill leaves the batch just where its byte is
--- the mark.
-abbrev pub StopsAdding : Plan → ℕ → Bool → ℕ → RegisterState → List Entry → ℕ → DiskState → DiskState → Type 0
+-- The appending of a batch has failed, so many calls behind the beginning: a fill leaves the batch
+-- just where its byte is the mark.
+abbrev pub StopsAdding : Plan → ℕ → Bool → ℕ → RegisterState → List Entry → ℕ → DiskState
+    → DiskState → Type 0
 StopsAdding plan half is_second taken register batch before old new =
     StopsAtMark (IsImageIn plan half is_second taken register)
-    (IsImageIn plan half is_second (taken + (bodies (length batch) + 1)) (register_of register batch))
-    (IsImageIn plan half is_second (taken + (bodies (length batch) + 1)) (register_of register batch))
+    (IsImageIn plan half is_second (taken + (bodies (length batch) + 1))
+    (register_of register batch))
+    (IsImageIn plan half is_second (taken + (bodies (length batch) + 1))
+    (register_of register batch))
     (IsImageIn plan half is_second taken register)
     (before + (bodies (length batch) + 2)) old new
 
 -- A commit has failed: within its checkpoint, if it needs one, or behind it.
-pub record StopsCommit (plan : Plan) (half : ℕ) (is_second : Bool) (taken : ℕ) (register : RegisterState) (batch : List Entry) (old new : DiskState) : Type 0 where
-  pub folding : new.calls ≤ old.calls + room_calls register taken half (length batch) → StopsFolding plan half is_second taken register old new
+pub record StopsCommit (plan : Plan) (half : ℕ) (is_second : Bool) (taken : ℕ)
+    (register : RegisterState) (batch : List Entry) (old new : DiskState) : Type 0 where
+  pub folding : new.calls ≤ old.calls + room_calls register taken half (length batch)
+      → StopsFolding plan half is_second taken register old new
   pub adding : old.calls + room_calls register taken half (length batch) < new.calls
-      → StopsAdding plan half (room_second is_second taken half (length batch)) (room_used register taken half (length batch)) register batch
+      → StopsAdding plan half (room_second is_second taken half (length batch))
+      (room_used register taken half (length batch)) register batch
       (room_calls register taken half (length batch)) old new

@@ -11,7 +11,8 @@ ghost use Rattle.lift_register.specs.Belongs.{BelongsTo};
 ghost use Rattle.lift_register.specs.Balanced.{IsBalanced};
 ghost use Rattle.lift_policy.specs.View.{positions_of, AreSchedulesOf, IsViewIn};
 ghost use Rattle.lift_policy.specs.Eligible.{eligible_cars};
-ghost use Rattle.lift_policy.specs.Step.{Step, Proceeds, first_cause, view_of, standing, stopping, next_from};
+ghost use Rattle.lift_policy.specs.Step.{Step, Proceeds, first_cause, view_of, standing, stopping};
+ghost use Rattle.lift_policy.specs.Step.{next_from};
 ghost use Rattle.lift_keeper.specs.Decider.{IsPossible, nothing, starting};
 
 use crate::group::Group;
@@ -70,7 +71,8 @@ impl<'b> Decider<'b> {
         self.building
     }
 
-    /// What it shows of the calls: those of all entries that were accepted, also of those that are still in the batch.
+    /// What it shows of the calls: those of all entries that were accepted, also of those that are
+    /// still in the batch.
     pub fn register(&self) -> &Register
         ensures value { result.now ≡ self.now.state.register }
         ensures lawful { IsWellFormed result.now }
@@ -114,7 +116,10 @@ impl<'b> Decider<'b> {
 
     /// The batch begins anew. The register and the positions stay.
     pub fn clear_batch(&mut self)
-        ensures { self.new ≡ record { plan = self.old.plan; state = record self.old.state { batch = [] } } }
+        ensures { self.new ≡ record {
+          plan = self.old.plan;
+          state = record self.old.state { batch = [] };
+        } }
     {
         self.group.clear_batch();
     }
@@ -124,17 +129,23 @@ impl<'b> Decider<'b> {
         ensures batch { result.items ≡ self.old.state.batch }
         ensures limit { length result.items ≤ 63 }
         ensures written { All (λ (e : EntryValue). IsRecord (record_of e)) result.items }
-        ensures kept { self.new ≡ record { plan = self.old.plan; state = record self.old.state { batch = [] } } }
+        ensures kept { self.new ≡ record {
+          plan = self.old.plan;
+          state = record self.old.state { batch = [] };
+        } }
     {
         self.group.seal()
     }
 
     /// A call goes to the car that the policy names, and a repeated one to its kept car.
     fn call<P: Policy>(&mut self, command: &Command, to: Floor, party: Party, policy: &P) -> Reply
-        requires clear { first_cause self.old.plan self.old.state command.now.terminal command.now.number (BodyValue.Call to party) ≡ None }
+        requires clear { first_cause self.old.plan self.old.state command.now.terminal
+            command.now.number (BodyValue.Call to party) ≡ None }
         requires room { length self.old.state.batch < 63 }
         ensures plan { self.new.plan ≡ self.old.plan }
-        ensures step { Proceeds self.old.plan (P.chooses policy.now) self.old.state command.now.terminal command.now.number (BodyValue.Call to party) result self.new.state }
+        ensures step { Proceeds self.old.plan
+            (P.chooses policy.now) self.old.state command.now.terminal command.now.number
+            (BodyValue.Call to party) result self.new.state }
     {
         if is_next(&self.group.register, command.terminal, command.number) {
             let call = &call_at(self.building, command.terminal, to, party);
@@ -151,13 +162,15 @@ impl<'b> Decider<'b> {
 
     /// A stop of a new number joins, a repeat doesn't; either way the car stands there.
     fn stop(&mut self, command: &Command, floor: Floor, dir: Dir) -> Reply
-        requires clear { first_cause self.old.plan self.old.state command.now.terminal command.now.number (BodyValue.Stop floor dir) ≡ None }
+        requires clear { first_cause self.old.plan self.old.state command.now.terminal
+            command.now.number (BodyValue.Stop floor dir) ≡ None }
         requires room { length self.old.state.batch < 63 }
         ensures state { self.new ≡ record {
           plan = self.old.plan;
           state = stopping self.old.state command.now.terminal command.now.number floor dir;
         } }
-        ensures reply { result ≡ ReplyValue.Stopped (next_from self.new.state command.now.terminal floor dir) }
+        ensures reply { result ≡ ReplyValue.Stopped
+            (next_from self.new.state command.now.terminal floor dir) }
     {
         let car = car_at(self.building, command.terminal);
         let next = if is_next(&self.group.register, command.terminal, command.number) {
@@ -171,16 +184,21 @@ impl<'b> Decider<'b> {
 
     /// The car stands there.
     fn place(&mut self, command: &Command, floor: Floor, dir: Dir) -> Reply
-        requires clear { first_cause self.old.plan self.old.state command.now.terminal command.now.number (BodyValue.Place floor dir) ≡ None }
-        ensures state { self.new ≡ record { plan = self.old.plan; state = standing self.old.state command.now.terminal floor dir } }
-        ensures reply { result ≡ ReplyValue.Placed (next_from self.new.state command.now.terminal floor dir) }
+        requires clear { first_cause self.old.plan self.old.state command.now.terminal
+            command.now.number (BodyValue.Place floor dir) ≡ None }
+        ensures state { self.new ≡ record {
+          plan = self.old.plan;
+          state = standing self.old.state command.now.terminal floor dir;
+        } }
+        ensures reply { result ≡ ReplyValue.Placed
+            (next_from self.new.state command.now.terminal floor dir) }
     {
         let car = car_at(self.building, command.terminal);
         Reply::Placed(self.group.stand(car, Position { floor, dir }))
     }
 
-    /// Decides a command: one decision of the rules, where this policy names the car of a new call. A new call or stop
-    /// joins the batch, which must have room for it.
+    /// Decides a command: one decision of the rules, where this policy names the car of a new call.
+    /// A new call or stop joins the batch, which must have room for it.
     pub fn decide<P: Policy>(
         &mut self,
         terminal: Terminal,
@@ -190,7 +208,8 @@ impl<'b> Decider<'b> {
     ) -> Reply
         requires room { length self.old.state.batch < 63 }
         ensures plan { self.new.plan ≡ self.old.plan }
-        ensures step { Step self.old.plan (P.chooses policy.now) self.old.state terminal number body.now result self.new.state }
+        ensures step { Step self.old.plan (P.chooses policy.now) self.old.state terminal number
+            body.now result self.new.state }
         ensures grows { length self.new.state.batch ≤ length self.old.state.batch + 1 }
     {
         let command = &Command {
@@ -211,7 +230,8 @@ impl<'b> Decider<'b> {
 
 /// The first cause for which a command is refused now.
 fn cause_of(building: &Building, group: &Group, command: &Command) -> Option<Reason>
-    ensures { result ≡ first_cause building.now group.now command.now.terminal command.now.number command.now.body }
+    ensures { result ≡ first_cause building.now group.now command.now.terminal command.now.number
+        command.now.body }
 {
     let view = group.view();
     first_cause(building, &view, command)
@@ -224,7 +244,8 @@ fn chosen<P: Policy>(building: &Building, group: &Group, call: &NewCall, policy:
     requires to { call.now.to < building.now.floors }
     requires some { 0 < length (eligible_cars building.now (view_of group.now) call.now) }
     ensures member { Contains (eligible_cars building.now (view_of group.now) call.now) result }
-    ensures chosen { P.chooses policy.now building.now (view_of group.now) call.now (eligible_cars building.now (view_of group.now) call.now) result }
+    ensures chosen { P.chooses policy.now building.now (view_of group.now) call.now
+        (eligible_cars building.now (view_of group.now) call.now) result }
 {
     let view = group.view();
     match Eligible::among(building, &view, *call) {

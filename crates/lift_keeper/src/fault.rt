@@ -14,7 +14,8 @@ pub enum KeeperFault {
     Journal(JournalFault),
     /// The journal is of a building of another shape.
     OtherBuilding,
-    /// The record at this place, counted from 0, is the first that doesn't fit the building and the records before it.
+    /// The record at this place, counted from 0, is the first that doesn't fit the building and the
+    /// records before it.
     BadEntry(u32),
 }
 

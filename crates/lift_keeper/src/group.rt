@@ -48,8 +48,8 @@ fn join(
     batch.push(*entry);
 }
 
-/// What decisions read and change: the calls, for each car that has told where it is its open calls in the order in
-/// which it serves them, and the entries that were accepted and not given out.
+/// What decisions read and change: the calls, for each car that has told where it is its open calls
+/// in the order in which it serves them, and the entries that were accepted and not given out.
 #[derive(Drop)]
 pub struct Group {
     pub register: Register,
@@ -90,7 +90,9 @@ impl Group {
 
     /// The car that a kiosk's last call was allotted to.
     pub fn kept_car(&self, kiosk: Terminal) -> Option<Letter>
-        ensures { (number from to car party : ℕ) → last_of self.now.register kiosk ≡ Some (record { number = number; content = ContentValue.Letter from to car party })
+        ensures { (number from to car party : ℕ)
+            → last_of self.now.register kiosk
+            ≡ Some (record { number = number; content = ContentValue.Letter from to car party })
             → result ≡ Some car }
     {
         kept_car(&self.register, kiosk)
@@ -114,10 +116,14 @@ impl Group {
 
     /// A new call goes to this car.
     pub fn allot(&mut self, building: &Building, command: &Command, call: &NewCall, car: Letter)
-        requires fits { Fits building.now self.old.register (EntryValue.Allot command.now.terminal command.now.number call.now.from call.now.to car call.now.party) }
+        requires fits { Fits building.now self.old.register
+            (EntryValue.Allot command.now.terminal command.now.number call.now.from call.now.to car
+            call.now.party) }
         requires inside { IsStateIn building.now self.old }
         requires room { length self.old.batch < 63 }
-        ensures state { self.new ≡ accepting self.old (EntryValue.Allot command.now.terminal command.now.number call.now.from call.now.to car call.now.party) }
+        ensures state { self.new
+            ≡ accepting self.old (EntryValue.Allot command.now.terminal command.now.number
+            call.now.from call.now.to car call.now.party) }
         ensures inside { IsStateIn building.now self.new }
     {
         let entry = Entry::Allot {
@@ -153,10 +159,13 @@ impl Group {
         car: Letter,
         stop: Stop,
     ) -> Option<Stop>
-        requires fits { Fits building.now self.old.register (EntryValue.Stop car number stop.floor stop.dir) }
+        requires fits { Fits building.now self.old.register
+            (EntryValue.Stop car number stop.floor stop.dir) }
         requires inside { IsStateIn building.now self.old }
         requires room { length self.old.batch < 63 }
-        ensures state { self.new ≡ standing (accepting self.old (EntryValue.Stop car number stop.floor stop.dir)) car stop.floor stop.dir }
+        ensures state { self.new
+            ≡ standing (accepting self.old (EntryValue.Stop car number stop.floor stop.dir)) car
+            stop.floor stop.dir }
         ensures next { result ≡ next_from self.new car stop.floor stop.dir }
         ensures inside { stop.floor < building.now.floors → IsStateIn building.now self.new }
     {
@@ -176,7 +185,8 @@ impl Group {
 
 /// The open call that a new call is once it is allotted.
 fn row_of(command: &Command, call: &NewCall, car: Letter) -> Row
-    ensures { result ≡ waiting_row command.now.terminal command.now.number call.now.from call.now.to car call.now.party }
+    ensures { result ≡ waiting_row command.now.terminal command.now.number call.now.from call.now.to
+        car call.now.party }
 {
     Row {
         kiosk: command.terminal,
@@ -191,7 +201,9 @@ fn row_of(command: &Command, call: &NewCall, car: Letter) -> Row
 
 /// The car that a kiosk's last call was allotted to.
 fn kept_car(register: &Register, kiosk: Terminal) -> Option<Letter>
-    ensures { (number from to car party : ℕ) → last_of register.now kiosk ≡ Some (record { number = number; content = ContentValue.Letter from to car party })
+    ensures { (number from to car party : ℕ)
+        → last_of register.now kiosk
+        ≡ Some (record { number = number; content = ContentValue.Letter from to car party })
         → result ≡ Some car }
 {
     let last = register.last(kiosk)?;

@@ -1,6 +1,7 @@
 //! Decisions, and the batch that makes them safe.
 
-ghost use Rattle.std.specs.Prelude.{◌≡◌, ◌<◌, ◌≤◌, ◌+◌, ◌⊎◌, ◌↔◌, [], ◌∷◌, length, true, false, Ok, Err, IfOk, IfErr, OnOk, OnErr};
+ghost use Rattle.std.specs.Prelude.{◌≡◌, ◌<◌, ◌≤◌, ◌+◌, ◌⊎◌, ◌↔◌, [], ◌∷◌, length, true, false, Ok};
+ghost use Rattle.std.specs.Prelude.{Err, IfOk, IfErr, OnOk, OnErr};
 ghost use Rattle.lift_disk.specs.Disk.{LeavesNow, LeavesOnly, RunsOn};
 ghost use Rattle.lift_register.specs.Register.{register_of};
 ghost use Rattle.lift_register.specs.WellFormed.{IsWellFormed};
@@ -15,7 +16,8 @@ ghost use Rattle.lift_keeper.specs.Images.{IsImageOf, IsImageIn, IsInDoubt};
 ghost use Rattle.lift_keeper.specs.Reopening.{Reopens, RefusesReopening, FailsBy};
 ghost use Rattle.lift_disk.specs.Trace.Access.{Sync};
 ghost use Rattle.lift_keeper.specs.Calls.{ReadsBehind, SyncsBeforeReading};
-ghost use Rattle.lift_keeper.specs.Writer.{StopsCommit, commit_calls, commit_writes, commit_used, commit_second};
+ghost use Rattle.lift_keeper.specs.Writer.{StopsCommit, commit_calls, commit_writes, commit_used};
+ghost use Rattle.lift_keeper.specs.Writer.{commit_second};
 
 use crate::copies::copy_of;
 use crate::decider::Decider;
@@ -44,25 +46,35 @@ impl<'b, D: Disk> Model for Keeper<'b, D> {
 
     ghost view = { λ k. record { state = k.decider.state; writer = k.writer } };
 
-    ghost invariant = { λ k. IsKeeper k.writer.plan k.decider.state k.decider.plan k.writer.register k.writer.is_broken };
+    ghost invariant = { λ k.
+        IsKeeper k.writer.plan k.decider.state k.decider.plan k.writer.register
+        k.writer.is_broken };
 }
 
 impl<'b, D: Disk> Keeper<'b, D> {
-    /// Opens a device that a crash may have left, with the building that its journal is of: the recovery. It writes
-    /// nothing. No car has told where it is. An `Err` hands the device back.
+    /// Opens a device that a crash may have left, with the building that its journal is of: the
+    /// recovery. It writes nothing. No car has told where it is. An `Err` hands the device back.
     ///
-    /// `Journal` with the journal's faults 1 to 3, then `OtherBuilding`, then `BadEntry`; `Journal(Disk)` comes at the
-    /// call that failed.
+    /// `Journal` with the journal's faults 1 to 3, then `OtherBuilding`, then `BadEntry`;
+    /// `Journal(Disk)` comes at the call that failed.
     pub fn open(disk: D, building: &'b Building) -> Result<Self, (D, KeeperFault)>
-        ensures opens { IfOk result (λ keeper. Reopens building.now (D.state disk) (D.state keeper.writer.device) keeper.writer.register keeper.writer.half keeper.writer.is_second keeper.writer.used) }
+        ensures opens { IfOk result (λ keeper.
+            Reopens building.now (D.state disk)
+            (D.state keeper.writer.device) keeper.writer.register keeper.writer.half
+            keeper.writer.is_second keeper.writer.used) }
         ensures state { IfOk result (λ keeper. keeper.state ≡ starting keeper.writer.register) }
         ensures plan { IfOk result (λ keeper. keeper.writer.plan ≡ building.now) }
-        ensures whole { IfOk result (λ keeper. (keeper.writer.is_broken ≡ false) × (keeper.writer.doubt ≡ [])) }
-        ensures opened { IfOk result (λ keeper. keeper.writer.opened ≡ (D.state keeper.writer.device).failures) }
-        ensures refused { IfErr result (λ err. RefusesReopening building.now (D.state disk) (D.state err.0) err.1) }
+        ensures whole { IfOk result (λ keeper. (keeper.writer.is_broken ≡ false)
+            × (keeper.writer.doubt ≡ [])) }
+        ensures opened { IfOk result (λ keeper.
+            keeper.writer.opened ≡ (D.state keeper.writer.device).failures) }
+        ensures refused { IfErr result (λ err.
+            RefusesReopening building.now (D.state disk) (D.state err.0) err.1) }
         // One sync before all reads.
-        ensures calls { IfOk result (λ keeper. ReadsBehind (Sync ∷ []) (D.state disk) (D.state keeper.writer.device)) }
-        ensures calls_before { IfErr result (λ err. SyncsBeforeReading err.1 (D.state disk) (D.state err.0)) }
+        ensures calls { IfOk result (λ keeper.
+            ReadsBehind (Sync ∷ []) (D.state disk) (D.state keeper.writer.device)) }
+        ensures calls_before { IfErr result (λ err.
+            SyncsBeforeReading err.1 (D.state disk) (D.state err.0)) }
     {
         match Writer::open(disk, building) {
             Ok(writer) => {
@@ -77,7 +89,8 @@ impl<'b, D: Disk> Keeper<'b, D> {
     /// Whether a call of the device has failed, and no reopening has succeeded since.
     pub fn is_broken(&self) -> bool
         ensures value { result ≡ self.now.writer.is_broken }
-        ensures failed { self.now.writer.is_broken ≡ true → self.now.writer.opened < (D.state self.now.writer.device).failures }
+        ensures failed { self.now.writer.is_broken ≡ true
+            → self.now.writer.opened < (D.state self.now.writer.device).failures }
     {
         self.writer.is_broken()
     }
@@ -90,7 +103,8 @@ impl<'b, D: Disk> Keeper<'b, D> {
         self.decider.pending()
     }
 
-    /// What it shows of the calls: those of all entries that were accepted, also of those that aren't safe yet.
+    /// What it shows of the calls: those of all entries that were accepted, also of those that
+    /// aren't safe yet.
     pub fn register(&self) -> &Register
         ensures value { result.now ≡ self.now.state.register }
         ensures lawful { IsWellFormed result.now }
@@ -98,25 +112,33 @@ impl<'b, D: Disk> Keeper<'b, D> {
         ensures balanced { IsBalanced result.now }
         // What decisions read is possible in the building.
         ensures possible { IsPossible self.now.writer.plan self.now.state }
-        ensures ahead { self.now.writer.is_broken ≡ false → result.now ≡ register_of self.now.writer.register self.now.state.batch }
+        ensures ahead { self.now.writer.is_broken ≡ false
+            → result.now ≡ register_of self.now.writer.register self.now.state.batch }
     {
         self.decider.register()
     }
 
-    /// The register that is safe: every crash leaves an image that reads as it. Of a broken keeper, the register that was
-    /// safe before the fault, and a crash leaves all of the batch in doubt or nothing.
+    /// The register that is safe: every crash leaves an image that reads as it. Of a broken keeper,
+    /// the register that was safe before the fault, and a crash leaves all of the batch in doubt or
+    /// nothing.
     pub fn safe_register(&self) -> &Register
         ensures value { result.now ≡ self.now.writer.register }
-        ensures safe { self.now.writer.is_broken ≡ false → LeavesNow (D.state self.now.writer.device) (IsImageOf self.now.writer.plan result.now) }
-        ensures in_doubt { self.now.writer.is_broken ≡ true → LeavesNow (D.state self.now.writer.device) (IsInDoubt self.now.writer.plan result.now self.now.writer.doubt) }
+        ensures safe { self.now.writer.is_broken ≡ false
+            → LeavesNow (D.state self.now.writer.device)
+            (IsImageOf self.now.writer.plan result.now) }
+        ensures in_doubt { self.now.writer.is_broken ≡ true
+            → LeavesNow (D.state self.now.writer.device)
+            (IsInDoubt self.now.writer.plan result.now self.now.writer.doubt) }
         ensures placed { self.now.writer.is_broken ≡ false
-            → LeavesNow (D.state self.now.writer.device) (IsImageIn self.now.writer.plan self.now.writer.half self.now.writer.is_second self.now.writer.used result.now) }
+            → LeavesNow (D.state self.now.writer.device)
+            (IsImageIn self.now.writer.plan self.now.writer.half self.now.writer.is_second
+            self.now.writer.used result.now) }
     {
         self.writer.register()
     }
 
-    /// The schedules of the cars that have told where they are, each with its car's open calls: their positions, and where
-    /// they stop.
+    /// The schedules of the cars that have told where they are, each with its car's open calls:
+    /// their positions, and where they stop.
     pub fn positions(&self) -> &[Option<Schedule>; 16]
         ensures positions { positions_of result.now ≡ self.now.state.positions }
         ensures own { AreSchedulesOf self.now.state.register result.now }
@@ -138,8 +160,8 @@ impl<'b, D: Disk> Keeper<'b, D> {
         self.decider.view()
     }
 
-    /// Decides a command: one decision of the rules, where this policy names the car of a new call. A new call or stop
-    /// joins the batch, which must have room for it.
+    /// Decides a command: one decision of the rules, where this policy names the car of a new call.
+    /// A new call or stop joins the batch, which must have room for it.
     pub fn decide<P: Policy>(
         &mut self,
         terminal: Terminal,
@@ -149,7 +171,8 @@ impl<'b, D: Disk> Keeper<'b, D> {
     ) -> Reply
         requires whole { self.old.writer.is_broken ≡ false }
         requires room { length self.old.state.batch < 63 }
-        ensures step { Step self.old.writer.plan (P.chooses policy.now) self.old.state terminal number body.now result self.new.state }
+        ensures step { Step self.old.writer.plan
+            (P.chooses policy.now) self.old.state terminal number body.now result self.new.state }
         ensures grows { length self.new.state.batch ≤ length self.old.state.batch + 1 }
         ensures writer { self.new.writer ≡ self.old.writer }
     {
@@ -160,38 +183,68 @@ impl<'b, D: Disk> Keeper<'b, D> {
 
     /// Makes the batch safe, and begins another.
     pub fn commit(&mut self) -> Result<(), KeeperFault>
-        // A crash at any moment of the call leaves the register that was safe before it, or that with the batch.
-        ensures any_moment { self.old.writer.is_broken ≡ false → LeavesOnly (D.state self.old.writer.device) (D.state self.new.writer.device)
+        // A crash at any moment of the call leaves the register that was safe before it, or that
+        // with the batch.
+        ensures any_moment { self.old.writer.is_broken ≡ false
+            → LeavesOnly (D.state self.old.writer.device) (D.state self.new.writer.device)
             (IsInDoubt self.old.writer.plan self.old.writer.register self.old.state.batch) }
-        ensures acknowledged { OnOk result (LeavesNow (D.state self.new.writer.device) (IsImageOf self.old.writer.plan self.old.state.register)) }
+        ensures acknowledged { OnOk result
+            (LeavesNow (D.state self.new.writer.device)
+            (IsImageOf self.old.writer.plan self.old.state.register)) }
         ensures register { OnOk result (self.new.writer.register ≡ self.old.state.register) }
         ensures begins { OnOk result (self.new.state ≡ record self.old.state { batch = [] }) }
         ensures in_doubt { result ≡ Err (KeeperFault.Journal JournalFault.Disk)
-            → LeavesNow (D.state self.new.writer.device) (IsInDoubt self.old.writer.plan self.old.writer.register self.old.state.batch) }
+            → LeavesNow (D.state self.new.writer.device)
+            (IsInDoubt self.old.writer.plan self.old.writer.register self.old.state.batch) }
 
-        ensures broken { (result ≡ Err (KeeperFault.Journal JournalFault.Broken)) ↔ (self.old.writer.is_broken ≡ true) }
+        ensures broken { (result ≡ Err (KeeperFault.Journal JournalFault.Broken))
+            ↔ (self.old.writer.is_broken ≡ true) }
         ensures rests { self.old.writer.is_broken ≡ true → self.new ≡ self.old }
-        ensures empty { self.old.writer.is_broken ≡ false → self.old.state.batch ≡ [] → (result ≡ Ok tt) × (self.new ≡ self.old) }
-        ensures causes { IfErr result (λ fault. (fault ≡ KeeperFault.Journal JournalFault.Disk) ⊎ (fault ≡ KeeperFault.Journal JournalFault.Broken)) }
-        ensures failed { result ≡ Err (KeeperFault.Journal JournalFault.Disk) → (D.state self.old.writer.device).failures < (D.state self.new.writer.device).failures }
-        ensures breaks { result ≡ Err (KeeperFault.Journal JournalFault.Disk) → (self.new.writer.is_broken ≡ true) × (self.new.writer.doubt ≡ self.old.state.batch) }
-        ensures unmoved { OnErr result ((self.new.state ≡ self.old.state) × (self.new.writer.register ≡ self.old.writer.register)) }
-        ensures whole { OnOk result ((D.state self.new.writer.device).failures ≡ (D.state self.old.writer.device).failures) }
-        ensures stays { OnOk result ((self.new.writer.is_broken ≡ false) × (self.new.writer.doubt ≡ [])) }
-        ensures same { (self.new.writer.plan ≡ self.old.writer.plan) × (self.new.writer.half ≡ self.old.writer.half) × (self.new.writer.opened ≡ self.old.writer.opened) }
+        ensures empty { self.old.writer.is_broken ≡ false → self.old.state.batch ≡ []
+            → (result ≡ Ok tt) × (self.new ≡ self.old) }
+        ensures causes { IfErr result (λ fault. (fault ≡ KeeperFault.Journal JournalFault.Disk)
+            ⊎ (fault ≡ KeeperFault.Journal JournalFault.Broken)) }
+        ensures failed { result ≡ Err (KeeperFault.Journal JournalFault.Disk)
+            → (D.state self.old.writer.device).failures
+            < (D.state self.new.writer.device).failures }
+        ensures breaks { result ≡ Err (KeeperFault.Journal JournalFault.Disk)
+            → (self.new.writer.is_broken ≡ true) × (self.new.writer.doubt ≡ self.old.state.batch) }
+        ensures unmoved { OnErr result ((self.new.state ≡ self.old.state)
+            × (self.new.writer.register ≡ self.old.writer.register)) }
+        ensures whole { OnOk result ((D.state self.new.writer.device).failures
+            ≡ (D.state self.old.writer.device).failures) }
+        ensures stays { OnOk result ((self.new.writer.is_broken ≡ false)
+            × (self.new.writer.doubt ≡ [])) }
+        ensures same { (self.new.writer.plan ≡ self.old.writer.plan)
+            × (self.new.writer.half ≡ self.old.writer.half)
+            × (self.new.writer.opened ≡ self.old.writer.opened) }
 
-        // How many calls it makes: none for no entries, else those of an append, and of a checkpoint where room is wanted.
+        // How many calls it makes: none for no entries, else those of an append, and of a
+        // checkpoint where room is wanted.
         ensures runs { RunsOn (D.state self.old.writer.device) (D.state self.new.writer.device) }
-        ensures made { Makes result (commit_calls self.old.writer.register self.old.writer.used self.old.writer.half (length self.old.state.batch))
-            (commit_writes self.old.writer.register self.old.writer.used self.old.writer.half (length self.old.state.batch)) (D.state self.old.writer.device) (D.state self.new.writer.device) }
-        ensures used { OnOk result (self.new.writer.used ≡ commit_used self.old.writer.register self.old.writer.used self.old.writer.half (length self.old.state.batch)) }
-        ensures second { OnOk result (self.new.writer.is_second ≡ commit_second self.old.writer.is_second self.old.writer.used self.old.writer.half (length self.old.state.batch)) }
-        ensures told_ok { OnOk result (NoneFails (D.state self.old.writer.device) (D.state self.new.writer.device)) }
-        ensures told { IfErr result (λ fault. FailsBy fault (D.state self.old.writer.device) (D.state self.new.writer.device)) }
+        ensures made { Makes result
+            (commit_calls self.old.writer.register self.old.writer.used self.old.writer.half
+            (length self.old.state.batch))
+            (commit_writes self.old.writer.register self.old.writer.used self.old.writer.half
+            (length self.old.state.batch)) (D.state self.old.writer.device)
+            (D.state self.new.writer.device) }
+        ensures used { OnOk result (self.new.writer.used
+            ≡ commit_used self.old.writer.register self.old.writer.used self.old.writer.half
+            (length self.old.state.batch)) }
+        ensures second { OnOk result (self.new.writer.is_second
+            ≡ commit_second self.old.writer.is_second self.old.writer.used self.old.writer.half
+            (length self.old.state.batch)) }
+        ensures told_ok { OnOk result
+            (NoneFails (D.state self.old.writer.device) (D.state self.new.writer.device)) }
+        ensures told { IfErr result (λ fault.
+            FailsBy fault (D.state self.old.writer.device) (D.state self.new.writer.device)) }
 
-        // Where a device stopped it that changes no byte in a failed call, the number of calls says what each cut leaves.
-        ensures stops { result ≡ Err (KeeperFault.Journal JournalFault.Disk) → (D.state self.old.writer.device).is_honest → (D.state self.old.writer.device).is_inert
-            → StopsCommit self.old.writer.plan self.old.writer.half self.old.writer.is_second self.old.writer.used self.old.writer.register self.old.state.batch
+        // Where a device stopped it that changes no byte in a failed call, the number of calls says
+        // what each cut leaves.
+        ensures stops { result ≡ Err (KeeperFault.Journal JournalFault.Disk)
+            → (D.state self.old.writer.device).is_honest → (D.state self.old.writer.device).is_inert
+            → StopsCommit self.old.writer.plan self.old.writer.half self.old.writer.is_second
+            self.old.writer.used self.old.writer.register self.old.state.batch
             (D.state self.old.writer.device) (D.state self.new.writer.device) }
     {
         self.writer.commit(self.decider.batch())?;
@@ -199,29 +252,52 @@ impl<'b, D: Disk> Keeper<'b, D> {
         Ok(())
     }
 
-    /// Opens it again, also after a fault: no car has told where it is, and the batch is empty. It writes nothing, and gives
-    /// the register that was safe, or that with the batch in doubt. A refusal leaves it as it was, but that a failed call
-    /// leaves it broken: a later batch goes where it would have gone before.
+    /// Opens it again, also after a fault: no car has told where it is, and the batch is empty. It
+    /// writes nothing, and gives the register that was safe, or that with the batch in doubt. A
+    /// refusal leaves it as it was, but that a failed call leaves it broken: a later batch goes
+    /// where it would have gone before.
     pub fn reopen(&mut self) -> Result<(), KeeperFault>
-        ensures opens { OnOk result (Reopens self.old.writer.plan (D.state self.old.writer.device) (D.state self.new.writer.device) self.new.writer.register self.new.writer.half self.new.writer.is_second self.new.writer.used) }
+        ensures opens { OnOk result
+            (Reopens self.old.writer.plan (D.state self.old.writer.device)
+            (D.state self.new.writer.device) self.new.writer.register self.new.writer.half
+            self.new.writer.is_second self.new.writer.used) }
         ensures state { OnOk result (self.new.state ≡ starting self.new.writer.register) }
         ensures one_of { OnOk result ((D.state self.old.writer.device).is_honest
-            → (self.new.writer.register ≡ self.old.writer.register) ⊎ (self.new.writer.register ≡ register_of self.old.writer.register self.old.writer.doubt)) }
-        // A crash at any moment of the call leaves the register that was safe before it, or that with the batch in doubt.
-        ensures any_moment { LeavesOnly (D.state self.old.writer.device) (D.state self.new.writer.device)
+            → (self.new.writer.register ≡ self.old.writer.register)
+            ⊎ (self.new.writer.register
+            ≡ register_of self.old.writer.register self.old.writer.doubt)) }
+        // A crash at any moment of the call leaves the register that was safe before it, or that
+        // with the batch in doubt.
+        ensures any_moment { LeavesOnly (D.state self.old.writer.device)
+            (D.state self.new.writer.device)
             (IsInDoubt self.old.writer.plan self.old.writer.register self.old.writer.doubt) }
-        ensures whole { OnOk result ((self.new.writer.is_broken ≡ false) × (self.new.writer.doubt ≡ [])) }
-        ensures opened { OnOk result (self.new.writer.opened ≡ (D.state self.new.writer.device).failures) }
-        ensures refused { IfErr result (λ fault. RefusesReopening self.old.writer.plan (D.state self.old.writer.device) (D.state self.new.writer.device) fault) }
-        ensures good { IfErr result (λ fault. (D.state self.old.writer.device).is_honest → fault ≡ KeeperFault.Journal JournalFault.Disk) }
-        ensures breaks { result ≡ Err (KeeperFault.Journal JournalFault.Disk) → self.new.writer.is_broken ≡ true }
-        ensures stays { IfErr result (λ fault. (fault ≡ KeeperFault.Journal JournalFault.Disk) ⊎ (self.new.writer.is_broken ≡ self.old.writer.is_broken)) }
-        ensures unmoved { OnErr result ((self.new.state ≡ self.old.state) × (self.new.writer.register ≡ self.old.writer.register) × (self.new.writer.doubt ≡ self.old.writer.doubt)
+        ensures whole { OnOk result ((self.new.writer.is_broken ≡ false)
+            × (self.new.writer.doubt ≡ [])) }
+        ensures opened { OnOk result (self.new.writer.opened
+            ≡ (D.state self.new.writer.device).failures) }
+        ensures refused { IfErr result (λ fault.
+            RefusesReopening self.old.writer.plan (D.state self.old.writer.device)
+            (D.state self.new.writer.device) fault) }
+        ensures good { IfErr result (λ fault. (D.state self.old.writer.device).is_honest
+            → fault ≡ KeeperFault.Journal JournalFault.Disk) }
+        ensures breaks { result ≡ Err (KeeperFault.Journal JournalFault.Disk)
+            → self.new.writer.is_broken ≡ true }
+        ensures stays { IfErr result (λ fault. (fault ≡ KeeperFault.Journal JournalFault.Disk)
+            ⊎ (self.new.writer.is_broken ≡ self.old.writer.is_broken)) }
+        ensures unmoved { OnErr result ((self.new.state ≡ self.old.state)
+            × (self.new.writer.register ≡ self.old.writer.register)
+            × (self.new.writer.doubt ≡ self.old.writer.doubt)
             × (self.new.writer.opened ≡ self.old.writer.opened)) }
-        ensures place { OnErr result ((self.new.writer.half ≡ self.old.writer.half) × (self.new.writer.is_second ≡ self.old.writer.is_second) × (self.new.writer.used ≡ self.old.writer.used)) }
+        ensures place { OnErr result ((self.new.writer.half ≡ self.old.writer.half)
+            × (self.new.writer.is_second ≡ self.old.writer.is_second)
+            × (self.new.writer.used ≡ self.old.writer.used)) }
         ensures plan { self.new.writer.plan ≡ self.old.writer.plan }
-        ensures calls { OnOk result (ReadsBehind (Sync ∷ []) (D.state self.old.writer.device) (D.state self.new.writer.device)) }
-        ensures calls_before { IfErr result (λ fault. SyncsBeforeReading fault (D.state self.old.writer.device) (D.state self.new.writer.device)) }
+        ensures calls { OnOk result
+            (ReadsBehind (Sync ∷ []) (D.state self.old.writer.device)
+            (D.state self.new.writer.device)) }
+        ensures calls_before { IfErr result (λ fault.
+            SyncsBeforeReading fault (D.state self.old.writer.device)
+            (D.state self.new.writer.device)) }
     {
         self.writer.reopen()?;
         let building = self.decider.building();
@@ -236,12 +312,17 @@ impl<'b, D: Disk> Keeper<'b, D> {
         self.writer.into_disk()
     }
 
-    /// The part that decides, and the part that makes safe. The batch of a broken keeper is dropped.
+    /// The part that decides, and the part that makes safe. The batch of a broken keeper is
+    /// dropped.
     pub fn part(self) -> (Decider<'b>, Writer<'b, D>)
         requires { (self.state.batch ≡ []) ⊎ (self.writer.is_broken ≡ true) }
-        ensures decider { result.0 ≡ record { plan = self.entry.writer.plan; state = record self.entry.state { batch = [] } } }
+        ensures decider { result.0 ≡ record {
+          plan = self.entry.writer.plan;
+          state = record self.entry.state { batch = [] };
+        } }
         ensures writer { result.1 ≡ self.entry.writer }
-        ensures equal { self.entry.writer.is_broken ≡ false → result.0.state.register ≡ result.1.register }
+        ensures equal { self.entry.writer.is_broken ≡ false
+            → result.0.state.register ≡ result.1.register }
     {
         let Keeper {
             mut decider,
@@ -269,10 +350,13 @@ impl<'b, D: Arm> Keeper<'b, D> {
 
     /// Tells the device anew which calls to fail. It changes no image.
     pub fn arm(&mut self, calls: u32)
-        ensures same { IsUnchanged (D.state self.old.writer.device) (D.state self.new.writer.device) }
-        ensures told { IsTold (D.fails_by calls (D.state self.old.writer.device).calls) (D.state self.new.writer.device) }
+        ensures same { IsUnchanged (D.state self.old.writer.device)
+            (D.state self.new.writer.device) }
+        ensures told { IsTold (D.fails_by calls (D.state self.old.writer.device).calls)
+            (D.state self.new.writer.device) }
         ensures state { self.new.state ≡ self.old.state }
-        ensures writer { self.new.writer ≡ record self.old.writer { device = self.new.writer.device } }
+        ensures writer { self.new.writer
+            ≡ record self.old.writer { device = self.new.writer.device } }
     {
         self.writer.arm(calls);
     }

@@ -1,4 +1,5 @@
-//! Decides the commands of a lift group, makes what they add safe in a journal, and recovers the register from it.
+//! Decides the commands of a lift group, makes what they add safe in a journal, and recovers the
+//! register from it.
 #![tactic(auto)]
 
 mod copies;

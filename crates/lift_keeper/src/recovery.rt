@@ -1,13 +1,15 @@
 //! The register that the records of a journal make.
 
-ghost use Rattle.std.specs.Prelude.{◌≡◌, ◌≤◌, ◌<◌, ◌+◌, ◌^◌, ◌↔◌, ◌∷◌, [], ◌*◌, IsTrue, IsFalse, IfSome, IfNone, length, true, false};
+ghost use Rattle.std.specs.Prelude.{◌≡◌, ◌≤◌, ◌<◌, ◌+◌, ◌^◌, ◌↔◌, ◌∷◌, [], ◌*◌, IsTrue, IsFalse};
+ghost use Rattle.std.specs.Prelude.{IfSome, IfNone, length, true, false};
 ghost use Rattle.lift_register.specs.Register.{register_of};
 ghost use Rattle.lift_register.specs.Fits.{Fits};
 ghost use Rattle.lift_register.specs.Base.{BaseFits, with_record};
 ghost use Rattle.lift_register.specs.Belongs.{BelongsTo};
 ghost use Rattle.lift_register.specs.Balanced.{IsBalanced};
 ghost use Rattle.lift_register.specs.WellFormed.{IsWellFormed};
-ghost use Rattle.lift_keeper.specs.Recovery.{beginning, leaves_open, Passes, passed, AllPass, all_passed, StopsAt};
+ghost use Rattle.lift_keeper.specs.Recovery.{beginning, leaves_open, Passes, passed, AllPass};
+ghost use Rattle.lift_keeper.specs.Recovery.{all_passed, StopsAt};
 
 use lift_base::{Entry, Record};
 use lift_building::Building;
@@ -30,7 +32,12 @@ impl<'b> Model for Recovery<'b> {
 
     ghost Value = { RecoveryState };
 
-    ghost view = { λ r. record { plan = r.building.now; register = r.register; is_open = r.is_open; taken = r.taken } };
+    ghost view = { λ r. record {
+      plan = r.building.now;
+      register = r.register;
+      is_open = r.is_open;
+      taken = r.taken;
+    } };
 
     ghost invariant = { λ r. IsRecovery r.building.now r.register r.is_open };
 }
@@ -58,7 +65,8 @@ impl<'b> Recovery<'b> {
     /// Takes in an accepted command, if it fits and no checkpoint is open.
     fn take_entry(&mut self, entry: &Entry) -> bool
         requires room { self.old.taken + 1 < 2 ^ 32 }
-        ensures fits { IsTrue result ↔ ((self.old.is_open ≡ false) × Fits self.old.plan self.old.register entry.now) }
+        ensures fits { IsTrue result
+            ↔ ((self.old.is_open ≡ false) × Fits self.old.plan self.old.register entry.now) }
         ensures passed { IsTrue result → self.new ≡ record {
           plan = self.old.plan;
           register = register_of self.old.register (entry.now ∷ []);
@@ -139,7 +147,8 @@ impl<'b> Recovery<'b> {
     /// Takes in these records, up to the first that doesn't fit.
     pub fn take_all(&mut self, records: &[Record]) -> bool
         requires room { self.old.taken + length records.now + 1 < 2 ^ 32 }
-        ensures pass { IsTrue result → AllPass self.old records.now × (self.new ≡ all_passed self.old records.now) }
+        ensures pass { IsTrue result
+            → AllPass self.old records.now × (self.new ≡ all_passed self.old records.now) }
         ensures stops { IsFalse result → StopsAt self.old self.new records.now }
         ensures plan { self.new.plan ≡ self.old.plan }
         ensures limit { self.new.taken ≤ self.old.taken + length records.now }
@@ -154,7 +163,9 @@ impl<'b> Recovery<'b> {
 
     /// The register that the records have made, if no checkpoint is open.
     pub fn register(self) -> Option<Register>
-        ensures some { IfSome result (λ register. (register ≡ self.entry.register) × (self.entry.is_open ≡ false) × IsWellFormed register × BelongsTo self.entry.plan register × IsBalanced register) }
+        ensures some { IfSome result (λ register. (register ≡ self.entry.register)
+            × (self.entry.is_open ≡ false) × IsWellFormed register
+            × BelongsTo self.entry.plan register × IsBalanced register) }
         ensures none { IfNone result (self.entry.is_open ≡ true) }
     {
         if self.is_open {

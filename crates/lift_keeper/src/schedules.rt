@@ -1,6 +1,7 @@
 //! How a car's schedule changes.
 
-ghost use Rattle.std.specs.Prelude.{◌≡◌, ◌<◌, ◌≤◌, ◌∷◌, ◌++◌, [], length, Some, None, IfSome, option_map};
+ghost use Rattle.std.specs.Prelude.{◌≡◌, ◌<◌, ◌≤◌, ◌∷◌, ◌++◌, [], length, Some, None, IfSome};
+ghost use Rattle.std.specs.Prelude.{option_map};
 ghost use Rattle.std.specs.List.{flat_map};
 ghost use Rattle.lift_base.specs.History.{row_after};
 ghost use Rattle.lift_register.specs.Register.{rows_of};
@@ -15,7 +16,8 @@ use lift_stops::Schedule;
 /// A car takes one call more. Where it has no schedule it gets none.
 pub fn insert(schedule: &mut Option<Schedule>, row: &Row)
     requires few { IfSome schedule.old (λ s. length s.rows ≤ 32) }
-    ensures { schedule.new ≡ option_map (λ (s : ScheduleState). record s { rows = s.rows ++ row.now ∷ [] }) schedule.old }
+    ensures { schedule.new ≡ option_map (λ (s : ScheduleState).
+        record s { rows = s.rows ++ row.now ∷ [] }) schedule.old }
 {
     match schedule {
         Some(schedule) => schedule.insert(*row),
@@ -23,8 +25,8 @@ pub fn insert(schedule: &mut Option<Schedule>, row: &Row)
     }
 }
 
-/// A car stands at another position. Its schedule is made from its open calls where it has none. The answer is the stop
-/// that it makes next.
+/// A car stands at another position. Its schedule is made from its open calls where it has none.
+/// The answer is the stop that it makes next.
 pub fn stand(
     register: &Register,
     car: Letter,
@@ -32,7 +34,8 @@ pub fn stand(
     position: &Position,
 ) -> Option<Stop>
     requires own { IfSome schedule.old (λ s. s.rows ≡ rows_of register.now car) }
-    ensures schedule { schedule.new ≡ Some (record { position = position.now; rows = rows_of register.now car }) }
+    ensures schedule { schedule.new
+        ≡ Some (record { position = position.now; rows = rows_of register.now car }) }
     ensures next { result ≡ next_stop (rows_of register.now car) position.now }
 {
     match schedule {
@@ -49,16 +52,18 @@ pub fn stand(
     }
 }
 
-/// A car made a stop that the register has taken in. Its schedule is made from its open calls where it has none. The
-/// answer is the stop that it makes next.
+/// A car made a stop that the register has taken in. Its schedule is made from its open calls where
+/// it has none. The answer is the stop that it makes next.
 pub fn serve(
     register: &Register,
     car: Letter,
     schedule: &mut Option<Schedule>,
     stop: &Stop,
 ) -> Option<Stop>
-    requires own { IfSome schedule.old (λ s. flat_map (row_after stop.now) s.rows ≡ rows_of register.now car) }
-    ensures schedule { schedule.new ≡ Some (record { position = position_after stop.now; rows = rows_of register.now car }) }
+    requires own { IfSome schedule.old (λ s.
+        flat_map (row_after stop.now) s.rows ≡ rows_of register.now car) }
+    ensures schedule { schedule.new
+        ≡ Some (record { position = position_after stop.now; rows = rows_of register.now car }) }
     ensures next { result ≡ next_stop (rows_of register.now car) (position_after stop.now) }
 {
     match schedule {

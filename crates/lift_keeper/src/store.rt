@@ -1,6 +1,7 @@
 //! A batch is made safe: by a checkpoint, where it lacks room, and an append.
 
-ghost use Rattle.std.specs.Prelude.{◌≡◌, ◌<◌, ◌≤◌, ◌+◌, List, length, map, All, false, IfErr, OnOk, OnErr};
+ghost use Rattle.std.specs.Prelude.{◌≡◌, ◌<◌, ◌≤◌, ◌+◌, List, length, map, All, false, IfErr, OnOk};
+ghost use Rattle.std.specs.Prelude.{OnErr};
 ghost use Rattle.lift_base.specs.declared.history.Entry.{Entry as EntryValue};
 ghost use Rattle.lift_base.specs.History.{record_of};
 ghost use Rattle.lift_base.specs.Records.{IsLawful};
@@ -13,7 +14,8 @@ ghost use Rattle.lift_journal.specs.Order.{IsEntry};
 ghost use Rattle.lift_journal.specs.Steps.{Makes};
 ghost use Rattle.lift_journal.specs.Told.{AnswersAsTold};
 ghost use Rattle.lift_keeper.specs.Images.{IsImageOf, IsInDoubt};
-ghost use Rattle.lift_keeper.specs.Writer.{Keeps, Guards, StopsFolding, StopsCommit, room_calls, room_writes, room_used, room_second};
+ghost use Rattle.lift_keeper.specs.Writer.{Keeps, Guards, StopsFolding, StopsCommit, room_calls};
+ghost use Rattle.lift_keeper.specs.Writer.{room_writes, room_used, room_second};
 
 use arrayvec::ArrayVec;
 use lift_base::Record;
@@ -21,29 +23,46 @@ use lift_disk::Disk;
 use lift_journal::{Journal, JournalFault};
 use lift_register::Register;
 
-/// Makes room for a batch of so many records, by a checkpoint of the register where the journal lacks it.
+/// Makes room for a batch of so many records, by a checkpoint of the register where the journal
+/// lacks it.
 fn make_room<D: Disk>(
     journal: &mut Journal<D>,
     register: &Register,
     count: usize,
 ) -> Result<(), JournalFault>
     requires whole { journal.old.is_broken ≡ false }
-    ensures any_moment { (plan : Plan) → Guards plan journal.old.shape journal.old.is_second journal.old.used register.now (D.state journal.old.device)
-        → LeavesOnly (D.state journal.old.device) (D.state journal.new.device) (IsImageOf plan register.now) }
-    ensures keeps { OnOk result ((plan : Plan) → Guards plan journal.old.shape journal.old.is_second journal.old.used register.now (D.state journal.old.device)
-        → (D.state journal.new.device).is_honest → Keeps plan journal.new.shape journal.new.is_second journal.new.used register.now (D.state journal.new.device)) }
+    ensures any_moment { (plan : Plan)
+        → Guards plan journal.old.shape journal.old.is_second journal.old.used register.now
+        (D.state journal.old.device)
+        → LeavesOnly (D.state journal.old.device) (D.state journal.new.device)
+        (IsImageOf plan register.now) }
+    ensures keeps { OnOk result ((plan : Plan)
+        → Guards plan journal.old.shape journal.old.is_second journal.old.used register.now
+        (D.state journal.old.device)
+        → (D.state journal.new.device).is_honest
+        → Keeps plan journal.new.shape journal.new.is_second journal.new.used register.now
+        (D.state journal.new.device)) }
     ensures room { OnOk result (journal.new.used + bodies count + 2 ≤ journal.new.shape.half) }
-    ensures used { OnOk result (journal.new.used ≡ room_used register.now journal.old.used journal.old.shape.half count) }
-    ensures second { OnOk result (journal.new.is_second ≡ room_second journal.old.is_second journal.old.used journal.old.shape.half count) }
+    ensures used { OnOk result (journal.new.used
+        ≡ room_used register.now journal.old.used journal.old.shape.half count) }
+    ensures second { OnOk result (journal.new.is_second
+        ≡ room_second journal.old.is_second journal.old.used journal.old.shape.half count) }
     ensures runs { RunsOn (D.state journal.old.device) (D.state journal.new.device) }
-    ensures made { Makes result (room_calls register.now journal.old.used journal.old.shape.half count) (room_writes register.now journal.old.used journal.old.shape.half count)
+    ensures made { Makes result
+        (room_calls register.now journal.old.used journal.old.shape.half count)
+        (room_writes register.now journal.old.used journal.old.shape.half count)
         (D.state journal.old.device) (D.state journal.new.device) }
     ensures told { AnswersAsTold result (D.state journal.old.device) (D.state journal.new.device) }
-    ensures stops { OnErr result ((plan : Plan) → Guards plan journal.old.shape journal.old.is_second journal.old.used register.now (D.state journal.old.device)
+    ensures stops { OnErr result ((plan : Plan)
+        → Guards plan journal.old.shape journal.old.is_second journal.old.used register.now
+        (D.state journal.old.device)
         → (D.state journal.old.device).is_honest → (D.state journal.old.device).is_inert
-        → StopsFolding plan journal.old.shape.half journal.old.is_second journal.old.used register.now (D.state journal.old.device) (D.state journal.new.device)) }
-    ensures failures { OnOk result ((D.state journal.new.device).failures ≡ (D.state journal.old.device).failures) }
-    ensures failed { OnErr result ((D.state journal.old.device).failures < (D.state journal.new.device).failures) }
+        → StopsFolding plan journal.old.shape.half journal.old.is_second journal.old.used
+        register.now (D.state journal.old.device) (D.state journal.new.device)) }
+    ensures failures { OnOk result ((D.state journal.new.device).failures
+        ≡ (D.state journal.old.device).failures) }
+    ensures failed { OnErr result ((D.state journal.old.device).failures
+        < (D.state journal.new.device).failures) }
     ensures stays { OnOk result (journal.new.is_broken ≡ false) }
     ensures causes { IfErr result (λ fault. fault ≡ JournalFault.Disk) }
     ensures shape { journal.new.shape ≡ journal.old.shape }
@@ -54,8 +73,8 @@ fn make_room<D: Disk>(
     journal.replace(register)
 }
 
-/// Makes a batch safe behind what the journal holds. A crash at any moment leaves the register from before, or the one
-/// with the batch.
+/// Makes a batch safe behind what the journal holds. A crash at any moment leaves the register from
+/// before, or the one with the batch.
 pub fn store<D: Disk>(
     journal: &mut Journal<D>,
     register: &Register,
@@ -65,25 +84,44 @@ pub fn store<D: Disk>(
     requires some { 1 ≤ length records.now.items }
     requires lawful { All IsLawful records.now.items }
     requires entries { All IsEntry records.now.items }
-    ensures any_moment { (plan : Plan) (batch : List EntryValue) → records.now.items ≡ map record_of batch → FitFrom plan register.now batch
-        → Guards plan journal.old.shape journal.old.is_second journal.old.used register.now (D.state journal.old.device)
-        → LeavesOnly (D.state journal.old.device) (D.state journal.new.device) (IsInDoubt plan register.now batch) }
-    ensures keeps { OnOk result ((plan : Plan) (batch : List EntryValue) → records.now.items ≡ map record_of batch → FitFrom plan register.now batch
-        → Guards plan journal.old.shape journal.old.is_second journal.old.used register.now (D.state journal.old.device)
-        → (D.state journal.new.device).is_honest → Keeps plan journal.new.shape journal.new.is_second journal.new.used (register_of register.now batch) (D.state journal.new.device)) }
-    ensures used { OnOk result (journal.new.used ≡ room_used register.now journal.old.used journal.old.shape.half (length records.now.items) + (bodies (length records.now.items) + 1)) }
-    ensures second { OnOk result (journal.new.is_second ≡ room_second journal.old.is_second journal.old.used journal.old.shape.half (length records.now.items)) }
+    ensures any_moment { (plan : Plan) (batch : List EntryValue)
+        → records.now.items ≡ map record_of batch → FitFrom plan register.now batch
+        → Guards plan journal.old.shape journal.old.is_second journal.old.used register.now
+        (D.state journal.old.device)
+        → LeavesOnly (D.state journal.old.device) (D.state journal.new.device)
+        (IsInDoubt plan register.now batch) }
+    ensures keeps { OnOk result ((plan : Plan) (batch : List EntryValue)
+        → records.now.items ≡ map record_of batch → FitFrom plan register.now batch
+        → Guards plan journal.old.shape journal.old.is_second journal.old.used register.now
+        (D.state journal.old.device)
+        → (D.state journal.new.device).is_honest
+        → Keeps plan journal.new.shape journal.new.is_second journal.new.used
+        (register_of register.now batch) (D.state journal.new.device)) }
+    ensures used { OnOk result (journal.new.used
+        ≡ room_used register.now journal.old.used journal.old.shape.half (length records.now.items)
+        + (bodies (length records.now.items) + 1)) }
+    ensures second { OnOk result (journal.new.is_second
+        ≡ room_second journal.old.is_second journal.old.used journal.old.shape.half
+        (length records.now.items)) }
     ensures runs { RunsOn (D.state journal.old.device) (D.state journal.new.device) }
-    ensures made { Makes result (room_calls register.now journal.old.used journal.old.shape.half (length records.now.items) + (bodies (length records.now.items) + 4))
-        (room_writes register.now journal.old.used journal.old.shape.half (length records.now.items) + (bodies (length records.now.items) + 2))
+    ensures made { Makes result
+        (room_calls register.now journal.old.used journal.old.shape.half (length records.now.items)
+        + (bodies (length records.now.items) + 4))
+        (room_writes register.now journal.old.used journal.old.shape.half (length records.now.items)
+        + (bodies (length records.now.items) + 2))
         (D.state journal.old.device) (D.state journal.new.device) }
     ensures told { AnswersAsTold result (D.state journal.old.device) (D.state journal.new.device) }
-    ensures stops { OnErr result ((plan : Plan) (batch : List EntryValue) → records.now.items ≡ map record_of batch → FitFrom plan register.now batch
-        → Guards plan journal.old.shape journal.old.is_second journal.old.used register.now (D.state journal.old.device)
+    ensures stops { OnErr result ((plan : Plan) (batch : List EntryValue)
+        → records.now.items ≡ map record_of batch → FitFrom plan register.now batch
+        → Guards plan journal.old.shape journal.old.is_second journal.old.used register.now
+        (D.state journal.old.device)
         → (D.state journal.old.device).is_honest → (D.state journal.old.device).is_inert
-        → StopsCommit plan journal.old.shape.half journal.old.is_second journal.old.used register.now batch (D.state journal.old.device) (D.state journal.new.device)) }
-    ensures failures { OnOk result ((D.state journal.new.device).failures ≡ (D.state journal.old.device).failures) }
-    ensures failed { OnErr result ((D.state journal.old.device).failures < (D.state journal.new.device).failures) }
+        → StopsCommit plan journal.old.shape.half journal.old.is_second journal.old.used
+        register.now batch (D.state journal.old.device) (D.state journal.new.device)) }
+    ensures failures { OnOk result ((D.state journal.new.device).failures
+        ≡ (D.state journal.old.device).failures) }
+    ensures failed { OnErr result ((D.state journal.old.device).failures
+        < (D.state journal.new.device).failures) }
     ensures stays { OnOk result (journal.new.is_broken ≡ false) }
     ensures causes { IfErr result (λ fault. fault ≡ JournalFault.Disk) }
     ensures shape { journal.new.shape ≡ journal.old.shape }

@@ -1,6 +1,7 @@
 //! The safe register, and the journal that it is safe in.
 
-ghost use Rattle.std.specs.Prelude.{◌≡◌, ◌<◌, ◌⊎◌, ◌↔◌, [], ◌∷◌, length, true, false, Ok, Err, IfOk, IfErr, OnOk, OnErr};
+ghost use Rattle.std.specs.Prelude.{◌≡◌, ◌<◌, ◌⊎◌, ◌↔◌, [], ◌∷◌, length, true, false, Ok, Err};
+ghost use Rattle.std.specs.Prelude.{IfOk, IfErr, OnOk, OnErr};
 ghost use Rattle.lift_disk.specs.Disk.{LeavesNow, LeavesOnly, MayLeave, RunsOn};
 ghost use Rattle.lift_register.specs.Register.{register_of};
 ghost use Rattle.lift_register.specs.Fits.{FitFrom};
@@ -13,7 +14,8 @@ ghost use Rattle.lift_keeper.specs.Images.{IsImageOf, IsImageIn, IsInDoubt};
 ghost use Rattle.lift_keeper.specs.Reopening.{Reopens, RefusesReopening, FailsBy};
 ghost use Rattle.lift_disk.specs.Trace.Access.{Sync};
 ghost use Rattle.lift_keeper.specs.Calls.{ReadsBehind, SyncsBeforeReading};
-ghost use Rattle.lift_keeper.specs.Writer.{Guards, StopsCommit, commit_calls, commit_writes, commit_used, commit_second};
+ghost use Rattle.lift_keeper.specs.Writer.{Guards, StopsCommit, commit_calls, commit_writes};
+ghost use Rattle.lift_keeper.specs.Writer.{commit_used, commit_second};
 
 use crate::copies::{apply_all, put_records};
 use crate::fault::KeeperFault;
@@ -60,24 +62,31 @@ impl<'b, D: Disk> Model for Writer<'b, D> {
       is_broken = w.is_broken;
     } };
 
-    ghost invariant = { λ w. IsWriter w.building.now w.journal w.register w.doubt.value.items (D.state w.opened.value.device).failures w.is_broken (D.state w.journal.device) };
+    ghost invariant = { λ w.
+        IsWriter w.building.now w.journal w.register w.doubt.value.items
+        (D.state w.opened.value.device).failures w.is_broken (D.state w.journal.device) };
 }
 
 impl<'b, D: Disk> Writer<'b, D> {
-    /// Opens a device that a crash may have left, with the building that its journal is of. It writes nothing. An `Err`
-    /// hands the device back.
+    /// Opens a device that a crash may have left, with the building that its journal is of. It
+    /// writes nothing. An `Err` hands the device back.
     ///
-    /// `Journal` with the journal's faults 1 to 3, then `OtherBuilding`, then `BadEntry`; `Journal(Disk)` comes at the
-    /// call that failed.
+    /// `Journal` with the journal's faults 1 to 3, then `OtherBuilding`, then `BadEntry`;
+    /// `Journal(Disk)` comes at the call that failed.
     pub fn open(disk: D, building: &'b Building) -> Result<Self, (D, KeeperFault)>
-        ensures opens { IfOk result (λ writer. Reopens building.now (D.state disk) (D.state writer.device) writer.register writer.half writer.is_second writer.used) }
+        ensures opens { IfOk result (λ writer.
+            Reopens building.now (D.state disk) (D.state writer.device) writer.register writer.half
+            writer.is_second writer.used) }
         ensures plan { IfOk result (λ writer. writer.plan ≡ building.now) }
         ensures whole { IfOk result (λ writer. (writer.is_broken ≡ false) × (writer.doubt ≡ [])) }
         ensures opened { IfOk result (λ writer. writer.opened ≡ (D.state writer.device).failures) }
-        ensures refused { IfErr result (λ err. RefusesReopening building.now (D.state disk) (D.state err.0) err.1) }
+        ensures refused { IfErr result (λ err.
+            RefusesReopening building.now (D.state disk) (D.state err.0) err.1) }
         // One sync before all reads.
-        ensures calls { IfOk result (λ writer. ReadsBehind (Sync ∷ []) (D.state disk) (D.state writer.device)) }
-        ensures calls_before { IfErr result (λ err. SyncsBeforeReading err.1 (D.state disk) (D.state err.0)) }
+        ensures calls { IfOk result (λ writer.
+            ReadsBehind (Sync ∷ []) (D.state disk) (D.state writer.device)) }
+        ensures calls_before { IfErr result (λ err.
+            SyncsBeforeReading err.1 (D.state disk) (D.state err.0)) }
     {
         let mut journal = match Journal::open(disk) {
             Ok(journal) => journal,
@@ -100,18 +109,23 @@ impl<'b, D: Disk> Writer<'b, D> {
         }
     }
 
-    /// The register that is safe: from the last opening on, every crash leaves an image that reads as it. Of a broken
-    /// writer, the register that was safe before the fault.
+    /// The register that is safe: from the last opening on, every crash leaves an image that reads
+    /// as it. Of a broken writer, the register that was safe before the fault.
     pub fn register(&self) -> &Register
         ensures value { result.now ≡ self.now.register }
         ensures lawful { IsWellFormed result.now }
         ensures belongs { BelongsTo self.now.plan result.now }
         ensures balanced { IsBalanced result.now }
-        ensures safe { self.now.is_broken ≡ false → LeavesNow (D.state self.now.device) (IsImageOf self.now.plan result.now) }
+        ensures safe { self.now.is_broken ≡ false
+            → LeavesNow (D.state self.now.device) (IsImageOf self.now.plan result.now) }
         // Of the batch that a fault left in doubt a crash leaves all or nothing.
-        ensures in_doubt { self.now.is_broken ≡ true → LeavesNow (D.state self.now.device) (IsInDoubt self.now.plan result.now self.now.doubt) }
+        ensures in_doubt { self.now.is_broken ≡ true
+            → LeavesNow (D.state self.now.device)
+            (IsInDoubt self.now.plan result.now self.now.doubt) }
         ensures settled { self.now.is_broken ≡ false → self.now.doubt ≡ [] }
-        ensures placed { self.now.is_broken ≡ false → LeavesNow (D.state self.now.device) (IsImageIn self.now.plan self.now.half self.now.is_second self.now.used result.now) }
+        ensures placed { self.now.is_broken ≡ false
+            → LeavesNow (D.state self.now.device)
+            (IsImageIn self.now.plan self.now.half self.now.is_second self.now.used result.now) }
     {
         &self.register
     }
@@ -119,46 +133,73 @@ impl<'b, D: Disk> Writer<'b, D> {
     /// Whether a call of the device has failed, and no reopening has succeeded since.
     pub fn is_broken(&self) -> bool
         ensures value { result ≡ self.now.is_broken }
-        ensures failed { self.now.is_broken ≡ true → self.now.opened < (D.state self.now.device).failures }
+        ensures failed { self.now.is_broken ≡ true
+            → self.now.opened < (D.state self.now.device).failures }
     {
         self.is_broken
     }
 
     /// Makes a batch safe. At `Ok` the safe register is the one with the batch.
     pub fn commit(&mut self, batch: &ArrayVec<Entry, 63>) -> Result<(), KeeperFault>
-        requires fits { self.old.is_broken ≡ false → FitFrom self.old.plan self.old.register batch.now.items }
+        requires fits { self.old.is_broken ≡ false
+            → FitFrom self.old.plan self.old.register batch.now.items }
 
-        // A crash at any moment of the call leaves the register that was safe before it, or that with this batch.
-        ensures any_moment { self.old.is_broken ≡ false → LeavesOnly (D.state self.old.device) (D.state self.new.device)
+        // A crash at any moment of the call leaves the register that was safe before it, or that
+        // with this batch.
+        ensures any_moment { self.old.is_broken ≡ false
+            → LeavesOnly (D.state self.old.device) (D.state self.new.device)
             (IsInDoubt self.old.plan self.old.register batch.now.items) }
-        ensures acknowledged { OnOk result (LeavesNow (D.state self.new.device) (IsImageOf self.old.plan (register_of self.old.register batch.now.items))) }
-        ensures register { OnOk result (self.new.register ≡ register_of self.old.register batch.now.items) }
+        ensures acknowledged { OnOk result
+            (LeavesNow (D.state self.new.device)
+            (IsImageOf self.old.plan (register_of self.old.register batch.now.items))) }
+        ensures register { OnOk result (self.new.register
+            ≡ register_of self.old.register batch.now.items) }
         ensures in_doubt { result ≡ Err (KeeperFault.Journal JournalFault.Disk)
-            → LeavesNow (D.state self.new.device) (IsInDoubt self.old.plan self.old.register batch.now.items) }
+            → LeavesNow (D.state self.new.device)
+            (IsInDoubt self.old.plan self.old.register batch.now.items) }
 
-        ensures broken { (result ≡ Err (KeeperFault.Journal JournalFault.Broken)) ↔ (self.old.is_broken ≡ true) }
+        ensures broken { (result ≡ Err (KeeperFault.Journal JournalFault.Broken))
+            ↔ (self.old.is_broken ≡ true) }
         ensures rests { self.old.is_broken ≡ true → self.new ≡ self.old }
-        ensures empty { self.old.is_broken ≡ false → batch.now.items ≡ [] → (result ≡ Ok tt) × (self.new ≡ self.old) }
-        ensures causes { IfErr result (λ fault. (fault ≡ KeeperFault.Journal JournalFault.Disk) ⊎ (fault ≡ KeeperFault.Journal JournalFault.Broken)) }
-        ensures failed { result ≡ Err (KeeperFault.Journal JournalFault.Disk) → (D.state self.old.device).failures < (D.state self.new.device).failures }
-        ensures breaks { result ≡ Err (KeeperFault.Journal JournalFault.Disk) → (self.new.is_broken ≡ true) × (self.new.doubt ≡ batch.now.items) }
+        ensures empty { self.old.is_broken ≡ false → batch.now.items ≡ []
+            → (result ≡ Ok tt) × (self.new ≡ self.old) }
+        ensures causes { IfErr result (λ fault. (fault ≡ KeeperFault.Journal JournalFault.Disk)
+            ⊎ (fault ≡ KeeperFault.Journal JournalFault.Broken)) }
+        ensures failed { result ≡ Err (KeeperFault.Journal JournalFault.Disk)
+            → (D.state self.old.device).failures < (D.state self.new.device).failures }
+        ensures breaks { result ≡ Err (KeeperFault.Journal JournalFault.Disk)
+            → (self.new.is_broken ≡ true) × (self.new.doubt ≡ batch.now.items) }
         ensures unmoved { OnErr result (self.new.register ≡ self.old.register) }
-        ensures whole { OnOk result (((D.state self.new.device).failures ≡ (D.state self.old.device).failures)) }
+        ensures whole { OnOk result
+            (((D.state self.new.device).failures ≡ (D.state self.old.device).failures)) }
         ensures stays { OnOk result ((self.new.is_broken ≡ false) × (self.new.doubt ≡ [])) }
-        ensures same { (self.new.plan ≡ self.old.plan) × (self.new.half ≡ self.old.half) × (self.new.opened ≡ self.old.opened) }
+        ensures same { (self.new.plan ≡ self.old.plan) × (self.new.half ≡ self.old.half)
+            × (self.new.opened ≡ self.old.opened) }
 
-        // How many calls it makes: none for no entries, else those of an append, and of a checkpoint where room is wanted.
+        // How many calls it makes: none for no entries, else those of an append, and of a
+        // checkpoint where room is wanted.
         ensures runs { RunsOn (D.state self.old.device) (D.state self.new.device) }
-        ensures made { Makes result (commit_calls self.old.register self.old.used self.old.half (length batch.now.items))
-            (commit_writes self.old.register self.old.used self.old.half (length batch.now.items)) (D.state self.old.device) (D.state self.new.device) }
-        ensures used { OnOk result (self.new.used ≡ commit_used self.old.register self.old.used self.old.half (length batch.now.items)) }
-        ensures second { OnOk result (self.new.is_second ≡ commit_second self.old.is_second self.old.used self.old.half (length batch.now.items)) }
-        ensures told_ok { OnOk result (NoneFails (D.state self.old.device) (D.state self.new.device)) }
-        ensures told { IfErr result (λ fault. FailsBy fault (D.state self.old.device) (D.state self.new.device)) }
+        ensures made { Makes result
+            (commit_calls self.old.register self.old.used self.old.half (length batch.now.items))
+            (commit_writes self.old.register self.old.used self.old.half (length batch.now.items))
+            (D.state self.old.device) (D.state self.new.device) }
+        ensures used { OnOk result (self.new.used
+            ≡ commit_used self.old.register self.old.used self.old.half (length batch.now.items)) }
+        ensures second { OnOk result (self.new.is_second
+            ≡ commit_second self.old.is_second self.old.used self.old.half
+            (length batch.now.items)) }
+        ensures told_ok { OnOk result
+            (NoneFails (D.state self.old.device) (D.state self.new.device)) }
+        ensures told { IfErr result (λ fault.
+            FailsBy fault (D.state self.old.device) (D.state self.new.device)) }
 
-        // Where a device stopped it that changes no byte in a failed call, the number of calls says what each cut leaves.
-        ensures stops { result ≡ Err (KeeperFault.Journal JournalFault.Disk) → (D.state self.old.device).is_honest → (D.state self.old.device).is_inert
-            → StopsCommit self.old.plan self.old.half self.old.is_second self.old.used self.old.register batch.now.items (D.state self.old.device) (D.state self.new.device) }
+        // Where a device stopped it that changes no byte in a failed call, the number of calls says
+        // what each cut leaves.
+        ensures stops { result ≡ Err (KeeperFault.Journal JournalFault.Disk)
+            → (D.state self.old.device).is_honest → (D.state self.old.device).is_inert
+            → StopsCommit self.old.plan self.old.half self.old.is_second self.old.used
+            self.old.register batch.now.items (D.state self.old.device)
+            (D.state self.new.device) }
     {
         if self.is_broken {
             return Err(KeeperFault::Journal(JournalFault::Broken));
@@ -180,26 +221,42 @@ impl<'b, D: Disk> Writer<'b, D> {
         }
     }
 
-    /// Opens it again, also after a fault. It writes nothing, and gives the register that was safe, or that with the batch
-    /// in doubt. An honest device is refused for a failed call alone. A refusal leaves it as it was, but that a failed call
-    /// leaves it broken: a later batch goes where it would have gone before.
+    /// Opens it again, also after a fault. It writes nothing, and gives the register that was safe,
+    /// or that with the batch in doubt. An honest device is refused for a failed call alone. A
+    /// refusal leaves it as it was, but that a failed call leaves it broken: a later batch goes
+    /// where it would have gone before.
     pub fn reopen(&mut self) -> Result<(), KeeperFault>
-        ensures opens { OnOk result (Reopens self.old.plan (D.state self.old.device) (D.state self.new.device) self.new.register self.new.half self.new.is_second self.new.used) }
+        ensures opens { OnOk result
+            (Reopens self.old.plan (D.state self.old.device)
+            (D.state self.new.device) self.new.register self.new.half self.new.is_second
+            self.new.used) }
         ensures one_of { OnOk result ((D.state self.old.device).is_honest
-            → (self.new.register ≡ self.old.register) ⊎ (self.new.register ≡ register_of self.old.register self.old.doubt)) }
-        // A crash at any moment of the call leaves the register that was safe before it, or that with the batch in doubt.
-        ensures any_moment { LeavesOnly (D.state self.old.device) (D.state self.new.device) (IsInDoubt self.old.plan self.old.register self.old.doubt) }
+            → (self.new.register ≡ self.old.register)
+            ⊎ (self.new.register ≡ register_of self.old.register self.old.doubt)) }
+        // A crash at any moment of the call leaves the register that was safe before it, or that
+        // with the batch in doubt.
+        ensures any_moment { LeavesOnly (D.state self.old.device) (D.state self.new.device)
+            (IsInDoubt self.old.plan self.old.register self.old.doubt) }
         ensures whole { OnOk result ((self.new.is_broken ≡ false) × (self.new.doubt ≡ [])) }
         ensures opened { OnOk result (self.new.opened ≡ (D.state self.new.device).failures) }
-        ensures refused { IfErr result (λ fault. RefusesReopening self.old.plan (D.state self.old.device) (D.state self.new.device) fault) }
-        ensures good { IfErr result (λ fault. (D.state self.old.device).is_honest → fault ≡ KeeperFault.Journal JournalFault.Disk) }
-        ensures breaks { result ≡ Err (KeeperFault.Journal JournalFault.Disk) → self.new.is_broken ≡ true }
-        ensures stays { IfErr result (λ fault. (fault ≡ KeeperFault.Journal JournalFault.Disk) ⊎ (self.new.is_broken ≡ self.old.is_broken)) }
-        ensures unmoved { OnErr result ((self.new.register ≡ self.old.register) × (self.new.doubt ≡ self.old.doubt) × (self.new.opened ≡ self.old.opened)) }
-        ensures place { OnErr result ((self.new.half ≡ self.old.half) × (self.new.is_second ≡ self.old.is_second) × (self.new.used ≡ self.old.used)) }
+        ensures refused { IfErr result (λ fault.
+            RefusesReopening self.old.plan (D.state self.old.device)
+            (D.state self.new.device) fault) }
+        ensures good { IfErr result (λ fault. (D.state self.old.device).is_honest
+            → fault ≡ KeeperFault.Journal JournalFault.Disk) }
+        ensures breaks { result ≡ Err (KeeperFault.Journal JournalFault.Disk)
+            → self.new.is_broken ≡ true }
+        ensures stays { IfErr result (λ fault. (fault ≡ KeeperFault.Journal JournalFault.Disk)
+            ⊎ (self.new.is_broken ≡ self.old.is_broken)) }
+        ensures unmoved { OnErr result ((self.new.register ≡ self.old.register)
+            × (self.new.doubt ≡ self.old.doubt) × (self.new.opened ≡ self.old.opened)) }
+        ensures place { OnErr result ((self.new.half ≡ self.old.half)
+            × (self.new.is_second ≡ self.old.is_second) × (self.new.used ≡ self.old.used)) }
         ensures plan { self.new.plan ≡ self.old.plan }
-        ensures calls { OnOk result (ReadsBehind (Sync ∷ []) (D.state self.old.device) (D.state self.new.device)) }
-        ensures calls_before { IfErr result (λ fault. SyncsBeforeReading fault (D.state self.old.device) (D.state self.new.device)) }
+        ensures calls { OnOk result
+            (ReadsBehind (Sync ∷ []) (D.state self.old.device) (D.state self.new.device)) }
+        ensures calls_before { IfErr result (λ fault.
+            SyncsBeforeReading fault (D.state self.old.device) (D.state self.new.device)) }
     {
         match reopened(&mut self.journal, self.building) {
             Ok(register) => {
@@ -232,7 +289,8 @@ impl<'b, D: Arm> Writer<'b, D> {
     /// Tells the device anew which calls to fail. It changes no image.
     pub fn arm(&mut self, calls: u32)
         ensures same { IsUnchanged (D.state self.old.device) (D.state self.new.device) }
-        ensures told { IsTold (D.fails_by calls (D.state self.old.device).calls) (D.state self.new.device) }
+        ensures told { IsTold (D.fails_by calls (D.state self.old.device).calls)
+            (D.state self.new.device) }
         ensures rest { self.new ≡ record self.old { device = self.new.device } }
     {
         self.journal.arm(calls);
@@ -248,15 +306,26 @@ impl<'b, D: Arm> Writer<'b, D> {
 
 /// Opens a journal again, and recovers its register. A refused journal stands where it stood.
 fn reopened<D: Disk>(journal: &mut Journal<D>, building: &Building) -> Result<Register, KeeperFault>
-    ensures opens { IfOk result (λ register. Reopens building.now (D.state journal.old.device) (D.state journal.new.device) register journal.new.shape.half journal.new.is_second journal.new.used) }
-    ensures guards { IfOk result (λ register. Guards building.now journal.new.shape journal.new.is_second journal.new.used register (D.state journal.new.device)) }
+    ensures opens { IfOk result (λ register.
+        Reopens building.now (D.state journal.old.device)
+        (D.state journal.new.device) register journal.new.shape.half journal.new.is_second
+        journal.new.used) }
+    ensures guards { IfOk result (λ register.
+        Guards building.now journal.new.shape journal.new.is_second journal.new.used register
+        (D.state journal.new.device)) }
     ensures whole { OnOk result (journal.new.is_broken ≡ false) }
-    ensures refused { IfErr result (λ fault. RefusesReopening building.now (D.state journal.old.device) (D.state journal.new.device) fault) }
-    ensures stays { IfErr result (λ fault. (fault ≡ KeeperFault.Journal JournalFault.Disk) ⊎ (journal.new.is_broken ≡ journal.old.is_broken)) }
-    ensures unmoved { OnErr result ((journal.new.shape ≡ journal.old.shape) × (journal.new.is_second ≡ journal.old.is_second) × (journal.new.used ≡ journal.old.used)) }
+    ensures refused { IfErr result (λ fault.
+        RefusesReopening building.now (D.state journal.old.device)
+        (D.state journal.new.device) fault) }
+    ensures stays { IfErr result (λ fault. (fault ≡ KeeperFault.Journal JournalFault.Disk)
+        ⊎ (journal.new.is_broken ≡ journal.old.is_broken)) }
+    ensures unmoved { OnErr result ((journal.new.shape ≡ journal.old.shape)
+        × (journal.new.is_second ≡ journal.old.is_second) × (journal.new.used ≡ journal.old.used)) }
     ensures number { OnErr result (journal.new.number ≡ journal.old.number) }
-    ensures calls { OnOk result (ReadsBehind (Sync ∷ []) (D.state journal.old.device) (D.state journal.new.device)) }
-    ensures calls_before { IfErr result (λ fault. SyncsBeforeReading fault (D.state journal.old.device) (D.state journal.new.device)) }
+    ensures calls { OnOk result
+        (ReadsBehind (Sync ∷ []) (D.state journal.old.device) (D.state journal.new.device)) }
+    ensures calls_before { IfErr result (λ fault.
+        SyncsBeforeReading fault (D.state journal.old.device) (D.state journal.new.device)) }
 {
     let former = match journal.reopen_from() {
         Ok(former) => former,

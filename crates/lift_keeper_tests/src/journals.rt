@@ -12,7 +12,8 @@ use lift_record::is_lawful;
 use std::alloc::Global;
 use std::test::Fail;
 
-/// Ten floors, kiosks on floors 0 and 5; a flight takes 2,000 ms and 1,000 ms for each floor. The cars follow.
+/// Ten floors, kiosks on floors 0 and 5; a flight takes 2,000 ms and 1,000 ms for each floor. The
+/// cars follow.
 const FLOORS: &str = "\
 floors = 10
 door_ms = 6000

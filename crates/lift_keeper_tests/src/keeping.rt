@@ -14,7 +14,8 @@ fn ask(keeper: &mut Keeper<MemDisk>, terminal: Terminal, told: u32, body: Body) 
     keeper.decide(terminal, number(told), &body, &Etd)
 }
 
-/// The two parts of a keeper, used apart and put together again: a call and its boarding stand behind a cut.
+/// The two parts of a keeper, used apart and put together again: a call and its boarding stand
+/// behind a cut.
 #[test]
 fn parts_and_is_whole_again(rt: HostRuntime) -> Result<(), Fail> {
     let building = demo(rt.alloc(), 1)?;

@@ -5,8 +5,8 @@ use lift_journal::{Journal, JournalFault};
 use lift_keeper::{KeeperFault, recover};
 use std::test::Fail;
 
-/// Each of the four reads of a recovery, a gate and a body for each batch, fails in turn; after that the journal is broken
-/// until it is reopened.
+/// Each of the four reads of a recovery, a gate and a body for each batch, fails in turn; after
+/// that the journal is broken until it is reopened.
 #[test]
 fn tells_of_a_failing_device(rt: HostRuntime) -> Result<(), Fail> {
     let building = demo(rt.alloc(), 1)?;

@@ -44,8 +44,8 @@ fn is_open<R: Files<File = File>>(rt: &R, gate: u32) -> Result<bool, Fail> {
     Ok(sector[0] == 0xA5)
 }
 
-/// In the place of its own journal it finds that of another building, one whose first record doesn't fit, and none.
-/// The next batch goes behind the one that it wrote, whatever is there.
+/// In the place of its own journal it finds that of another building, one whose first record
+/// doesn't fit, and none. The next batch goes behind the one that it wrote, whatever is there.
 #[test]
 fn a_refused_reopening_changes_nothing(rt: HostRuntime) -> Result<(), Fail> {
     let two = demo(rt.alloc(), 2)?;

@@ -17,10 +17,15 @@ looked before looks = record before { looks = before.looks + looks; rests = befo
 
 -- a look that found this answer
 abbrev pub heard : PortView → Reply → PortView
-heard before reply = record before { pending = None; heard = before.heard ++ reply ∷ []; looks = before.looks + 1 }
+heard before reply = record before {
+  pending = None;
+  heard = before.heard ++ reply ∷ [];
+  looks = before.looks + 1;
+}
 
--- The port looked until an answer came, at most so many times, and rested behind each look that found none. Where none came, all of these
--- looks were made.
+-- The port looked until an answer came, at most so many times, and rested behind each look that
+-- found none. Where none came, all of these looks were made.
 abbrev pub Waits : (limit : ℕ) → (before : PortView) → Option Reply → (after : PortView) → Type 0
 Waits limit before None after = after ≡ looked before limit
-Waits limit before (Some reply) after = (misses : ℕ) × (misses < limit) × (after ≡ heard (looked before misses) reply)
+Waits limit before (Some reply) after = (misses : ℕ) × (misses < limit)
+    × (after ≡ heard (looked before misses) reply)

@@ -1,5 +1,6 @@
 -- How the lines of a session come and go.
-use Rattle.std.specs.Prelude.{◌≡◌, ◌≢◌, ℕ, ◌+◌, Bool, true, List, [], ◌∷◌, ◌++◌, length, take, nat_lt, Option}
+use Rattle.std.specs.Prelude.{◌≡◌, ◌≢◌, ℕ, ◌+◌, Bool, true, List, [], ◌∷◌, ◌++◌, length, take}
+use Rattle.std.specs.Prelude.{nat_lt, Option}
 use Rattle.std.specs.List.{AllByRecursion}
 use Rattle.std.specs.Str.{IsAscii}
 use Rattle.lift_base.specs.Input.{InputState}
@@ -9,7 +10,8 @@ use Rattle.lift_kiosk.specs.declared.terms.End.{End}
 use Rattle.lift_kiosk.specs.declared.terms.End.TheVariants.{Closed, Limit, ReadFault}
 use Rattle.std.specs.Io.KnownBytes.{Consumes, IsAtEnd, Keeps}
 
--- a reader: how often it was called, whether a call failed or found the end, and what it has left, where it tells that
+-- a reader: how often it was called, whether a call failed or found the end, and what it has left,
+-- where it tells that
 pub record Source : Type 0 where
   pub calls : ℕ
   pub failed : Bool
@@ -61,7 +63,13 @@ pub record Keeps65 (line kept : List ℕ) (longer : Bool) : Type 0 where
 
 -- a counted reader as a source
 abbrev pub source_of : {R : Type 0} → (remaining : R → Option (List ℕ)) → InputState R → Source
-source_of remaining input = record { calls = input.calls; failed = input.failed; ended = input.ended; left = remaining input.reader }
+source_of remaining input =
+    record {
+      calls = input.calls;
+      failed = input.failed;
+      ended = input.ended;
+      left = remaining input.reader;
+    }
 
 -- why a session ends where no line came
 abbrev pub IsEndWithoutLine : NoLine → End → Type 0

@@ -1,6 +1,7 @@
--- A session: lines in, what the port gives, lines out. What a kind of terminal means by its lines (`wants`), and which
--- replies become its last command (`keeps`), are the kind's own.
-use Rattle.std.specs.Prelude.{◌≡◌, ◌≢◌, ℕ, ◌+◌, ◌<◌, ◌⊎◌, true, List, [], ◌∷◌, ◌++◌, codes, length, Option, Some, None}
+-- A session: lines in, what the port gives, lines out. What a kind of terminal means by its lines
+-- (`wants`), and which replies become its last command (`keeps`), are the kind's own.
+use Rattle.std.specs.Prelude.{◌≡◌, ◌≢◌, ℕ, ◌+◌, ◌<◌, ◌⊎◌, true, List, [], ◌∷◌, ◌++◌, codes, length}
+use Rattle.std.specs.Prelude.{Option, Some, None}
 use Rattle.std.specs.Fmt.{decimal}
 use Rattle.std.specs.Str.Lines.{strip_carriage_return}
 use Rattle.lift_base.specs.Text.{letter_text, reply_text}
@@ -10,13 +11,15 @@ use Rattle.lift_desk.specs.declared.words.Ask.{Ask}
 use Rattle.lift_kiosk.specs.declared.terms.LastLetter.{LastLetter}
 use Rattle.lift_kiosk.specs.declared.terms.Limits.{Limits}
 use Rattle.lift_kiosk.specs.declared.terms.End.{End}
-use Rattle.lift_kiosk.specs.declared.terms.End.TheVariants.{Closed, Limit, Late, Spent, ReadFault, WriteFault}
+use Rattle.lift_kiosk.specs.declared.terms.End.TheVariants.{Closed, Limit, Late, Spent, ReadFault}
+use Rattle.lift_kiosk.specs.declared.terms.End.TheVariants.{WriteFault}
 use Rattle.lift_kiosk.specs.declared.dialect.Wanted.{Wanted}
 use Rattle.lift_kiosk.specs.declared.dialect.Wanted.TheVariants.{Ask as Asks, NoFloor}
 use Rattle.lift_kiosk.specs.declared.outcome.Opening.{Opening}
 use Rattle.lift_kiosk.specs.declared.outcome.Opening.TheVariants.{Free, BroughtIn, StillWaits}
 use Rattle.lift_kiosk.specs.declared.outcome.Outcome.{Outcome}
-use Rattle.lift_kiosk.specs.declared.outcome.Outcome.TheVariants.{Malformed, OffFloors, Answered, NotAnswered, Refused}
+use Rattle.lift_kiosk.specs.declared.outcome.Outcome.TheVariants.{Malformed, OffFloors, Answered}
+use Rattle.lift_kiosk.specs.declared.outcome.Outcome.TheVariants.{NotAnswered, Refused}
 use Rattle.lift_kiosk.specs.Port.{PortView, AsksOne}
 use Rattle.lift_kiosk.specs.Hearing.{Waits}
 use Rattle.lift_kiosk.specs.Lines.{Source, GivesLine, GivesPart, FindsEnd, Fails}
@@ -47,13 +50,15 @@ answer_text (Answered ask reply) = reply_text reply
 answer_text (NotAnswered ask) = codes "LATE"
 answer_text (Refused ask) = codes "SPENT"
 
--- what it says first: LATE in place of the greeting where the answer to an earlier ask was not heard
+-- what it says first: LATE in place of the greeting where the answer to an earlier ask was not
+-- heard
 abbrev pub opening_text : LastLetter → Opening → List ℕ
 opening_text last Free = greeting_text last
 opening_text last (BroughtIn number reply) = greeting_text last
 opening_text last StillWaits = codes "LATE"
 
--- What comes of a line is what it asks for: BAD exactly for what spells nothing, no ask for a floor that no building has.
+-- What comes of a line is what it asks for: BAD exactly for what spells nothing, no ask for a floor
+-- that no building has.
 abbrev pub Means : (wants : List ℕ → Wanted → Type 0) → List ℕ → Outcome → Type 0
 Means wants line Malformed = (wanted : Wanted) → wants line wanted → ⊥
 Means wants line OffFloors = wants line NoFloor
@@ -61,13 +66,17 @@ Means wants line (Answered ask reply) = wants line (Asks ask)
 Means wants line (NotAnswered ask) = wants line (Asks ask)
 Means wants line (Refused ask) = wants line (Asks ask)
 
--- What the port did: it stored the ask and was looked at for the answer, or it has no turn left and stored nothing.
+-- What the port did: it stored the ask and was looked at for the answer, or it has no turn left and
+-- stored nothing.
 abbrev pub PortDid : (looks : ℕ) → (before : PortView) → Outcome → (after : PortView) → Type 0
 PortDid looks before Malformed after = after ≡ before
 PortDid looks before OffFloors after = after ≡ before
-PortDid looks before (Answered ask reply) after = (asking : PortView) × AsksOne before ask asking × Waits looks asking (Some reply) after
-PortDid looks before (NotAnswered ask) after = (asking : PortView) × AsksOne before ask asking × Waits looks asking None after
-PortDid looks before (Refused ask) after = (before.spent ≡ true) × (before.pending ≡ None) × (after ≡ before)
+PortDid looks before (Answered ask reply) after = (asking : PortView) × AsksOne before ask asking
+    × Waits looks asking (Some reply) after
+PortDid looks before (NotAnswered ask) after = (asking : PortView) × AsksOne before ask asking
+    × Waits looks asking None after
+PortDid looks before (Refused ask) after = (before.spent ≡ true) × (before.pending ≡ None)
+    × (after ≡ before)
 
 -- what came of this ask
 abbrev pub IsOf : Ask → Outcome → Type 0
@@ -78,7 +87,8 @@ IsOf ask (NotAnswered other) = other ≡ ask
 IsOf ask (Refused other) = other ≡ ask
 
 -- The last command follows the answers that were heard.
-abbrev pub last_after : (keeps : LastLetter → ℕ → Reply → LastLetter) → LastLetter → Outcome → LastLetter
+abbrev pub last_after : (keeps : LastLetter → ℕ → Reply → LastLetter) → LastLetter → Outcome
+    → LastLetter
 last_after keeps last Malformed = last
 last_after keeps last OffFloors = last
 last_after keeps last (Answered ask reply) = keeps last ask.number reply
@@ -86,7 +96,9 @@ last_after keeps last (NotAnswered ask) = last
 last_after keeps last (Refused ask) = last
 
 -- A line and what came of it: the line is read, and the port does what it asks for.
-pub record Exchanges (wants : List ℕ → Wanted → Type 0) (keeps : LastLetter → ℕ → Reply → LastLetter) (limits : Limits) (line : List ℕ) (outcome : Outcome) (before after : Standing) : Type 0 where
+pub record Exchanges (wants : List ℕ → Wanted → Type 0) (keeps : LastLetter → ℕ → Reply
+    → LastLetter) (limits : Limits) (line : List ℕ) (outcome : Outcome)
+    (before after : Standing) : Type 0 where
   pub read : GivesLine line before.source after.source
   pub means : Means wants (strip_carriage_return line) outcome
   pub port : PortDid limits.looks before.port outcome after.port
@@ -97,7 +109,9 @@ abbrev pub answer_line : Outcome → List ℕ
 answer_line outcome = answer_text outcome ++ 10 ∷ []
 
 -- A line that is answered.
-pub record Answers (wants : List ℕ → Wanted → Type 0) (keeps : LastLetter → ℕ → Reply → LastLetter) (limits : Limits) (line : List ℕ) (outcome : Outcome) (before after : Standing) : Type 0 where
+pub record Answers (wants : List ℕ → Wanted → Type 0) (keeps : LastLetter → ℕ → Reply
+    → LastLetter) (limits : Limits) (line : List ℕ) (outcome : Outcome)
+    (before after : Standing) : Type 0 where
   pub exchange : Exchanges wants keeps limits line outcome before after
   pub wrote : Takes (answer_line outcome) before.sink after.sink
 
@@ -117,24 +131,31 @@ EndsWith (NotAnswered ask) end = end ≡ Late
 EndsWith (Refused ask) end = end ≡ Spent
 
 -- line after line, each answered before the next is read
-abbrev pub Run : (wants : List ℕ → Wanted → Type 0) → (keeps : LastLetter → ℕ → Reply → LastLetter) → Limits → List (List ℕ × Outcome) → Standing → Standing → Type 0
+abbrev pub Run : (wants : List ℕ → Wanted → Type 0) → (keeps : LastLetter → ℕ → Reply → LastLetter)
+    → Limits → List (List ℕ × Outcome) → Standing → Standing → Type 0
 Run wants keeps limits [] before after = after ≡ before
-Run wants keeps limits (x ∷ xs) before after = (mid : Standing) × Answers wants keeps limits x.0 x.1 before mid × GoesOn x.1 × Run wants keeps limits xs mid after
+Run wants keeps limits (x ∷ xs) before after =
+    (mid : Standing) × Answers wants keeps limits x.0 x.1 before mid × GoesOn x.1
+    × Run wants keeps limits xs mid after
 
--- What the port did at the start: where an ask of an earlier session was not heard, it was looked at for the answer.
+-- What the port did at the start: where an ask of an earlier session was not heard, it was looked
+-- at for the answer.
 abbrev pub PortOpened : (looks : ℕ) → (before : PortView) → Opening → (after : PortView) → Type 0
 PortOpened looks before Free after = (before.pending ≡ None) × (after ≡ before)
-PortOpened looks before (BroughtIn number reply) after = (before.pending ≡ Some number) × Waits looks before (Some reply) after
+PortOpened looks before (BroughtIn number reply) after = (before.pending ≡ Some number)
+    × Waits looks before (Some reply) after
 PortOpened looks before StillWaits after = (before.pending ≢ None) × Waits looks before None after
 
 -- The last command follows an answer that is brought in too.
-abbrev pub last_opened : (keeps : LastLetter → ℕ → Reply → LastLetter) → LastLetter → Opening → LastLetter
+abbrev pub last_opened : (keeps : LastLetter → ℕ → Reply → LastLetter) → LastLetter → Opening
+    → LastLetter
 last_opened keeps last Free = last
 last_opened keeps last (BroughtIn number reply) = keeps last number reply
 last_opened keeps last StillWaits = last
 
 -- The start: the port, and nothing is read.
-pub record Opens (keeps : LastLetter → ℕ → Reply → LastLetter) (limits : Limits) (opening : Opening) (before after : Standing) : Type 0 where
+pub record Opens (keeps : LastLetter → ℕ → Reply
+    → LastLetter) (limits : Limits) (opening : Opening) (before after : Standing) : Type 0 where
   pub port : PortOpened limits.looks before.port opening after.port
   pub last : after.last ≡ last_opened keeps before.last opening
   pub source : after.source ≡ before.source
@@ -142,39 +163,52 @@ pub record Opens (keeps : LastLetter → ℕ → Reply → LastLetter) (limits :
 abbrev pub opening_line : LastLetter → Opening → List ℕ
 opening_line last opening = opening_text last opening ++ 10 ∷ []
 
--- The session ends with its first line: the answer to an earlier ask was not heard, or the writer failed.
-abbrev pub EndsAtOnce : (keeps : LastLetter → ℕ → Reply → LastLetter) → Limits → End → (before after : Standing) → Type 0
-EndsAtOnce keeps limits Late before after = Opens keeps limits StillWaits before after × Takes (opening_line after.last StillWaits) before.sink after.sink
+-- The session ends with its first line: the answer to an earlier ask was not heard, or the writer
+-- failed.
+abbrev pub EndsAtOnce : (keeps : LastLetter → ℕ → Reply → LastLetter) → Limits → End
+    → (before after : Standing) → Type 0
+EndsAtOnce keeps limits Late before after = Opens keeps limits StillWaits before after
+    × Takes (opening_line after.last StillWaits) before.sink after.sink
 EndsAtOnce keeps limits WriteFault before after =
-    (opening : Opening) × Opens keeps limits opening before after × (count : ℕ) × TakesFront count (opening_line after.last opening) before.sink after.sink
+    (opening : Opening) × Opens keeps limits opening before after × (count : ℕ)
+    × TakesFront count (opening_line after.last opening) before.sink after.sink
 EndsAtOnce keeps limits Closed before after = ⊥
 EndsAtOnce keeps limits Limit before after = ⊥
 EndsAtOnce keeps limits Spent before after = ⊥
 EndsAtOnce keeps limits ReadFault before after = ⊥
 
 -- less than a line was read, and nothing else was done
-pub record StopsIn (part : List ℕ) (before : Standing) (mid : Source) (after : Standing) : Type 0 where
+pub record StopsIn (part : List ℕ) (before : Standing) (mid : Source)
+    (after : Standing) : Type 0 where
   pub read : GivesPart part before.source mid
   pub port : after.port ≡ before.port
   pub last : after.last ≡ before.last
   pub sink : after.sink ≡ before.sink
 
--- What ends a session before so many lines are answered, where the reader may be called up to this count: the reader's
--- end, its failure or that count, less than a line behind the last one; or a line whose answer ends it, or whose answer the writer failed to take.
-abbrev pub LastStep : (wants : List ℕ → Wanted → Type 0) → (keeps : LastLetter → ℕ → Reply → LastLetter) → Limits → (calls : ℕ) → End → (before after : Standing) → Type 0
-LastStep wants keeps limits calls Closed before after = (part : List ℕ) × (mid : Source) × StopsIn part before mid after × FindsEnd mid after.source
-LastStep wants keeps limits calls ReadFault before after = (part : List ℕ) × (mid : Source) × StopsIn part before mid after × Fails mid after.source
-LastStep wants keeps limits calls Limit before after = (part : List ℕ) × StopsIn part before after.source after × (after.source.calls ≡ calls)
+-- What ends a session before so many lines are answered, where the reader may be called up to this
+-- count: the reader's end, its failure or that count, less than a line behind the last one; or a
+-- line whose answer ends it, or whose answer the writer failed to take.
+abbrev pub LastStep : (wants : List ℕ → Wanted → Type 0)
+    → (keeps : LastLetter → ℕ → Reply → LastLetter) → Limits → (calls : ℕ) → End
+    → (before after : Standing) → Type 0
+LastStep wants keeps limits calls Closed before after = (part : List ℕ) × (mid : Source)
+    × StopsIn part before mid after × FindsEnd mid after.source
+LastStep wants keeps limits calls ReadFault before after = (part : List ℕ) × (mid : Source)
+    × StopsIn part before mid after × Fails mid after.source
+LastStep wants keeps limits calls Limit before after =
+    (part : List ℕ) × StopsIn part before after.source after × (after.source.calls ≡ calls)
 LastStep wants keeps limits calls Late before after =
     (line : List ℕ) × (ask : Ask) × Answers wants keeps limits line (NotAnswered ask) before after
 LastStep wants keeps limits calls Spent before after =
     (line : List ℕ) × (ask : Ask) × Answers wants keeps limits line (Refused ask) before after
 LastStep wants keeps limits calls WriteFault before after =
-    (line : List ℕ) × (outcome : Outcome) × Exchanges wants keeps limits line outcome before after × (count : ℕ)
+    (line : List ℕ) × (outcome : Outcome) × Exchanges wants keeps limits line outcome before after
+    × (count : ℕ)
     × TakesFront count (answer_line outcome) before.sink after.sink
 
 -- It answered these lines, and ended since these were all that it may answer, or by its last step.
-pub record EndsLines (wants : List ℕ → Wanted → Type 0) (keeps : LastLetter → ℕ → Reply → LastLetter) (limits : Limits) (calls : ℕ) (end : End) (before after : Standing) : Type 0 where
+pub record EndsLines (wants : List ℕ → Wanted → Type 0) (keeps : LastLetter → ℕ → Reply
+    → LastLetter) (limits : Limits) (calls : ℕ) (end : End) (before after : Standing) : Type 0 where
   pub exchanges : List (List ℕ × Outcome)
   pub answered : Standing
   pub runs : Run wants keeps limits exchanges before answered
@@ -182,7 +216,8 @@ pub record EndsLines (wants : List ℕ → Wanted → Type 0) (keeps : LastLette
       ⊎ ((length exchanges < limits.lines) × LastStep wants keeps limits calls end answered after)
 
 -- A session that greeted, and then answered lines.
-pub record EndsBehind (wants : List ℕ → Wanted → Type 0) (keeps : LastLetter → ℕ → Reply → LastLetter) (limits : Limits) (end : End) (before after : Standing) : Type 0 where
+pub record EndsBehind (wants : List ℕ → Wanted → Type 0) (keeps : LastLetter → ℕ → Reply
+    → LastLetter) (limits : Limits) (end : End) (before after : Standing) : Type 0 where
   pub opening : Opening
   pub greeted : Standing
   pub opens : Opens keeps limits opening before greeted
@@ -191,5 +226,8 @@ pub record EndsBehind (wants : List ℕ → Wanted → Type 0) (keeps : LastLett
   pub lines : EndsLines wants keeps limits (before.source.calls + limits.reads) end greeted after
 
 -- From the first state the session may come to the last one, and end so.
-abbrev pub IsSession : (wants : List ℕ → Wanted → Type 0) → (keeps : LastLetter → ℕ → Reply → LastLetter) → Limits → End → (before after : Standing) → Type 0
-IsSession wants keeps limits end before after = EndsAtOnce keeps limits end before after ⊎ EndsBehind wants keeps limits end before after
+abbrev pub IsSession : (wants : List ℕ → Wanted → Type 0)
+    → (keeps : LastLetter → ℕ → Reply → LastLetter) → Limits → End → (before after : Standing)
+    → Type 0
+IsSession wants keeps limits end before after = EndsAtOnce keeps limits end before after
+    ⊎ EndsBehind wants keeps limits end before after

@@ -1,4 +1,5 @@
--- A whole session follows from what its port, its reader and its writer gave, whatever the session made of it.
+-- A whole session follows from what its port, its reader and its writer gave, whatever the session
+-- made of it.
 use Rattle.std.specs.Prelude.{◌≡◌, ℕ, List, [], ◌∷◌, ◌++◌, Option, Some, None}
 use Rattle.lift_base.specs.declared.command.Reply.{Reply}
 use Rattle.lift_kiosk.specs.declared.dialect.Wanted.{Wanted}
@@ -6,7 +7,8 @@ use Rattle.lift_kiosk.specs.declared.terms.End.{End}
 use Rattle.lift_kiosk.specs.declared.terms.LastLetter.{LastLetter}
 use Rattle.lift_kiosk.specs.declared.terms.Limits.{Limits}
 use Rattle.lift_kiosk.specs.Session.{Standing, IsSession}
-use Rattle.lift_kiosk.specs.Whole.{LastCame, NoAnswer, FirstLineCut, NothingMore, ReaderEnded, ReaderFailed, CallsUsed, LastLine, Came, came_to, text_of}
+use Rattle.lift_kiosk.specs.Whole.{LastCame, NoAnswer, FirstLineCut, NothingMore, ReaderEnded}
+use Rattle.lift_kiosk.specs.Whole.{ReaderFailed, CallsUsed, LastLine, Came, came_to, text_of}
 
 -- how the last call of the reader went
 pub data LastRead : Type 0 where
@@ -19,7 +21,8 @@ pub data LastRead : Type 0 where
 
 -- what a session's surroundings gave it, in the order in which each of them gave it
 pub record Streams : Type 0 where
-  pub brought : Option (Option Reply)  -- the port, for the ask of an earlier session, where one was pending
+  pub brought : Option (Option Reply)  -- the port, for the ask of an earlier session, where one was
+      pending
   pub bytes : List ℕ  -- all bytes of the reader
   pub read : LastRead
   pub given : List (Option (Option Reply))  -- the port, for the session's own asks
@@ -76,13 +79,18 @@ streams_of came = record {
   cut = last_cut came.last;
 }
 
--- Two sessions that know the same last command, whose ports await the answer to the same ask, and to which port, reader and
--- writer give the same: they end alike, know the same last command then, and wrote the same.
-abbrev pub StreamsDetermine : (wants : List ℕ → Wanted → Type 0) → (keeps : LastLetter → ℕ → Reply → LastLetter) → Type 0
+-- Two sessions that know the same last command, whose ports await the answer to the same ask, and
+-- to which port, reader and writer give the same: they end alike, know the same last command then,
+-- and wrote the same.
+abbrev pub StreamsDetermine : (wants : List ℕ → Wanted → Type 0)
+    → (keeps : LastLetter → ℕ → Reply → LastLetter) → Type 0
 StreamsDetermine wants keeps =
     (limits : Limits) (one_end other_end : End) (one one_after other other_after : Standing)
-    (first : IsSession wants keeps limits one_end one one_after) (second : IsSession wants keeps limits other_end other other_after)
+    (first : IsSession wants keeps limits one_end one one_after)
+    (second : IsSession wants keeps limits other_end other other_after)
     → one.last ≡ other.last → one.port.pending ≡ other.port.pending
-    → streams_of (came_to wants keeps limits one_end one one_after first) ≡ streams_of (came_to wants keeps limits other_end other other_after second)
+    → streams_of (came_to wants keeps limits one_end one one_after first)
+    ≡ streams_of (came_to wants keeps limits other_end other other_after second)
     → (one_end ≡ other_end) × (one_after.last ≡ other_after.last)
-    × (text_of wants keeps limits one_end one one_after first ≡ text_of wants keeps limits other_end other other_after second)
+    × (text_of wants keeps limits one_end one one_after first
+    ≡ text_of wants keeps limits other_end other other_after second)

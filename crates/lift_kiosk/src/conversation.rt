@@ -1,10 +1,12 @@
 //! A session, whatever kind of terminal speaks in it.
 
-ghost use Rattle.std.specs.Prelude.{◌≡◌, ◌≢◌, ℕ, List, ◌+◌, ◌≤◌, ◌<◌, ◌^◌, OnOk, IfErr, IfSome, IfNone, Err, None, true};
+ghost use Rattle.std.specs.Prelude.{◌≡◌, ◌≢◌, ℕ, List, ◌+◌, ◌≤◌, ◌<◌, ◌^◌, OnOk, IfErr, IfSome};
+ghost use Rattle.std.specs.Prelude.{IfNone, Err, None, true};
 ghost use Rattle.std.specs.Str.Lines.{strip_carriage_return};
 ghost use Rattle.lift_base.specs.Output.{sink_of};
 ghost use Rattle.lift_kiosk.specs.Lines.{Keeps65, source_of, IsEndWithoutLine};
-ghost use Rattle.lift_kiosk.specs.Session.{Means, PortDid, GoesOn, EndsWith, Answers, LastStep, EndsLines, IsSession, standing, last_after, last_opened};
+ghost use Rattle.lift_kiosk.specs.Session.{Means, PortDid, GoesOn, EndsWith, Answers, LastStep};
+ghost use Rattle.lift_kiosk.specs.Session.{EndsLines, IsSession, standing, last_after, last_opened};
 ghost use Rattle.lift_kiosk.specs.declared.outcome.Outcome.{Outcome as OutcomeValue};
 
 use crate::dialect::{Dialect, Wanted};
@@ -76,8 +78,8 @@ fn end_without_line(no_line: NoLine) -> End
     }
 }
 
-/// One line: it is read, within the calls of the reader that are left, carried out and answered. An `Err` ends the
-/// session.
+/// One line: it is read, within the calls of the reader that are left, carried out and answered. An
+/// `Err` ends the session.
 fn exchange<T: Dialect, R: Read + Drop, W: Write + Drop, P: Port>(
     reader: &mut Counted<R>,
     writer: &mut Watched<W>,
@@ -89,11 +91,16 @@ fn exchange<T: Dialect, R: Read + Drop, W: Write + Drop, P: Port>(
     requires free { (P.view port.old).pending ≡ None }
     ensures ok { OnOk result ((line : List ℕ) × (outcome : OutcomeValue) × GoesOn outcome
         × Answers T.wants T.keeps limits.now line outcome
-        (standing last.old (P.view port.old) (source_of R.remaining reader.old) (sink_of W.contents writer.old))
-        (standing last.new (P.view port.new) (source_of R.remaining reader.new) (sink_of W.contents writer.new))) }
-    ensures end { IfErr result (λ end. LastStep T.wants T.keeps limits.now (reader.old.calls + left.old) end
-        (standing last.old (P.view port.old) (source_of R.remaining reader.old) (sink_of W.contents writer.old))
-        (standing last.new (P.view port.new) (source_of R.remaining reader.new) (sink_of W.contents writer.new))) }
+        (standing last.old (P.view port.old) (source_of R.remaining reader.old)
+        (sink_of W.contents writer.old))
+        (standing last.new (P.view port.new) (source_of R.remaining reader.new)
+        (sink_of W.contents writer.new))) }
+    ensures end { IfErr result (λ end.
+        LastStep T.wants T.keeps limits.now (reader.old.calls + left.old) end
+        (standing last.old (P.view port.old) (source_of R.remaining reader.old)
+        (sink_of W.contents writer.old))
+        (standing last.new (P.view port.new) (source_of R.remaining reader.new)
+        (sink_of W.contents writer.new))) }
     ensures free { OnOk result ((P.view port.new).pending ≡ None) }
     ensures calls { reader.new.calls + left.new ≡ reader.old.calls + left.old }
     ensures stays { P.place port.new ≡ P.place port.old }
@@ -124,8 +131,10 @@ fn answer_lines<T: Dialect, R: Read + Drop, W: Write + Drop, P: Port>(
 ) -> End
     requires free { (P.view port.old).pending ≡ None }
     ensures ends { EndsLines T.wants T.keeps limits.now (reader.old.calls + limits.now.reads) result
-        (standing last.old (P.view port.old) (source_of R.remaining reader.old) (sink_of W.contents writer.old))
-        (standing last.new (P.view port.new) (source_of R.remaining reader.new) (sink_of W.contents writer.new)) }
+        (standing last.old (P.view port.old) (source_of R.remaining reader.old)
+        (sink_of W.contents writer.old))
+        (standing last.new (P.view port.new) (source_of R.remaining reader.new)
+        (sink_of W.contents writer.new)) }
     ensures calls { reader.new.calls ≤ reader.old.calls + limits.now.reads }
     ensures stays { P.place port.new ≡ P.place port.old }
 {
@@ -139,8 +148,8 @@ fn answer_lines<T: Dialect, R: Read + Drop, W: Write + Drop, P: Port>(
     End::Limit
 }
 
-/// A session, whatever kind of terminal speaks in it. It may call the reader as often as the limits say, beyond the calls
-/// that were made before.
+/// A session, whatever kind of terminal speaks in it. It may call the reader as often as the limits
+/// say, beyond the calls that were made before.
 pub fn converse<T: Dialect, R: Read + Drop, W: Write + Drop, P: Port>(
     reader: &mut Counted<R>,
     writer: &mut Watched<W>,
@@ -149,13 +158,16 @@ pub fn converse<T: Dialect, R: Read + Drop, W: Write + Drop, P: Port>(
     limits: Limits,
 ) -> SessionEnd
     ensures session { IsSession T.wants T.keeps limits result.end
-        (standing last (P.view port.old) (source_of R.remaining reader.old) (sink_of W.contents writer.old))
-        (standing result.last (P.view port.new) (source_of R.remaining reader.new) (sink_of W.contents writer.new)) }
+        (standing last (P.view port.old) (source_of R.remaining reader.old)
+        (sink_of W.contents writer.old))
+        (standing result.last (P.view port.new) (source_of R.remaining reader.new)
+        (sink_of W.contents writer.new)) }
     ensures calls { reader.new.calls ≤ reader.old.calls + limits.reads }
     ensures stays { P.place port.new ≡ P.place port.old }
     ensures late { result.end ≡ End.Late → ((P.view port.new).pending ≢ None)
         × ((P.view port.old).looks + limits.looks ≤ (P.view port.new).looks) }
-    ensures spent { result.end ≡ End.Spent → ((P.view port.new).spent ≡ true) × ((P.view port.new).pending ≡ None) }
+    ensures spent { result.end ≡ End.Spent
+        → ((P.view port.new).spent ≡ true) × ((P.view port.new).pending ≡ None) }
     ensures closed { result.end ≡ End.Closed → reader.new.ended ≡ true }
     ensures unwritten { result.end ≡ End.WriteFault → writer.new.failed ≡ true }
     ensures failed { result.end ≡ End.ReadFault → reader.new.failed ≡ true }

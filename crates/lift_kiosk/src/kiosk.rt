@@ -1,6 +1,7 @@
 //! What a kiosk says in its sessions.
 
-ghost use Rattle.std.specs.Prelude.{◌≡◌, ◌≢◌, ℕ, ◌<◌, ◌≤◌, List, map, ◌+◌, ◌^◌, IfSome, IfNone, None, true, ◌∷◌, codes};
+ghost use Rattle.std.specs.Prelude.{◌≡◌, ◌≢◌, ℕ, ◌<◌, ◌≤◌, List, map, ◌+◌, ◌^◌, IfSome, IfNone};
+ghost use Rattle.std.specs.Prelude.{None, true, ◌∷◌, codes};
 ghost use Rattle.lift_base.specs.Output.{sink_of};
 ghost use Rattle.lift_kiosk.specs.Lines.{source_of};
 ghost use Rattle.lift_kiosk.specs.Session.{IsSession, standing};
@@ -49,10 +50,12 @@ fn call_of(words: &[&str]) -> Option<CallLine>
 
 /// The call that all words of a line spell.
 fn call_among(words: &[&str]) -> Option<CallLine>
-    ensures some { IfSome result (λ call. (others : List (List ℕ)) × (map (λ word. word.now) words.now ≡ codes "CALL" ∷ others)
+    ensures some { IfSome result (λ call.
+        (others : List (List ℕ)) × (map (λ word. word.now) words.now ≡ codes "CALL" ∷ others)
         × AreCallWords others call.number call.floor call.party) }
     ensures none { IfNone result ((others : List (List ℕ)) (number floor party : ℕ)
-        → map (λ word. word.now) words.now ≡ codes "CALL" ∷ others → AreCallWords others number floor party → ⊥) }
+        → map (λ word. word.now) words.now ≡ codes "CALL" ∷ others
+        → AreCallWords others number floor party → ⊥) }
 {
     match words {
         [first, others @ ..] => {
@@ -69,7 +72,8 @@ fn call_among(words: &[&str]) -> Option<CallLine>
 /// The call that a line spells.
 fn call_line(line: &[u8]) -> Option<CallLine>
     ensures some { IfSome result (λ call. SpellsCall line.now call.number call.floor call.party) }
-    ensures none { IfNone result ((number floor party : ℕ) → SpellsCall line.now number floor party → ⊥) }
+    ensures none { IfNone result ((number floor party : ℕ) → SpellsCall line.now number floor party
+        → ⊥) }
 {
     match words_in(line) {
         Some(words) => call_among(words.as_slice()),
@@ -79,7 +83,8 @@ fn call_line(line: &[u8]) -> Option<CallLine>
 
 /// What a call asks for.
 fn wanted_by(call: &CallLine) -> Wanted
-    ensures { (line : List ℕ) → SpellsCall line call.now.number call.now.floor call.now.party → WantsCall line result }
+    ensures { (line : List ℕ) → SpellsCall line call.now.number call.now.floor call.now.party
+        → WantsCall line result }
 {
     if call.floor > 63 {
         return Wanted::NoFloor;
@@ -131,12 +136,13 @@ impl Dialect for Kiosk {
 
 /// A line asks for one thing at most.
 pub fn lines_ask_for_one_thing()
-    ensures { (line : List ℕ) (one other : WantedValue) → WantsCall line one → WantsCall line other → one ≡ other }
+    ensures { (line : List ℕ) (one other : WantedValue) → WantsCall line one → WantsCall line other
+        → one ≡ other }
 {}
 
-/// A session of a kiosk. It greets with the last call that is known to be in, then reads lines `CALL <number> <floor> [party]`,
-/// asks each at the port, and answers it. It may call the reader as often as the limits say, beyond the calls that were
-/// made before.
+/// A session of a kiosk. It greets with the last call that is known to be in, then reads lines
+/// `CALL <number> <floor> [party]`, asks each at the port, and answers it. It may call the reader
+/// as often as the limits say, beyond the calls that were made before.
 pub fn session<R: Read + Drop, W: Write + Drop, P: Port>(
     reader: &mut Counted<R>,
     writer: &mut Watched<W>,
@@ -145,13 +151,16 @@ pub fn session<R: Read + Drop, W: Write + Drop, P: Port>(
     limits: Limits,
 ) -> SessionEnd
     ensures session { IsSession WantsCall keeps_letter limits result.end
-        (standing last (P.view port.old) (source_of R.remaining reader.old) (sink_of W.contents writer.old))
-        (standing result.last (P.view port.new) (source_of R.remaining reader.new) (sink_of W.contents writer.new)) }
+        (standing last (P.view port.old) (source_of R.remaining reader.old)
+        (sink_of W.contents writer.old))
+        (standing result.last (P.view port.new) (source_of R.remaining reader.new)
+        (sink_of W.contents writer.new)) }
     ensures calls { reader.new.calls ≤ reader.old.calls + limits.reads }
     ensures stays { P.place port.new ≡ P.place port.old }
     ensures late { result.end ≡ End.Late → ((P.view port.new).pending ≢ None)
         × ((P.view port.old).looks + limits.looks ≤ (P.view port.new).looks) }
-    ensures spent { result.end ≡ End.Spent → ((P.view port.new).spent ≡ true) × ((P.view port.new).pending ≡ None) }
+    ensures spent { result.end ≡ End.Spent
+        → ((P.view port.new).spent ≡ true) × ((P.view port.new).pending ≡ None) }
     ensures closed { result.end ≡ End.Closed → reader.new.ended ≡ true }
     ensures unwritten { result.end ≡ End.WriteFault → writer.new.failed ≡ true }
     ensures failed { result.end ≡ End.ReadFault → reader.new.failed ≡ true }

@@ -1,6 +1,7 @@
 //! What sessions do follows from what comes to them.
 
-ghost use Rattle.lift_kiosk.specs.Determined.{AsksForOneThing, LineDetermines, LinesDetermine, OutcomesAreWritten};
+ghost use Rattle.lift_kiosk.specs.Determined.{AsksForOneThing, LineDetermines, LinesDetermine};
+ghost use Rattle.lift_kiosk.specs.Determined.{OutcomesAreWritten};
 ghost use Rattle.lift_kiosk.specs.Whole.{SessionsDetermine, SessionsAreWritten};
 ghost use Rattle.lift_kiosk.specs.Streams.{StreamsDetermine};
 ghost use Rattle.lift_kiosk.specs.Kiosk.{WantsCall, keeps_letter};
@@ -8,11 +9,13 @@ ghost use Rattle.lift_kiosk.specs.Kiosk.{WantsCall, keeps_letter};
 use crate::dialect::Dialect;
 use crate::kiosk::Kiosk;
 
-/// Sessions in which a line asks for one thing at most are determined: what comes of a line follows from it and from what the
-/// port gives for it, so that the same lines and answers of the port lead to the same outcomes and the same last command; what
-/// is written for the lines follows from these outcomes. And where the same comes from the port, the reader and the writer,
-/// from the first line to the last byte, a session ends alike, knows the same last command, and wrote the same; also where of
-/// the reader only its bytes are known, and how its last call went, and not where a line or the session ended.
+/// Sessions in which a line asks for one thing at most are determined: what comes of a line follows
+/// from it and from what the port gives for it, so that the same lines and answers of the port lead
+/// to the same outcomes and the same last command; what is written for the lines follows from these
+/// outcomes. And where the same comes from the port, the reader and the writer, from the first line
+/// to the last byte, a session ends alike, knows the same last command, and wrote the same; also
+/// where of the reader only its bytes are known, and how its last call went, and not where a line
+/// or the session ended.
 pub fn dialects_determine<T: Dialect>()
     ensures line { AsksForOneThing T.wants → LineDetermines T.wants }
     ensures lines { AsksForOneThing T.wants → LinesDetermine T.wants T.keeps }

@@ -1,7 +1,9 @@
 //! Lines, read one byte at a call, so that nothing behind a line is taken from the reader.
 
-ghost use Rattle.std.specs.Prelude.{◌≡◌, ℕ, List, ◌+◌, ◌≤◌, ◌<◌, ◌^◌, [], ◌∷◌, IfOk, Ok, Err, None, Some, IfSome, IfErr, ◌++◌};
-ghost use Rattle.lift_kiosk.specs.Lines.{Source, Gives, FindsEnd, Fails, GivesLine, GivesPart, Keeps65, source_of};
+ghost use Rattle.std.specs.Prelude.{◌≡◌, ℕ, List, ◌+◌, ◌≤◌, ◌<◌, ◌^◌, [], ◌∷◌, IfOk, Ok, Err, None};
+ghost use Rattle.std.specs.Prelude.{Some, IfSome, IfErr, ◌++◌};
+ghost use Rattle.lift_kiosk.specs.Lines.{Source, Gives, FindsEnd, Fails, GivesLine, GivesPart};
+ghost use Rattle.lift_kiosk.specs.Lines.{Keeps65, source_of};
 
 use arrayvec::ArrayVec;
 use lift_base::text::{Counted, ReadFault};
@@ -10,7 +12,8 @@ use std::io::Read;
 /// A line of more bytes, its end apart, is malformed.
 pub const MOST_BYTES: usize = 64;
 
-/// A line without its line feed: a byte more than a line may have, since a carriage return belongs to its end.
+/// A line without its line feed: a byte more than a line may have, since a carriage return belongs
+/// to its end.
 #[derive(Drop)]
 pub struct Line {
     pub bytes: ArrayVec<u8, 65>,
@@ -53,9 +56,13 @@ pub enum NoLine {
 
 /// One byte; none at the end.
 fn next_byte<R: Read + Drop>(reader: &mut Counted<R>) -> Result<Option<u8>, ReadFault>
-    ensures byte { IfOk result (λ found. IfSome found (λ byte. Gives (byte ∷ []) (source_of R.remaining reader.old) (source_of R.remaining reader.new))) }
-    ensures end { result ≡ Ok None → FindsEnd (source_of R.remaining reader.old) (source_of R.remaining reader.new) }
-    ensures fault { IfErr result (λ _. Fails (source_of R.remaining reader.old) (source_of R.remaining reader.new)) }
+    ensures byte { IfOk result (λ found.
+        IfSome found (λ byte. Gives (byte ∷ []) (source_of R.remaining reader.old)
+        (source_of R.remaining reader.new))) }
+    ensures end { result ≡ Ok None
+        → FindsEnd (source_of R.remaining reader.old) (source_of R.remaining reader.new) }
+    ensures fault { IfErr result (λ _.
+        Fails (source_of R.remaining reader.old) (source_of R.remaining reader.new)) }
 {
     let mut byte = [0u8; 1];
     let count = reader.read(&mut byte)?;
@@ -68,12 +75,15 @@ fn next_byte<R: Read + Drop>(reader: &mut Counted<R>) -> Result<Option<u8>, Read
 
 /// A line, where its line feed comes within the calls of the reader that are left.
 pub fn read_line<R: Read + Drop>(reader: &mut Counted<R>, left: &mut u32) -> Result<Line, NoLine>
-    ensures line { IfOk result (λ found. (line : List ℕ) × Keeps65 line found.bytes.items found.is_longer
+    ensures line { IfOk result (λ found.
+        (line : List ℕ) × Keeps65 line found.bytes.items found.is_longer
         × GivesLine line (source_of R.remaining reader.old) (source_of R.remaining reader.new)) }
     ensures closed { result ≡ Err NoLine.AtEnd → (part : List ℕ) × (mid : Source)
-        × GivesPart part (source_of R.remaining reader.old) mid × FindsEnd mid (source_of R.remaining reader.new) }
+        × GivesPart part (source_of R.remaining reader.old) mid
+        × FindsEnd mid (source_of R.remaining reader.new) }
     ensures fault { result ≡ Err NoLine.Fault → (part : List ℕ) × (mid : Source)
-        × GivesPart part (source_of R.remaining reader.old) mid × Fails mid (source_of R.remaining reader.new) }
+        × GivesPart part (source_of R.remaining reader.old) mid
+        × Fails mid (source_of R.remaining reader.new) }
     ensures limit { result ≡ Err NoLine.NoCalls → (part : List ℕ)
         × GivesPart part (source_of R.remaining reader.old) (source_of R.remaining reader.new)
         × (left.new ≡ 0) }

@@ -9,7 +9,8 @@ use crate::port::Port;
 use lift_base::Reply;
 use lift_desk::Ask;
 
-/// Looks for the answer until it comes, at most so many times, and rests behind each look that found none.
+/// Looks for the answer until it comes, at most so many times, and rests behind each look that
+/// found none.
 fn wait_for_reply<P: Port>(port: &mut P, looks: u32) -> Option<Reply>
     ensures waits { Waits looks (P.view port.old) result (P.view port.new) }
     ensures stays { P.place port.new ≡ P.place port.old }

@@ -1,6 +1,7 @@
 //! Where a terminal asks and hears.
 
-ghost use Rattle.std.specs.Prelude.{◌≡◌, ◌↔◌, ◌≢◌, IsSome, IfSome, IfNone, OnOk, OnErr, None, Err, true};
+ghost use Rattle.std.specs.Prelude.{◌≡◌, ◌↔◌, ◌≢◌, IsSome, IfSome, IfNone, OnOk, OnErr, None, Err};
+ghost use Rattle.std.specs.Prelude.{true};
 ghost use Rattle.lift_kiosk.specs.Port.{PortView, PortPlace, AsksOne};
 ghost use Rattle.lift_kiosk.specs.Hearing.{missed, rested, heard};
 
@@ -18,11 +19,14 @@ pub trait Port {
     fn pending(&self) -> Option<Number>
         ensures { result ≡ (view self.now).pending };
 
-    /// Stores an ask. It is refused while the last one was not heard, and then where no turn is left; a refusal stores nothing.
+    /// Stores an ask. It is refused while the last one was not heard, and then where no turn is
+    /// left; a refusal stores nothing.
     fn ask(&mut self, number: Number, body: Body) -> Result<(), AskRefusal>
         ensures waiting { (result ≡ Err AskRefusal.Waiting) ↔ ((view self.old).pending ≢ None) }
-        ensures spent { (result ≡ Err AskRefusal.Spent) ↔ (((view self.old).pending ≡ None) × ((view self.old).spent ≡ true)) }
-        ensures ok { OnOk result (AsksOne (view self.old) (record { number = number; body = body }) (view self.new)) }
+        ensures spent { (result ≡ Err AskRefusal.Spent)
+            ↔ (((view self.old).pending ≡ None) × ((view self.old).spent ≡ true)) }
+        ensures ok { OnOk result
+            (AsksOne (view self.old) (record { number = number; body = body }) (view self.new)) }
         ensures err { OnErr result (view self.new ≡ view self.old) }
         ensures stays { place self.new ≡ place self.old };
 

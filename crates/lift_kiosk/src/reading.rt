@@ -24,7 +24,8 @@ pub fn without_return(bytes: &[u8]) -> &[u8]
 
 /// The words of a line of at most 64 bytes, none where it has more than six.
 pub fn words_in(line: &[u8]) -> Option<ArrayVec<&str, MOST_WORDS>>
-    ensures some { IfSome result (λ words. AreWords line.now (map (λ word. word.now) words.items) × (length line.now ≤ 64)) }
+    ensures some { IfSome result (λ words. AreWords line.now (map (λ word. word.now) words.items)
+        × (length line.now ≤ 64)) }
     ensures none { IfNone result ((words : List (List ℕ)) → AreWords line.now words → AreAscii words
         → length line.now ≤ 64 → 6 < length words) }
 {
@@ -42,7 +43,8 @@ pub(crate) fn wanted_of<T: Dialect>(line: &Line) -> Option<Wanted>
     ensures some { (bytes : List ℕ) → Keeps65 bytes line.now.bytes.items line.now.is_longer
         → IfSome result (λ wanted. T.wants (strip_carriage_return bytes) wanted) }
     ensures none { (bytes : List ℕ) → Keeps65 bytes line.now.bytes.items line.now.is_longer
-        → IfNone result ((wanted : WantedValue) → T.wants (strip_carriage_return bytes) wanted → ⊥) }
+        → IfNone result ((wanted : WantedValue) → T.wants (strip_carriage_return bytes) wanted
+        → ⊥) }
 {
     if line.is_longer {
         return None;

@@ -2,7 +2,8 @@
 
 use lift_base::{Letter, Number};
 
-/// The last command of a terminal that is known to be in: its number, and for a kiosk the letter that it got.
+/// The last command of a terminal that is known to be in: its number, and for a kiosk the letter
+/// that it got.
 #[derive(Clone, Copy, PartialEq, Eq)]
 pub struct LastLetter {
     pub number: Number,

@@ -6,7 +6,8 @@ use lift_base::ProofCount;
 use std::marker::Model;
 use std::thread;
 
-/// How often other threads were let run, which only proofs read. The only way to count is to let them, so the count binds.
+/// How often other threads were let run, which only proofs read. The only way to count is to let
+/// them, so the count binds.
 #[derive(Drop)]
 pub(crate) struct Yields {
     times: ProofCount,

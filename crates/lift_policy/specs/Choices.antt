@@ -1,5 +1,6 @@
 -- Which car each of the three policies picks.
-use Rattle.std.specs.Prelude.{ℕ, ◌≡◌, ◌≤◌, List, [], ◌∷◌, All, Contains, nat_lt, if◌then◌else◌, Option, Some, None, option_map}
+use Rattle.std.specs.Prelude.{ℕ, ◌≡◌, ◌≤◌, List, [], ◌∷◌, All, Contains, nat_lt, if◌then◌else◌}
+use Rattle.std.specs.Prelude.{Option, Some, None, option_map}
 use Rattle.std.specs.Option.{option_map_or}
 use Rattle.lift_base.specs.declared.travel.Position.{Position}
 use Rattle.lift_base.specs.declared.history.Row.{Row}
@@ -20,25 +21,29 @@ pub record IsFirstLeast (measure : ℕ → ℕ) (eligible : List ℕ) (car : ℕ
   pub least : All (λ other. measure car ≤ measure other) eligible
   pub lowest : All (λ other. measure other ≡ measure car → car ≤ other) eligible
 
--- what the call would add to the times of all persons of a car, its own party with them; none before the car has told
--- where it is
+-- what the call would add to the times of all persons of a car, its own party with them; none
+-- before the car has told where it is
 abbrev pub cost_at : Plan → ViewState → NewCall → ℕ → Option ℕ
 cost_at plan view call car =
-    option_map (λ (p : Position). total_cost plan p (rows_of view.register car) call) (position_of view.positions car)
+    option_map (λ (p : Position). total_cost plan p (rows_of view.register car) call)
+    (position_of view.positions car)
 
 -- the same as a number
 abbrev pub total_cost_at : Plan → ViewState → NewCall → ℕ → ℕ
 total_cost_at plan view call car =
-    option_map_or (λ (p : Position). total_cost plan p (rows_of view.register car) call) (position_of view.positions car) 0
+    option_map_or (λ (p : Position). total_cost plan p (rows_of view.register car) call)
+    (position_of view.positions car) 0
 
 -- when a car that takes the call too is where its passengers wait; however many they are
 abbrev pub wait : Plan → Position → List Row → NewCall → ℕ
 wait plan position rows call =
-    arrival_at plan position.floor (stop_list (with_call rows call) position) (halt_at position (waiting_row call) call.from)
+    arrival_at plan position.floor (stop_list (with_call rows call) position)
+    (halt_at position (waiting_row call) call.from)
 
 abbrev pub wait_at : Plan → ViewState → NewCall → ℕ → ℕ
 wait_at plan view call car =
-    option_map_or (λ (p : Position). wait plan p (rows_of view.register car) call) (position_of view.positions car) 0
+    option_map_or (λ (p : Position).
+    wait plan p (rows_of view.register car) call) (position_of view.positions car) 0
 
 -- how many persons have open calls at a car
 abbrev pub open_at : ViewState → ℕ → ℕ
@@ -62,7 +67,8 @@ IsShipped (Etd policy) = IsEtdChoice
 IsShipped (FewestOpen policy) = IsFewestOpen
 IsShipped (ShortestWait policy) = IsShortestWait
 
-pub IsShipped-member : (policy : Shipped) (plan : Plan) (view : ViewState) (call : NewCall) (eligible : List ℕ) (car : ℕ)
+pub IsShipped-member : (policy : Shipped) (plan : Plan) (view : ViewState) (call : NewCall)
+    (eligible : List ℕ) (car : ℕ)
     → IsShipped policy plan view call eligible car → Contains eligible car
 IsShipped-member (Etd policy) plan view call eligible car h = h.member
 IsShipped-member (FewestOpen policy) plan view call eligible car h = h.member

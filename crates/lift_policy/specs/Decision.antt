@@ -17,7 +17,8 @@ use Rattle.lift_cost.specs.declared.call.NewCall.{NewCall}
 use Rattle.lift_policy.specs.Terminals.{kiosk_floor}
 use Rattle.lift_policy.specs.View.{ViewState}
 use Rattle.lift_policy.specs.Choices.{first_least, total_cost_at, open_at, wait_at}
-use Rattle.lift_policy.specs.Step.{State, view_of, first_cause, is_new, call_at, cars_for, accepting, standing, stopping, next_from}
+use Rattle.lift_policy.specs.Step.{State, view_of, first_cause, is_new, call_at, cars_for}
+use Rattle.lift_policy.specs.Step.{accepting, standing, stopping, next_from}
 
 -- a reply, and the state after it
 pub record Decision : Type 0 where
@@ -34,7 +35,10 @@ refusing state reason = record { reply = Refused reason; next = state }
 -- a new call goes to the car that was picked
 abbrev pub allotting : Plan → State → ℕ → ℕ → ℕ → ℕ → Option ℕ → Decision
 allotting plan state terminal number to party (Some car) =
-    record { reply = Car car; next = accepting state (Allot terminal number (kiosk_floor plan terminal) to car party) }
+    record {
+      reply = Car car;
+      next = accepting state (Allot terminal number (kiosk_floor plan terminal) to car party);
+    }
 allotting plan state terminal number to party None = refusing state NoCar
 
 -- a repeated call gets its kept letter
@@ -46,16 +50,27 @@ repeating state (StoppedAt floor dir) = refusing state OtherBody
 abbrev pub proceeding : Pick → Plan → State → ℕ → ℕ → Body → Decision
 proceeding pick plan state terminal number (Call to party) =
     if is_new state terminal number
-    then allotting plan state terminal number to party (pick plan (view_of state) (call_at plan terminal to party) (cars_for plan state terminal to party))
-    else option_map_or (λ (l : Last). repeating state l.content) (last_of state.register terminal) (refusing state OtherBody)
+    then allotting plan state terminal number to party
+    (pick plan (view_of state) (call_at plan terminal to party)
+    (cars_for plan state terminal to party))
+    else option_map_or (λ (l : Last). repeating state l.content) (last_of state.register terminal)
+    (refusing state OtherBody)
 proceeding pick plan state terminal number (Stop floor dir) =
-    record { reply = Stopped (next_from (stopping state terminal number floor dir) terminal floor dir); next = stopping state terminal number floor dir }
+    record {
+      reply = Stopped
+          (next_from (stopping state terminal number floor dir) terminal floor dir);
+      next = stopping state terminal number floor dir;
+    }
 proceeding pick plan state terminal number (Place floor dir) =
-    record { reply = Placed (next_from (standing state terminal floor dir) terminal floor dir); next = standing state terminal floor dir }
+    record {
+      reply = Placed (next_from (standing state terminal floor dir) terminal floor dir);
+      next = standing state terminal floor dir;
+    }
 
 abbrev pub decided_after : Option Reason → Pick → Plan → State → ℕ → ℕ → Body → Decision
 decided_after (Some reason) pick plan state terminal number body = refusing state reason
-decided_after None pick plan state terminal number body = proceeding pick plan state terminal number body
+decided_after None pick plan state terminal number body =
+    proceeding pick plan state terminal number body
 
 -- the decision on a command, where a policy picks so
 abbrev pub decision_by : Pick → Plan → State → ℕ → ℕ → Body → Decision

@@ -1,5 +1,6 @@
 -- Which cars may take a new call, and what a policy may answer.
-use Rattle.std.specs.Prelude.{ℕ, ◌+◌, ◌<◌, ◌≤◌, ◌&&◌, Bool, nat_le, is_some, List, [], ◌∷◌, length, filter}
+use Rattle.std.specs.Prelude.{ℕ, ◌+◌, ◌<◌, ◌≤◌, ◌&&◌, Bool, nat_le, is_some, List, [], ◌∷◌, length}
+use Rattle.std.specs.Prelude.{filter}
 use Rattle.lift_building.specs.Plan.{Plan, serves_floor, places_of}
 use Rattle.lift_register.specs.Register.{RegisterState, rows_of, cars}
 use Rattle.lift_register.specs.Fits.{persons_of}
@@ -14,7 +15,8 @@ can_take plan register call car =
 
 -- it can take the call, and has told where it is
 abbrev pub is_eligible : Plan → ViewState → NewCall → ℕ → Bool
-is_eligible plan view call car = is_some (position_of view.positions car) && can_take plan view.register call car
+is_eligible plan view call car =
+    is_some (position_of view.positions car) && can_take plan view.register call car
 
 -- all cars that may take the call, by rising letter
 unfoldable pub eligible_cars : Plan → ViewState → NewCall → List ℕ

@@ -1,5 +1,6 @@
 -- What every decision keeps, under any policy.
-use Rattle.std.specs.Prelude.{ℕ, ◌≡◌, ◌≢◌, ◌↔◌, ◌⊎◌, ◌<◌, ◌≤◌, true, List, [], ◌∷◌, ◌++◌, length, Contains, Some, IsSome}
+use Rattle.std.specs.Prelude.{ℕ, ◌≡◌, ◌≢◌, ◌↔◌, ◌⊎◌, ◌<◌, ◌≤◌, true, List, [], ◌∷◌, ◌++◌, length}
+use Rattle.std.specs.Prelude.{Contains, Some, IsSome}
 use Rattle.lift_base.specs.History.{terminal_of, number_of}
 use Rattle.lift_base.specs.declared.history.Entry.{Entry}
 use Rattle.lift_base.specs.Records.{IsTypedCommand}
@@ -23,7 +24,8 @@ use Rattle.lift_policy.specs.Run.{Run}
 use Rattle.lift_policy.specs.Decision.{Pick, decision_by}
 
 -- this entry joins the register and the batch: it keeps this command, and it fits
-pub record Joins (plan : Plan) (state : State) (terminal number : ℕ) (body : Body) (entry : Entry) (next : State) : Type 0 where
+pub record Joins (plan : Plan) (state : State) (terminal number : ℕ) (body : Body) (entry : Entry)
+    (next : State) : Type 0 where
   pub of_terminal : terminal_of entry ≡ terminal
   pub of_number : number_of entry ≡ number
   pub says : is_same body (kept_of entry).content ≡ true
@@ -43,18 +45,24 @@ JoinsAtMostOne plan state terminal number body next =
 
 -- what each decision of a policy adds
 abbrev pub StepsJoinAtMostOne : Choice → Type 0
-StepsJoinAtMostOne choice = (plan : Plan) (state : State) (terminal number : ℕ) (body : Body) (reply : Reply) (next : State)
-    → Step plan choice state terminal number body reply next → JoinsAtMostOne plan state terminal number body next
+StepsJoinAtMostOne choice =
+    (plan : Plan) (state : State) (terminal number : ℕ) (body : Body) (reply : Reply) (next : State)
+    → Step plan choice state terminal number body reply next
+    → JoinsAtMostOne plan state terminal number body next
 
--- the refused commands are those that have a cause, each refusal names the first, and nothing changes
+-- the refused commands are those that have a cause, each refusal names the first, and nothing
+-- changes
 abbrev pub RefusalsAreFirstCauses : Choice → Type 0
-RefusalsAreFirstCauses choice = (plan : Plan) (state : State) (terminal number : ℕ) (body : Body) (reason : Reason) (next : State)
+RefusalsAreFirstCauses choice =
+    (plan : Plan) (state : State) (terminal number : ℕ) (body : Body) (reason : Reason)
+    (next : State)
     → Step plan choice state terminal number body (Refused reason) next
     ↔ ((first_cause plan state terminal number body ≡ Some reason) × (next ≡ state))
 
 -- a decision is never answered Unknown
 abbrev pub StepsAreKnown : Choice → Type 0
-StepsAreKnown choice = (plan : Plan) (state : State) (terminal number : ℕ) (body : Body) (reply : Reply) (next : State)
+StepsAreKnown choice = (plan : Plan) (state : State) (terminal number : ℕ) (body : Body)
+    (reply : Reply) (next : State)
     → Step plan choice state terminal number body reply next → reply ≢ Unknown
 
 -- a body as its types hold it
@@ -63,7 +71,8 @@ IsTypedBody (Call floor party) = (floor ≤ 63) × ((1 ≤ party) × (party ≤ 
 IsTypedBody (Stop floor dir) = floor ≤ 63
 IsTypedBody (Place floor dir) = floor ≤ 63
 
--- what the program's states are in a building: no call of the register was lost, and the 16 cars stand at its floors
+-- what the program's states are in a building: no call of the register was lost, and the 16 cars
+-- stand at its floors
 pub record IsStateIn (plan : Plan) (state : State) : Type 0 where
   pub possible : IsViewIn plan (view_of state)
   pub balanced : IsBalanced state.register
@@ -71,41 +80,53 @@ pub record IsStateIn (plan : Plan) (state : State) : Type 0 where
 
 -- each decision of a building makes such a state of such a state
 abbrev pub StepsKeepStates : Choice → Type 0
-StepsKeepStates choice = (plan : Plan) (state : State) (terminal number : ℕ) (body : Body) (reply : Reply) (next : State)
+StepsKeepStates choice =
+    (plan : Plan) (state : State) (terminal number : ℕ) (body : Body) (reply : Reply) (next : State)
     → IsBuilding plan → IsTypedCommand terminal number → IsTypedBody body → IsStateIn plan state
     → Step plan choice state terminal number body reply next → IsStateIn plan next
 
--- a `Car` or a `Stopped`, new or repeated, tells of the command that the register keeps as its terminal's last
+-- a `Car` or a `Stopped`, new or repeated, tells of the command that the register keeps as its
+-- terminal's last
 abbrev pub Tells : Plan → RegisterState → ℕ → ℕ → Body → Reply → Type 0
 Tells plan register terminal number (Call to party) (Car car) =
-    last_of register terminal ≡ Some (record { number = number; content = Letter (kiosk_floor plan terminal) to car party })
+    last_of register terminal
+    ≡ Some (record {
+      number = number;
+      content = Letter (kiosk_floor plan terminal) to car party;
+    })
 Tells plan register terminal number (Stop floor dir) (Stopped next) =
     last_of register terminal ≡ Some (record { number = number; content = StoppedAt floor dir })
 Tells plan register terminal number _ _ = Unit {0}
 
 abbrev pub StepsTell : Choice → Type 0
-StepsTell choice = (plan : Plan) (state : State) (terminal number : ℕ) (body : Body) (reply : Reply) (next : State)
-    → terminal < 63 → IsStateIn plan state → Step plan choice state terminal number body reply next → Tells plan next.register terminal number body reply
+StepsTell choice = (plan : Plan) (state : State) (terminal number : ℕ) (body : Body) (reply : Reply)
+    (next : State)
+    → terminal < 63 → IsStateIn plan state → Step plan choice state terminal number body reply next
+    → Tells plan next.register terminal number body reply
 
--- a policy that leaves no choice: of eligible cars it may name just the one that a pick gives, and a pick of some cars is
--- one of them
+-- a policy that leaves no choice: of eligible cars it may name just the one that a pick gives, and
+-- a pick of some cars is one of them
 pub record IsPickedBy (choice : Choice) (pick : Pick) : Type 0 where
-  pub exact : (plan : Plan) (view : ViewState) (call : NewCall) (eligible : List ℕ) (car : ℕ) → Rise 0 eligible
+  pub exact : (plan : Plan) (view : ViewState) (call : NewCall) (eligible : List ℕ) (car : ℕ)
+      → Rise 0 eligible
       → choice plan view call eligible car ↔ (pick plan view call eligible ≡ Some car)
-  pub some : (plan : Plan) (view : ViewState) (call : NewCall) (eligible : List ℕ) → 0 < length eligible
+  pub some : (plan : Plan) (view : ViewState) (call : NewCall) (eligible : List ℕ)
+      → 0 < length eligible
       → IsSome (pick plan view call eligible)
   pub member : (plan : Plan) (view : ViewState) (call : NewCall) (eligible : List ℕ) (car : ℕ)
       → pick plan view call eligible ≡ Some car → Contains eligible car
 
 -- the rules allow just the decision that is computed
 abbrev pub StepsAreDecisions : Choice → Pick → Type 0
-StepsAreDecisions choice pick = (plan : Plan) (state : State) (terminal number : ℕ) (body : Body) (reply : Reply) (next : State)
+StepsAreDecisions choice pick =
+    (plan : Plan) (state : State) (terminal number : ℕ) (body : Body) (reply : Reply) (next : State)
     → Step plan choice state terminal number body reply next
     ↔ ((reply ≡ (decision_by pick plan state terminal number body).reply)
     × (next ≡ (decision_by pick plan state terminal number body).next))
 
 -- runs that meet join to a run
 abbrev pub RunsJoin : Choice → Type 0
-RunsJoin choice = (plan : Plan) (state mid next : State) (earlier later : List Command) (replies others : List Reply)
+RunsJoin choice = (plan : Plan) (state mid next : State) (earlier later : List Command)
+    (replies others : List Reply)
     → Run plan choice state earlier replies mid → Run plan choice mid later others next
     → Run plan choice state (earlier ++ later) (replies ++ others) next

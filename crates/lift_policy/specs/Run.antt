@@ -7,11 +7,13 @@ use Rattle.lift_policy.specs.declared.command.Command.{Command}
 use Rattle.lift_policy.specs.Eligible.{Choice}
 use Rattle.lift_policy.specs.Step.{State, Step}
 
--- these commands may be answered so, one after another, each on the state that the earlier ones left
+-- these commands may be answered so, one after another, each on the state that the earlier ones
+-- left
 abbrev pub Run : Plan → Choice → State → List Command → List Reply → State → Type 0
 Run plan choice state [] [] next = next ≡ state
 Run plan choice state (c ∷ commands) (reply ∷ replies) next =
-    (mid : State) × Step plan choice state c.terminal c.number c.body reply mid × Run plan choice mid commands replies next
+    (mid : State) × Step plan choice state c.terminal c.number c.body reply mid
+    × Run plan choice mid commands replies next
 Run plan choice state [] (reply ∷ replies) next = ⊥
 Run plan choice state (c ∷ commands) [] next = ⊥
 
@@ -19,10 +21,12 @@ Run plan choice state (c ∷ commands) [] next = ⊥
 abbrev pub unknowns : List Command → List Reply
 unknowns commands = map (λ (c : Command). Unknown) commands
 
--- a turn whose batch fails on the disk: its commands were decided as in a run, and each is answered Unknown
+-- a turn whose batch fails on the disk: its commands were decided as in a run, and each is answered
+-- Unknown
 abbrev pub FailedRun : Plan → Choice → State → List Command → List Reply → State → Type 0
 FailedRun plan choice state commands answers next =
-    ((replies : List Reply) × Run plan choice state commands replies next) × (answers ≡ unknowns commands)
+    ((replies : List Reply) × Run plan choice state commands replies next)
+    × (answers ≡ unknowns commands)
 
 -- a turn while the keeper is broken: each command is answered Unknown, and nothing changes
 abbrev pub RunWhileBroken : State → List Command → List Reply → State → Type 0

@@ -1,5 +1,7 @@
 -- One decision: what a command is answered, and what it changes.
-use Rattle.std.specs.Prelude.{ℕ, ◌≡◌, ◌==◌, ◌+◌, Bool, true, false, not, ◌&&◌, ◌||◌, if◌then◌else◌, nat_lt, nat_le, List, [], ◌∷◌, ◌++◌, length, find, Contains, Option, Some, slice_set, MatchOption, MatchBool}
+use Rattle.std.specs.Prelude.{ℕ, ◌≡◌, ◌==◌, ◌+◌, Bool, true, false, not, ◌&&◌, ◌||◌, if◌then◌else◌}
+use Rattle.std.specs.Prelude.{nat_lt, nat_le, List, [], ◌∷◌, ◌++◌, length, find, Contains, Option}
+use Rattle.std.specs.Prelude.{Some, slice_set, MatchOption, MatchBool}
 use Rattle.std.specs.Option.{option_map_or}
 use Rattle.lift_base.specs.Travel.{same_dir}
 use Rattle.lift_base.specs.declared.travel.Dir.{Dir}
@@ -13,7 +15,9 @@ use Rattle.lift_base.specs.declared.history.Last.{Last}
 use Rattle.lift_base.specs.declared.command.Body.{Body}
 use Rattle.lift_base.specs.declared.command.Body.TheVariants.{Call, Stop, Place}
 use Rattle.lift_base.specs.declared.command.Reason.{Reason}
-use Rattle.lift_base.specs.declared.command.Reason.TheVariants.{NoSuchFloor, SameFloor, NoCar, OldNumber, GapNumber, OtherBody, WrongKind, Full, NotServed}
+use Rattle.lift_base.specs.declared.command.Reason.TheVariants.{NoSuchFloor, SameFloor, NoCar}
+use Rattle.lift_base.specs.declared.command.Reason.TheVariants.{OldNumber, GapNumber, OtherBody}
+use Rattle.lift_base.specs.declared.command.Reason.TheVariants.{WrongKind, Full, NotServed}
 use Rattle.lift_base.specs.declared.command.Reply.{Reply}
 use Rattle.lift_base.specs.declared.command.Reply.TheVariants.{Car, Stopped, Placed, Refused}
 use Rattle.lift_building.specs.Plan.{Plan, serves_floor}
@@ -36,7 +40,11 @@ view_of state = record { register = state.register; positions = state.positions 
 
 -- what a policy sees, with this batch
 abbrev pub state_seen : ViewState → List Entry → State
-state_seen view batch = record { register = view.register; positions = view.positions; batch = batch }
+state_seen view batch = record {
+  register = view.register;
+  positions = view.positions;
+  batch = batch;
+}
 
 abbrev pub floor_of : Body → ℕ
 floor_of (Call floor party) = floor
@@ -63,7 +71,8 @@ is_same (Stop floor dir) (Letter from to car persons) = false
 is_same (Place floor dir) content = false
 
 abbrev pub is_kept : RegisterState → ℕ → Body → Bool
-is_kept register terminal body = option_map_or (λ (l : Last). is_same body l.content) (last_of register terminal) false
+is_kept register terminal body =
+    option_map_or (λ (l : Last). is_same body l.content) (last_of register terminal) false
 
 -- a command of this number would be the terminal's next
 abbrev pub is_new : State → ℕ → ℕ → Bool
@@ -75,7 +84,8 @@ call_at plan terminal to party = record { from = kiosk_floor plan terminal; to =
 
 -- the cars that may take a call of this kiosk now
 abbrev pub cars_for : Plan → State → ℕ → ℕ → ℕ → List ℕ
-cars_for plan state terminal to party = eligible_cars plan (view_of state) (call_at plan terminal to party)
+cars_for plan state terminal to party =
+    eligible_cars plan (view_of state) (call_at plan terminal to party)
 
 -- no car may take what is asked
 abbrev pub lacks_car : Plan → State → ℕ → Body → Bool
@@ -85,57 +95,78 @@ lacks_car plan state terminal (Place floor dir) = false
 
 -- each cause of a refusal; no decision finds the journal full
 abbrev pub has_cause : Plan → State → ℕ → ℕ → Body → Reason → Bool
-has_cause plan state terminal number body WrongKind = not (if is_call body then has_kiosk plan terminal else has_car plan terminal)
+has_cause plan state terminal number body WrongKind =
+    not (if is_call body then has_kiosk plan terminal else has_car plan terminal)
 has_cause plan state terminal number body NoSuchFloor = nat_le plan.floors (floor_of body)
-has_cause plan state terminal number body NotServed = not (is_call body) && not (serves_floor plan terminal (floor_of body))
-has_cause plan state terminal number body SameFloor = is_call body && kiosk_floor plan terminal == floor_of body
+has_cause plan state terminal number body NotServed =
+    not (is_call body) && not (serves_floor plan terminal (floor_of body))
+has_cause plan state terminal number body SameFloor =
+    is_call body && kiosk_floor plan terminal == floor_of body
 has_cause plan state terminal number body OtherBody =
-    is_numbered body && nat_le 1 number && number == last_number state.register terminal && not (is_kept state.register terminal body)
+    is_numbered body && nat_le 1 number && number
+    == last_number state.register terminal && not (is_kept state.register terminal body)
 has_cause plan state terminal number body OldNumber =
     is_numbered body && (number == 0 || nat_lt number (last_number state.register terminal))
 has_cause plan state terminal number body GapNumber =
-    if is_numbered body then nat_lt (last_number state.register terminal + 1) number else nat_lt 0 number
-has_cause plan state terminal number body NoCar = is_new state terminal number && lacks_car plan state terminal body
+    if is_numbered body then nat_lt (last_number state.register terminal + 1) number else nat_lt 0
+    number
+has_cause plan state terminal number body NoCar =
+    is_new state terminal number && lacks_car plan state terminal body
 has_cause plan state terminal number body Full = false
 
 -- the order in which causes are looked for
 abbrev pub order_of_checking : List Reason
-order_of_checking = WrongKind ∷ NoSuchFloor ∷ NotServed ∷ SameFloor ∷ OtherBody ∷ OldNumber ∷ GapNumber ∷ NoCar ∷ []
+order_of_checking = WrongKind ∷ NoSuchFloor ∷ NotServed ∷ SameFloor ∷ OtherBody ∷ OldNumber
+    ∷ GapNumber ∷ NoCar ∷ []
 
 -- the reason that a refusal names
 abbrev pub first_cause : Plan → State → ℕ → ℕ → Body → Option Reason
-first_cause plan state terminal number body = find (has_cause plan state terminal number body) order_of_checking
+first_cause plan state terminal number body =
+    find (has_cause plan state terminal number body) order_of_checking
 
 -- the entry joins the register and the batch
 abbrev pub accepting : State → Entry → State
 accepting state entry =
-    record { register = register_of state.register (entry ∷ []); positions = state.positions; batch = state.batch ++ entry ∷ [] }
+    record {
+      register = register_of state.register (entry ∷ []);
+      positions = state.positions;
+      batch = state.batch ++ entry ∷ [];
+    }
 
 -- the car stands there
 abbrev pub standing : State → ℕ → ℕ → Dir → State
 standing state car floor dir =
-    record { register = state.register; positions = slice_set state.positions car (Some (record { floor = floor; dir = dir })); batch = state.batch }
+    record {
+      register = state.register;
+      positions = slice_set state.positions car (Some (record { floor = floor; dir = dir }));
+      batch = state.batch;
+    }
 
 -- a stop of a new number joins, a repeat doesn't; either way the car stands there
 abbrev pub stopping : State → ℕ → ℕ → ℕ → Dir → State
 stopping state car number floor dir =
-    standing (if is_new state car number then accepting state (Stopping car number floor dir) else state) car floor dir
+    standing (if is_new state car number then accepting state
+    (Stopping car number floor dir) else state) car floor dir
 
 -- the car's next stop from there
 abbrev pub next_from : State → ℕ → ℕ → Dir → Option NextStop
-next_from state car floor dir = next_stop (rows_of state.register car) (record { floor = floor; dir = dir })
+next_from state car floor dir =
+    next_stop (rows_of state.register car) (record { floor = floor; dir = dir })
 
 -- a new call is allotted to an eligible car that the policy may name
 abbrev pub Allots : Plan → Choice → State → ℕ → ℕ → ℕ → ℕ → Reply → State → Type 0
 Allots plan choice state terminal number to party reply next =
     (car : ℕ) × Contains (cars_for plan state terminal to party) car
-    × choice plan (view_of state) (call_at plan terminal to party) (cars_for plan state terminal to party) car
-    × (reply ≡ Car car) × (next ≡ accepting state (Allot terminal number (kiosk_floor plan terminal) to car party))
+    × choice plan (view_of state) (call_at plan terminal to party)
+    (cars_for plan state terminal to party) car
+    × (reply ≡ Car car) × (next
+    ≡ accepting state (Allot terminal number (kiosk_floor plan terminal) to car party))
 
 -- a repeated call gets its kept letter
 abbrev pub Repeats : State → ℕ → ℕ → ℕ → ℕ → Reply → State → Type 0
 Repeats state terminal number to party reply next =
-    (from car : ℕ) × (last_of state.register terminal ≡ Some (record { number = number; content = Letter from to car party }))
+    (from car : ℕ) × (last_of state.register terminal
+    ≡ Some (record { number = number; content = Letter from to car party }))
     × (reply ≡ Car car) × (next ≡ state)
 
 -- a command without a cause of refusal
@@ -145,9 +176,11 @@ Proceeds plan choice state terminal number (Call to party) reply next =
     (Allots plan choice state terminal number to party reply next)
     (Repeats state terminal number to party reply next)
 Proceeds plan choice state terminal number (Stop floor dir) reply next =
-    (next ≡ stopping state terminal number floor dir) × (reply ≡ Stopped (next_from next terminal floor dir))
+    (next ≡ stopping state terminal number floor dir)
+    × (reply ≡ Stopped (next_from next terminal floor dir))
 Proceeds plan choice state terminal number (Place floor dir) reply next =
-    (next ≡ standing state terminal floor dir) × (reply ≡ Placed (next_from next terminal floor dir))
+    (next ≡ standing state terminal floor dir)
+    × (reply ≡ Placed (next_from next terminal floor dir))
 
 -- One decision. Where a cause of refusal holds, the first is named and nothing changes.
 abbrev pub Step : Plan → Choice → State → ℕ → ℕ → Body → Reply → State → Type 0

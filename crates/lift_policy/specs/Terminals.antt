@@ -1,4 +1,5 @@
--- Which terminals a building has. A car's terminal has the car's number, and the kiosks' terminals begin at 16.
+-- Which terminals a building has. A car's terminal has the car's number, and the kiosks' terminals
+-- begin at 16.
 use Rattle.std.specs.Prelude.{ℕ, ◌-◌, ◌&&◌, Bool, nat_lt, nat_le, length}
 use Rattle.lift_building.specs.Plan.{Plan, kiosk_floor_of}
 

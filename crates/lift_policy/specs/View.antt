@@ -1,5 +1,6 @@
 -- What a policy sees: the open calls, and where the cars are.
-use Rattle.std.specs.Prelude.{ℕ, ◌≡◌, ◌<◌, List, map, Option, Some, None, option_map, slice_index_or}
+use Rattle.std.specs.Prelude.{ℕ, ◌≡◌, ◌<◌, List, map, Option, Some, None, option_map}
+use Rattle.std.specs.Prelude.{slice_index_or}
 use Rattle.lift_base.specs.declared.travel.Position.{Position}
 use Rattle.lift_building.specs.Plan.{Plan}
 use Rattle.lift_register.specs.Register.{RegisterState, rows_of}
@@ -28,4 +29,5 @@ AreSchedulesOf register schedules = (car : ℕ) (schedule : ScheduleState)
 pub record IsViewIn (plan : Plan) (view : ViewState) : Type 0 where
   pub register : IsWellFormed view.register
   pub belongs : BelongsTo plan view.register
-  pub here : (car : ℕ) (position : Position) → position_of view.positions car ≡ Some position → position.floor < plan.floors
+  pub here : (car : ℕ) (position : Position) → position_of view.positions car ≡ Some position
+      → position.floor < plan.floors

@@ -1,10 +1,12 @@
 //! Why a command is refused.
 
-ghost use Rattle.std.specs.Prelude.{◌≡◌, ◌<◌, ◌==◌, ◌+◌, ◌&&◌, ◌||◌, List, not, if◌then◌else◌, nat_le, nat_lt, true};
+ghost use Rattle.std.specs.Prelude.{◌≡◌, ◌<◌, ◌==◌, ◌+◌, ◌&&◌, ◌||◌, List, not, if◌then◌else◌};
+ghost use Rattle.std.specs.Prelude.{nat_le, nat_lt, true};
 ghost use Rattle.lift_base.specs.declared.history.Entry.{Entry};
 ghost use Rattle.lift_register.specs.Register.{last_number};
 ghost use Rattle.lift_policy.specs.Terminals.{has_car, has_kiosk, kiosk_floor};
-ghost use Rattle.lift_policy.specs.Step.{state_seen, floor_of, is_call, is_numbered, is_same, is_kept, call_at, lacks_car, first_cause};
+ghost use Rattle.lift_policy.specs.Step.{state_seen, floor_of, is_call, is_numbered, is_same};
+ghost use Rattle.lift_policy.specs.Step.{is_kept, call_at, lacks_car, first_cause};
 
 use crate::command::Command;
 use crate::eligible::is_none_eligible;
@@ -38,7 +40,8 @@ fn is_numbered(body: &Body) -> bool
 
 /// Whether the building has the terminal of such a command: a kiosk for a call, else a car.
 fn is_known(building: &Building, terminal: Terminal, call: bool) -> bool
-    ensures { result ≡ (if call then has_kiosk building.now terminal else has_car building.now terminal) }
+    ensures { result ≡ (if call then has_kiosk building.now terminal else has_car building.now
+        terminal) }
 {
     if call {
         terminal.get() >= 16 && terminal.get() - 16 < building.kiosks()
@@ -115,7 +118,8 @@ pub fn call_at(building: &Building, terminal: Terminal, to: Floor, party: Party)
 /// Whether no car may take what is asked, of a known terminal.
 fn lacks_car(building: &Building, view: &View, terminal: Terminal, body: &Body) -> bool
     requires known { is_call body.now ≡ true → has_kiosk building.now terminal ≡ true }
-    ensures { (batch : List Entry) → result ≡ lacks_car building.now (state_seen view.now batch) terminal body.now }
+    ensures { (batch : List Entry)
+        → result ≡ lacks_car building.now (state_seen view.now batch) terminal body.now }
 {
     match *body {
         Body::Call(to, party) => {
@@ -126,9 +130,11 @@ fn lacks_car(building: &Building, view: &View, terminal: Terminal, body: &Body) 
     }
 }
 
-/// Whether a command has its terminal's last number, but says something else than the one that was accepted.
+/// Whether a command has its terminal's last number, but says something else than the one that was
+/// accepted.
 fn is_other(register: &Register, command: &Command) -> bool
-    ensures { result ≡ (is_numbered command.now.body && nat_le 1 command.now.number && command.now.number == last_number register.now command.now.terminal
+    ensures { result ≡ (is_numbered command.now.body && nat_le 1 command.now.number &&
+        command.now.number == last_number register.now command.now.terminal
         && not (is_kept register.now command.now.terminal command.now.body)) }
 {
     let number = command.number.get();
@@ -140,7 +146,8 @@ fn is_other(register: &Register, command: &Command) -> bool
 
 /// Whether a numbered command's number is 0 or below its terminal's last one.
 fn is_old(register: &Register, command: &Command) -> bool
-    ensures { result ≡ (is_numbered command.now.body && (command.now.number == 0 || nat_lt command.now.number (last_number register.now command.now.terminal))) }
+    ensures { result ≡ (is_numbered command.now.body && (command.now.number
+        == 0 || nat_lt command.now.number (last_number register.now command.now.terminal))) }
 {
     let number = command.number.get();
     is_numbered(&command.body) && (number == 0 || number < register.last_number(command.terminal))
@@ -148,7 +155,9 @@ fn is_old(register: &Register, command: &Command) -> bool
 
 /// Whether a command's number is above its terminal's next one, or a position's above 0.
 fn is_beyond(register: &Register, command: &Command) -> bool
-    ensures { result ≡ (if is_numbered command.now.body then nat_lt (last_number register.now command.now.terminal + 1) command.now.number else nat_lt 0 command.now.number) }
+    ensures { result ≡ (if is_numbered command.now.body then nat_lt
+        (last_number register.now command.now.terminal + 1) command.now.number else nat_lt 0
+        command.now.number) }
 {
     let number = command.number.get();
     if is_numbered(&command.body) {
@@ -160,7 +169,9 @@ fn is_beyond(register: &Register, command: &Command) -> bool
 
 /// The first cause for which a command is refused, none where nothing stands against it.
 pub fn first_cause(building: &Building, view: &View, command: &Command) -> Option<Reason>
-    ensures { (batch : List Entry) → result ≡ first_cause building.now (state_seen view.now batch) command.now.terminal command.now.number command.now.body }
+    ensures { (batch : List Entry)
+        → result ≡ first_cause building.now
+        (state_seen view.now batch) command.now.terminal command.now.number command.now.body }
 {
     let terminal = command.terminal;
     let body = &command.body;

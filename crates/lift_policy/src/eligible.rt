@@ -1,5 +1,6 @@
 //! Which cars may take a call.
-ghost use Rattle.std.specs.Prelude.{◌≡◌, ◌↔◌, ◌<◌, ◌≤◌, ◌==◌, [], ◌∷◌, if◌then◌else◌, length, IfSome, IsNone};
+ghost use Rattle.std.specs.Prelude.{◌≡◌, ◌↔◌, ◌<◌, ◌≤◌, ◌==◌, [], ◌∷◌, if◌then◌else◌, length};
+ghost use Rattle.std.specs.Prelude.{IfSome, IsNone};
 ghost use Rattle.std.specs.Option.{option_to_list};
 ghost use Rattle.lift_policy.specs.Eligible.{can_take, is_eligible, eligible_cars, AreLetters};
 
@@ -11,7 +12,8 @@ use lift_cost::NewCall;
 use lift_register::{Register, persons};
 use std::marker::Model;
 
-/// Whether the car serves both floors, and has places for the party beside the persons of its open calls.
+/// Whether the car serves both floors, and has places for the party beside the persons of its open
+/// calls.
 pub fn can_take(building: &Building, register: &Register, call: NewCall, car: Letter) -> bool
     ensures { result ≡ can_take building.now register.now call car }
 {
@@ -41,7 +43,8 @@ impl Model for Eligible {
 impl Eligible {
     /// The cars that may take a call now; none where there is no such car.
     pub fn among(building: &Building, view: &View, call: NewCall) -> Option<Self>
-        ensures some { IfSome result (λ eligible. eligible ≡ eligible_cars building.now view.now call) }
+        ensures some { IfSome result (λ eligible.
+            eligible ≡ eligible_cars building.now view.now call) }
         ensures none { IsNone result ↔ (eligible_cars building.now view.now call ≡ []) }
     {
         let letters = letters_among(building, view, &call);
@@ -65,7 +68,8 @@ impl Eligible {
 /// The car with this index, where it may take a call.
 fn eligible_at(building: &Building, view: &View, call: &NewCall, index: u8) -> Option<Letter>
     requires { index < 16 }
-    ensures { option_to_list result ≡ (if is_eligible building.now view.now call.now index then index ∷ [] else []) }
+    ensures { option_to_list result
+        ≡ (if is_eligible building.now view.now call.now index then index ∷ [] else []) }
 {
     let car = Letter::new(index)?;
     if view.is_eligible(building, *call, car) {

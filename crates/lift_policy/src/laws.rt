@@ -1,7 +1,8 @@
 //! What every decision keeps.
 ghost use Rattle.lift_policy.specs.Choices.{IsEtdChoice, IsFewestOpen, IsShortestWait};
 ghost use Rattle.lift_policy.specs.Decision.{etd_pick, fewest_open_pick, shortest_wait_pick};
-ghost use Rattle.lift_policy.specs.Laws.{StepsJoinAtMostOne, RefusalsAreFirstCauses, StepsAreKnown, StepsKeepStates, StepsTell, RunsJoin, StepsAreDecisions};
+ghost use Rattle.lift_policy.specs.Laws.{StepsJoinAtMostOne, RefusalsAreFirstCauses, StepsAreKnown};
+ghost use Rattle.lift_policy.specs.Laws.{StepsKeepStates, StepsTell, RunsJoin, StepsAreDecisions};
 
 use crate::policy::Policy;
 

@@ -3,7 +3,8 @@ ghost use Rattle.std.specs.Prelude.{ℕ, ◌≡◌, ◌<◌, length};
 ghost use Rattle.lift_building.specs.Plan.{Plan};
 ghost use Rattle.lift_cost.specs.declared.call.NewCall.{NewCall as Call};
 ghost use Rattle.lift_policy.specs.View.{ViewState, IsViewIn};
-ghost use Rattle.lift_policy.specs.Choices.{IsFirstLeast, cost_at, total_cost_at, wait_at, open_at, IsEtdChoice, IsFewestOpen, IsShortestWait};
+ghost use Rattle.lift_policy.specs.Choices.{IsFirstLeast, cost_at, total_cost_at, wait_at, open_at};
+ghost use Rattle.lift_policy.specs.Choices.{IsEtdChoice, IsFewestOpen, IsShortestWait};
 ghost use Rattle.lift_policy.specs.Least.{IsFirstLeastAt};
 
 use crate::eligible::Eligible;
@@ -64,7 +65,8 @@ fn pick<M: Measure>(
     requires possible { IsViewIn building.now view.now }
     requires from { call.now.from < building.now.floors }
     requires to { call.now.to < building.now.floors }
-    ensures { IsFirstLeast (M.measures policy.now building.now view.now call.now) eligible.now result }
+    ensures { IsFirstLeast (M.measures policy.now building.now view.now call.now) eligible.now
+        result }
 {
     let letters = eligible.letters();
     let mut measures = ArrayVec::<u64, 16>::new();
@@ -75,8 +77,8 @@ fn pick<M: Measure>(
 }
 
 impl Etd {
-    /// What a call would add to the times in ms of all persons of a car, its own party with them; none before the car has
-    /// told where it is.
+    /// What a call would add to the times in ms of all persons of a car, its own party with them;
+    /// none before the car has told where it is.
     pub fn cost(building: &Building, view: &View, call: &NewCall, car: Letter) -> Option<u64>
         requires possible { IsViewIn building.now view.now }
         requires from { call.now.from < building.now.floors }

@@ -13,7 +13,8 @@ use lift_cost::NewCall;
 
 /// Which of the eligible cars takes a call.
 pub trait Policy {
-    /// Which cars this policy may name in a building, at what it sees, for a call, of these eligible cars.
+    /// Which cars this policy may name in a building, at what it sees, for a call, of these
+    /// eligible cars.
     ghost chooses: { Self → Plan → ViewState → Call → List ℕ → ℕ → Type 0 };
 
     /// Names one of the eligible cars. The call is between two floors of the building.
@@ -25,6 +26,7 @@ pub trait Policy {
         ensures chosen { chooses self.now building.now view.now call eligible result };
 
     /// Whatever it may name is one of the eligible cars.
-    ghost only_members: { (policy : Self) (plan : Plan) (view : ViewState) (call : Call) (eligible : List ℕ) (car : ℕ)
+    ghost only_members: { (policy : Self) (plan : Plan) (view : ViewState) (call : Call)
+        (eligible : List ℕ) (car : ℕ)
         → chooses policy plan view call eligible car → Contains eligible car };
 }

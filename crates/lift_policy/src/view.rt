@@ -25,16 +25,23 @@ impl<'a> Model for View<'a> {
 
     ghost Value = { ViewState };
 
-    ghost view = { λ v. record { register = v.register.now; positions = positions_of v.schedules.now } };
+    ghost view = { λ v. record {
+      register = v.register.now;
+      positions = positions_of v.schedules.now;
+    } };
 
     ghost invariant = { λ v. AreSchedulesOf v.register.now v.schedules.now };
 }
 
 impl<'a> View<'a> {
-    /// The schedules are those of the cars that have told where they are, each with its car's open calls.
+    /// The schedules are those of the cars that have told where they are, each with its car's open
+    /// calls.
     pub fn new(register: &'a Register, schedules: &'a [Option<Schedule>; 16]) -> Self
         requires { AreSchedulesOf register.now schedules.now }
-        ensures { result ≡ record { register = register.now; positions = positions_of schedules.now } }
+        ensures { result ≡ record {
+          register = register.now;
+          positions = positions_of schedules.now;
+        } }
     {
         View {
             register,
@@ -42,7 +49,8 @@ impl<'a> View<'a> {
         }
     }
 
-    /// The register that it shows: the open calls of all cars, and what each terminal was last answered.
+    /// The register that it shows: the open calls of all cars, and what each terminal was last
+    /// answered.
     pub fn register(&self) -> &Register
         ensures { result.now ≡ self.now.register }
     {
@@ -61,7 +69,9 @@ impl<'a> View<'a> {
     /// The schedule of a car, none before it has told where it is.
     pub fn schedule(&self, car: Letter) -> Option<&Schedule>
         ensures { option_map (λ s. s.now) result
-            ≡ option_map (λ (p : PositionValue). record { position = p; rows = rows_of self.now.register car }) (position_of self.now.positions car) }
+            ≡ option_map (λ (p : PositionValue).
+            record { position = p; rows = rows_of self.now.register car })
+            (position_of self.now.positions car) }
     {
         let schedules = self.schedules;
         match schedules.get(usize::from(car.get())) {
@@ -78,7 +88,8 @@ impl<'a> View<'a> {
         Some(schedule.position())
     }
 
-    /// Whether a car may take a call: it has told where it is, serves both floors, and has places for the party.
+    /// Whether a car may take a call: it has told where it is, serves both floors, and has places
+    /// for the party.
     pub fn is_eligible(&self, building: &Building, call: NewCall, car: Letter) -> bool
         ensures { result ≡ is_eligible building.now self.now call car }
     {

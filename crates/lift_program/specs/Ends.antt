@@ -1,5 +1,6 @@
 -- How the program ends, and what it says of it.
-use Rattle.std.specs.Prelude.{ℕ, ◌≡◌, ◌⊎◌, ◌+◌, ◌*◌, List, [], ◌∷◌, ◌++◌, Option, Some, None, IfSome, true, false, codes, take}
+use Rattle.std.specs.Prelude.{ℕ, ◌≡◌, ◌⊎◌, ◌+◌, ◌*◌, List, [], ◌∷◌, ◌++◌, Option, Some, None}
+use Rattle.std.specs.Prelude.{IfSome, true, false, codes, take}
 use Rattle.std.specs.Fmt.{decimal}
 use Rattle.std.specs.Io.KnownBytes.{Appends}
 use Rattle.clap.specs.Words.{Text}
@@ -21,14 +22,18 @@ use Rattle.lift_program.specs.Serving.{IsServing}
 use Rattle.lift_program.specs.Images.{image_state_of}
 use Rattle.lift_program.specs.declared.image.ImageDisk.{ImageDisk}
 use Rattle.lift_program.specs.Showing.{IsShown, IsOpeningFault}
-use Rattle.lift_program.specs.Stages.{HasBuilding, HasNoBuilding, OpensJournal, OpensNoJournal, ReadsBuilding, ReadsJournal}
+use Rattle.lift_program.specs.Stages.{HasBuilding, HasNoBuilding, OpensJournal, OpensNoJournal}
+use Rattle.lift_program.specs.Stages.{ReadsBuilding, ReadsJournal}
 use Rattle.lift_program.specs.Words.{Asks}
 use Rattle.lift_program.specs.declared.fault.Fault.{Fault}
-use Rattle.lift_program.specs.declared.fault.Fault.TheVariants.{Building, Journal, File, Memory, Network, Thread}
+use Rattle.lift_program.specs.declared.fault.Fault.TheVariants.{Building, Journal, File, Memory}
+use Rattle.lift_program.specs.declared.fault.Fault.TheVariants.{Network, Thread}
 use Rattle.lift_program.specs.declared.fault.Role.{Role}
-use Rattle.lift_program.specs.declared.fault.Role.TheVariants.{Building as OfBuilding, Image as OfImage, Input, Output}
+use Rattle.lift_program.specs.declared.fault.Role.TheVariants.{Building as OfBuilding}
+use Rattle.lift_program.specs.declared.fault.Role.TheVariants.{Image as OfImage, Input, Output}
 use Rattle.lift_program.specs.declared.end.End.{End}
-use Rattle.lift_program.specs.declared.end.End.TheVariants.{Replayed, Formatted, Shown, Served, Failed, OtherWords}
+use Rattle.lift_program.specs.declared.end.End.TheVariants.{Replayed, Formatted, Shown, Served}
+use Rattle.lift_program.specs.declared.end.End.TheVariants.{Failed, OtherWords}
 use Rattle.lift_program.specs.declared.words.Request.{Request}
 use Rattle.lift_program.specs.declared.words.Request.TheVariants.{Replay, Format, Show, Serve}
 
@@ -53,8 +58,8 @@ line_of (Served port (Some fault)) = Some (fault_text fault ++ 10 ∷ [])
 line_of (Failed fault) = Some (fault_text fault ++ 10 ∷ [])
 line_of OtherWords = Some (usage_text ++ 10 ∷ [])
 
--- An empty journal with so many sectors in a half was made on the device, of a building that was read: by five calls, three of
--- them writes, of which none failed.
+-- An empty journal with so many sectors in a half was made on the device, of a building that was
+-- read: by five calls, three of them writes, of which none failed.
 pub record IsMadeWith (half : ℕ) (disk : FileDisk) : Type 0 where
   pub plan : Plan
   pub building : HasBuilding plan
@@ -87,8 +92,8 @@ IsReplayFault Memory = Unit {0}
 IsReplayFault Network = ⊥
 IsReplayFault Thread = ⊥
 
--- The first of these that stands: the building's file; the first fault of its text; the image's file; a failed call of the
--- device. Or want of memory.
+-- The first of these that stands: the building's file; the first fault of its text; the image's
+-- file; a failed call of the device. Or want of memory.
 abbrev pub IsFormatFault : Fault → Type 0
 IsFormatFault (Building fault) = HasNoBuilding fault
 IsFormatFault (Journal fault) = (fault ≡ OfJournal Disk) × ReadsBuilding
@@ -112,8 +117,8 @@ IsShowingFault Memory = Unit {0}
 IsShowingFault Network = ⊥
 IsShowingFault Thread = ⊥
 
--- The first of these that stands: the building's file; the first fault of its text; the image's file; the recovery's refusal; the
--- standard output. Or want of memory.
+-- The first of these that stands: the building's file; the first fault of its text; the image's
+-- file; the recovery's refusal; the standard output. Or want of memory.
 abbrev pub IsShowFault : Fault → Type 0
 IsShowFault (Building fault) = HasNoBuilding fault
 IsShowFault (Journal fault) = IsOpeningFault fault × OpensNoJournal FileDisk file_state_of fault
@@ -125,8 +130,8 @@ IsShowFault Memory = Unit {0}
 IsShowFault Network = ⊥
 IsShowFault Thread = ⊥
 
--- The first of these that stands: the building's file; the first fault of its text; the image's file; the recovery's refusal; the
--- port, and then the standard output. Or want of memory.
+-- The first of these that stands: the building's file; the first fault of its text; the image's
+-- file; the recovery's refusal; the port, and then the standard output. Or want of memory.
 abbrev pub IsServeFault : Fault → Type 0
 IsServeFault (Building fault) = HasNoBuilding fault
 IsServeFault (Journal fault) = IsOpeningFault fault × OpensNoJournal ImageDisk image_state_of fault
@@ -147,7 +152,8 @@ IsServingFault Memory = Unit {0}
 IsServingFault Network = Unit {0}
 IsServingFault Thread = Unit {0}
 
--- A script couldn't be read: a call of its reader failed, or all were used and its end was not found.
+-- A script couldn't be read: a call of its reader failed, or all were used and its end was not
+-- found.
 abbrev pub IsUnread : {R : Type 0} → InputState R → Type 0
 IsUnread new = (new.failed ≡ true) ⊎ ((new.calls ≡ 2097152) × (new.ended ≡ false))
 
@@ -170,7 +176,8 @@ abbrev pub IsServedFor : Request → ℕ → Option Fault → Type 0
 IsServedFor Replay port fault = ⊥
 IsServedFor (Format image building half) port fault = ⊥
 IsServedFor (Show image building) port fault = ⊥
-IsServedFor (Serve image building asked sessions policy) port fault = (port ≡ asked) × IsServing policy fault
+IsServedFor (Serve image building asked sessions policy) port fault =
+    (port ≡ asked) × IsServing policy fault
 
 -- it asks for no report
 abbrev pub IsUnwritten : Request → Type 0
@@ -203,12 +210,13 @@ WritesFor (Format image building half) before after = Unit {0}
 WritesFor (Show image building) before after = Unit {0}
 WritesFor (Serve image building port sessions policy) before after = SaysFront port before after
 
--- What these words come to: an end of what they ask for; want of memory for them, with nothing written; or, where they ask for nothing,
--- other words.
+-- What these words come to: an end of what they ask for; want of memory for them, with nothing
+-- written; or, where they ask for nothing, other words.
 abbrev pub IsEndOf : List Text → (before after : Option (List ℕ)) → End → Type 0
 IsEndOf words before after OtherWords = (request : Request) → Asks words request → ⊥
 IsEndOf words before after end = ((end ≡ Failed Memory) × (after ≡ before))
-    ⊎ ((request : Request) × Asks words request × IsEndFor request end × WritesFor request before after)
+    ⊎ ((request : Request) × Asks words request × IsEndFor request end
+    × WritesFor request before after)
 
 -- What was written of a fault: nothing of a building's, an image's, a journal's, or the port's.
 abbrev pub IsReportOfFault : Fault → (before after : Option (List ℕ)) → Type 0
@@ -224,9 +232,11 @@ IsReportOfFault Thread before after = Unit {0}
 
 -- what was written is the report of a script, with this verdict
 abbrev pub IsReplayed : Verdict → (before after : Option (List ℕ)) → Type 0
-IsReplayed verdict before after = (bytes : List ℕ) × Writes (IsScriptReport bytes) before after verdict
+IsReplayed verdict before after =
+    (bytes : List ℕ) × Writes (IsScriptReport bytes) before after verdict
 
--- what was written, by the end: of a script its report, and of a journal that was shown its open calls
+-- what was written, by the end: of a script its report, and of a journal that was shown its open
+-- calls
 abbrev pub IsReport : End → (before after : Option (List ℕ)) → Type 0
 IsReport (Replayed verdict) before after = IsReplayed verdict before after
 IsReport (Formatted disk) before after = after ≡ before
@@ -235,8 +245,11 @@ IsReport (Served port fault) before after = Appends before after (serving_text p
 IsReport (Failed fault) before after = IsReportOfFault fault before after
 IsReport OtherWords before after = after ≡ before
 
--- the status of an end that these words come to, with its report, and whose line was told, if it has one
-pub record IsStatusFor {E : Type 0} (contents : E → Option (List ℕ)) (words : List Text) (before after : Option (List ℕ)) (old new : OutputState E) (status : ℕ) : Type 0 where
+-- the status of an end that these words come to, with its report, and whose line was told, if it
+-- has one
+pub record IsStatusFor {E : Type 0} (contents : E
+    → Option (List ℕ)) (words : List Text) (before after : Option (List ℕ))
+    (old new : OutputState E) (status : ℕ) : Type 0 where
   pub end : End
   pub is_end : IsEndOf words before after end
   pub reported : IsReport end before after

@@ -4,24 +4,32 @@ use Rattle.std.specs.Fmt.{decimal}
 use Rattle.lift_building.specs.Text.{fault_number as building_number}
 use Rattle.lift_building.specs.declared.fault.BuildingFault.{BuildingFault}
 use Rattle.lift_building.specs.declared.fault.BuildingFault.TheVariants.{Detour, Memory as NoRoom}
-use Rattle.lift_journal.specs.declared.fault.JournalFault.TheVariants.{Disk, NotFormatted, Damaged, Full, Broken}
+use Rattle.lift_journal.specs.declared.fault.JournalFault.TheVariants.{Disk, NotFormatted, Damaged}
+use Rattle.lift_journal.specs.declared.fault.JournalFault.TheVariants.{Full, Broken}
 use Rattle.lift_keeper.specs.Fault.{fault_number as journal_number}
 use Rattle.lift_keeper.specs.declared.fault.KeeperFault.{KeeperFault}
-use Rattle.lift_keeper.specs.declared.fault.KeeperFault.TheVariants.{Journal as OfJournal, OtherBuilding, BadEntry}
+use Rattle.lift_keeper.specs.declared.fault.KeeperFault.TheVariants.{Journal as OfJournal}
+use Rattle.lift_keeper.specs.declared.fault.KeeperFault.TheVariants.{OtherBuilding, BadEntry}
 use Rattle.lift_replay.specs.declared.script.ReplayFault.{ReplayFault}
-use Rattle.lift_replay.specs.declared.script.ReplayFault.TheVariants.{Memory as NoMemory, Read, Write}
+use Rattle.lift_replay.specs.declared.script.ReplayFault.TheVariants.{Memory as NoMemory, Read}
+use Rattle.lift_replay.specs.declared.script.ReplayFault.TheVariants.{Write}
 use Rattle.lift_serve.specs.declared.serving.ServeFault.{ServeFault}
-use Rattle.lift_serve.specs.declared.serving.ServeFault.TheVariants.{Network as NoNetwork, Thread as NoThread, Memory as NoGrowth}
+use Rattle.lift_serve.specs.declared.serving.ServeFault.TheVariants.{Network as NoNetwork}
+use Rattle.lift_serve.specs.declared.serving.ServeFault.TheVariants.{Thread as NoThread}
+use Rattle.lift_serve.specs.declared.serving.ServeFault.TheVariants.{Memory as NoGrowth}
 use Rattle.lift_program.specs.declared.fault.Role.TheVariants.{Input, Output}
 use Rattle.lift_program.specs.declared.fault.Fault.{Fault}
-use Rattle.lift_program.specs.declared.fault.Fault.TheVariants.{Building, Journal, File, Memory, Network, Thread}
+use Rattle.lift_program.specs.declared.fault.Fault.TheVariants.{Building, Journal, File, Memory}
+use Rattle.lift_program.specs.declared.fault.Fault.TheVariants.{Network, Thread}
 
 -- a building's fault by its number, a detour with its three floors
 abbrev pub building_text : BuildingFault → List ℕ
-building_text (Detour from by to) = codes "liftd: building 6 " ++ decimal from ++ 32 ∷ decimal by ++ 32 ∷ decimal to
+building_text (Detour from by to) =
+    codes "liftd: building 6 " ++ decimal from ++ 32 ∷ decimal by ++ 32 ∷ decimal to
 building_text fault = codes "liftd: building " ++ decimal (building_number fault)
 
--- where in the journal a fault was found: damage has its sector, a record that doesn't fit its place
+-- where in the journal a fault was found: damage has its sector, a record that doesn't fit its
+-- place
 abbrev pub place_text : KeeperFault → List ℕ
 place_text (OfJournal Disk) = []
 place_text (OfJournal NotFormatted) = []
@@ -53,13 +61,15 @@ abbrev pub of_building : BuildingFault → Fault
 of_building NoRoom = Memory
 of_building fault = Building fault
 
--- a script whose reading failed is undone for the standard input, one whose report could not be written for the standard output
+-- a script whose reading failed is undone for the standard input, one whose report could not be
+-- written for the standard output
 abbrev pub of_replay : ReplayFault → Fault
 of_replay NoMemory = Memory
 of_replay Read = File Input
 of_replay Write = File Output
 
--- what a serving is undone for: a device that failed, whatever else there was, and else the first fault of the rest
+-- what a serving is undone for: a device that failed, whatever else there was, and else the first
+-- fault of the rest
 abbrev pub served_fault : (is_broken : Bool) → Option ServeFault → Option Fault
 served_fault true fault = Some (Journal (OfJournal Disk))
 served_fault false None = None

@@ -15,6 +15,8 @@ file_of d = below d.device
 abbrev pub held_of : ImageDisk → List (List ℕ)
 held_of d = held_back d.device
 
--- the file with what is still to be written to it, the device's own counts and its own calls; a failed one is one of the file
+-- the file with what is still to be written to it, the device's own counts and its own calls; a
+-- failed one is one of the file
 abbrev pub image_state_of : ImageDisk → DiskState
-image_state_of d = buffered (file_state_of (file_of d)) d.device.from (held_of d) d.device.calls.count d.device.writes.count d.device.trace.calls
+image_state_of d = buffered (file_state_of (file_of d)) d.device.from
+    (held_of d) d.device.calls.count d.device.writes.count d.device.trace.calls

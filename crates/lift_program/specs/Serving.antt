@@ -13,8 +13,9 @@ use Rattle.lift_serve.specs.declared.serving.ServeFault.{ServeFault}
 use Rattle.lift_program.specs.Faults.{served_fault}
 use Rattle.lift_program.specs.declared.fault.Fault.{Fault}
 
--- The recovery opened a journal on a file, of a building that a text describes, and that building was served over it with this policy.
--- What is told is that the device failed, exactly where it did, and else what the serving told.
+-- The recovery opened a journal on a file, of a building that a text describes, and that building
+-- was served over it with this policy. What is told is that the device failed, exactly where it
+-- did, and else what the serving told.
 pub record IsServing (policy : Shipped) (fault : Option Fault) : Type 0 where
   pub text : List ℕ
   pub plan : Plan
@@ -23,7 +24,9 @@ pub record IsServing (policy : Shipped) (fault : Option Fault) : Type 0 where
   pub uncalled : (image_state_of opened).calls ≡ 0
   pub unhurt : (image_state_of opened).failures ≡ 0
   pub keeper : KeeperView ImageDisk
-  pub recovers : Reopens plan (image_state_of opened) (image_state_of keeper.writer.device) keeper.writer.register keeper.writer.half keeper.writer.is_second keeper.writer.used
+  pub recovers : Reopens plan (image_state_of opened)
+      (image_state_of keeper.writer.device) keeper.writer.register keeper.writer.half
+      keeper.writer.is_second keeper.writer.used
   pub whole : keeper.writer.is_broken ≡ false
   pub own : keeper.writer.plan ≡ plan
   pub last : KeeperView ImageDisk

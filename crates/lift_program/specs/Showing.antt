@@ -6,17 +6,20 @@ use Rattle.lift_building.specs.Plan.{Plan}
 use Rattle.lift_disk.specs.Disk.{DiskState}
 use Rattle.lift_disk.specs.Files.{file_state_of}
 use Rattle.lift_disk.specs.declared.file.FileDisk.{FileDisk}
-use Rattle.lift_journal.specs.declared.fault.JournalFault.TheVariants.{Disk, NotFormatted, Damaged, Full, Broken}
+use Rattle.lift_journal.specs.declared.fault.JournalFault.TheVariants.{Disk, NotFormatted, Damaged}
+use Rattle.lift_journal.specs.declared.fault.JournalFault.TheVariants.{Full, Broken}
 use Rattle.lift_keeper.specs.Reopening.{Reopens}
 use Rattle.lift_keeper.specs.declared.fault.KeeperFault.{KeeperFault}
-use Rattle.lift_keeper.specs.declared.fault.KeeperFault.TheVariants.{Journal, OtherBuilding, BadEntry}
+use Rattle.lift_keeper.specs.declared.fault.KeeperFault.TheVariants.{Journal, OtherBuilding}
+use Rattle.lift_keeper.specs.declared.fault.KeeperFault.TheVariants.{BadEntry}
 use Rattle.lift_register.specs.Balanced.{IsBalanced}
 use Rattle.lift_register.specs.Belongs.{BelongsTo}
 use Rattle.lift_register.specs.Register.{RegisterState}
 use Rattle.lift_register.specs.WellFormed.{IsWellFormed}
 use Rattle.lift_replay.specs.Report.{register_text}
 
--- The recovery has opened a device of the building: this is the register that it gave, and it is possible in the building.
+-- The recovery has opened a device of the building: this is the register that it gave, and it is
+-- possible in the building.
 pub record Recovers (plan : Plan) (old new : DiskState) (register : RegisterState) : Type 0 where
   pub half : ℕ
   pub is_second : Bool
@@ -33,14 +36,15 @@ pub record Shows (plan : Plan) (old new : DiskState) (before after : Option (Lis
   pub written : Appends before after (register_text register)
 
 -- A front of them was.
-pub record ShowsFront (plan : Plan) (old new : DiskState) (before after : Option (List ℕ)) : Type 0 where
+pub record ShowsFront (plan : Plan) (old new : DiskState)
+    (before after : Option (List ℕ)) : Type 0 where
   pub register : RegisterState
   pub recovers : Recovers plan old new register
   pub count : ℕ
   pub written : Appends before after (take count (register_text register))
 
--- The open calls of the journal on the device were written, of a building that a text describes. From the opening of the
--- file on no call failed, and none was a write.
+-- The open calls of the journal on the device were written, of a building that a text describes.
+-- From the opening of the file on no call failed, and none was a write.
 pub record IsShown (disk : FileDisk) (before after : Option (List ℕ)) : Type 0 where
   pub text : List ℕ
   pub plan : Plan
@@ -50,8 +54,8 @@ pub record IsShown (disk : FileDisk) (before after : Option (List ℕ)) : Type 0
   pub unhurt : (file_state_of opened).failures ≡ 0
   pub shows : Shows plan (file_state_of opened) (file_state_of disk) before after
 
--- What an opening may be refused for: what the journal's opening is, a building of another shape, or a record that
--- doesn't fit.
+-- What an opening may be refused for: what the journal's opening is, a building of another shape,
+-- or a record that doesn't fit.
 abbrev pub IsOpeningFault : KeeperFault → Type 0
 IsOpeningFault (Journal Disk) = Unit {0}
 IsOpeningFault (Journal NotFormatted) = Unit {0}

@@ -1,5 +1,5 @@
--- How far a command came that is over a building and an image: its faults are looked for in this order, the building's file, its
--- text, the image's file, the journal, the port.
+-- How far a command came that is over a building and an image: its faults are looked for in this
+-- order, the building's file, its text, the image's file, the journal, the port.
 use Rattle.std.specs.Prelude.{ℕ, ◌≡◌, ◌≤◌, false, List, length}
 use Rattle.lift_building.specs.Describes.{IsTextOf}
 use Rattle.lift_building.specs.Gives.{IsFirstFault}
@@ -16,8 +16,10 @@ use Rattle.lift_keeper.specs.declared.fault.KeeperFault.{KeeperFault}
 use Rattle.lift_register.specs.Register.{RegisterState}
 use Rattle.lift_program.specs.Showing.{Recovers}
 use Rattle.lift_program.specs.declared.fault.Fault.{Fault}
-use Rattle.lift_program.specs.declared.fault.Fault.TheVariants.{Building, Journal, File, Memory, Network, Thread}
-use Rattle.lift_program.specs.declared.fault.Role.TheVariants.{Building as OfBuilding, Image as OfImage, Input, Output}
+use Rattle.lift_program.specs.declared.fault.Fault.TheVariants.{Building, Journal, File, Memory}
+use Rattle.lift_program.specs.declared.fault.Fault.TheVariants.{Network, Thread}
+use Rattle.lift_program.specs.declared.fault.Role.TheVariants.{Building as OfBuilding}
+use Rattle.lift_program.specs.declared.fault.Role.TheVariants.{Image as OfImage, Input, Output}
 
 -- a building's text has so many bytes at most
 abbrev pub most_text : ℕ
@@ -40,12 +42,16 @@ pub record HasKeeperOf (plan : Plan) (keeper : KeeperView ImageDisk) : Type 0 wh
   pub opened : ImageDisk
   pub uncalled : (image_state_of opened).calls ≡ 0
   pub unhurt : (image_state_of opened).failures ≡ 0
-  pub recovers : Reopens plan (image_state_of opened) (image_state_of keeper.writer.device) keeper.writer.register keeper.writer.half keeper.writer.is_second keeper.writer.used
+  pub recovers : Reopens plan (image_state_of opened)
+      (image_state_of keeper.writer.device) keeper.writer.register keeper.writer.half
+      keeper.writer.is_second keeper.writer.used
   pub whole : keeper.writer.is_broken ≡ false
   pub own : keeper.writer.plan ≡ plan
 
--- an image was opened as such a device, and the recovery from it, of this building, was refused for this
-pub record HasNoKeeperOf (D : Type 0) (state : D → DiskState) (plan : Plan) (fault : KeeperFault) : Type 0 where
+-- an image was opened as such a device, and the recovery from it, of this building, was refused for
+-- this
+pub record HasNoKeeperOf (D : Type 0) (state : D
+    → DiskState) (plan : Plan) (fault : KeeperFault) : Type 0 where
   pub opened : D
   pub uncalled : (state opened).calls ≡ 0
   pub unhurt : (state opened).failures ≡ 0
@@ -58,7 +64,8 @@ ReadsBuilding = (plan : Plan) × HasBuilding plan
 
 -- the building was read, and the recovery opened a journal of it
 abbrev pub OpensJournal : Type 0
-OpensJournal = (plan : Plan) × (keeper : KeeperView ImageDisk) × HasBuilding plan × HasKeeperOf plan keeper
+OpensJournal = (plan : Plan) × (keeper : KeeperView ImageDisk) × HasBuilding plan
+    × HasKeeperOf plan keeper
 
 -- the building was read, and the recovery, from an image that was opened, gave a register
 pub record ReadsJournal : Type 0 where
@@ -87,7 +94,8 @@ IsBuildingFault Memory = Unit {0}
 IsBuildingFault Network = ⊥
 IsBuildingFault Thread = ⊥
 
--- what no keeper of this building is had for: the image's file, want of memory, or the recovery's refusal
+-- what no keeper of this building is had for: the image's file, want of memory, or the recovery's
+-- refusal
 abbrev pub IsKeeperFault : Plan → Fault → Type 0
 IsKeeperFault plan (Building fault) = ⊥
 IsKeeperFault plan (Journal fault) = HasNoKeeperOf ImageDisk image_state_of plan fault

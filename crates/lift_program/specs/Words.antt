@@ -1,7 +1,8 @@
 -- What the program's words ask for.
 use Rattle.std.specs.Prelude.{◌≡◌, ◌≤◌, ◌⊎◌, ℕ, true, List, [], Option, Some, None, codes}
 use Rattle.std.specs.Fmt.{decimal}
-use Rattle.clap.specs.Words.{AddsSubcommand, App, Row, Rule, Text, app_of, new_app, new_rule, with_rule, with_subcommand, first_of, subcommand_of, fault_of}
+use Rattle.clap.specs.Words.{AddsSubcommand, App, Row, Rule, Text, app_of, new_app, new_rule}
+use Rattle.clap.specs.Words.{with_rule, with_subcommand, first_of, subcommand_of, fault_of}
 use Rattle.clap.specs.declared.builder.command.Command.{Command}
 use Rattle.lift_policy.specs.declared.shipped.Shipped.{Shipped}
 use Rattle.lift_policy.specs.declared.shipped.Shipped.TheVariants.{Etd, FewestOpen, ShortestWait}
@@ -18,7 +19,8 @@ option_rule name = record (new_rule name) { long = Some name }
 
 -- a command over an image and a building: `<name> <image> <building>`
 abbrev pub app_on : Text → App
-app_on name = with_rule (with_rule (new_app name) (word_rule (codes "image"))) (word_rule (codes "building"))
+app_on name = with_rule (with_rule (new_app name) (word_rule (codes "image")))
+    (word_rule (codes "building"))
 
 -- `format <image> <building> [--half n]`
 abbrev pub format_app : App
@@ -30,7 +32,8 @@ show_app = app_on (codes "show")
 
 -- `serve <image> <building> --port <p> --sessions <n> [--policy etd|fewest|wait]`
 abbrev pub serve_app : App
-serve_app = with_rule (with_rule (with_rule (app_on (codes "serve")) (option_rule (codes "port"))) (option_rule (codes "sessions"))) (option_rule (codes "policy"))
+serve_app = with_rule (with_rule (with_rule (app_on (codes "serve")) (option_rule (codes "port")))
+    (option_rule (codes "sessions"))) (option_rule (codes "policy"))
 
 -- `replay`
 abbrev pub replay_app : App
@@ -38,15 +41,19 @@ replay_app = new_app (codes "replay")
 
 -- A command that, added to a program, is this command of it, behind those that it had.
 abbrev pub IsCommand : App → Command → Type 0
-IsCommand app command = (old new : Command) → AddsSubcommand old command new → app_of new ≡ with_subcommand (app_of old) app.top
+IsCommand app command = (old new : Command) → AddsSubcommand old command new
+    → app_of new ≡ with_subcommand (app_of old) app.top
 
 -- the program by itself, whose first word is not its name
 abbrev pub bare_app : App
-bare_app = record (new_app (codes "liftd")) { top = record (new_app (codes "liftd")).top { no_binary_name = true } }
+bare_app = record (new_app
+    (codes "liftd")) { top = record (new_app (codes "liftd")).top { no_binary_name = true } }
 
 -- the program with its commands
 abbrev pub liftd_app : App
-liftd_app = with_subcommand (with_subcommand (with_subcommand (with_subcommand bare_app replay_app.top) format_app.top) show_app.top) serve_app.top
+liftd_app = with_subcommand
+    (with_subcommand (with_subcommand (with_subcommand bare_app replay_app.top) format_app.top)
+    show_app.top) serve_app.top
 
 -- the sectors in a half: 64, or what the option's word spells, 64 to 1,000,000
 abbrev pub IsHalf : Option Text → ℕ → Type 0
@@ -67,7 +74,8 @@ abbrev pub IsShow : List Row → Request → Type 0
 IsShow rows Replay = ⊥
 IsShow rows (Format image building half) = ⊥
 IsShow rows (Serve image building port sessions policy) = ⊥
-IsShow rows (Show image building) = (first_of (codes "image") rows ≡ Some image.now) × (first_of (codes "building") rows ≡ Some building.now)
+IsShow rows (Show image building) = (first_of (codes "image") rows ≡ Some image.now)
+    × (first_of (codes "building") rows ≡ Some building.now)
 
 -- a number from 1 to the most that the option's word spells
 abbrev pub IsCount : (most : ℕ) → Option Text → ℕ → Type 0
@@ -90,7 +98,8 @@ abbrev pub IsServe : List Row → Request → Type 0
 IsServe rows Replay = ⊥
 IsServe rows (Format image building half) = ⊥
 IsServe rows (Show image building) = ⊥
-IsServe rows (Serve image building port sessions policy) = (first_of (codes "image") rows ≡ Some image.now)
+IsServe rows (Serve image building port sessions policy) =
+    (first_of (codes "image") rows ≡ Some image.now)
     × (first_of (codes "building") rows ≡ Some building.now)
     × IsCount 65535 (first_of (codes "port") rows) port
     × IsCount 1000000 (first_of (codes "sessions") rows) sessions
@@ -113,4 +122,5 @@ abbrev pub IsInRange : Request → Type 0
 IsInRange Replay = Unit {0}
 IsInRange (Format image building half) = (64 ≤ half) × (half ≤ 1000000)
 IsInRange (Show image building) = Unit {0}
-IsInRange (Serve image building port sessions policy) = (1 ≤ port) × (port ≤ 65535) × (1 ≤ sessions) × (sessions ≤ 1000000)
+IsInRange (Serve image building port sessions policy) = (1 ≤ port) × (port ≤ 65535) × (1 ≤ sessions)
+    × (sessions ≤ 1000000)

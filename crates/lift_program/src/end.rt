@@ -29,7 +29,8 @@ pub enum End {
 }
 
 impl End {
-    /// The program's status: 0 where all was done, 1 for a bad script or a fault, 2 for other words.
+    /// The program's status: 0 where all was done, 1 for a bad script or a fault, 2 for other
+    /// words.
     pub fn status(&self) -> u8
         ensures { result ≡ status_of self.now }
     {
@@ -45,7 +46,8 @@ impl End {
         }
     }
 
-    /// Writes the line of a fault, or of other words. Where it can't be written, the status alone tells.
+    /// Writes the line of a fault, or of other words. Where it can't be written, the status alone
+    /// tells.
     pub fn tell<E: Write + Drop>(&self, errors: &mut Watched<E>)
         ensures told { IfSome (line_of self.now) (IsTold E.contents errors.old errors.new) }
         ensures quiet { line_of self.now ≡ None → errors.new ≡ errors.old }

@@ -4,7 +4,8 @@ ghost use Rattle.std.specs.Prelude.{◌≡◌, ◌≢◌, ◌≤◌, ◌+◌, �
 ghost use Rattle.std.specs.Fmt.{decimal};
 ghost use Rattle.std.specs.IoError.{error_kind};
 ghost use Rattle.arrayvec.specs.ArrayString.{array_string_len};
-ghost use Rattle.lift_program.specs.Faults.{building_text, journal_text, fault_text, of_building, of_replay};
+ghost use Rattle.lift_program.specs.Faults.{building_text, journal_text, fault_text, of_building};
+ghost use Rattle.lift_program.specs.Faults.{of_replay};
 ghost use Rattle.lift_program.specs.Output.{IsTold};
 ghost use Rattle.lift_program.specs.declared.fault.Fault.TheVariants.{Memory as NoMemory};
 

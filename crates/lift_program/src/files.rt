@@ -4,8 +4,10 @@ ghost use Rattle.std.specs.Prelude.{◌≡◌, ◌≤◌, ◌+◌, [], IfOk, IfE
 ghost use Rattle.lift_disk.specs.Files.{file_state_of};
 ghost use Rattle.lift_replay.specs.Reading.{TakesUpTo};
 ghost use Rattle.lift_program.specs.Ends.{IsFileFault};
-ghost use Rattle.lift_program.specs.Stages.{HasBuilding, HasKeeperOf, IsBuildingFault, IsKeeperFault, most_text};
-ghost use Rattle.lift_program.specs.declared.fault.Role.TheVariants.{Building as OfBuilding, Image as OfImage};
+ghost use Rattle.lift_program.specs.Stages.{HasBuilding, HasKeeperOf, IsBuildingFault};
+ghost use Rattle.lift_program.specs.Stages.{IsKeeperFault, most_text};
+ghost use Rattle.lift_program.specs.declared.fault.Role.TheVariants.{Building as OfBuilding};
+ghost use Rattle.lift_program.specs.declared.fault.Role.TheVariants.{Image as OfImage};
 
 use crate::fault::{Fault, Role};
 use crate::image::ImageDisk;
@@ -29,12 +31,14 @@ const MOST_BYTES: usize = 1_048_576;
 /// The file is read in so many calls at most.
 const MOST_CALLS: u32 = 2_097_152;
 
-/// The bytes of a building's file. Reading stops behind one byte more than there may be, and the file is refused then.
+/// The bytes of a building's file. Reading stops behind one byte more than there may be, and the
+/// file is refused then.
 fn bytes_of<R: Read + Drop>(alloc: Global, reader: &mut Counted<R>) -> Result<Vec<u8>, Fault>
     requires fresh { reader.old.calls ≡ 0 }
     requires unhurt { reader.old.failed ≡ false }
     requires before_end { reader.old.ended ≡ false }
-    ensures whole { IfOk result (λ bytes. IfSome (R.remaining reader.old.reader) (λ all. bytes.items ≡ all)) }
+    ensures whole { IfOk result (λ bytes.
+        IfSome (R.remaining reader.old.reader) (λ all. bytes.items ≡ all)) }
     ensures bound { IfOk result (λ bytes. vec_len bytes ≤ most_text) }
     ensures taken { TakesUpTo (most_text + 1) R.remaining reader.old.reader reader.new.reader }
     ensures few_calls { reader.new.calls ≤ 2097152 }
@@ -53,9 +57,10 @@ fn bytes_of<R: Read + Drop>(alloc: Global, reader: &mut Counted<R>) -> Result<Ve
     }
 }
 
-/// A building's file, to be read. What isn't a file, as a pipe or a terminal, isn't opened, so that nothing waits for its
-/// other end. A file that got the descriptor of a standard stream, which the program began without, is refused: what is
-/// printed would be written into it, or into the next file that is opened.
+/// A building's file, to be read. What isn't a file, as a pipe or a terminal, isn't opened, so that
+/// nothing waits for its other end. A file that got the descriptor of a standard stream, which the
+/// program began without, is refused: what is printed would be written into it, or into the next
+/// file that is opened.
 fn building_file<F: Files<File = File>>(rt: &F, path: &str) -> Result<File, Fault>
     ensures { IfErr result (IsFileFault OfBuilding) }
 {
@@ -92,7 +97,8 @@ fn building_of(alloc: Global, bytes: &[u8]) -> Result<Building, Fault>
     }
 }
 
-/// The building that a file describes. A file of more than 1,048,576 bytes is refused as one that can't be read.
+/// The building that a file describes. A file of more than 1,048,576 bytes is refused as one that
+/// can't be read.
 #[tactic(auto, using(crate::proofs::Stages::file_refuses))]
 pub fn building_in<F: Files<File = File>>(
     rt: &F,

@@ -2,7 +2,8 @@
 
 ghost use Rattle.std.specs.Prelude.{◌≡◌, false, IfOk};
 ghost use Rattle.clap.specs.Words.{app_of, rule_of};
-ghost use Rattle.lift_program.specs.Words.{liftd_app, bare_app, replay_app, format_app, show_app, serve_app, word_rule, option_rule, IsCommand};
+ghost use Rattle.lift_program.specs.Words.{liftd_app, bare_app, replay_app, format_app, show_app};
+ghost use Rattle.lift_program.specs.Words.{serve_app, word_rule, option_rule, IsCommand};
 
 use clap::{Arg, Command};
 use std::alloc::{AllocError, Global};

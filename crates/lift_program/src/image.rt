@@ -5,16 +5,16 @@ ghost use Rattle.lift_program.specs.Images.{file_of, held_of, image_state_of};
 
 use lift_disk::{Buffered, BufferedFile, Disk, DiskFault, FileDisk};
 
-/// The file of a journal. It is read 16 sectors at once, and neighbouring writes are made as one, at a write elsewhere or
-/// at a sync.
+/// The file of a journal. It is read 16 sectors at once, and neighbouring writes are made as one,
+/// at a write elsewhere or at a sync.
 #[derive(Drop)]
 pub struct ImageDisk {
     device: BufferedFile,
 }
 
 impl ImageDisk {
-    /// A device of which nothing was read or written yet, over a file of which no call has failed. It makes no call of the
-    /// file.
+    /// A device of which nothing was read or written yet, over a file of which no call has failed.
+    /// It makes no call of the file.
     pub fn over(file: FileDisk) -> ImageDisk
         requires { (file_state_of file).failures ≡ 0 }
         ensures file { file_of result ≡ file }

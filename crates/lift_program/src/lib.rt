@@ -1,4 +1,5 @@
-//! What the program `liftd` does: it carries out scripts, makes journals on files, shows what they hold, and serves buildings on sockets.
+//! What the program `liftd` does: it carries out scripts, makes journals on files, shows what they
+//! hold, and serves buildings on sockets.
 #![tactic(auto)]
 
 mod end;

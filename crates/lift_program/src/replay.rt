@@ -22,12 +22,17 @@ pub fn replay<R: Read + Drop, W: Write>(
     requires unhurt { input.old.failed ≡ false }
     requires before_end { input.old.ended ≡ false }
     ensures good { result ≡ Ok Verdict.Good → input.new.ended ≡ true }
-    // What was written is the report of the script, and the verdict is that of it: of the reader's input, where that is known.
-    ensures report { IfOk result (λ verdict. ReportsInput (R.remaining input.old.reader) (W.contents writer.old) (W.contents writer.new) verdict) }
-    ensures told { IfOk result (λ verdict. IsReplayed verdict (W.contents writer.old) (W.contents writer.new)) }
+    // What was written is the report of the script, and the verdict is that of it: of the reader's
+    // input, where that is known.
+    ensures report { IfOk result (λ verdict.
+        ReportsInput (R.remaining input.old.reader) (W.contents writer.old)
+        (W.contents writer.new) verdict) }
+    ensures told { IfOk result (λ verdict.
+        IsReplayed verdict (W.contents writer.old) (W.contents writer.new)) }
     ensures fault { IfErr result IsReplayFault }
     ensures unread { result ≡ Err (Fault.File Input) → IsUnread input.new }
-    ensures unwritten { result ≡ Err (Fault.File Input) → W.contents writer.new ≡ W.contents writer.old }
+    ensures unwritten { result ≡ Err (Fault.File Input)
+        → W.contents writer.new ≡ W.contents writer.old }
     ensures read { result ≡ Err (Fault.File Output) → IsRead R.remaining input.old input.new }
 {
     let verdict = lift_replay::run(alloc, input, writer)?;

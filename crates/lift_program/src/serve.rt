@@ -2,7 +2,8 @@
 
 ghost use Rattle.std.specs.Prelude.{◌≡◌, ◌≤◌, OnOk, IfOk, IfErr, IfSome};
 ghost use Rattle.std.specs.Io.KnownBytes.{Appends};
-ghost use Rattle.lift_program.specs.Ends.{IsFileFault, IsReportOfFault, IsServeFault, IsServingFault, SaysFront, serving_text};
+ghost use Rattle.lift_program.specs.Ends.{IsFileFault, IsReportOfFault, IsServeFault};
+ghost use Rattle.lift_program.specs.Ends.{IsServingFault, SaysFront, serving_text};
 ghost use Rattle.lift_program.specs.Faults.{served_fault};
 ghost use Rattle.lift_program.specs.Serving.{IsServing};
 ghost use Rattle.lift_program.specs.declared.fault.Role.TheVariants.{Output};
@@ -41,7 +42,8 @@ fn fault_of(is_broken: bool, fault: Option<ServeFault>) -> Option<Fault>
 
 /// Says which port is served.
 fn say<W: Write>(port: u16, writer: &mut W) -> Result<(), Fault>
-    ensures said { OnOk result (Appends (W.contents writer.old) (W.contents writer.new) (serving_text port)) }
+    ensures said { OnOk result
+        (Appends (W.contents writer.old) (W.contents writer.new) (serving_text port)) }
     ensures front { SaysFront port (W.contents writer.old) (W.contents writer.new) }
     ensures fault { IfErr result (IsFileFault Output) }
 {
@@ -59,8 +61,9 @@ fn say<W: Write>(port: u16, writer: &mut W) -> Result<(), Fault>
     }
 }
 
-/// Serves the building in the file `building` on a port of this machine, with the journal in the file `image`, until so many
-/// connections have ended. The answer is the fault that did not end it, if there was one.
+/// Serves the building in the file `building` on a port of this machine, with the journal in the
+/// file `image`, until so many connections have ended. The answer is the fault that did not end it,
+/// if there was one.
 #[tactic(auto, using(crate::proofs::Stages::building_serves, crate::proofs::Stages::keeper_serves, crate::proofs::Stages::nothing_written, crate::proofs::Stages::opens_journal, crate::proofs::Stages::output_serves, crate::proofs::Writing::nothing_said, crate::proofs::Writing::said_front))]
 pub fn serve<
     R: Files<File = File>
@@ -80,11 +83,13 @@ pub fn serve<
     policy: Shipped,
     writer: &mut W,
 ) -> Result<Option<Fault>, Fault>
-    ensures said { OnOk result (Appends (W.contents writer.old) (W.contents writer.new) (serving_text port)) }
+    ensures said { OnOk result
+        (Appends (W.contents writer.old) (W.contents writer.new) (serving_text port)) }
     ensures served { IfOk result (IsServing policy) }
     ensures serving { IfOk result (λ fault. IfSome fault IsServingFault) }
     ensures fault { IfErr result IsServeFault }
-    ensures report { IfErr result (λ fault. IsReportOfFault fault (W.contents writer.old) (W.contents writer.new)) }
+    ensures report { IfErr result (λ fault.
+        IsReportOfFault fault (W.contents writer.old) (W.contents writer.new)) }
     ensures front { SaysFront port (W.contents writer.old) (W.contents writer.new) }
 {
     let building = building_in(rt, alloc, building)?;

@@ -5,7 +5,8 @@ ghost use Rattle.std.specs.Io.KnownBytes.{Appends};
 ghost use Rattle.lift_keeper.specs.Reopening.{RefusesReopening};
 ghost use Rattle.lift_keeper.specs.declared.fault.KeeperFault.{KeeperFault as Refusal};
 ghost use Rattle.lift_replay.specs.Report.{register_text};
-ghost use Rattle.lift_program.specs.Ends.{IsFileFault, IsReportOfFault, IsShowFault, IsShowingFault};
+ghost use Rattle.lift_program.specs.Ends.{IsFileFault, IsReportOfFault, IsShowFault};
+ghost use Rattle.lift_program.specs.Ends.{IsShowingFault};
 ghost use Rattle.lift_program.specs.Showing.{IsShown, Shows, ShowsFront};
 ghost use Rattle.lift_program.specs.declared.fault.Fault.TheVariants.{Journal as OfJournal};
 ghost use Rattle.lift_program.specs.declared.fault.Role.TheVariants.{Output};
@@ -24,8 +25,11 @@ use std::io::Write;
 
 /// Writes the open calls of a register, as scripts report them.
 fn write_rows<W: Write>(alloc: Global, register: &Register, writer: &mut W) -> Result<(), Fault>
-    ensures written { OnOk result (Appends (W.contents writer.old) (W.contents writer.new) (register_text register.now)) }
-    ensures front { OnErr result ((n : ℕ) × Appends (W.contents writer.old) (W.contents writer.new) (take n (register_text register.now))) }
+    ensures written { OnOk result
+        (Appends (W.contents writer.old) (W.contents writer.new) (register_text register.now)) }
+    ensures front { OnErr result ((n : ℕ)
+        × Appends (W.contents writer.old) (W.contents writer.new)
+        (take n (register_text register.now))) }
     ensures fault { IfErr result (IsFileFault Output) }
 {
     let mut report = String::new(alloc);
@@ -39,8 +43,8 @@ fn write_rows<W: Write>(alloc: Global, register: &Register, writer: &mut W) -> R
     }
 }
 
-/// Opens the keeper of a building on a device, and writes the open calls that it shows: the recovery's. Hands the device
-/// back. No sector is written.
+/// Opens the keeper of a building on a device, and writes the open calls that it shows: the
+/// recovery's. Hands the device back. No sector is written.
 fn show_on<D: Disk + Drop, W: Write>(
     alloc: Global,
     disk: D,
@@ -48,14 +52,18 @@ fn show_on<D: Disk + Drop, W: Write>(
     writer: &mut W,
 ) -> (D, Result<(), Fault>)
     // What is written is exactly the lines of the register that the recovery gave,
-    ensures shown { OnOk result.1 (Shows building.now (D.state disk) (D.state result.0) (W.contents writer.old) (W.contents writer.new)) }
+    ensures shown { OnOk result.1
+        (Shows building.now (D.state disk) (D.state result.0) (W.contents writer.old)
+        (W.contents writer.new)) }
     // or a front of them, where they can't be written.
     ensures front { IfErr result.1 (λ fault. IsFileFault Output fault
-        → ShowsFront building.now (D.state disk) (D.state result.0) (W.contents writer.old) (W.contents writer.new)) }
+        → ShowsFront building.now (D.state disk) (D.state result.0) (W.contents writer.old)
+        (W.contents writer.new)) }
     // Where the recovery is refused its cause is told, and nothing is written.
     ensures refused { (fault : Refusal) → result.1 ≡ Err (OfJournal fault)
         → RefusesReopening building.now (D.state disk) (D.state result.0) fault }
-    ensures unwritten { IfErr result.1 (λ fault. IsReportOfFault fault (W.contents writer.old) (W.contents writer.new)) }
+    ensures unwritten { IfErr result.1 (λ fault.
+        IsReportOfFault fault (W.contents writer.old) (W.contents writer.new)) }
     ensures fault { IfErr result.1 IsShowingFault }
     ensures writes { (D.state result.0).writes ≡ (D.state disk).writes }
 {
@@ -68,7 +76,8 @@ fn show_on<D: Disk + Drop, W: Write>(
     }
 }
 
-/// Shows the open calls of the journal in the file `image`, which is of the building in the file `building`.
+/// Shows the open calls of the journal in the file `image`, which is of the building in the file
+/// `building`.
 #[tactic(auto, using(crate::proofs::Stages::building_shows, crate::proofs::Stages::image_shows, crate::proofs::Stages::nothing_written))]
 pub fn show<F: Files<File = File>, W: Write>(
     rt: &F,
@@ -77,9 +86,11 @@ pub fn show<F: Files<File = File>, W: Write>(
     building: &str,
     writer: &mut W,
 ) -> Result<FileDisk, Fault>
-    ensures shown { IfOk result (λ disk. IsShown disk (W.contents writer.old) (W.contents writer.new)) }
+    ensures shown { IfOk result (λ disk.
+        IsShown disk (W.contents writer.old) (W.contents writer.new)) }
     ensures fault { IfErr result IsShowFault }
-    ensures report { IfErr result (λ fault. IsReportOfFault fault (W.contents writer.old) (W.contents writer.new)) }
+    ensures report { IfErr result (λ fault.
+        IsReportOfFault fault (W.contents writer.old) (W.contents writer.new)) }
 {
     let building = building_in(rt, alloc, building)?;
     let disk = image_in(rt, image)?;

@@ -5,7 +5,8 @@ ghost use Rattle.std.specs.IoError.{error_kind};
 ghost use Rattle.lift_replay.specs.Reading.{IsRead};
 ghost use Rattle.lift_replay.specs.declared.lines.Verdict.TheVariants.{Good};
 ghost use Rattle.lift_program.specs.declared.fault.Role.TheVariants.{Input, Output};
-ghost use Rattle.lift_program.specs.Ends.{IsEndFor, IsEndOf, IsReport, IsStatusFor, IsUnread, IsUnwritten, WritesFor, line_of};
+ghost use Rattle.lift_program.specs.Ends.{IsEndFor, IsEndOf, IsReport, IsStatusFor, IsUnread};
+ghost use Rattle.lift_program.specs.Ends.{IsUnwritten, WritesFor, line_of};
 ghost use Rattle.lift_program.specs.Output.{IsTold};
 ghost use Rattle.lift_program.specs.Words.{Asks, IsInRange};
 ghost use Rattle.lift_program.specs.declared.words.Request.{Request as Wanted};
@@ -98,8 +99,8 @@ pub fn not_given<E: Write + Drop>(error: io::Error, errors: &mut Watched<E>) -> 
     end
 }
 
-/// Does what the words behind the program's name ask for, and answers how it ended. A fault writes its line to
-/// `errors`, and so do other words.
+/// Does what the words behind the program's name ask for, and answers how it ended. A fault writes
+/// its line to `errors`, and so do other words.
 fn carry_out<
     F: Files<File = File>
         + Threads
@@ -123,7 +124,8 @@ fn carry_out<
     requires unhurt { input.old.failed ≡ false }
     requires before_end { input.old.ended ≡ false }
     // It ends as the words ask, and where they ask for serving nothing is written but what says so,
-    ensures end { IsEndOf (map S.text words.now) (W.contents writer.old) (W.contents writer.new) result }
+    ensures end { IsEndOf (map S.text words.now) (W.contents writer.old)
+        (W.contents writer.new) result }
     // a fault and other words are told by their line,
     ensures told { IfSome (line_of result) (IsTold E.contents errors.old errors.new) }
     // and what was done tells nothing.
@@ -131,7 +133,8 @@ fn carry_out<
     // A script's report is what it says, and a journal's are its open calls.
     ensures report { IsReport result (W.contents writer.old) (W.contents writer.new) }
     // Nothing is reported where neither was asked for.
-    ensures unwritten { ((request : Wanted) → Asks (map S.text words.now) request → IsUnwritten request)
+    ensures unwritten { ((request : Wanted) → Asks (map S.text words.now) request
+        → IsUnwritten request)
         → W.contents writer.new ≡ W.contents writer.old }
     // A good script was read to its end,
     ensures good { result ≡ End.Replayed Good → input.new.ended ≡ true }
@@ -150,8 +153,9 @@ fn carry_out<
     end
 }
 
-/// Does what the words behind the program's name ask for, and answers the status: 0 where all was done, 1 for a bad
-/// script or a fault, 2 for other words. A fault writes its line to `errors`, and so do other words.
+/// Does what the words behind the program's name ask for, and answers the status: 0 where all was
+/// done, 1 for a bad script or a fault, 2 for other words. A fault writes its line to `errors`, and
+/// so do other words.
 pub fn start<
     F: Files<File = File>
         + Threads
@@ -165,9 +169,11 @@ pub fn start<
     E: Write + Drop,
 >(rt: &F, alloc: Global, words: &[S], reader: R, writer: &mut W, errors: &mut Watched<E>) -> u8
     // It is the status of an end that the words come to, with its report, and which is told,
-    ensures status { IsStatusFor E.contents (map S.text words.now) (W.contents writer.old) (W.contents writer.new) errors.old errors.new result }
+    ensures status { IsStatusFor E.contents (map S.text words.now) (W.contents writer.old)
+        (W.contents writer.new) errors.old errors.new result }
     // and nothing is reported where neither a replay nor a journal's open calls were asked for.
-    ensures unwritten { ((request : Wanted) → Asks (map S.text words.now) request → IsUnwritten request)
+    ensures unwritten { ((request : Wanted) → Asks (map S.text words.now) request
+        → IsUnwritten request)
         → W.contents writer.new ≡ W.contents writer.old }
 {
     let mut input = Counted::new(reader);

@@ -2,7 +2,8 @@
 
 ghost use Rattle.std.specs.Prelude.{◌≡◌, ◌≤◌, ℕ, map, option_map, IfOk, IfSome, IfNone};
 ghost use Rattle.clap.specs.Words.{rows_of, found_of, subcommand_rows_of};
-ghost use Rattle.lift_program.specs.Words.{Asks, IsCount, IsFor, IsFormat, IsShow, IsServe, IsHalf, IsInRange, IsPolicy, IsPolicyWord};
+ghost use Rattle.lift_program.specs.Words.{Asks, IsCount, IsFor, IsFormat, IsShow, IsServe, IsHalf};
+ghost use Rattle.lift_program.specs.Words.{IsInRange, IsPolicy, IsPolicyWord};
 ghost use Rattle.lift_policy.specs.declared.shipped.Shipped.{Shipped as ShippedValue};
 ghost use Rattle.lift_program.specs.declared.words.Request.{Request as Wanted};
 
@@ -26,12 +27,14 @@ pub enum Request<'a> {
         /// The sectors of half of it, 64 to 1,000,000.
         half: u32,
     },
-    /// Show the open calls of the journal in the file `image`, which is of the building in the file `building`.
+    /// Show the open calls of the journal in the file `image`, which is of the building in the file
+    /// `building`.
     Show {
         image: &'a str,
         building: &'a str,
     },
-    /// Serve the building in the file `building` on a port of this machine, with the journal in the file `image`.
+    /// Serve the building in the file `building` on a port of this machine, with the journal in the
+    /// file `image`.
     Serve {
         image: &'a str,
         building: &'a str,
@@ -55,7 +58,8 @@ const MOST_HALF: u32 = 1_000_000;
 fn half_of(word: Option<&str>) -> Option<u32>
     ensures some { IfSome result (λ half. IsHalf (option_map (λ w. w.now) word.entry) half) }
     ensures limits { IfSome result (λ half. (64 ≤ half) × (half ≤ 1000000)) }
-    ensures none { IfNone result ((half : ℕ) → IsHalf (option_map (λ w. w.now) word.entry) half → ⊥) }
+    ensures none { IfNone result ((half : ℕ) → IsHalf (option_map (λ w. w.now) word.entry) half
+        → ⊥) }
 {
     let Some(word) = word else {
         return Some(LEAST_HALF);
@@ -68,7 +72,8 @@ fn half_of(word: Option<&str>) -> Option<u32>
 fn format_of<'a>(matches: &ArgMatches<'a>) -> Option<Request<'a>>
     ensures some { IfSome result (λ request. IsFormat (rows_of (found_of matches.now)) request) }
     ensures range { IfSome result (λ request. IsInRange request) }
-    ensures none { IfNone result ((request : Wanted) → IsFormat (rows_of (found_of matches.now)) request → ⊥) }
+    ensures none { IfNone result ((request : Wanted)
+        → IsFormat (rows_of (found_of matches.now)) request → ⊥) }
 {
     let image = matches.get_str("image")?;
     let building = matches.get_str("building")?;
@@ -84,7 +89,8 @@ fn format_of<'a>(matches: &ArgMatches<'a>) -> Option<Request<'a>>
 fn show_of<'a>(matches: &ArgMatches<'a>) -> Option<Request<'a>>
     ensures some { IfSome result (λ request. IsShow (rows_of (found_of matches.now)) request) }
     ensures range { IfSome result (λ request. IsInRange request) }
-    ensures none { IfNone result ((request : Wanted) → IsShow (rows_of (found_of matches.now)) request → ⊥) }
+    ensures none { IfNone result ((request : Wanted)
+        → IsShow (rows_of (found_of matches.now)) request → ⊥) }
 {
     let image = matches.get_str("image")?;
     let building = matches.get_str("building")?;
@@ -93,9 +99,11 @@ fn show_of<'a>(matches: &ArgMatches<'a>) -> Option<Request<'a>>
 
 /// The number, from 1 to `most`, that an option's word names.
 fn count_of(word: Option<&str>, most: u32) -> Option<u32>
-    ensures some { IfSome result (λ count. IsCount most (option_map (λ w. w.now) word.entry) count) }
+    ensures some { IfSome result (λ count.
+        IsCount most (option_map (λ w. w.now) word.entry) count) }
     ensures limits { IfSome result (λ count. (1 ≤ count) × (count ≤ most)) }
-    ensures none { IfNone result ((count : ℕ) → IsCount most (option_map (λ w. w.now) word.entry) count → ⊥) }
+    ensures none { IfNone result ((count : ℕ)
+        → IsCount most (option_map (λ w. w.now) word.entry) count → ⊥) }
 {
     let word = word?;
     let count = number_up_to(word, most)?;
@@ -121,7 +129,8 @@ fn policy_named(word: &str) -> Option<Shipped>
 /// The policy that an option's word names; that of the least cost where it is absent.
 fn policy_of(word: Option<&str>) -> Option<Shipped>
     ensures some { IfSome result (λ policy. IsPolicy (option_map (λ w. w.now) word.entry) policy) }
-    ensures none { IfNone result ((policy : ShippedValue) → IsPolicy (option_map (λ w. w.now) word.entry) policy → ⊥) }
+    ensures none { IfNone result ((policy : ShippedValue)
+        → IsPolicy (option_map (λ w. w.now) word.entry) policy → ⊥) }
 {
     match word {
         None => Some(Shipped::Etd(Etd)),
@@ -133,7 +142,8 @@ fn policy_of(word: Option<&str>) -> Option<Shipped>
 fn serve_of<'a>(matches: &ArgMatches<'a>) -> Option<Request<'a>>
     ensures some { IfSome result (λ request. IsServe (rows_of (found_of matches.now)) request) }
     ensures range { IfSome result (λ request. IsInRange request) }
-    ensures none { IfNone result ((request : Wanted) → IsServe (rows_of (found_of matches.now)) request → ⊥) }
+    ensures none { IfNone result ((request : Wanted)
+        → IsServe (rows_of (found_of matches.now)) request → ⊥) }
 {
     let image = matches.get_str("image")?;
     let building = matches.get_str("building")?;
@@ -153,7 +163,8 @@ fn serve_of<'a>(matches: &ArgMatches<'a>) -> Option<Request<'a>>
 fn found_in<'a>(matches: &ArgMatches<'a>) -> Option<Request<'a>>
     ensures some { IfSome result (λ request. IsFor (subcommand_rows_of matches.now) request) }
     ensures range { IfSome result (λ request. IsInRange request) }
-    ensures none { IfNone result ((request : Wanted) → IsFor (subcommand_rows_of matches.now) request → ⊥) }
+    ensures none { IfNone result ((request : Wanted)
+        → IsFor (subcommand_rows_of matches.now) request → ⊥) }
 {
     match matches.subcommand() {
         None => Some(Request::Replay),
@@ -173,12 +184,14 @@ fn found_in<'a>(matches: &ArgMatches<'a>) -> Option<Request<'a>>
     }
 }
 
-/// What the words behind the program's name ask for; none where they are those of no command, or ask for help.
+/// What the words behind the program's name ask for; none where they are those of no command, or
+/// ask for help.
 pub fn request_of<'a, S: AsStr>(
     alloc: Global,
     words: &'a [S],
 ) -> Result<Option<Request<'a>>, AllocError>
-    ensures asked { IfOk result (λ found. IfSome found (λ request. Asks (map S.text words.now) request)) }
+    ensures asked { IfOk result (λ found.
+        IfSome found (λ request. Asks (map S.text words.now) request)) }
     ensures range { IfOk result (λ found. IfSome found (λ request. IsInRange request)) }
     ensures other { IfOk result (λ found.
         IfNone found ((request : Wanted) → Asks (map S.text words.now) request → ⊥)) }

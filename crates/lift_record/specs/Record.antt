@@ -1,4 +1,5 @@
--- How a record is spelled in sixteen bytes: in each version, each record that it can say has one spelling.
+-- How a record is spelled in sixteen bytes: in each version, each record that it can say has one
+-- spelling.
 use Rattle.std.specs.Prelude.{ℕ, ◌≡◌, Bool, true, false, List, [], ◌∷◌, ◌++◌}
 use Rattle.std.specs.Int.{w32, to_be_bytes}
 use Rattle.lift_base.specs.declared.travel.Dir.{Dir}
@@ -55,11 +56,14 @@ spelling_of version (Allot kiosk number from to car party) =
     record_bytes 1 kiosk (call_bytes version from to car party false) number
 spelling_of version (Stop car number floor dir) = record_bytes 2 car (stop_bytes floor dir) number
 spelling_of version (Row row) =
-    record_bytes 4 row.kiosk (call_bytes version row.from row.to row.car row.party row.aboard) row.number
-spelling_of version (Last terminal last) = record_bytes 5 terminal (last_bytes version last.content) last.number
+    record_bytes 4 row.kiosk (call_bytes version row.from row.to row.car row.party row.aboard)
+    row.number
+spelling_of version (Last terminal last) =
+    record_bytes 5 terminal (last_bytes version last.content) last.number
 spelling_of version (Done count) = record_bytes 6 0 (0 ∷ 0 ∷ 0 ∷ 0 ∷ 0 ∷ []) count
 
--- the grammar: in this version these bytes are the one spelling of this record, which the journal may hold
+-- the grammar: in this version these bytes are the one spelling of this record, which the journal
+-- may hold
 pub record IsSpellingOf (version : Version) (bytes : List ℕ) (content : Record) : Type 0 where
   pub typed : IsTyped content
   pub lawful : IsLawful content

@@ -5,8 +5,8 @@ ghost use Rattle.lift_record.specs.declared.version.Version.TheVariants.{Two};
 
 use crate::version::Version;
 
-/// What the header of a batch says: the version of its records, how many there are (1 to 63), and the batch's number
-/// in its chain, counted from 1.
+/// What the header of a batch says: the version of its records, how many there are (1 to 63), and
+/// the batch's number in its chain, counted from 1.
 #[derive(Clone, Copy)]
 pub struct Header {
     /// That of its records.

@@ -1,5 +1,5 @@
-//! Records of the journal and headers of its batches, sixteen bytes each, in two versions of the format.
-//! The second version is written, both are read.
+//! Records of the journal and headers of its batches, sixteen bytes each, in two versions of the
+//! format. The second version is written, both are read.
 #![tactic(auto)]
 
 mod headers;

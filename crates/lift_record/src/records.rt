@@ -2,9 +2,13 @@
 ghost use Rattle.std.specs.Prelude.{◌≡◌, ◌<◌, ◌≤◌, ◌↔◌, ℕ, IsTrue, IsSome, IfSome, Some};
 ghost use Rattle.lift_base.specs.declared.history.Content.{Content as ContentValue};
 ghost use Rattle.lift_base.specs.declared.history.Record.{Record as RecordValue};
-ghost use Rattle.lift_base.specs.Records.{IsLawfulCall, IsTypedCall, IsTypedContent, IsTyped, IsLawful};
+ghost use Rattle.lift_base.specs.Records.{IsLawfulCall, IsTypedCall, IsTypedContent, IsTyped};
+ghost use Rattle.lift_base.specs.Records.{IsLawful};
 ghost use Rattle.lift_record.specs.Version.{party_byte, party_of, IsSayableParty};
-ghost use Rattle.lift_record.specs.Record.{IsSayable, record_bytes, dir_byte, call_bytes as call_bytes_of, stop_bytes as stop_bytes_of, last_bytes as last_bytes_of, spelling_of, IsSpellingOf};
+ghost use Rattle.lift_record.specs.Record.{IsSayable, record_bytes, dir_byte};
+ghost use Rattle.lift_record.specs.Record.{call_bytes as call_bytes_of};
+ghost use Rattle.lift_record.specs.Record.{stop_bytes as stop_bytes_of};
+ghost use Rattle.lift_record.specs.Record.{last_bytes as last_bytes_of, spelling_of, IsSpellingOf};
 ghost use Rattle.lift_record.specs.declared.version.Version.TheVariants.{Two};
 
 use crate::version::Version;
@@ -217,7 +221,8 @@ fn read_call(
 /// The number, floor and direction of a stop, if each is in its range.
 fn read_stop(number: u32, floor: u8, dir: u8) -> Option<(Number, Floor, Dir)>
     ensures valid { IsSome result ↔ (number ≤ 16777215 × floor ≤ 63 × dir < 2) }
-    ensures stop { IfSome result (λ stop. stop.0 ≡ number × stop.1 ≡ floor × dir_byte stop.2 ≡ dir) }
+    ensures stop { IfSome result (λ stop. stop.0 ≡ number × stop.1 ≡ floor
+        × dir_byte stop.2 ≡ dir) }
 {
     Some((
         Number::new(number)?,
@@ -228,7 +233,8 @@ fn read_stop(number: u32, floor: u8, dir: u8) -> Option<(Number, Floor, Dir)>
 
 /// The allotment of a call.
 fn allot_of(row: &Row) -> Record
-    ensures { result ≡ RecordValue.Allot row.now.kiosk row.now.number row.now.from row.now.to row.now.car row.now.party }
+    ensures { result ≡ RecordValue.Allot row.now.kiosk row.now.number row.now.from row.now.to
+        row.now.car row.now.party }
 {
     Record::Allot {
         kiosk: row.kiosk,
@@ -242,7 +248,10 @@ fn allot_of(row: &Row) -> Record
 
 /// A call as the last one of its kiosk.
 fn last_call_of(row: &Row) -> Record
-    ensures { result ≡ RecordValue.Last row.now.kiosk (record { number = row.now.number; content = ContentValue.Letter row.now.from row.now.to row.now.car row.now.party }) }
+    ensures { result ≡ RecordValue.Last row.now.kiosk (record {
+      number = row.now.number;
+      content = ContentValue.Letter row.now.from row.now.to row.now.car row.now.party;
+    }) }
 {
     let content = Content::Letter {
         from: row.from,
@@ -259,7 +268,8 @@ fn last_call_of(row: &Row) -> Record
 
 /// The record that these bytes spell, if they spell one. Other bytes may give one too.
 fn read(version: Version, bytes: &[u8; 16]) -> Option<Record>
-    ensures spelled { (content : Record) → IsSpellingOf version bytes.now content → result ≡ Some content }
+    ensures spelled { (content : Record) → IsSpellingOf version bytes.now content
+        → result ≡ Some content }
     ensures sayable { IfSome result (λ content. IsSayable version content) }
 {
     let [
@@ -320,9 +330,11 @@ fn read(version: Version, bytes: &[u8; 16]) -> Option<Record>
     }
 }
 
-/// The record that these bytes spell in this version, if they spell one. None exactly for bytes outside its grammar.
+/// The record that these bytes spell in this version, if they spell one. None exactly for bytes
+/// outside its grammar.
 pub fn decode(version: Version, bytes: &[u8; 16]) -> Option<Record>
-    ensures { (content : Record) → (result ≡ Some content ↔ IsSpellingOf version bytes.now content) }
+    ensures { (content : Record)
+        → (result ≡ Some content ↔ IsSpellingOf version bytes.now content) }
 {
     let content = read(version, bytes)?;
     if is_lawful(&content) && spell(version, &content) == *bytes {

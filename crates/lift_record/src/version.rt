@@ -2,7 +2,8 @@
 ghost use Rattle.std.specs.Prelude.{◌≡◌};
 ghost use Rattle.lift_record.specs.Version.{version_number};
 
-/// A version of the format of records and headers. The first knows no parties: each of its calls is for one person.
+/// A version of the format of records and headers. The first knows no parties: each of its calls is
+/// for one person.
 #[derive(Clone, Copy)]
 pub enum Version {
     One,

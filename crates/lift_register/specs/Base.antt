@@ -18,7 +18,8 @@ record_of_last terminal (Some last) = Last terminal last ∷ []
 abbrev pub last_records : RegisterState → ℕ → List Record
 last_records register terminal = record_of_last terminal (last_of register terminal)
 
--- a register as records: the open calls by car, then the last commands by terminal, then the count of done calls
+-- a register as records: the open calls by car, then the last commands by terminal, then the count
+-- of done calls
 abbrev pub base_records : RegisterState → List Record
 base_records register =
     map Row (flat_map (rows_of register) cars)
@@ -41,8 +42,12 @@ BaseFits plan register content = IsLawful content × IsPossibleBase plan registe
 -- the register with one record of a checkpoint taken in
 abbrev pub with_record : RegisterState → Record → RegisterState
 with_record register (Row row) =
-    record register { rows = slice_set register.rows row.car (rows_of register row.car ++ row ∷ []) }
-with_record register (Last terminal last) = record register { lasts = slice_set register.lasts terminal (Some last) }
+    record register {
+      rows = slice_set register.rows row.car (rows_of register row.car ++ row
+          ∷ []);
+    }
+with_record register (Last terminal last) =
+    record register { lasts = slice_set register.lasts terminal (Some last) }
 with_record register (Done count) = record register { done = count }
 with_record register (Allot kiosk number from to car party) = register
 with_record register (Stop car number floor dir) = register

@@ -22,8 +22,8 @@ use Rattle.lift_base.specs.declared.history.Entry.TheVariants.{Allot, Stop}
 use Rattle.lift_base.specs.declared.history.Row.{Row}
 use Rattle.lift_register.specs.Register.{RegisterState, rows_of, last_number, register_of}
 
--- a call that the building allows: of one of its kiosks and from that kiosk's floor, to another floor, with a car that
--- serves both
+-- a call that the building allows: of one of its kiosks and from that kiosk's floor, to another
+-- floor, with a car that serves both
 pub record IsPossibleCall (plan : Plan) (terminal from to car : ℕ) : Type 0 where
   pub of_kiosk : (16 ≤ terminal) × (terminal - 16 < length plan.kiosks)
   pub from_kiosk : from ≡ kiosk_floor_of plan (terminal - 16)
@@ -50,7 +50,8 @@ persons_of rows = sum_by (λ (row : Row). row.party) rows
 abbrev pub HasPlace : Plan → RegisterState → (car party : ℕ) → Type 0
 HasPlace plan register car party = persons_of (rows_of register car) + party ≤ places_of plan car
 
--- an entry that can be taken now: possible, with its terminal's next number, and for a call with places in the car
+-- an entry that can be taken now: possible, with its terminal's next number, and for a call with
+-- places in the car
 abbrev pub Fits : Plan → RegisterState → Entry → Type 0
 Fits plan register (Allot kiosk number from to car party) =
     IsPossibleCall plan kiosk from to car

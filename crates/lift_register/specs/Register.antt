@@ -1,5 +1,6 @@
 -- What a register holds, and what it holds after a list of entries.
-use Rattle.std.specs.Prelude.{ℕ, ◌==◌, ◌+◌, Bool, false, List, [], ◌∷◌, ◌++◌, map, filter, count_by, sum_by, find, reverse, slice_index_or, Option, Some, None}
+use Rattle.std.specs.Prelude.{ℕ, ◌==◌, ◌+◌, Bool, false, List, [], ◌∷◌, ◌++◌, map, filter, count_by}
+use Rattle.std.specs.Prelude.{sum_by, find, reverse, slice_index_or, Option, Some, None}
 use Rattle.std.specs.Option.{option_map_or}
 use Rattle.std.specs.List.{flat_map, range_with_len}
 use Rattle.lift_base.specs.History.{terminal_of}
@@ -35,7 +36,8 @@ last_of register terminal = slice_index_or register.lasts terminal None
 
 -- the number of that command, 0 for none
 abbrev pub last_number : RegisterState → ℕ → ℕ
-last_number register terminal = option_map_or (λ (last : Last). last.number) (last_of register terminal) 0
+last_number register terminal =
+    option_map_or (λ (last : Last). last.number) (last_of register terminal) 0
 
 -- a call, and the entries after its allotment
 pub record Call : Type 0 where
@@ -77,7 +79,8 @@ is_of_car car call = call.row.car == car
 
 -- the calls of a car, in order of allotment
 abbrev pub calls_of : RegisterState → List Entry → ℕ → List Call
-calls_of base entries car = calls_before (rows_of base car) entries ++ filter (is_of_car car) (calls_in entries)
+calls_of base entries car =
+    calls_before (rows_of base car) entries ++ filter (is_of_car car) (calls_in entries)
 
 -- the open calls of a car after these entries
 abbrev pub rows_after : RegisterState → List Entry → ℕ → List Row
@@ -85,7 +88,8 @@ rows_after base entries car = flat_map open_part (calls_of base entries car)
 
 -- what is kept of an entry as its terminal's last command
 abbrev pub kept_of : Entry → Last
-kept_of (Allot kiosk number from to car party) = record { number = number; content = Letter from to car party }
+kept_of (Allot kiosk number from to car party) =
+    record { number = number; content = Letter from to car party }
 kept_of (Stop car number floor dir) = record { number = number; content = Stopped floor dir }
 
 abbrev pub is_of_terminal : ℕ → Entry → Bool

@@ -7,10 +7,12 @@ use Rattle.lift_base.specs.declared.history.Entry.{Entry}
 use Rattle.lift_base.specs.declared.history.Entry.TheVariants.{Allot, Stop}
 use Rattle.lift_base.specs.declared.history.Row.{Row}
 
--- a stop of this car at which passengers from one floor to another board: there, and in the passengers' direction
+-- a stop of this car at which passengers from one floor to another board: there, and in the
+-- passengers' direction
 abbrev pub is_boarding : (car from to : ℕ) → Entry → Bool
 is_boarding car from to (Allot kiosk number f t c party) = false
-is_boarding car from to (Stop c number floor dir) = c == car && floor == from && same_dir dir (dir_of from to)
+is_boarding car from to (Stop c number floor dir) =
+    c == car && floor == from && same_dir dir (dir_of from to)
 
 -- a stop of this car at which passengers to this floor leave, whatever its direction
 abbrev pub is_leaving : (car to : ℕ) → Entry → Bool
@@ -30,12 +32,14 @@ status_aboard car to entries = if list_any (is_leaving car to) entries then Done
 abbrev pub status_waiting : (car from to : ℕ) → List Entry → Status
 status_waiting car from to [] = Waiting
 status_waiting car from to (entry ∷ later) =
-    if is_boarding car from to entry then status_aboard car to later else status_waiting car from to later
+    if is_boarding car from to entry then status_aboard car to later else status_waiting car from to
+    later
 
 -- what became of the call of a row by the entries after it
 abbrev pub status_of : Row → List Entry → Status
 status_of row entries =
-    if row.aboard then status_aboard row.car row.to entries else status_waiting row.car row.from row.to entries
+    if row.aboard then status_aboard row.car row.to entries else status_waiting row.car row.from
+    row.to entries
 
 -- the call as a row with this status, none once it is done
 abbrev pub row_with : Row → Status → List Row

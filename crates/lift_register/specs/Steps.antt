@@ -1,4 +1,5 @@
--- The two steps that entries make: a new call, and a stop of a car before it is kept as the car's last command.
+-- The two steps that entries make: a new call, and a stop of a car before it is kept as the car's
+-- last command.
 use Rattle.std.specs.Prelude.{ℕ, ◌+◌, ◌-◌, length, slice_set}
 use Rattle.std.specs.List.{flat_map}
 use Rattle.lift_base.specs.declared.travel.Stop.{Stop as CarStop}
@@ -22,7 +23,8 @@ with_call register row =
 
 -- how many of a car's calls a stop ends
 abbrev pub ended_by : CarStop → RegisterState → ℕ → ℕ
-ended_by stop register car = length (rows_of register car) - length (flat_map (row_after stop) (rows_of register car))
+ended_by stop register car =
+    length (rows_of register car) - length (flat_map (row_after stop) (rows_of register car))
 
 abbrev pub with_stop : RegisterState → ℕ → CarStop → RegisterState
 with_stop register car stop = record register {

@@ -6,7 +6,8 @@ use Rattle.lift_base.specs.declared.history.Record.TheVariants.{Row, Last, Done}
 use Rattle.lift_base.specs.declared.history.Row.{Row as CallRow}
 use Rattle.lift_register.specs.Register.{RegisterState, rows_of, last_of}
 
--- 16 cars and 63 terminals; at most 32 open calls a car, each at its own car; and what it holds can be written
+-- 16 cars and 63 terminals; at most 32 open calls a car, each at its own car; and what it holds can
+-- be written
 pub record IsWellFormed (register : RegisterState) : Type 0 where
   pub row_count : length register.rows ≡ 16
   pub last_count : length register.lasts ≡ 63

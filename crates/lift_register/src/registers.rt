@@ -1,5 +1,6 @@
 //! The register.
-ghost use Rattle.std.specs.Prelude.{ℕ, ◌≡◌, ◌↔◌, ◌+◌, ◌<◌, ◌≤◌, IsTrue, IfSome, List, [], ◌∷◌, ◌++◌, All, Some, length, slice_get};
+ghost use Rattle.std.specs.Prelude.{ℕ, ◌≡◌, ◌↔◌, ◌+◌, ◌<◌, ◌≤◌, IsTrue, IfSome, List, [], ◌∷◌};
+ghost use Rattle.std.specs.Prelude.{◌++◌, All, Some, length, slice_get};
 ghost use Rattle.std.specs.List.{flat_map};
 ghost use Rattle.std.specs.Option.{option_to_list};
 ghost use Rattle.lift_base.specs.History.{record_of};
@@ -33,16 +34,27 @@ impl Model for Register {
 
     ghost Value = { RegisterState };
 
-    ghost view = { λ r. record { rows = map (λ rows. rows.items) r.rows; lasts = r.lasts; done = r.done } };
+    ghost view = { λ r. record {
+      rows = map (λ rows. rows.items) r.rows;
+      lasts = r.lasts;
+      done = r.done;
+    } };
 
-    ghost invariant = { λ r. IsWellFormed (record { rows = map (λ rows. rows.items) r.rows; lasts = r.lasts; done = r.done }) };
+    ghost invariant = { λ r.
+        IsWellFormed (record {
+          rows = map (λ rows. rows.items) r.rows;
+          lasts = r.lasts;
+          done = r.done;
+        }) };
 }
 
 impl Register {
-    ghost use Rattle.lift_register.specs.Register.{RegisterState, rows_of, last_of, last_number, register_of, empty, cars, terminals};
+    ghost use Rattle.lift_register.specs.Register.{RegisterState, rows_of, last_of, last_number};
+    ghost use Rattle.lift_register.specs.Register.{register_of, empty, cars, terminals};
     ghost use Rattle.lift_register.specs.Fits.{Fits, HasPlace};
     ghost use Rattle.lift_register.specs.Balanced.{open_count, numbered_calls, IsBalanced};
-    ghost use Rattle.lift_register.specs.Base.{BaseFits, BaseFitFrom, with_record, with_records, base_records, last_records};
+    ghost use Rattle.lift_register.specs.Base.{BaseFits, BaseFitFrom, with_record, with_records};
+    ghost use Rattle.lift_register.specs.Base.{base_records, last_records};
     ghost use Rattle.lift_register.specs.Steps.{with_call, with_stop};
     ghost use Rattle.lift_register.specs.WellFormed.{IsWellFormed};
     ghost use Rattle.lift_register.specs.Belongs.{BelongsTo};
@@ -67,7 +79,8 @@ impl Register {
         ensures lawful { IsWellFormed self.now }
         ensures limit { length result.now ≤ 32 }
         ensures own { All (λ (row : RowValue). row.car ≡ car) result.now }
-        // Each of them can be written: its parts are in their ranges, and its passengers leave at another floor.
+        // Each of them can be written: its parts are in their ranges, and its passengers leave at
+        // another floor.
         ensures records { All (λ (row : RowValue). IsRecord (RecordValue.Row row)) result.now }
     {
         let rows = &self.rows[car.get() as usize];
@@ -217,7 +230,8 @@ impl Register {
         requires balanced { IsBalanced self.old }
         ensures one { self.new ≡ register_of self.old (entry.now ∷ []) }
         // So after every list of entries it is what the definition says of that list.
-        ensures history { (base : RegisterState) (entries : List EntryValue) → self.old ≡ register_of base entries
+        ensures history { (base : RegisterState) (entries : List EntryValue)
+            → self.old ≡ register_of base entries
             → self.new ≡ register_of base (entries ++ entry.now ∷ []) }
         ensures lawful { IsWellFormed self.new }
         ensures balanced { IsBalanced self.new }
@@ -321,7 +335,8 @@ impl Register {
         ensures lawful { IsWellFormed self.new }
         ensures belongs { BelongsTo building.now self.old → BelongsTo building.now self.new }
         // The record that ends a checkpoint tells that no call was lost.
-        ensures balanced { (count : ℕ) → «record».now ≡ RecordValue.Done count → IsBalanced self.new }
+        ensures balanced { (count : ℕ) → «record».now ≡ RecordValue.Done count
+            → IsBalanced self.new }
     {
         note_ranges(record);
         self.note_lawful();
@@ -355,7 +370,8 @@ impl Register {
         ensures value { result ≡ length (base_records self.now) }
         ensures limit { (1 ≤ result) × (result ≤ 576) }
         ensures lawful { IsWellFormed self.now }
-        // Each record can be written; taken in from nothing, they give this register; and each fits where it comes.
+        // Each record can be written; taken in from nothing, they give this register; and each fits
+        // where it comes.
         ensures records { All IsRecord (base_records self.now) }
         ensures spelled { with_records empty (base_records self.now) ≡ self.now }
         ensures fitting { (plan : Plan) → BelongsTo plan self.now → IsBalanced self.now
@@ -404,8 +420,8 @@ impl Register {
         None
     }
 
-    /// The record at a place of a checkpoint of this register, counted from 0: the open calls by rising car, then the
-    /// last commands by rising terminal, then the count of done calls.
+    /// The record at a place of a checkpoint of this register, counted from 0: the open calls by
+    /// rising car, then the last commands by rising terminal, then the count of done calls.
     pub fn base_record(&self, place: usize) -> Record
         requires inside { place < length (base_records self.now) }
         ensures value { slice_get (base_records self.now) place ≡ Some result }

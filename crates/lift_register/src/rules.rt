@@ -1,7 +1,9 @@
 //! What a building allows.
 ghost use Rattle.std.specs.Prelude.{◌≡◌, ◌↔◌, ◌<◌, ◌≤◌, ◌+◌, IsTrue, length};
-ghost use Rattle.lift_register.specs.Fits.{IsPossibleCall, IsPossibleStop, IsPossibleLast, persons_of};
-ghost use Rattle.lift_base.specs.Records.{IsTypedCommand, IsTypedCall, IsTypedContent, IsTyped, IsLawfulLast};
+ghost use Rattle.lift_register.specs.Fits.{IsPossibleCall, IsPossibleStop, IsPossibleLast};
+ghost use Rattle.lift_register.specs.Fits.{persons_of};
+ghost use Rattle.lift_base.specs.Records.{IsTypedCommand, IsTypedCall, IsTypedContent, IsTyped};
+ghost use Rattle.lift_base.specs.Records.{IsLawfulLast};
 
 use lift_base::{Content, Floor, Last, Letter, Number, Party, Record, Row, Terminal};
 use lift_building::Building;

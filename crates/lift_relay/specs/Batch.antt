@@ -55,29 +55,35 @@ abbrev pub turns_after : List ℕ → List Taken → List ℕ
 turns_after turns [] = turns
 turns_after turns (taken ∷ commands) = turns_after (turns_with turns taken) commands
 
--- The command's note is of its terminal's table, it says the ask that the command is, and that ask is later than all that was taken there before.
+-- The command's note is of its terminal's table, it says the ask that the command is, and that ask
+-- is later than all that was taken there before.
 pub record IsNoted (desk : List TableId) (turns : List ℕ) (taken : Taken) : Type 0 where
   pub of_table : IsNoteOf desk taken.command.terminal taken.note
   pub in_range : IsAsk (record { number = taken.command.number; body = taken.command.body })
-  pub says : taken.note.word ≡ ask_word (turn_of taken.note.word) taken.command.number taken.command.body
+  pub says : taken.note.word
+      ≡ ask_word (turn_of taken.note.word) taken.command.number taken.command.body
   pub counted : taken.command.terminal < length turns
   pub later : slice_index_or turns taken.command.terminal 0 < turn_of taken.note.word
 
 -- so is each of these, one after another
 abbrev pub AreNoted : List TableId → List ℕ → List Taken → Type 0
 AreNoted desk turns [] = Unit {0}
-AreNoted desk turns (taken ∷ commands) = IsNoted desk turns taken × AreNoted desk (turns_with turns taken) commands
+AreNoted desk turns (taken ∷ commands) = IsNoted desk turns taken
+    × AreNoted desk (turns_with turns taken) commands
 
--- Its commands with their replies are a run of the rules on the register that it was decided on, and its entries are what that run accepted.
+-- Its commands with their replies are a run of the rules on the register that it was decided on,
+-- and its entries are what that run accepted.
 pub record IsDecided (batch : BatchState) : Type 0 where
   pub first : State
   pub last : State
   pub on_register : first.register ≡ batch.before
   pub sealed : first.batch ≡ []
-  pub run : Run batch.building any_eligible first (commands_in batch.commands) (replies_in batch.commands) last
+  pub run : Run batch.building any_eligible first (commands_in batch.commands)
+      (replies_in batch.commands) last
   pub entries : batch.entries ≡ last.batch
 
--- What is true of every batch: its entries fit where they were decided, its commands are of terminals of the desk, each has a note of its ask, and its replies and entries are of one run.
+-- What is true of every batch: its entries fit where they were decided, its commands are of
+-- terminals of the desk, each has a note of its ask, and its replies and entries are of one run.
 pub record IsBatch (batch : BatchState) : Type 0 where
   pub fits : FitFrom batch.building batch.before batch.entries
   pub at_desk : AreBelow (length batch.desk) (commands_in batch.commands)

@@ -1,5 +1,6 @@
 -- What can have happened while the two parts run, and what every crash then shows.
-use Rattle.std.specs.Prelude.{ℕ, ◌≡◌, ◌≢◌, List, [], ◌∷◌, ◌++◌, length, map, filter, count_by, Result}
+use Rattle.std.specs.Prelude.{ℕ, ◌≡◌, ◌≢◌, List, [], ◌∷◌, ◌++◌, length, map, filter, count_by}
+use Rattle.std.specs.Prelude.{Result}
 use Rattle.lift_base.specs.declared.history.Entry.{Entry}
 use Rattle.lift_building.specs.Plan.{IsBuilding}
 use Rattle.lift_disk.specs.Disk.{Image}
@@ -24,7 +25,8 @@ use Rattle.lift_relay.specs.Allocator.{AllocatorState, IsFullTurn, IsScanTurn}
 use Rattle.lift_relay.specs.Flusher.{FlusherState, IsFlusher, IsEmptyTurn}
 use Rattle.lift_relay.specs.Pair.{IsSending, IsTelling}
 use Rattle.lift_relay.specs.Relay.{AreParts, IsRejoined}
-use Rattle.lift_relay.specs.Tie.{held_as, IsRelayOf, AllTakesAsked, Reads, AllAskNext, HasRoom, ReceivesSent, Flushes, FlushFails, FlushesBroken}
+use Rattle.lift_relay.specs.Tie.{held_as, IsRelayOf, AllTakesAsked, Reads, AllAskNext, HasRoom}
+use Rattle.lift_relay.specs.Tie.{ReceivesSent, Flushes, FlushFails, FlushesBroken}
 use Rattle.lift_relay.specs.Amid.{Amid, HadRoom, Flushings, events_with}
 
 -- what terminals asked and heard, and what was answered them
@@ -45,62 +47,99 @@ with_hearing v answer = record v { heard = v.heard ++ answer ∷ [] }
 abbrev pub with_answers : Words → List Held → Words
 with_answers v given = record v { answered = v.answered ++ map answer_of given }
 
--- What can have happened by now: the two parts as they are, their terminals' words, the entries that are safe, and each command that
--- was ever answered, with its answer.
-pub data RelayHistory {D P : Type 0} (chooses : P → Choice) : AllocatorState P → FlusherState D → Words → List Entry → List Held → Type 0 where
+-- What can have happened by now: the two parts as they are, their terminals' words, the entries
+-- that are safe, and each command that was ever answered, with its answer.
+pub data RelayHistory {D P : Type 0} (chooses : P → Choice) : AllocatorState P → FlusherState D
+    → Words → List Entry → List Held → Type 0 where
   -- A clerk is split, whose group is in this world.
-  ClerkSplit : {clerk : ClerkState D P} {a : AllocatorState P} {f : FlusherState D} → (w : World) → IsBuilding w.building → IsMachineOf w clerk → AreParts clerk a f → IsFlusher f
+  ClerkSplit : {clerk : ClerkState D P} {a : AllocatorState P} {f : FlusherState D} → (w : World)
+      → IsBuilding w.building → IsMachineOf w clerk → AreParts clerk a f → IsFlusher f
       → RelayHistory chooses a f (words_in w) (safe_list w) w.given
   -- A terminal asks, which has heard the answers to all that it asked.
-  TerminalAsked : {a : AllocatorState P} {f : FlusherState D} {v : Words} {safe : List Entry} {given : List Held} → RelayHistory chooses a f v safe given
-      → (c : Command) → count_by (asks c.terminal) v.asked ≡ count_by (is_answer_to c.terminal) v.heard → RelayHistory chooses a f (with_ask v c) safe given
+  TerminalAsked : {a : AllocatorState P} {f : FlusherState D} {v : Words} {safe : List Entry}
+      {given : List Held} → RelayHistory chooses a f v safe given
+      → (c : Command) → count_by (asks c.terminal) v.asked
+      ≡ count_by (is_answer_to c.terminal) v.heard
+      → RelayHistory chooses a f (with_ask v c) safe given
   -- It hears the next answer that was stored for it.
-  TerminalHeard : {a : AllocatorState P} {f : FlusherState D} {v : Words} {safe : List Entry} {given : List Held} → RelayHistory chooses a f v safe given
-      → (terminal : ℕ) (answer : Answer) (later : List Answer) → filter (is_answer_to terminal) v.answered ≡ filter (is_answer_to terminal) v.heard ++ answer ∷ later
+  TerminalHeard : {a : AllocatorState P} {f : FlusherState D} {v : Words} {safe : List Entry}
+      {given : List Held} → RelayHistory chooses a f v safe given
+      → (terminal : ℕ) (answer : Answer) (later : List Answer)
+      → filter (is_answer_to terminal) v.answered ≡ filter (is_answer_to terminal) v.heard
+      ++ answer ∷ later
       → RelayHistory chooses a f (with_hearing v answer) safe given
   -- The allocator finds the line full, or sends the batch in hand, or takes nothing.
-  FoundFull : {a b : AllocatorState P} {f : FlusherState D} {v : Words} {safe : List Entry} {given : List Held} {counts : Counts} → RelayHistory chooses a f v safe given
+  FoundFull : {a b : AllocatorState P} {f : FlusherState D} {v : Words} {safe : List Entry}
+      {given : List Held} {counts : Counts} → RelayHistory chooses a f v safe given
       → IsFullTurn a b counts → RelayHistory chooses b f v safe given
-  SentHand : {a b : AllocatorState P} {f : FlusherState D} {v : Words} {safe : List Entry} {given : List Held} → RelayHistory chooses a f v safe given
+  SentHand : {a b : AllocatorState P} {f : FlusherState D} {v : Words} {safe : List Entry}
+      {given : List Held} → RelayHistory chooses a f v safe given
       → IsSending a b → RelayHistory chooses b f v safe given
-  TookNothing : {a b : AllocatorState P} {f : FlusherState D} {v : Words} {safe : List Entry} {given : List Held} {counts : Counts} → RelayHistory chooses a f v safe given
-      → (t : IsScanTurn (chooses a.policy) a b counts) → commands_of 0 t.visits ≡ [] → RelayHistory chooses b f v safe given
+  TookNothing : {a b : AllocatorState P} {f : FlusherState D} {v : Words} {safe : List Entry}
+      {given : List Held} {counts : Counts} → RelayHistory chooses a f v safe given
+      → (t : IsScanTurn (chooses a.policy) a b counts) → commands_of 0 t.visits ≡ []
+      → RelayHistory chooses b f v safe given
   -- It takes what by the desk's rule was asked, while by the line's rule at most four batches wait.
-  Allocated : {a b : AllocatorState P} {f : FlusherState D} {v : Words} {safe : List Entry} {given : List Held} {counts : Counts} → RelayHistory chooses a f v safe given
-      → (t : IsScanTurn (chooses a.policy) a b counts) → commands_of 0 t.visits ≢ [] → AllTakesAsked v.asked b.seat → HasRoom b f → RelayHistory chooses b f v safe given
-  -- It takes the next turn of each terminal that it takes of, which asked that behind all that was taken there.
-  AllocatedNext : {a b : AllocatorState P} {f : FlusherState D} {v : Words} {safe : List Entry} {given : List Held} {counts : Counts} → RelayHistory chooses a f v safe given
-      → (t : IsScanTurn (chooses a.policy) a b counts) → commands_of 0 t.visits ≢ [] → Reads a.seat t.visits → AllAskNext v.asked a.seat (commands_of 0 t.visits) → HasRoom b f
+  Allocated : {a b : AllocatorState P} {f : FlusherState D} {v : Words} {safe : List Entry}
+      {given : List Held} {counts : Counts} → RelayHistory chooses a f v safe given
+      → (t : IsScanTurn (chooses a.policy) a b counts) → commands_of 0 t.visits ≢ []
+      → AllTakesAsked v.asked b.seat → HasRoom b f → RelayHistory chooses b f v safe given
+  -- It takes the next turn of each terminal that it takes of, which asked that behind all that was
+  -- taken there.
+  AllocatedNext : {a b : AllocatorState P} {f : FlusherState D} {v : Words} {safe : List Entry}
+      {given : List Held} {counts : Counts} → RelayHistory chooses a f v safe given
+      → (t : IsScanTurn (chooses a.policy) a b counts) → commands_of 0 t.visits ≢ []
+      → Reads a.seat t.visits → AllAskNext v.asked a.seat (commands_of 0 t.visits) → HasRoom b f
       → RelayHistory chooses b f v safe given
   -- Each part is told where the other stands.
-  PartsTold : {a b : AllocatorState P} {f g : FlusherState D} {v : Words} {safe : List Entry} {given : List Held} → RelayHistory chooses a f v safe given
+  PartsTold : {a b : AllocatorState P} {f g : FlusherState D} {v : Words} {safe : List Entry}
+      {given : List Held} → RelayHistory chooses a f v safe given
       → IsTelling a b f g → RelayHistory chooses b g v safe given
   -- They are joined again, and that clerk is split.
-  JoinedAndSplit : {clerk : ClerkState D P} {a b : AllocatorState P} {f g : FlusherState D} {v : Words} {safe : List Entry} {given : List Held} → RelayHistory chooses a f v safe given
-      → IsRejoined a f clerk → AreParts clerk b g → IsFlusher g → RelayHistory chooses b g v safe given
+  JoinedAndSplit : {clerk : ClerkState D P} {a b : AllocatorState P} {f g : FlusherState D}
+      {v : Words} {safe : List Entry} {given : List Held} → RelayHistory chooses a f v safe given
+      → IsRejoined a f clerk → AreParts clerk b g → IsFlusher g
+      → RelayHistory chooses b g v safe given
   -- The flusher finds the line empty.
-  FoundEmpty : {a : AllocatorState P} {f g : FlusherState D} {v : Words} {safe : List Entry} {given : List Held} {result : Result FlushCounts KeeperFault} → RelayHistory chooses a f v safe given
+  FoundEmpty : {a : AllocatorState P} {f g : FlusherState D} {v : Words} {safe : List Entry}
+      {given : List Held} {result : Result FlushCounts KeeperFault}
+      → RelayHistory chooses a f v safe given
       → IsEmptyTurn f g result → RelayHistory chooses a g v safe given
-  -- It receives a batch, which by the line's rule was sent: the batch is safe behind the rest, and its commands have their replies.
-  Flushed : {a : AllocatorState P} {f g : FlusherState D} {v : Words} {safe : List Entry} {given : List Held} {batch : BatchState} {counts : FlushCounts} → RelayHistory chooses a f v safe given
+  -- It receives a batch, which by the line's rule was sent: the batch is safe behind the rest, and
+  -- its commands have their replies.
+  Flushed : {a : AllocatorState P} {f g : FlusherState D} {v : Words} {safe : List Entry}
+      {given : List Held} {batch : BatchState} {counts : FlushCounts}
+      → RelayHistory chooses a f v safe given
       → Flushes f g batch counts → ReceivesSent a g → RelayHistory chooses a g (with_answers v (map held_as batch.commands)) (safe ++ batch.entries) (given ++ map held_as batch.commands)
   -- The device fails it: nothing more is safe, and its commands were answered Unknown.
-  FlushFailed : {a : AllocatorState P} {f g : FlusherState D} {v : Words} {safe : List Entry} {given : List Held} {batch : BatchState} → RelayHistory chooses a f v safe given
+  FlushFailed : {a : AllocatorState P} {f g : FlusherState D} {v : Words} {safe : List Entry}
+      {given : List Held} {batch : BatchState} → RelayHistory chooses a f v safe given
       → FlushFails f g batch → ReceivesSent a g
-      → RelayHistory chooses a g (with_answers v (map unknown_to (map held_as batch.commands))) safe (given ++ map unknown_to (map held_as batch.commands))
+      → RelayHistory chooses a g (with_answers v (map unknown_to (map held_as batch.commands))) safe
+      (given ++ map unknown_to (map held_as batch.commands))
   -- So were those of each later batch.
-  FlushedWhileBroken : {a : AllocatorState P} {f g : FlusherState D} {v : Words} {safe : List Entry} {given : List Held} {batch : BatchState} → RelayHistory chooses a f v safe given
+  FlushedWhileBroken : {a : AllocatorState P} {f g : FlusherState D} {v : Words} {safe : List Entry}
+      {given : List Held} {batch : BatchState} → RelayHistory chooses a f v safe given
       → FlushesBroken f g batch → ReceivesSent a g
-      → RelayHistory chooses a g (with_answers v (map unknown_to (map held_as batch.commands))) safe (given ++ map unknown_to (map held_as batch.commands))
-  -- Its turns stand amid a scan, one or several, which takes what was asked before: the flusher's events stand so among the looks,
-  -- whichever batches the machine has for these turns. Where the line was full, they begin before the first look.
-  FlushedAmid : {a b : AllocatorState P} {f g : FlusherState D} {v : Words} {safe more : List Entry} {given told : List Held} {counts : Counts} {events : List (Batch → List Event)} → RelayHistory chooses a f v safe given
-      → (t : IsScanTurn (chooses a.policy) a b counts) → commands_of 0 t.visits ≢ [] → AllTakesAsked v.asked b.seat → HasRoom b g → Flushings a f g told more events
-      → ((batches : List Batch) → (amid : Amid (events_with events batches) (commands_of 0 t.visits)) × HadRoom a f amid.looks)
+      → RelayHistory chooses a g (with_answers v (map unknown_to (map held_as batch.commands))) safe
+      (given ++ map unknown_to (map held_as batch.commands))
+  -- Its turns stand amid a scan, one or several, which takes what was asked before: the flusher's
+  -- events stand so among the looks, whichever batches the machine has for these turns. Where the
+  -- line was full, they begin before the first look.
+  FlushedAmid : {a b : AllocatorState P} {f g : FlusherState D} {v : Words} {safe more : List Entry}
+      {given told : List Held} {counts : Counts} {events : List (Batch → List Event)}
+      → RelayHistory chooses a f v safe given
+      → (t : IsScanTurn (chooses a.policy) a b counts) → commands_of 0 t.visits ≢ []
+      → AllTakesAsked v.asked b.seat → HasRoom b g → Flushings a f g told more events
+      → ((batches : List Batch)
+      → (amid : Amid (events_with events batches) (commands_of 0 t.visits))
+      × HadRoom a f amid.looks)
       → RelayHistory chooses b g (with_answers v told) (safe ++ more) (given ++ told)
 
--- Some run of the machine leads to a world of these parts, with just these words, these entries safe and these commands answered.
-pub record IsRunOfParts {D P : Type 0} (a : AllocatorState P) (f : FlusherState D) (v : Words) (safe : List Entry) (given : List Held) : Type 0 where
+-- Some run of the machine leads to a world of these parts, with just these words, these entries
+-- safe and these commands answered.
+pub record IsRunOfParts {D P : Type 0} (a : AllocatorState P) (f : FlusherState D) (v : Words)
+    (safe : List Entry) (given : List Held) : Type 0 where
   pub world : World
   pub building : IsBuilding world.building
   pub shows : IsRelayOf world a f
@@ -109,26 +148,42 @@ pub record IsRunOfParts {D P : Type 0} (a : AllocatorState P) (f : FlusherState 
   pub given_is : world.given ≡ given
 
 abbrev pub RelayHistoriesAreRuns : (D P : Type 0) → (P → Choice) → Type 0
-RelayHistoriesAreRuns D P chooses = (a : AllocatorState P) (f : FlusherState D) (v : Words) (safe : List Entry) (given : List Held) → RelayHistory chooses a f v safe given → IsRunOfParts a f v safe given
+RelayHistoriesAreRuns D P chooses =
+    (a : AllocatorState P) (f : FlusherState D) (v : Words) (safe : List Entry) (given : List Held)
+    → RelayHistory chooses a f v safe given → IsRunOfParts a f v safe given
 
 -- A clerk that is joined again is in such a world too, from which it may turn, or be split again.
 abbrev pub RejoiningsGoOn : (D P : Type 0) → (P → Choice) → Type 0
-RejoiningsGoOn D P chooses = (a : AllocatorState P) (f : FlusherState D) (clerk : ClerkState D P) (v : Words) (safe : List Entry) (given : List Held) → RelayHistory chooses a f v safe given
-    → IsRejoined a f clerk → (w : World) × IsBuilding w.building × IsMachineOf w clerk × (words_in w ≡ v) × (safe_list w ≡ safe) × (w.given ≡ given)
+RejoiningsGoOn D P chooses =
+    (a : AllocatorState P) (f : FlusherState D) (clerk : ClerkState D P) (v : Words)
+    (safe : List Entry) (given : List Held) → RelayHistory chooses a f v safe given
+    → IsRejoined a f clerk → (w : World) × IsBuilding w.building × IsMachineOf w clerk
+    × (words_in w ≡ v) × (safe_list w ≡ safe) × (w.given ≡ given)
 
--- Whatever has happened, each image that a crash may leave between two turns of the flusher reads as the register of what is safe, or of
--- that with the batch in doubt; it holds each entry that was acknowledged, and each letter ever given still names its car.
+-- Whatever has happened, each image that a crash may leave between two turns of the flusher reads
+-- as the register of what is safe, or of that with the batch in doubt; it holds each entry that was
+-- acknowledged, and each letter ever given still names its car.
 abbrev pub RelayCrashesShowGiven : (D P : Type 0) → (P → Choice) → Type 0
-RelayCrashesShowGiven D P chooses = (a : AllocatorState P) (f : FlusherState D) (v : Words) (safe : List Entry) (given : List Held) (left : Image) → RelayHistory chooses a f v safe given
-    → (doubt : IsInDoubt f.writer.plan f.writer.register f.writer.doubt left) → ShowsGiven f.writer.plan (kept_of safe f.writer.doubt doubt) given left
+RelayCrashesShowGiven D P chooses =
+    (a : AllocatorState P) (f : FlusherState D) (v : Words) (safe : List Entry) (given : List Held)
+    (left : Image) → RelayHistory chooses a f v safe given
+    → (doubt : IsInDoubt f.writer.plan f.writer.register f.writer.doubt left)
+    → ShowsGiven f.writer.plan (kept_of safe f.writer.doubt doubt) given left
 
--- And so does each that one may leave at any moment of the flusher's next turn, of what was given before it.
+-- And so does each that one may leave at any moment of the flusher's next turn, of what was given
+-- before it.
 abbrev pub RelayCrashesInTurnsShowGiven : (D P : Type 0) → (P → Choice) → Type 0
-RelayCrashesInTurnsShowGiven D P chooses = (a : AllocatorState P) (f g : FlusherState D) (v : Words) (safe : List Entry) (given : List Held) (batch : BatchState) (counts : FlushCounts) (left : Image)
-    → RelayHistory chooses a f v safe given → Flushes f g batch counts → ReceivesSent a g → (either : IsEither f.writer.plan f.writer.register g.end.register left)
+RelayCrashesInTurnsShowGiven D P chooses =
+    (a : AllocatorState P) (f g : FlusherState D) (v : Words) (safe : List Entry)
+    (given : List Held) (batch : BatchState) (counts : FlushCounts) (left : Image)
+    → RelayHistory chooses a f v safe given → Flushes f g batch counts → ReceivesSent a g
+    → (either : IsEither f.writer.plan f.writer.register g.end.register left)
     → ShowsGiven f.writer.plan (kept_of safe batch.entries either) given left
 
 abbrev pub RelayCrashesInFailuresShowGiven : (D P : Type 0) → (P → Choice) → Type 0
-RelayCrashesInFailuresShowGiven D P chooses = (a : AllocatorState P) (f g : FlusherState D) (v : Words) (safe : List Entry) (given : List Held) (batch : BatchState) (left : Image)
-    → RelayHistory chooses a f v safe given → FlushFails f g batch → ReceivesSent a g → (either : IsEither f.writer.plan f.writer.register g.end.register left)
+RelayCrashesInFailuresShowGiven D P chooses =
+    (a : AllocatorState P) (f g : FlusherState D) (v : Words) (safe : List Entry)
+    (given : List Held) (batch : BatchState) (left : Image)
+    → RelayHistory chooses a f v safe given → FlushFails f g batch → ReceivesSent a g
+    → (either : IsEither f.writer.plan f.writer.register g.end.register left)
     → ShowsGiven f.writer.plan (kept_of safe batch.entries either) given left

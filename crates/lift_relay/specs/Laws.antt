@@ -9,9 +9,11 @@ use Rattle.lift_world.specs.World.{World, start}
 use Rattle.lift_world.specs.Next.{run}
 use Rattle.lift_world.specs.Among.{LooksFindAsks, AsksStandOn, SealsAloneQueue, AllocationsGoAmong}
 use Rattle.lift_world.specs.Beside.{GoesAreRuns, RunsJoin}
-use Rattle.lift_world.specs.Headline.{HearsInOrder, QueuesFew, AllAskOneByOne, RecoversAcknowledged, RecoversLetters}
+use Rattle.lift_world.specs.Headline.{HearsInOrder, QueuesFew, AllAskOneByOne, RecoversAcknowledged}
+use Rattle.lift_world.specs.Headline.{RecoversLetters}
 use Rattle.lift_world.specs.Possible.{AsksOnceHeard, HearsTheNext, PullsInTurn, CallsInOrder}
-use Rattle.lift_world.specs.Relay.{IsQueueInOrder, AllocationsAreEvents, FlushesAreEvents, FailedFlushesAreEvents, BrokenFlushesAreEvents, PartsMeet}
+use Rattle.lift_world.specs.Relay.{IsQueueInOrder, AllocationsAreEvents, FlushesAreEvents}
+use Rattle.lift_world.specs.Relay.{FailedFlushesAreEvents, BrokenFlushesAreEvents, PartsMeet}
 use Rattle.lift_world.specs.Stays.{StaysBetweenScans, StaysBetweenFlushes, StaysBrokenBetween}
 use Rattle.lift_world.specs.Turns.{HasRun}
 
@@ -25,17 +27,22 @@ pub record RelayLaws : Type 0 where
   pub stands_on : (w : World) → AsksStandOn w
   pub queued_by_seals : (w : World) → SealsAloneQueue w
   pub scans_among : (w : World) → AllocationsGoAmong w
-  pub decided : (building : Plan) (state : State) (commands : List Command) → HasRun building state commands
-  pub in_order : (building : Plan) (events : List Event) → IsQueueInOrder (run events (start building))
+  pub decided : (building : Plan) (state : State) (commands : List Command)
+      → HasRun building state commands
+  pub in_order : (building : Plan) (events : List Event)
+      → IsQueueInOrder (run events (start building))
   pub hears : (building : Plan) (events : List Event) → HearsInOrder (run events (start building))
   pub few_queued : (building : Plan) (events : List Event) → QueuesFew (run events (start building))
-  pub one_by_one : (building : Plan) (events : List Event) → AllAskOneByOne (run events (start building))
+  pub one_by_one : (building : Plan) (events : List Event)
+      → AllAskOneByOne (run events (start building))
   pub possible : (w : World) → GoesAreRuns w
   pub joined : (w : World) → RunsJoin w
   pub asks : (w : World) → AsksOnceHeard w
   pub hears_next : (w : World) → HearsTheNext w
   pub pulls : (w : World) → PullsInTurn w
   pub calls : (w : World) → CallsInOrder w
-  pub acknowledged : (building : Plan) (events : List Event) → IsBuilding building → RecoversAcknowledged (run events (start building))
-  pub letters : (building : Plan) (events : List Event) → IsBuilding building → RecoversLetters (run events (start building))
+  pub acknowledged : (building : Plan) (events : List Event) → IsBuilding building
+      → RecoversAcknowledged (run events (start building))
+  pub letters : (building : Plan) (events : List Event) → IsBuilding building
+      → RecoversLetters (run events (start building))
   pub registers : RegistersJoin

@@ -31,8 +31,10 @@ pub record ReceiveState : Type 0 where
 abbrev pub Begins : List BatchState → List BatchState → Type 0
 Begins first whole = (rest : List BatchState) × (whole ≡ first ++ rest)
 
--- the batch was decided in this building, at this desk, on this register, and taken behind these turns
-pub record IsNext (building : Plan) (desk : List TableId) (register : RegisterState) (turns : List ℕ) (batch : BatchState) : Type 0 where
+-- the batch was decided in this building, at this desk, on this register, and taken behind these
+-- turns
+pub record IsNext (building : Plan) (desk : List TableId) (register : RegisterState)
+    (turns : List ℕ) (batch : BatchState) : Type 0 where
   pub of_building : batch.building ≡ building
   pub at_desk : batch.desk ≡ desk
   pub on_register : batch.before ≡ register
@@ -82,7 +84,8 @@ pub record ReceivesOne (old : ReceiveState) (batch : BatchState) (new : ReceiveS
   pub few : length new.received ≤ 66060225
   pub later : Begins old.known new.known
 
--- at one moment four of these batches were in the line, and at least what was received by the last push had left it
+-- at one moment four of these batches were in the line, and at least what was received by the last
+-- push had left it
 pub record WasFull (s : SendState) : Type 0 where
   pub items : List BatchState
   pub four : length items ≡ 4
@@ -90,6 +93,7 @@ pub record WasFull (s : SendState) : Type 0 where
   pub all : s.sent ≡ received ++ items
   pub later : Begins s.gone received
 
--- at one moment all that was sent, which is at least what was sent by the last pop, had left the line
+-- at one moment all that was sent, which is at least what was sent by the last pop, had left the
+-- line
 abbrev pub WasEmpty : ReceiveState → Type 0
 WasEmpty s = Begins s.known s.received

@@ -1,5 +1,5 @@
--- What was received, and then what the line holds, is what was sent. One pass at most sends, and one receives. Each batch goes
--- on from the one before it.
+-- What was received, and then what the line holds, is what was sent. One pass at most sends, and
+-- one receives. Each batch goes on from the one before it.
 use Rattle.std.specs.Prelude.{◌≡◌, ◌⊎◌, ℕ, true, false, List, [], ◌∷◌, ◌++◌, ◌<◌, ◌≤◌, length}
 use mathlib.Core.Option.{some}
 use lib.ListN.{get_elem?}
@@ -60,20 +60,37 @@ receiving v = record v { sends = false }
 
 -- both passes in one, which knows what each of them knew
 abbrev pub joined : EndView → EndView → EndView
-joined v w = record v { receives = true; received = w.received; known = w.known; behind = w.behind; turns_behind = w.turns_behind }
+joined v w = record v {
+  receives = true;
+  received = w.received;
+  known = w.known;
+  behind = w.behind;
+  turns_behind = w.turns_behind;
+}
 
 -- the same, and each end is told where the other stands
 abbrev pub told_both : EndView → EndView → EndView
-told_both v w = record v { receives = true; received = w.received; gone = w.received; known = v.sent; behind = w.behind; turns_behind = w.turns_behind }
+told_both v w = record v {
+  receives = true;
+  received = w.received;
+  gone = w.received;
+  known = v.sent;
+  behind = w.behind;
+  turns_behind = w.turns_behind;
+}
 
 -- a pass that was taken in by another
 abbrev pub spent_pass : EndView
 spent_pass = record opening_view { begun = true }
 
--- each of these batches goes on from the register and the turns that those before it leave, from these to those
-abbrev pub GoesOn : Plan → List TableId → RegisterState → List ℕ → List BatchState → RegisterState → List ℕ → Type 0
+-- each of these batches goes on from the register and the turns that those before it leave, from
+-- these to those
+abbrev pub GoesOn : Plan → List TableId → RegisterState → List ℕ → List BatchState → RegisterState
+    → List ℕ → Type 0
 GoesOn building desk first turns [] last ended = (first ≡ last) × (turns ≡ ended)
-GoesOn building desk first turns (batch ∷ batches) last ended = IsNext building desk first turns batch × GoesOn building desk (after batch) (turns_behind batch) batches last ended
+GoesOn building desk first turns (batch ∷ batches) last ended =
+    IsNext building desk first turns batch
+    × GoesOn building desk (after batch) (turns_behind batch) batches last ended
 
 -- each batch takes a turn of some terminal: 63 terminals of 1,048,575 turns
 abbrev pub most_batches : ℕ
@@ -94,14 +111,20 @@ pub record Lists : Type 0 where
 
 pub record Fits (l : Lists) (pass : ℕ) (v : EndView) : Type 0 where
   pub begun : v.begun ≡ true
-  pub sends : v.sends ≡ true → (pass ≡ l.sender) × (v.sent ≡ l.sent) × Begins v.gone l.received × (v.building ≡ l.building) × (v.desk ≡ l.desk) × (v.ahead ≡ l.ahead) × (v.turns_ahead ≡ l.turns_ahead)
-  pub receives : v.receives ≡ true → (pass ≡ l.receiver) × (v.received ≡ l.received) × Begins v.known l.sent × (v.building ≡ l.building) × (v.desk ≡ l.desk) × (v.behind ≡ l.behind) × (v.turns_behind ≡ l.turns_behind)
+  pub sends : v.sends ≡ true → (pass ≡ l.sender) × (v.sent ≡ l.sent) × Begins v.gone l.received
+      × (v.building ≡ l.building) × (v.desk ≡ l.desk) × (v.ahead ≡ l.ahead)
+      × (v.turns_ahead ≡ l.turns_ahead)
+  pub receives : v.receives ≡ true
+      → (pass ≡ l.receiver) × (v.received ≡ l.received) × Begins v.known l.sent
+      × (v.building ≡ l.building) × (v.desk ≡ l.desk) × (v.behind ≡ l.behind)
+      × (v.turns_behind ≡ l.turns_behind)
 
 pub record IsInOrder (items : List BatchState) (views : List EndView) : Type 0 where
   pub lists : Lists
   pub in_order : lists.sent ≡ lists.received ++ items
   pub few : length lists.sent ≤ most_batches
-  pub goes_on : GoesOn lists.building lists.desk lists.behind lists.turns_behind items lists.ahead lists.turns_ahead
+  pub goes_on : GoesOn lists.building lists.desk lists.behind lists.turns_behind items lists.ahead
+      lists.turns_ahead
   pub fits : (pass : ℕ) (v : EndView) → get_elem? views pass ≡ some v → Fits lists pass v
   pub four : length items ≤ 4
 
@@ -144,19 +167,22 @@ pub record Received (v : EndView) (batch : BatchState) (w : EndView) : Type 0 wh
   pub few : length w.received ≤ most_batches
   pub later : Begins v.known w.known
 
--- what was sent ends with what the line holds, and what was received by the last push is not among it
+-- what was sent ends with what the line holds, and what was received by the last push is not among
+-- it
 pub record SentAllBut (v : EndView) (items : List BatchState) : Type 0 where
   pub received : List BatchState
   pub all : v.sent ≡ received ++ items
   pub later : Begins v.gone received
 
--- what was received begins what was sent, what the line holds goes on with it, and all that was known to be sent is there
+-- what was received begins what was sent, what the line holds goes on with it, and all that was
+-- known to be sent is there
 pub record ReceivedBefore (v : EndView) (items : List BatchState) : Type 0 where
   pub sent : List BatchState
   pub all : sent ≡ v.received ++ items
   pub later : Begins v.known sent
 
--- what the line holds, where one pass both sends and receives: just what was sent and not received, at most four, each going on from the one before it
+-- what the line holds, where one pass both sends and receives: just what was sent and not received,
+-- at most four, each going on from the one before it
 pub record Waits (v : EndView) (items : List BatchState) : Type 0 where
   pub all : v.sent ≡ v.received ++ items
   pub goes_on : GoesOn v.building v.desk v.behind v.turns_behind items v.ahead v.turns_ahead

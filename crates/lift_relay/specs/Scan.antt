@@ -1,5 +1,6 @@
 -- One scan ahead of the answers: what each look found, and what was decided.
-use Rattle.std.specs.Prelude.{ℕ, Option, None, ◌≡◌, ◌<◌, ◌≤◌, ◌+◌, ◌^◌, nat_lt, if◌then◌else◌, List, [], ◌∷◌, ◌++◌, length, IsSome, IfSome, Some}
+use Rattle.std.specs.Prelude.{ℕ, Option, None, ◌≡◌, ◌<◌, ◌≤◌, ◌+◌, ◌^◌, nat_lt, if◌then◌else◌, List}
+use Rattle.std.specs.Prelude.{[], ◌∷◌, ◌++◌, length, IsSome, IfSome, Some}
 use Rattle.lift_building.specs.Plan.{Plan}
 use Rattle.lift_desk.specs.declared.words.Ask.{Ask}
 use Rattle.lift_desk.specs.Words.{turn_of, last_of}
@@ -13,15 +14,17 @@ use Rattle.lift_clerk.specs.Visits.{Visit, commands_of, served}
 use Rattle.lift_relay.specs.declared.batch.Taken.{Taken}
 use Rattle.lift_relay.specs.Batch.{commands_in, replies_in, noted_in}
 
--- The look takes what its word says where that is later than all that was taken there before. A look takes the last ask that
--- the seat was told of, or a later one.
+-- The look takes what its word says where that is later than all that was taken there before. A
+-- look takes the last ask that the seat was told of, or a later one.
 pub record TakesAt (place : ClerkPlace) (visit : Visit) : Type 0 where
   pub reads : TakesAheadOf place.view visit.word visit.found
   pub in_range : IfSome visit.found IsAsk
-  pub turn : IsSome visit.found → turn_of (last_of (with_taking place.view visit.word).taken) < 2 ^ 20
+  pub turn : IsSome visit.found
+      → turn_of (last_of (with_taking place.view visit.word).taken) < 2 ^ 20
   pub known : length place.view.told ≤ turn_of (last_of (with_taking place.view visit.word).taken)
   pub told : (ask : Ask) → IsToldAhead place.view ask
-      → IsSome visit.found × (turn_of (last_of (with_taking place.view visit.word).taken) ≡ length place.view.told → visit.found ≡ Some ask)
+      → IsSome visit.found × (turn_of (last_of (with_taking place.view visit.word).taken)
+      ≡ length place.view.told → visit.found ≡ Some ask)
 
 -- the turn of the last ask that was taken at a place, of which there are 1,048,575
 abbrev pub capped : ℕ → ℕ
@@ -50,9 +53,10 @@ abbrev pub words_of : List Visit → List ℕ
 words_of [] = []
 words_of (visit ∷ visits) = word_at visit.word visit.found ++ words_of visits
 
--- The first n places were looked at once each and nothing else was, and what was found was decided, each command on the state
--- that the earlier ones left.
-pub record ScansAhead (choice : Choice) (plan : Plan) (places seat : List ClerkPlace) (before after : State) (taken : List Taken) (n : ℕ) : Type 0 where
+-- The first n places were looked at once each and nothing else was, and what was found was decided,
+-- each command on the state that the earlier ones left.
+pub record ScansAhead (choice : Choice) (plan : Plan) (places seat : List ClerkPlace)
+    (before after : State) (taken : List Taken) (n : ℕ) : Type 0 where
   pub visits : List Visit
   pub count : length visits ≡ n
   pub takes : TakesEach places visits

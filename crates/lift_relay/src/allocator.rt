@@ -1,6 +1,7 @@
 //! The part that takes asks and decides them.
 
-ghost use Rattle.std.specs.Prelude.{◌≡◌, ◌≢◌, ◌↔◌, ◌<◌, ◌≤◌, ◌+◌, [], ◌∷◌, ◌++◌, length, true, false};
+ghost use Rattle.std.specs.Prelude.{◌≡◌, ◌≢◌, ◌↔◌, ◌<◌, ◌≤◌, ◌+◌, [], ◌∷◌, ◌++◌, length, true};
+ghost use Rattle.std.specs.Prelude.{false};
 ghost use Rattle.lift_relay.specs.Line.{Begins, WasFull};
 ghost use Rattle.lift_desk.specs.Seats.{IsClerkOf};
 ghost use Rattle.lift_relay.specs.Batch.{turns_of};
@@ -20,8 +21,9 @@ use std::marker::Model;
 use std::snapshot::Snapshot;
 use std::sync::Wait;
 
-/// Takes what terminals ask, decides it, and sends it on in batches, ahead of the answers. Contracts see its desk's tables, its
-/// seats there, what it decides on, its end of the line, and a batch that the line had no room for.
+/// Takes what terminals ask, decides it, and sends it on in batches, ahead of the answers.
+/// Contracts see its desk's tables, its seats there, what it decides on, its end of the line, and a
+/// batch that the line had no room for.
 #[derive(Drop)]
 pub struct Allocator<'d, 'b, P: Policy + Drop> {
     desk: &'d Desk,
@@ -119,8 +121,10 @@ impl<'d, 'b, P: Policy + Drop> Allocator<'d, 'b, P> {
     /// What it shows of the calls: those of all entries that it accepted.
     pub fn register(&self) -> &Register
         ensures value { result.now ≡ self.now.state.register }
-        // Whatever was sent, and then the batch in hand, is a run of the rules from the split on, each batch on the state that those before it left.
-        ensures decides { DecidesAlong self.now.plan (P.chooses self.now.policy) self.now.start (self.now.end.sent ++ self.now.hand) self.now.state }
+        // Whatever was sent, and then the batch in hand, is a run of the rules from the split on,
+        // each batch on the state that those before it left.
+        ensures decides { DecidesAlong self.now.plan (P.chooses self.now.policy) self.now.start
+            (self.now.end.sent ++ self.now.hand) self.now.state }
         ensures sealed { self.now.state.batch ≡ [] }
         // With no batch in hand it is that behind all that was sent.
         ensures behind { self.now.hand ≡ [] → result.now ≡ self.now.end.register }
@@ -145,7 +149,8 @@ impl<'d, 'b, P: Policy + Drop> Allocator<'d, 'b, P> {
         requires line { receiver.line ≡ self.old.end.line }
         requires building { receiver.building ≡ self.old.plan }
         requires desk { receiver.desk ≡ self.old.desk }
-        ensures allocator { self.new ≡ record self.old { end = record self.old.end { gone = receiver.received } } }
+        ensures allocator { self.new
+            ≡ record self.old { end = record self.old.end { gone = receiver.received } } }
         ensures receiver { result ≡ record receiver { known = self.old.end.sent } }
         ensures queued { Queued self.new.end result }
     {
@@ -166,11 +171,14 @@ impl<'d, 'b, P: Policy + Drop> Allocator<'d, 'b, P> {
 
     /// Sends the batch that is in hand, if there is one. Whether none is left.
     pub(crate) fn send_hand<R: Wait>(&mut self, rt: &R) -> bool
-        ensures sent { result ≡ true → (self.new.hand ≡ []) × (self.new.end.sent ≡ self.old.end.sent ++ self.old.hand) }
-        ensures same { result ≡ true → self.new ≡ record self.old { end = self.new.end; hand = [] } }
+        ensures sent { result ≡ true
+            → (self.new.hand ≡ []) × (self.new.end.sent ≡ self.old.end.sent ++ self.old.hand) }
+        ensures same { result ≡ true
+            → self.new ≡ record self.old { end = self.new.end; hand = [] } }
         ensures line { self.new.end.line ≡ self.old.end.line }
         ensures later { Begins self.old.end.gone self.new.end.gone }
-        ensures full { result ≡ false → (self.new ≡ self.old) × (self.old.hand ≢ []) × WasFull self.old.end }
+        ensures full { result ≡ false
+            → (self.new ≡ self.old) × (self.old.hand ≢ []) × WasFull self.old.end }
     {
         let _terminals = self.desk.len();
         match self.hand.take() {
@@ -185,15 +193,18 @@ impl<'d, 'b, P: Policy + Drop> Allocator<'d, 'b, P> {
         }
     }
 
-    /// One turn: sends the batch that is in hand, and takes nothing where the line has no room for it. Else it looks once at
-    /// each terminal, in rising order, decides what was asked, and sends it as one batch, refusals and repeats too, if anything
-    /// was taken; a batch that the line has no room for stays in hand.
+    /// One turn: sends the batch that is in hand, and takes nothing where the line has no room for
+    /// it. Else it looks once at each terminal, in rising order, decides what was asked, and sends
+    /// it as one batch, refusals and repeats too, if anything was taken; a batch that the line has
+    /// no room for stays in hand.
     pub fn turn<R: Wait>(&mut self, rt: &R) -> Counts
         ensures turns { IsAllocation (P.chooses self.old.policy) self.old self.new result }
         // Where fewer than four batches of those that it knows to be in the line wait, it looks.
-        ensures looks { length self.old.end.sent < length self.old.end.gone + 4 → IsScanTurn (P.chooses self.old.policy) self.old self.new result }
+        ensures looks { length self.old.end.sent < length self.old.end.gone + 4
+            → IsScanTurn (P.chooses self.old.policy) self.old self.new result }
         // Where there is room for the batch in hand and one more, none is left in hand.
-        ensures sends { length self.old.end.sent + length self.old.hand < length self.old.end.gone + 4 → self.new.hand ≡ [] }
+        ensures sends { length self.old.end.sent + length self.old.hand
+            < length self.old.end.gone + 4 → self.new.hand ≡ [] }
         ensures same { IsSameAllocator self.old self.new }
     {
         self.send_and_scan(rt)

@@ -34,8 +34,9 @@ impl Default for Taken {
     }
 }
 
-/// What one scan took and decided. Contracts also see in which building and on which register it was decided, at which desk
-/// it was taken, and the turn of the last ask that was taken before, of each terminal.
+/// What one scan took and decided. Contracts also see in which building and on which register it
+/// was decided, at which desk it was taken, and the turn of the last ask that was taken before, of
+/// each terminal.
 #[derive(Drop)]
 pub struct Batch {
     commands: ArrayVec<Taken, 63>,
@@ -51,15 +52,33 @@ impl Model for Batch {
 
     ghost Value = { BatchState };
 
-    ghost view = { λ b. record { commands = b.commands.items; entries = b.entries.items; building = b.building.value; before = b.before.value; desk = b.desk.value; turns = turns_of b.seats.value } };
+    ghost view = { λ b. record {
+      commands = b.commands.items;
+      entries = b.entries.items;
+      building = b.building.value;
+      before = b.before.value;
+      desk = b.desk.value;
+      turns =
+          turns_of b.seats.value;
+    } };
 
-    ghost invariant = { λ b. IsBatch (record { commands = b.commands.items; entries = b.entries.items; building = b.building.value; before = b.before.value; desk = b.desk.value; turns = turns_of b.seats.value }) };
+    ghost invariant = { λ b.
+        IsBatch (record {
+          commands = b.commands.items;
+          entries = b.entries.items;
+          building = b.building.value;
+          before = b.before.value;
+          desk = b.desk.value;
+          turns =
+              turns_of b.seats.value;
+        }) };
 }
 
 impl Batch {
     ghost use Rattle.lift_register.specs.Register.{RegisterState};
 
-    /// A batch that was decided in this building and on this register, of commands that these seats of this desk took next.
+    /// A batch that was decided in this building and on this register, of commands that these seats
+    /// of this desk took next.
     pub(crate) fn new(
         commands: ArrayVec<Taken, 63>,
         entries: ArrayVec<Entry, 63>,
@@ -71,8 +90,24 @@ impl Batch {
         requires fits { FitFrom building.now before.value entries.items }
         requires at_desk { AreBelow (length desk.now) (commands_in commands.items) }
         requires noted { AreNoted desk.now (turns_of seats.value) commands.items }
-        requires decided { IsDecided (record { commands = commands.items; entries = entries.items; building = building.now; before = before.value; desk = desk.now; turns = turns_of seats.value }) }
-        ensures { result ≡ record { commands = commands.items; entries = entries.items; building = building.now; before = before.value; desk = desk.now; turns = turns_of seats.value } }
+        requires decided { IsDecided (record {
+          commands = commands.items;
+          entries = entries.items;
+          building = building.now;
+          before = before.value;
+          desk = desk.now;
+          turns =
+              turns_of seats.value;
+        }) }
+        ensures { result ≡ record {
+          commands = commands.items;
+          entries = entries.items;
+          building = building.now;
+          before = before.value;
+          desk = desk.now;
+          turns =
+              turns_of seats.value;
+        } }
     {
         Batch {
             commands,
@@ -84,7 +119,8 @@ impl Batch {
         }
     }
 
-    /// What was accepted of it, in its order. It fits where it was decided, and the replies are those of the same run.
+    /// What was accepted of it, in its order. It fits where it was decided, and the replies are
+    /// those of the same run.
     pub fn entries(&self) -> &ArrayVec<Entry, 63>
         ensures value { result.now.items ≡ self.now.entries }
         ensures fits { FitFrom self.now.building self.now.before self.now.entries }

@@ -1,19 +1,22 @@
 //! The part that makes batches safe and answers.
 
-ghost use Rattle.std.specs.Prelude.{◌≡◌, ℕ, List, ◌<◌, ◌⊎◌, ◌↔◌, [], length, true, false, Ok, Err, IfOk, IfErr, OnOk, OnErr};
+ghost use Rattle.std.specs.Prelude.{◌≡◌, ℕ, List, ◌<◌, ◌⊎◌, ◌↔◌, [], length, true, false, Ok, Err};
+ghost use Rattle.std.specs.Prelude.{IfOk, IfErr, OnOk, OnErr};
 ghost use Rattle.lift_disk.specs.Disk.{LeavesNow, LeavesOnly, RunsOn};
 ghost use Rattle.lift_desk.specs.Seats.{IsClerkOf, IsNoteOf, OwesNothing, Says, view_at};
 ghost use Rattle.lift_journal.specs.Steps.{Makes};
 ghost use Rattle.lift_journal.specs.Told.{NoneFails};
 ghost use Rattle.lift_keeper.specs.Images.{IsImageOf, IsInDoubt};
 ghost use Rattle.lift_keeper.specs.Reopening.{FailsBy};
-ghost use Rattle.lift_keeper.specs.Writer.{StopsCommit, commit_calls, commit_writes, commit_used, commit_second};
+ghost use Rattle.lift_keeper.specs.Writer.{StopsCommit, commit_calls, commit_writes, commit_used};
+ghost use Rattle.lift_keeper.specs.Writer.{commit_second};
 ghost use Rattle.lift_clerk.specs.Turn.{IsEither};
 ghost use Rattle.lift_clerk.specs.Visits.{Visit};
 ghost use Rattle.lift_relay.specs.Batch.{BatchState, turns_behind, turns_with};
 ghost use Rattle.lift_relay.specs.Queued.{Queued};
 ghost use Rattle.lift_relay.specs.Relay.{AreOfOne};
-ghost use Rattle.lift_relay.specs.Flusher.{IsFlusher, AnswersOne, Answered, IsSettled, IsEmptyTurn, IsBatchTurn, entries_between};
+ghost use Rattle.lift_relay.specs.Flusher.{IsFlusher, AnswersOne, Answered, IsSettled, IsEmptyTurn};
+ghost use Rattle.lift_relay.specs.Flusher.{IsBatchTurn, entries_between};
 
 use crate::allocator::Allocator;
 use crate::batch::{Batch, Taken};
@@ -40,8 +43,8 @@ pub struct FlushCounts {
     pub answers: usize,
 }
 
-/// Makes batches safe in the order in which they were sent, and answers them. Contracts see its desk's tables, its seats there,
-/// its writer and its end of the line.
+/// Makes batches safe in the order in which they were sent, and answers them. Contracts see its
+/// desk's tables, its seats there, its writer and its end of the line.
 #[derive(Drop)]
 pub struct Flusher<'d, 'b, D: Disk> {
     desk: &'d Desk,
@@ -55,20 +58,28 @@ impl<'d, 'b, D: Disk> Model for Flusher<'d, 'b, D> {
 
     ghost Value = { FlusherState D };
 
-    ghost view = { λ f. record { desk = f.desk.now; seat = f.seat; writer = f.writer; end = f.end } };
+    ghost view = { λ f. record {
+      desk = f.desk.now;
+      seat = f.seat;
+      writer = f.writer;
+      end = f.end;
+    } };
 
-    ghost invariant = { λ f. IsFlusher (record { desk = f.desk.now; seat = f.seat; writer = f.writer; end = f.end }) };
+    ghost invariant = { λ f.
+        IsFlusher (record { desk = f.desk.now; seat = f.seat; writer = f.writer; end = f.end }) };
 }
 
-/// Looks once at the terminal of a command, which the look gives, as its note says; and answers it: with its reply where it is safe,
-/// else Unknown.
+/// Looks once at the terminal of a command, which the look gives, as its note says; and answers it:
+/// with its reply where it is safe, else Unknown.
 fn answer(desk: &Desk, seat: &mut ClerkSeat, taken: Taken, is_safe: bool)
     requires seated { IsClerkOf desk.now seat.old }
     requires terminal { taken.command.terminal < length desk.now }
     requires noted { IsNoteOf desk.now taken.command.terminal taken.note }
-    requires says { Says (view_at seat.old taken.command.terminal) taken.note.word (record { number = taken.command.number; body = taken.command.body }) }
+    requires says { Says (view_at seat.old taken.command.terminal) taken.note.word
+        (record { number = taken.command.number; body = taken.command.body }) }
     ensures answers { (visit : Visit) × AnswersOne is_safe seat.old taken visit seat.new }
-    ensures settled { (turns : List ℕ) → IsSettled seat.old turns → taken.command.terminal < length turns → IsSettled seat.new (turns_with turns taken) }
+    ensures settled { (turns : List ℕ) → IsSettled seat.old turns
+        → taken.command.terminal < length turns → IsSettled seat.new (turns_with turns taken) }
     ensures seated { IsClerkOf desk.now seat.new }
 {
     let Taken {
@@ -81,8 +92,8 @@ fn answer(desk: &Desk, seat: &mut ClerkSeat, taken: Taken, is_safe: bool)
     desk.answer(seat, command.terminal, reply);
 }
 
-/// Looks once at the terminal of each command of a batch, and answers it: with its reply where the batch is safe, else Unknown.
-/// How many commands there were.
+/// Looks once at the terminal of each command of a batch, and answers it: with its reply where the
+/// batch is safe, else Unknown. How many commands there were.
 fn answer_all(desk: &Desk, seat: &mut ClerkSeat, batch: Batch, is_safe: bool) -> usize
     requires seated { IsClerkOf desk.now seat.old }
     requires at_desk { batch.desk ≡ desk.now }
@@ -117,7 +128,8 @@ fn owes(desk: &Desk, seat: &ClerkSeat) -> bool
 
 // What a crash leaves while the writer is broken, which makes no call.
 fn resting<D: Disk>(writer: &Writer<'_, D>)
-    ensures { writer.now.is_broken ≡ true → LeavesOnly (D.state writer.now.device) (D.state writer.now.device)
+    ensures { writer.now.is_broken ≡ true
+        → LeavesOnly (D.state writer.now.device) (D.state writer.now.device)
         (IsInDoubt writer.now.plan writer.now.register writer.now.doubt) }
 {
     let _register = writer.register();
@@ -136,7 +148,12 @@ impl<'d, 'b, D: Disk> Flusher<'d, 'b, D> {
         requires at_desk { end.desk ≡ desk.now }
         requires safe { writer.is_broken ≡ false → writer.register ≡ end.register }
         requires settled { IsSettled seat end.turns }
-        ensures value { result ≡ record { desk = desk.now; seat = seat; writer = writer.entry; end = end } }
+        ensures value { result ≡ record {
+          desk = desk.now;
+          seat = seat;
+          writer = writer.entry;
+          end = end;
+        } }
         ensures flusher { IsFlusher result }
     {
         Flusher {
@@ -154,7 +171,8 @@ impl<'d, 'b, D: Disk> Flusher<'d, 'b, D> {
         self.end.count()
     }
 
-    /// Whether it took an ask that it has not answered, of any terminal. Between its turns there is none.
+    /// Whether it took an ask that it has not answered, of any terminal. Between its turns there is
+    /// none.
     pub fn owes(&self) -> bool
         ensures value { (result ≡ false) ↔ OwesNothing self.now.seat }
         ensures none { result ≡ false }
@@ -162,11 +180,14 @@ impl<'d, 'b, D: Disk> Flusher<'d, 'b, D> {
         owes(self.desk, &self.seat)
     }
 
-    /// Whether what is safe is this register, or a call of the device has failed since it was last opened.
+    /// Whether what is safe is this register, or a call of the device has failed since it was last
+    /// opened.
     pub fn may_join(&self, register: &Register) -> bool
-        ensures value { (result ≡ true) ↔ ((self.now.writer.is_broken ≡ true) ⊎ (register.now ≡ self.now.writer.register)) }
+        ensures value { (result ≡ true)
+            ↔ ((self.now.writer.is_broken ≡ true) ⊎ (register.now ≡ self.now.writer.register)) }
         // Where nothing has failed, what is safe is what was received.
-        ensures safe { self.now.writer.is_broken ≡ false → self.now.writer.register ≡ self.now.end.register }
+        ensures safe { self.now.writer.is_broken ≡ false
+            → self.now.writer.register ≡ self.now.end.register }
     {
         self.writer.is_broken() || register.is_same(self.writer.register())
     }
@@ -195,10 +216,12 @@ impl<'d, 'b, D: Disk> Flusher<'d, 'b, D> {
         )
     }
 
-    /// Tells it and the other part, at the other end of its line, how much was sent and how much was received.
+    /// Tells it and the other part, at the other end of its line, how much was sent and how much
+    /// was received.
     pub(crate) fn tell<P: Policy + Drop>(&mut self, allocator: &mut Allocator<'_, '_, P>)
         requires of_one { AreOfOne allocator.old self.old }
-        ensures flusher { self.new ≡ record self.old { end = record self.old.end { known = allocator.old.end.sent } } }
+        ensures flusher { self.new
+            ≡ record self.old { end = record self.old.end { known = allocator.old.end.sent } } }
         ensures allocator { allocator.new ≡ record allocator.old { end = record allocator.old.end { gone = self.old.end.received } } }
         ensures queued { Queued allocator.new.end self.new.end }
     {
@@ -229,57 +252,87 @@ impl<'d, 'b, D: Disk> Flusher<'d, 'b, D> {
         (self.seat, self.writer)
     }
 
-    /// One turn: receives one batch, makes it safe, then looks once more at each of its commands' terminals, and answers each
-    /// command, which its look gives, with the batch's reply. After a device fault it answers Unknown to that batch and all
-    /// later ones.
+    /// One turn: receives one batch, makes it safe, then looks once more at each of its commands'
+    /// terminals, and answers each command, which its look gives, with the batch's reply. After a
+    /// device fault it answers Unknown to that batch and all later ones.
     ///
-    /// `Journal(Disk)` where a call of the device failed, `Journal(Broken)` while it is broken, also where the line was empty.
+    /// `Journal(Disk)` where a call of the device failed, `Journal(Broken)` while it is broken,
+    /// also where the line was empty.
     pub fn turn<R: Wait>(&mut self, rt: &R) -> Result<FlushCounts, KeeperFault>
-        ensures turns { IsEmptyTurn self.old self.new result ⊎ ((batch : BatchState) × IsBatchTurn self.old self.new batch result) }
+        ensures turns { IsEmptyTurn self.old self.new result
+            ⊎ ((batch : BatchState) × IsBatchTurn self.old self.new batch result) }
 
-        // A crash at any moment of the call leaves the register that was safe before it, or that with the batch received.
-        ensures any_moment { self.old.writer.is_broken ≡ false → LeavesOnly (D.state self.old.writer.device) (D.state self.new.writer.device)
+        // A crash at any moment of the call leaves the register that was safe before it, or that
+        // with the batch received.
+        ensures any_moment { self.old.writer.is_broken ≡ false
+            → LeavesOnly (D.state self.old.writer.device) (D.state self.new.writer.device)
             (IsEither self.old.writer.plan self.old.writer.register self.new.end.register) }
-        // A broken one makes no call: a crash leaves what was safe before the fault, or that with the batch in doubt.
-        ensures while_broken { self.old.writer.is_broken ≡ true → LeavesOnly (D.state self.old.writer.device) (D.state self.new.writer.device)
+        // A broken one makes no call: a crash leaves what was safe before the fault, or that with
+        // the batch in doubt.
+        ensures while_broken { self.old.writer.is_broken ≡ true
+            → LeavesOnly (D.state self.old.writer.device) (D.state self.new.writer.device)
             (IsInDoubt self.old.writer.plan self.old.writer.register self.old.writer.doubt) }
         // What was answered is safe: every crash from now on leaves it.
-        ensures acknowledged { OnOk result (LeavesNow (D.state self.new.writer.device) (IsImageOf self.old.writer.plan self.new.end.register)) }
+        ensures acknowledged { OnOk result
+            (LeavesNow (D.state self.new.writer.device)
+            (IsImageOf self.old.writer.plan self.new.end.register)) }
         ensures register { OnOk result (self.new.writer.register ≡ self.new.end.register) }
         ensures in_doubt { result ≡ Err (KeeperFault.Journal JournalFault.Disk)
-            → LeavesNow (D.state self.new.writer.device) (IsInDoubt self.old.writer.plan self.old.writer.register self.new.writer.doubt) }
+            → LeavesNow (D.state self.new.writer.device)
+            (IsInDoubt self.old.writer.plan self.old.writer.register self.new.writer.doubt) }
 
-        ensures broken { (result ≡ Err (KeeperFault.Journal JournalFault.Broken)) ↔ (self.old.writer.is_broken ≡ true) }
-        ensures causes { IfErr result (λ fault. (fault ≡ KeeperFault.Journal JournalFault.Disk) ⊎ (fault ≡ KeeperFault.Journal JournalFault.Broken)) }
-        ensures failed { result ≡ Err (KeeperFault.Journal JournalFault.Disk) → (D.state self.old.writer.device).failures < (D.state self.new.writer.device).failures }
+        ensures broken { (result ≡ Err (KeeperFault.Journal JournalFault.Broken))
+            ↔ (self.old.writer.is_broken ≡ true) }
+        ensures causes { IfErr result (λ fault. (fault ≡ KeeperFault.Journal JournalFault.Disk)
+            ⊎ (fault ≡ KeeperFault.Journal JournalFault.Broken)) }
+        ensures failed { result ≡ Err (KeeperFault.Journal JournalFault.Disk)
+            → (D.state self.old.writer.device).failures
+            < (D.state self.new.writer.device).failures }
         ensures rests { self.old.writer.is_broken ≡ true → self.new.writer ≡ self.old.writer }
         ensures breaks { OnErr result (self.new.writer.is_broken ≡ true) }
         // Unknown is answered only where a call has failed since the last opening that succeeded.
-        ensures since { OnErr result (self.new.writer.opened < (D.state self.new.writer.device).failures) }
+        ensures since { OnErr result (self.new.writer.opened
+            < (D.state self.new.writer.device).failures) }
         ensures unmoved { OnErr result (self.new.writer.register ≡ self.old.writer.register) }
-        ensures whole { OnOk result (((D.state self.new.writer.device).failures ≡ (D.state self.old.writer.device).failures)
+        ensures whole { OnOk result
+            (((D.state self.new.writer.device).failures ≡ (D.state self.old.writer.device).failures)
             × (self.new.writer.is_broken ≡ false) × (self.new.writer.doubt ≡ [])) }
-        ensures kept { (self.new.writer.plan ≡ self.old.writer.plan) × (self.new.writer.half ≡ self.old.writer.half) × (self.new.writer.opened ≡ self.old.writer.opened) }
+        ensures kept { (self.new.writer.plan ≡ self.old.writer.plan)
+            × (self.new.writer.half ≡ self.old.writer.half)
+            × (self.new.writer.opened ≡ self.old.writer.opened) }
         ensures same { (self.new.desk ≡ self.old.desk) × (self.new.end.line ≡ self.old.end.line) }
         // A batch that it was told of, it receives.
-        ensures finds { length self.old.end.received < length self.old.end.known → (batch : BatchState) × IsBatchTurn self.old self.new batch result }
+        ensures finds { length self.old.end.received < length self.old.end.known
+            → (batch : BatchState) × IsBatchTurn self.old self.new batch result }
 
-        // How many calls it makes: those of one commit, none where the batch has no entries and where none was received.
+        // How many calls it makes: those of one commit, none where the batch has no entries and
+        // where none was received.
         ensures runs { RunsOn (D.state self.old.writer.device) (D.state self.new.writer.device) }
-        ensures made { Makes result (commit_calls self.old.writer.register self.old.writer.used self.old.writer.half (entries_between self.old.end self.new.end))
-            (commit_writes self.old.writer.register self.old.writer.used self.old.writer.half (entries_between self.old.end self.new.end))
+        ensures made { Makes result
+            (commit_calls self.old.writer.register self.old.writer.used self.old.writer.half
+            (entries_between self.old.end self.new.end))
+            (commit_writes self.old.writer.register self.old.writer.used self.old.writer.half
+            (entries_between self.old.end self.new.end))
             (D.state self.old.writer.device) (D.state self.new.writer.device) }
         ensures used { OnOk result (self.new.writer.used
-            ≡ commit_used self.old.writer.register self.old.writer.used self.old.writer.half (entries_between self.old.end self.new.end)) }
+            ≡ commit_used self.old.writer.register self.old.writer.used self.old.writer.half
+            (entries_between self.old.end self.new.end)) }
         ensures second { OnOk result (self.new.writer.is_second
-            ≡ commit_second self.old.writer.is_second self.old.writer.used self.old.writer.half (entries_between self.old.end self.new.end)) }
-        ensures told_ok { OnOk result (NoneFails (D.state self.old.writer.device) (D.state self.new.writer.device)) }
-        ensures told { IfErr result (λ fault. FailsBy fault (D.state self.old.writer.device) (D.state self.new.writer.device)) }
+            ≡ commit_second self.old.writer.is_second self.old.writer.used self.old.writer.half
+            (entries_between self.old.end self.new.end)) }
+        ensures told_ok { OnOk result
+            (NoneFails (D.state self.old.writer.device) (D.state self.new.writer.device)) }
+        ensures told { IfErr result (λ fault.
+            FailsBy fault (D.state self.old.writer.device) (D.state self.new.writer.device)) }
 
-        // Where a device stopped it that changes no byte in a failed call, the number of calls says what each cut leaves.
-        ensures stops { result ≡ Err (KeeperFault.Journal JournalFault.Disk) → (D.state self.old.writer.device).is_honest → (D.state self.old.writer.device).is_inert
-            → StopsCommit self.old.writer.plan self.old.writer.half self.old.writer.is_second self.old.writer.used
-            self.old.writer.register self.new.writer.doubt (D.state self.old.writer.device) (D.state self.new.writer.device) }
+        // Where a device stopped it that changes no byte in a failed call, the number of calls says
+        // what each cut leaves.
+        ensures stops { result ≡ Err (KeeperFault.Journal JournalFault.Disk)
+            → (D.state self.old.writer.device).is_honest → (D.state self.old.writer.device).is_inert
+            → StopsCommit self.old.writer.plan self.old.writer.half self.old.writer.is_second
+            self.old.writer.used
+            self.old.writer.register self.new.writer.doubt (D.state self.old.writer.device)
+            (D.state self.new.writer.device) }
     {
         resting(&self.writer);
         let batch = match self.end.receive(rt) {

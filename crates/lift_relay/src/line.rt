@@ -15,8 +15,8 @@ use std::collections::LinkedList;
 use std::marker::Model;
 use std::sync::{Arc, Wait};
 
-/// What an end knows: whether it sends or receives, what went through it, and from where the batches go on. No value of it
-/// is made.
+/// What an end knows: whether it sends or receives, what went through it, and from where the
+/// batches go on. No value of it is made.
 pub struct EndView {
     /// The line has begun: it was told its building, its desk and its first register.
     pub begun: bool,
@@ -180,8 +180,9 @@ impl Model for ReceiveEnd {
     ghost invariant = { IsReceiveEnd };
 }
 
-/// A line of four batches, which goes on from the register and the turns, for the building and the desk, that this batch names.
-/// The batch itself isn't sent. An error comes only where a growth was refused.
+/// A line of four batches, which goes on from the register and the turns, for the building and the
+/// desk, that this batch names. The batch itself isn't sent. An error comes only where a growth was
+/// refused.
 pub fn new_line(alloc: Global, first: Batch) -> Result<(SendEnd, ReceiveEnd), Memory>
     ensures { IfOk result (λ ends. IsLine first ends.0 ends.1) }
 {
@@ -215,11 +216,14 @@ pub fn new_line(alloc: Global, first: Batch) -> Result<(SendEnd, ReceiveEnd), Me
 }
 
 impl SendEnd {
-    /// Sends a batch that goes on from what was sent. It comes back only if the line was full at one moment of the call.
+    /// Sends a batch that goes on from what was sent. It comes back only if the line was full at
+    /// one moment of the call.
     pub fn send<R: Wait>(&mut self, rt: &R, batch: Batch) -> Result<(), Batch>
         requires few { length self.old.sent < 66060225 }
-        requires next { IsNext self.old.building self.old.desk self.old.register self.old.turns batch }
-        ensures { MatchResult result (λ _. SendsOne self.old batch self.new) (λ back. (back ≡ batch) × (self.new ≡ self.old) × WasFull self.old) }
+        requires next { IsNext self.old.building self.old.desk self.old.register self.old.turns
+            batch }
+        ensures { MatchResult result (λ _. SendsOne self.old batch self.new) (λ back.
+            (back ≡ batch) × (self.new ≡ self.old) × WasFull self.old) }
     {
         self.line.push_as::<Sends, R>(rt, &mut self.pass, batch)?;
         self.count += 1;
@@ -267,10 +271,11 @@ impl SendEnd {
 }
 
 impl ReceiveEnd {
-    /// Receives a batch, which goes on from what was received. There is none only if the line was empty at one moment of
-    /// the call.
+    /// Receives a batch, which goes on from what was received. There is none only if the line was
+    /// empty at one moment of the call.
     pub fn receive<R: Wait>(&mut self, rt: &R) -> Option<Batch>
-        ensures { MatchOption result ((self.new ≡ self.old) × WasEmpty self.old) (λ batch. ReceivesOne self.old batch self.new) }
+        ensures { MatchOption result ((self.new ≡ self.old) × WasEmpty self.old) (λ batch.
+            ReceivesOne self.old batch self.new) }
     {
         let batch = self.line.pop_as::<Receives, R>(rt, &mut self.pass)?;
         self.count += 1;

@@ -7,7 +7,8 @@ ghost use Rattle.lift_world.specs.declared.event.Taken.{Taken};
 ghost use Rattle.lift_relay.specs.declared.flusher.FlushCounts.{FlushCounts};
 ghost use Rattle.lift_relay.specs.Queued.{Queued};
 ghost use Rattle.lift_relay.specs.Relay.{AreOfOne};
-ghost use Rattle.lift_relay.specs.Pair.{AllocatorTurns, FlusherTurns, IsFlush, first_of, ComesFrom, HaveTurned, IsRun, HaveRun, IsSameAllocator, IsSameFlusher};
+ghost use Rattle.lift_relay.specs.Pair.{AllocatorTurns, FlusherTurns, IsFlush, first_of, ComesFrom};
+ghost use Rattle.lift_relay.specs.Pair.{HaveTurned, IsRun, HaveRun, IsSameAllocator, IsSameFlusher};
 ghost use Rattle.lift_relay.specs.Runs.{HasPast, Advances};
 
 use crate::allocator::Allocator;
@@ -23,19 +24,21 @@ use std::sync::atomic::{AtomicBool, Ordering};
 use std::thread;
 use std::thread::{Promise, SpawnError, Threads};
 
-/// Says whether both parts go on, and is told how far they are, so that their threads may wait here in place of turning
-/// for nothing. What a run sends and receives behind the last turn of both is not told.
+/// Says whether both parts go on, and is told how far they are, so that their threads may wait here
+/// in place of turning for nothing. What a run sends and receives behind the last turn of both is
+/// not told.
 pub trait Gate {
     /// It is asked between turns, by both threads.
     fn go_on(&self) -> bool;
 
-    /// The allocator's turn sent nothing, and has nothing in hand. The next one looks at what was asked before this returns.
+    /// The allocator's turn sent nothing, and has nothing in hand. The next one looks at what was
+    /// asked before this returns.
     fn allocator_idles<R: Wait>(&self, _rt: &R) {
         thread::yield_now();
     }
 
-    /// The allocator has sent so many batches, the last ones in its last turn. The next turn looks at what was asked before
-    /// this returns.
+    /// The allocator has sent so many batches, the last ones in its last turn. The next turn looks
+    /// at what was asked before this returns.
     fn has_sent<R: Wait>(&self, _rt: &R, _count: u64) {}
 
     /// The flusher's turn received nothing.
@@ -43,7 +46,8 @@ pub trait Gate {
         thread::yield_now();
     }
 
-    /// The flusher has received so many batches, the last one in its last turn, and all of their commands are answered.
+    /// The flusher has received so many batches, the last one in its last turn, and all of their
+    /// commands are answered.
     fn has_flushed<R: Wait>(&self, _rt: &R, _count: u64) {}
 }
 
@@ -112,7 +116,8 @@ fn flush_once<R: Wait, D: Disk>(
     flusher: &mut Flusher<'_, '_, D>,
     first: &mut Option<KeeperFault>,
 )
-    ensures { (answer : Result FlushCounts KeeperFault) × IsFlush D.state flusher.old flusher.new answer × (first.new ≡ first_of first.old answer) }
+    ensures { (answer : Result FlushCounts KeeperFault)
+        × IsFlush D.state flusher.old flusher.new answer × (first.new ≡ first_of first.old answer) }
 {
     if let Err(fault) = flusher.turn(rt) {
         if first.is_none() {
@@ -141,15 +146,16 @@ fn flush<R: Wait, G: Gate, D: Disk>(
     first
 }
 
-/// Sends the batch in hand and receives all that was sent, by turns of the flusher. The first fault of all turns, of which one
-/// may be there already.
+/// Sends the batch in hand and receives all that was sent, by turns of the flusher. The first fault
+/// of all turns, of which one may be there already.
 fn drain<R: Wait, D: Disk, P: Policy + Drop>(
     rt: &R,
     allocator: &mut Allocator<'_, '_, P>,
     flusher: &mut Flusher<'_, '_, D>,
     mut first: Option<KeeperFault>,
 ) -> Option<KeeperFault>
-    ensures allocator { AllocatorTurns (P.chooses allocator.old.policy) allocator.old allocator.new }
+    ensures allocator { AllocatorTurns
+        (P.chooses allocator.old.policy) allocator.old allocator.new }
     ensures flusher { FlusherTurns D.state flusher.old first flusher.new result }
     ensures nothing_in_hand { allocator.new.hand ≡ [] }
     ensures all_received { length allocator.new.end.sent ≡ length flusher.new.end.received }
@@ -205,7 +211,8 @@ enum Turned {
     Done(Option<KeeperFault>),
 }
 
-/// Both parts after their turns on two threads. Where no thread could be made, they are as they were.
+/// Both parts after their turns on two threads. Where no thread could be made, they are as they
+/// were.
 fn turn_both<'d, 'b, R, G, D, P>(
     rt: &R,
     allocator: Allocator<'d, 'b, P>,
@@ -217,7 +224,8 @@ where
     G: Gate + Sync,
     D: Disk + Drop,
     P: Policy + Drop + Send,
-    ensures { HaveTurned (P.chooses allocator.entry.policy) D.state allocator.entry result.0 flusher.entry result.1 result.2 }
+    ensures { HaveTurned (P.chooses allocator.entry.policy) D.state allocator.entry result.0
+        flusher.entry result.1 result.2 }
 {
     let may_run = AtomicBool::new(true);
     let flag = &may_run;
@@ -225,7 +233,8 @@ where
         thread::scope_env(),
         rt,
         move |scope| -> (Allocator<P>, Flusher<D>, Turned)
-            ensures { HaveTurned (P.chooses allocator.entry.policy) D.state allocator.entry result.0 flusher.entry result.1 result.2 }
+            ensures { HaveTurned (P.chooses allocator.entry.policy) D.state allocator.entry result.0
+                flusher.entry result.1 result.2 }
         {
             let promise = OfPart(Snapshot::of(&allocator));
             let work = move || -> Allocating<P>
@@ -265,7 +274,8 @@ where
     G: Gate + Sync,
     D: Disk + Drop,
     P: Policy + Drop + Send,
-    ensures { IsRun (P.chooses allocator.entry.policy) D.state allocator.entry result.0 flusher.entry result.1 result.2 }
+    ensures { IsRun (P.chooses allocator.entry.policy) D.state allocator.entry result.0
+        flusher.entry result.1 result.2 }
 {
     let (mut allocator, mut flusher, turned) = turn_both(rt, allocator, flusher, gate);
     match turned {
@@ -280,11 +290,13 @@ where
     }
 }
 
-/// Runs both parts of one `split` while the gate goes on: the allocator's turns on a thread of its own, the flusher's on this
-/// one. Each tells the gate behind its turns how far it is, and waits there. Once both have stopped, what is in hand is sent, and all that was sent is received and made safe.
+/// Runs both parts of one `split` while the gate goes on: the allocator's turns on a thread of its
+/// own, the flusher's on this one. Each tells the gate behind its turns how far it is, and waits
+/// there. Once both have stopped, what is in hand is sent, and all that was sent is received and
+/// made safe.
 ///
-/// A device fault doesn't end it: the flusher's first is the answer, and what it received from then on was answered Unknown.
-/// `Spawn` where the thread couldn't be started; then it returns at once.
+/// A device fault doesn't end it: the flusher's first is the answer, and what it received from then
+/// on was answered Unknown. `Spawn` where the thread couldn't be started; then it returns at once.
 pub fn run<'d, 'b, R, G, D, P>(
     rt: &R,
     allocator: &mut Allocator<'d, 'b, P>,
@@ -297,17 +309,25 @@ where
     D: Disk + Drop,
     P: Policy + Drop + Send,
     requires of_one { AreOfOne allocator.old flusher.old }
-    ensures refused { result ≡ Some RunFault.Spawn → (allocator.new ≡ allocator.old) × (flusher.new ≡ flusher.old) }
-    ensures ran { result ≢ Some RunFault.Spawn → HaveRun (P.chooses allocator.old.policy) D.state allocator.old allocator.new flusher.old flusher.new result }
-    ensures broken { (fault : KeeperFault) → result ≡ Some (RunFault.Keeper fault) → flusher.new.writer.is_broken ≡ true }
+    ensures refused { result ≡ Some RunFault.Spawn
+        → (allocator.new ≡ allocator.old) × (flusher.new ≡ flusher.old) }
+    ensures ran { result ≢ Some RunFault.Spawn
+        → HaveRun (P.chooses allocator.old.policy) D.state allocator.old allocator.new flusher.old
+        flusher.new result }
+    ensures broken { (fault : KeeperFault) → result ≡ Some (RunFault.Keeper fault)
+        → flusher.new.writer.is_broken ≡ true }
     ensures same_allocator { IsSameAllocator allocator.old allocator.new }
     ensures same_flusher { IsSameFlusher flusher.old flusher.new }
     ensures of_one { AreOfOne allocator.new flusher.new }
-    // What was received, and then what the line holds, is what was sent; after a run it holds nothing.
+    // What was received, and then what the line holds, is what was sent; after a run it holds
+    // nothing.
     ensures queued { Queued allocator.new.end flusher.new.end }
-    ensures received { result ≢ Some RunFault.Spawn → allocator.new.end.sent ≡ flusher.new.end.received }
-    // Whatever has happened to both parts before, the history goes on by just the batches that the run received.
-    ensures history { (safe : List Entry) (given : List Taken) → HasPast P.chooses allocator.old flusher.old safe given
+    ensures received { result ≢ Some RunFault.Spawn
+        → allocator.new.end.sent ≡ flusher.new.end.received }
+    // Whatever has happened to both parts before, the history goes on by just the batches that the
+    // run received.
+    ensures history { (safe : List Entry) (given : List Taken)
+        → HasPast P.chooses allocator.old flusher.old safe given
         → Advances P.chooses allocator.new flusher.old flusher.new safe given }
 {
     runs_are_histories::<D, P>();
@@ -319,7 +339,8 @@ where
             Flusher<D>,
             Option<RunFault>,
         )
-            ensures { IsRun (P.chooses allocator.entry.policy) D.state allocator.entry result.0 flusher.entry result.1 result.2 }
+            ensures { IsRun (P.chooses allocator.entry.policy) D.state allocator.entry result.0
+                flusher.entry result.1 result.2 }
         { run_owned(rt, allocator, flusher, gate) },
     );
     flusher.compare(allocator);

@@ -17,7 +17,8 @@ fn work_at<'x, A, B, R, W: FnOnce(A, B) -> (A, B, R)>(
     lent: Lent<'x, B, W>,
 ) -> (A, (&'x mut B, R))
     requires { W.pre lent.work a lent.place.now }
-    ensures done { W.post lent.entry.work a lent.entry.place.now (result.0, result.1.0.now, result.1.1) }
+    ensures done { W.post lent.entry.work a lent.entry.place.now
+        (result.0, result.1.0.now, result.1.1) }
     ensures same { result.1.0.ghost_name ≡ lent.entry.place.ghost_name }
 {
     let Lent { place, work } = lent;
@@ -41,7 +42,8 @@ fn take_back<T>(place: &mut T)
     ensures { place.new ≡ place.old }
 {}
 
-/// Takes both values out of their places for the work, puts back what it gives, and passes on its answer.
+/// Takes both values out of their places for the work, puts back what it gives, and passes on its
+/// answer.
 pub fn with_both<A, B, R, W: FnOnce(A, B) -> (A, B, R)>(a: &mut A, b: &mut B, work: W) -> R
     requires { W.pre work a.old b.old }
     ensures { W.post work a.old b.old (a.new, b.new, result) }
@@ -51,7 +53,8 @@ pub fn with_both<A, B, R, W: FnOnce(A, B) -> (A, B, R)>(a: &mut A, b: &mut B, wo
         Lent { place: b, work },
         |a: A, lent: Lent<B, W>| -> (A, (&mut B, R))
             requires { W.pre lent.work a lent.place.now }
-            ensures done { W.post lent.entry.work a lent.entry.place.now (result.0, result.1.0.now, result.1.1) }
+            ensures done { W.post lent.entry.work a lent.entry.place.now
+                (result.0, result.1.0.now, result.1.1) }
             ensures same { result.1.0.ghost_name ≡ lent.entry.place.ghost_name }
         { work_at(a, lent) },
     );

@@ -8,7 +8,8 @@ ghost use Rattle.lift_policy.specs.Run.{Run};
 ghost use Rattle.lift_clerk.specs.Visits.{command_at};
 ghost use Rattle.lift_register.specs.Register.{register_of};
 ghost use Rattle.lift_register.specs.Fits.{FitFrom};
-ghost use Rattle.lift_relay.specs.Batch.{AreBelow, AreNoted, commands_in, replies_in, turns_of, turns_after};
+ghost use Rattle.lift_relay.specs.Batch.{AreBelow, AreNoted, commands_in, replies_in, turns_of};
+ghost use Rattle.lift_relay.specs.Batch.{turns_after};
 ghost use Rattle.lift_relay.specs.Scan.{ScansAhead, turns_in};
 
 use crate::batch::Taken;
@@ -22,7 +23,9 @@ use lift_policy::{Command, Policy, decisions_keep};
 fn note_of(desk: &Desk, seat: &mut TakeSeat, terminal: Terminal, ask: &Option<Ask>) -> Note
     requires seated { IsClerkOf desk.now seat.old }
     requires terminal { terminal < length desk.now }
-    ensures noted { IsSome ask.now → IsNoteOf desk.now terminal result × (result.word ≡ last_of (view_at seat.old terminal).taken) }
+    ensures noted { IsSome ask.now
+        → IsNoteOf desk.now terminal result
+        × (result.word ≡ last_of (view_at seat.old terminal).taken) }
     ensures same { seat.new ≡ seat.old }
 {
     match ask {
@@ -43,7 +46,8 @@ fn decide<P: Policy>(
     ensures command { commands_in (option_to_list result) ≡ command_at terminal ask.now }
     ensures note { IfSome result (λ taken. taken.note ≡ note) }
     ensures decides { Run decider.old.plan (P.chooses policy.now) decider.old.state
-        (commands_in (option_to_list result)) (replies_in (option_to_list result)) decider.new.state }
+        (commands_in (option_to_list result))
+        (replies_in (option_to_list result)) decider.new.state }
     ensures grows { length decider.new.state.batch ≤ length decider.old.state.batch + 1 }
     ensures plan { decider.new.plan ≡ decider.old.plan }
 {
@@ -76,7 +80,8 @@ fn keep(list: &mut ArrayVec<Taken, 63>, item: Option<Taken>)
     }
 }
 
-/// Looks once at each terminal, in rising order, and decides what is asked there, each on the state that the earlier ones left.
+/// Looks once at each terminal, in rising order, and decides what is asked there, each on the state
+/// that the earlier ones left.
 pub fn scan<P: Policy>(
     desk: &Desk,
     seat: &mut TakeSeat,
@@ -89,7 +94,8 @@ pub fn scan<P: Policy>(
         decider.old.state decider.new.state result.items (length desk.now) }
     // What was accepted fits what was shown before, and its commands are of the desk's terminals.
     ensures fits { FitFrom decider.old.plan decider.old.state.register decider.new.state.batch }
-    ensures shows { decider.new.state.register ≡ register_of decider.old.state.register decider.new.state.batch }
+    ensures shows { decider.new.state.register
+        ≡ register_of decider.old.state.register decider.new.state.batch }
     // Each command takes a turn of its terminal.
     ensures uses { turns_in seat.old + length result.items ≤ turns_in seat.new }
     ensures below { AreBelow (length desk.now) (commands_in result.items) }

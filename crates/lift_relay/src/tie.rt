@@ -6,12 +6,23 @@ ghost use Rattle.lift_relay.specs.Flusher.{IsEmptyTurn};
 ghost use Rattle.lift_relay.specs.Tie.{Flushes, FlushFails, FlushesBroken};
 ghost use Rattle.lift_relay.specs.Pair.{IsFlush};
 ghost use Rattle.lift_relay.specs.Laws.{RelayLaws};
-ghost use Rattle.lift_relay.specs.Tie.{SplitsAreNoEvents, RejoiningsAreNoEvents, FullTurnsAreNoEvents, EmptyTurnsAreNoEvents, SendingsAreNoEvents, TellingsAreNoEvents, NothingTakenIsNoEvent, TerminalsKeepParts};
-ghost use Rattle.lift_relay.specs.Tie.{QueuedHaveRoom, ScansAreAllocations, NextsAreAllocations, FlushesAreFlushes, FailedFlushesAreFailures, BrokenFlushesAreBroken};
-ghost use Rattle.lift_relay.specs.Amid.{TurnsAmidScans, TurnsJoin, FlushesAmidScans, FailuresAmidScans, BrokenFlushesAmidScans};
-ghost use Rattle.lift_relay.specs.Tie.{CrashesOfPartsShow, CrashesInFlushesShow, CrashesInFailuresShow};
-ghost use Rattle.lift_relay.specs.Runs.{RunsAreHistories, ScansGoOn, FlushesGoOn, TurnsLead, ReceivedGrows, TurnsStand, TurnsRest, SplitsHavePasts, JoinedGoOn, CutsGoOn, CutsInTurnsGoOn, CutsInFailuresGoOn};
-ghost use Rattle.lift_relay.specs.History.{RelayHistoriesAreRuns, RejoiningsGoOn, RelayCrashesShowGiven, RelayCrashesInTurnsShowGiven, RelayCrashesInFailuresShowGiven};
+ghost use Rattle.lift_relay.specs.Tie.{SplitsAreNoEvents, RejoiningsAreNoEvents};
+ghost use Rattle.lift_relay.specs.Tie.{FullTurnsAreNoEvents, EmptyTurnsAreNoEvents};
+ghost use Rattle.lift_relay.specs.Tie.{SendingsAreNoEvents, TellingsAreNoEvents};
+ghost use Rattle.lift_relay.specs.Tie.{NothingTakenIsNoEvent, TerminalsKeepParts};
+ghost use Rattle.lift_relay.specs.Tie.{QueuedHaveRoom, ScansAreAllocations, NextsAreAllocations};
+ghost use Rattle.lift_relay.specs.Tie.{FlushesAreFlushes, FailedFlushesAreFailures};
+ghost use Rattle.lift_relay.specs.Tie.{BrokenFlushesAreBroken};
+ghost use Rattle.lift_relay.specs.Amid.{TurnsAmidScans, TurnsJoin, FlushesAmidScans};
+ghost use Rattle.lift_relay.specs.Amid.{FailuresAmidScans, BrokenFlushesAmidScans};
+ghost use Rattle.lift_relay.specs.Tie.{CrashesOfPartsShow, CrashesInFlushesShow};
+ghost use Rattle.lift_relay.specs.Tie.{CrashesInFailuresShow};
+ghost use Rattle.lift_relay.specs.Runs.{RunsAreHistories, ScansGoOn, FlushesGoOn, TurnsLead};
+ghost use Rattle.lift_relay.specs.Runs.{ReceivedGrows, TurnsStand, TurnsRest, SplitsHavePasts};
+ghost use Rattle.lift_relay.specs.Runs.{JoinedGoOn, CutsGoOn, CutsInTurnsGoOn, CutsInFailuresGoOn};
+ghost use Rattle.lift_relay.specs.History.{RelayHistoriesAreRuns, RejoiningsGoOn};
+ghost use Rattle.lift_relay.specs.History.{RelayCrashesShowGiven, RelayCrashesInTurnsShowGiven};
+ghost use Rattle.lift_relay.specs.History.{RelayCrashesInFailuresShowGiven};
 
 use crate::flusher::{FlushCounts, Flusher};
 use lift_clerk::{crashes_are_the_machines, histories_are_runs};
@@ -39,13 +50,16 @@ fn relay_laws()
     registers_join();
 }
 
-/// The two parts are in some world of the machine between any two turns of each. A split of a clerk that is in one is no event, and nor
-/// is a rejoining; nor are a turn that found the line full or empty, the sending of a batch in hand, and a scan that took nothing. What
-/// terminals ask and hear leads to a world of the parts too. So does each turn, by possible events alone, where by the desk's rule what
-/// was taken was asked, and by the line's what was received was sent: a scan is the machine's, and its batch joins the queue; a
-/// flusher's turn makes the first batch of the queue safe and answers its commands, or the device fails it, or it answers Unknown after
-/// a fault; and so it is wherever a flusher's turn, or several, stand amid a scan that took something. Whatever has happened so, each image that a
-/// crash may leave, also at any moment of a flusher's turn, reads as the register of the safe entries or of these with the batch, holds
+/// The two parts are in some world of the machine between any two turns of each. A split of a clerk
+/// that is in one is no event, and nor is a rejoining; nor are a turn that found the line full or
+/// empty, the sending of a batch in hand, and a scan that took nothing. What terminals ask and hear
+/// leads to a world of the parts too. So does each turn, by possible events alone, where by the
+/// desk's rule what was taken was asked, and by the line's what was received was sent: a scan is
+/// the machine's, and its batch joins the queue; a flusher's turn makes the first batch of the
+/// queue safe and answers its commands, or the device fails it, or it answers Unknown after a
+/// fault; and so it is wherever a flusher's turn, or several, stand amid a scan that took
+/// something. Whatever has happened so, each image that a crash may leave, also at any moment of a
+/// flusher's turn, reads as the register of the safe entries or of these with the batch, holds
 /// every entry that was acknowledged, and still names the car of each letter.
 pub fn relays_are_the_machines<D: Disk, P: Policy>()
     ensures split { SplitsAreNoEvents D P }
@@ -80,10 +94,12 @@ pub fn relays_are_the_machines<D: Disk, P: Policy>()
     relay_laws();
 }
 
-/// Turns of both parts, by hand or in a run, are a history, where nothing was asked before them that wasn't taken: each part's turns
-/// alone are known, and these read one behind another, each scan behind the answers to what was taken before it, and each batch made
-/// safe behind its scan. Terminals ask just what is taken. So all that is shown of a history holds behind a run, and at any moment
-/// amid one; and a clerk's history goes on over its parts, whether they are joined again or a power cut ends them.
+/// Turns of both parts, by hand or in a run, are a history, where nothing was asked before them
+/// that wasn't taken: each part's turns alone are known, and these read one behind another, each
+/// scan behind the answers to what was taken before it, and each batch made safe behind its scan.
+/// Terminals ask just what is taken. So all that is shown of a history holds behind a run, and at
+/// any moment amid one; and a clerk's history goes on over its parts, whether they are joined again
+/// or a power cut ends them.
 pub fn runs_are_histories<D: Disk, P: Policy>()
     ensures runs { RunsAreHistories D P P.chooses D.state }
     ensures scans { ScansGoOn D P P.chooses }
@@ -111,10 +127,13 @@ pub fn turn_flusher_once<R: Wait, D: Disk>(
 ) -> Result<FlushCounts, KeeperFault>
     // The turn of which a run tells.
     ensures turns { IsFlush D.state flusher.old flusher.new result }
-    ensures flushes { IfOk result (λ counts. IsEmptyTurn flusher.old flusher.new (Ok counts) ⊎ ((batch : BatchState) × Flushes flusher.old flusher.new batch counts)) }
-    ensures fails { result ≡ Err (KeeperFault.Journal JournalFault.Disk) → (batch : BatchState) × FlushFails flusher.old flusher.new batch }
+    ensures flushes { IfOk result (λ counts. IsEmptyTurn flusher.old flusher.new (Ok counts)
+        ⊎ ((batch : BatchState) × Flushes flusher.old flusher.new batch counts)) }
+    ensures fails { result ≡ Err (KeeperFault.Journal JournalFault.Disk)
+        → (batch : BatchState) × FlushFails flusher.old flusher.new batch }
     ensures rests { result ≡ Err (KeeperFault.Journal JournalFault.Broken)
-        → IsEmptyTurn flusher.old flusher.new (Err (KeeperFault.Journal JournalFault.Broken)) ⊎ ((batch : BatchState) × FlushesBroken flusher.old flusher.new batch) }
+        → IsEmptyTurn flusher.old flusher.new (Err (KeeperFault.Journal JournalFault.Broken))
+        ⊎ ((batch : BatchState) × FlushesBroken flusher.old flusher.new batch) }
 {
     flusher.turn(rt)
 }

@@ -11,7 +11,8 @@ use std::alloc::{AllocError, Global};
 use std::test::Fail;
 use std::thread;
 
-/// Ten floors, kiosks on floors 0, 5 and 7; a flight takes 2,000 ms and 1,000 ms for each floor; cars A and B, for 8 persons.
+/// Ten floors, kiosks on floors 0, 5 and 7; a flight takes 2,000 ms and 1,000 ms for each floor;
+/// cars A and B, for 8 persons.
 const GROUP: &str = "\
 floors = 10
 door_ms = 6000

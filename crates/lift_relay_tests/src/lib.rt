@@ -1,4 +1,5 @@
-//! Tests of `lift_relay`: worked turns of both parts, and both on two threads, with the kiosks on others.
+//! Tests of `lift_relay`: worked turns of both parts, and both on two threads, with the kiosks on
+//! others.
 #![tactic(auto)]
 
 #[cfg(test)]

@@ -1,4 +1,5 @@
-//! Two kiosks at one desk, each on a thread of its own, while a third turns the clerk, or two run both of its parts.
+//! Two kiosks at one desk, each on a thread of its own, while a third turns the clerk, or two run
+//! both of its parts.
 ghost use Rattle.std.specs.Prelude.{◌≡◌, vec_len, IfOk};
 ghost use Rattle.lift_desk.specs.Seats.{AreSeatsOf, IsClerkOf, IsSeatOf, OwesNothing};
 

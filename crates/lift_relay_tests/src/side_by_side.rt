@@ -1,5 +1,5 @@
-//! Both parts on two threads: the disk holds the first sync of the first batch until the policy was asked for the second batch, or
-//! it fails, and the parts go on.
+//! Both parts on two threads: the disk holds the first sync of the first batch until the policy was
+//! asked for the second batch, or it fails, and the parts go on.
 use crate::groups::{Terminals, Who, call, formatted, group, open, place};
 use crate::relays::Relay;
 use lift_base::{Dir, Letter, Reply};
@@ -33,7 +33,8 @@ struct Shared {
 }
 
 impl Shared {
-    /// Holds a sync, if it is armed, until the policy was asked twice. True where it wasn't within so many looks.
+    /// Holds a sync, if it is armed, until the policy was asked twice. True where it wasn't within
+    /// so many looks.
     fn is_held_in_vain(&self) -> bool {
         if self.armed.swap(0, Ordering::SeqCst) != 1 {
             return false;
@@ -74,7 +75,8 @@ impl<'a> Policy for Counting<'a> {
     ghost only_members = { λ policy plan view call eligible car h. h.member };
 }
 
-/// Once armed it holds the next sync of a device in memory until a policy was asked twice, and fails it after so many looks.
+/// Once armed it holds the next sync of a device in memory until a policy was asked twice, and
+/// fails it after so many looks.
 #[derive(Drop)]
 struct Holding<'a> {
     inner: MemDisk,
@@ -93,7 +95,9 @@ impl<'a> Disk for Holding<'a> {
 
     ghost counts_now = { λ d _ t left le now. inl now };
 
-    ghost only_now = { λ d _ left since. no_other d.inner.history.first d.inner.history.calls d.inner.image.items d.inner.loose.items left since };
+    ghost only_now = { λ d _ left since.
+        no_other d.inner.history.first d.inner.history.calls d.inner.image.items d.inner.loose.items
+        left since };
 
     ghost may_lose = { λ d _. d.inner.kept };
 
@@ -130,8 +134,9 @@ impl<'a> Gate for Open<'a> {
     }
 }
 
-/// The second kiosk asks once the policy was asked for the call of the first. Its terminal is the lower one, so that the scan
-/// which asked the policy is past it: its call is of another batch. Both hear, and the gate is closed.
+/// The second kiosk asks once the policy was asked for the call of the first. Its terminal is the
+/// lower one, so that the scan which asked the policy is past it: its call is of another batch.
+/// Both hear, and the gate is closed.
 fn kiosks(mut terminals: Terminals, shared: &Shared) -> (Option<Reply>, Option<Reply>) {
     let _ = terminals.ask(Who::Kiosk1, 1, call(2));
     for _ in 0..LIMIT {
@@ -189,7 +194,8 @@ fn second_batch_is_decided_while_the_first_is_synced(rt: HostRuntime) -> Result<
     Ok(())
 }
 
-/// Three calls, each once the one before it was answered, and the gate is closed. Whether each was asked and answered Unknown.
+/// Three calls, each once the one before it was answered, and the gate is closed. Whether each was
+/// asked and answered Unknown.
 fn are_unknown(mut terminals: Terminals, closed: &AtomicU64) -> bool {
     let mut are_unknown = true;
     for who in [Who::Kiosk0, Who::Kiosk1, Who::Kiosk0] {
@@ -201,8 +207,8 @@ fn are_unknown(mut terminals: Terminals, closed: &AtomicU64) -> bool {
     are_unknown
 }
 
-/// The device fails the first batch's first call, while the gate is open. The later batches are answered too, and the run tells the
-/// first fault.
+/// The device fails the first batch's first call, while the gate is open. The later batches are
+/// answered too, and the run tells the first fault.
 #[test]
 fn a_run_goes_on_behind_a_fault(rt: HostRuntime) -> Result<(), Fail> {
     let building = group(rt.alloc())?;

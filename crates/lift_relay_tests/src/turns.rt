@@ -47,7 +47,8 @@ impl Gate for Closed {
     }
 }
 
-/// Places and three calls, a batch each. The line has no room for the fifth, and then nothing is taken.
+/// Places and three calls, a batch each. The line has no room for the fifth, and then nothing is
+/// taken.
 fn five_batches<R: Wait + Abort, D: Disk + Drop>(
     rt: &R,
     terminals: &mut Terminals,
@@ -110,8 +111,8 @@ fn heard(terminals: &mut Terminals) -> (Option<Reply>, Option<Reply>, Option<Rep
     )
 }
 
-/// Five batches wait, the fifth in hand until the flusher has received one. A batch without entries is no call of the device, and
-/// each of the three calls is five.
+/// Five batches wait, the fifth in hand until the flusher has received one. A batch without entries
+/// is no call of the device, and each of the three calls is five.
 #[test]
 fn four_are_queued_and_one_is_in_hand(rt: HostRuntime) -> Result<(), Fail> {
     let building = group(rt.alloc())?;
@@ -133,8 +134,8 @@ fn four_are_queued_and_one_is_in_hand(rt: HostRuntime) -> Result<(), Fail> {
     Ok(())
 }
 
-/// The same over a device whose sixth call fails: what was safe is answered, all later batches Unknown, and only the first
-/// call is in.
+/// The same over a device whose sixth call fails: what was safe is answered, all later batches
+/// Unknown, and only the first call is in.
 #[test]
 fn a_fault_between(rt: HostRuntime) -> Result<(), Fail> {
     let building = group(rt.alloc())?;
@@ -175,8 +176,8 @@ fn a_batch_in_the_line_keeps_the_parts_apart(rt: HostRuntime) -> Result<(), Fail
     Ok(())
 }
 
-/// A run through a gate that is closed turns nothing, and drains what is in hand and in the line. What the parts tell each other
-/// before it changes nothing.
+/// A run through a gate that is closed turns nothing, and drains what is in hand and in the line.
+/// What the parts tell each other before it changes nothing.
 #[test]
 fn a_closed_gate_drains(rt: HostRuntime) -> Result<(), Fail> {
     let building = group(rt.alloc())?;

@@ -5,7 +5,8 @@ use Rattle.lift_base.specs.Text.{AreWords, ArePartyWords, letter_text, dir_text}
 use Rattle.lift_disk.specs.declared.outcome.Outcome.{Outcome}
 use Rattle.lift_disk.specs.declared.outcome.Outcome.TheVariants.{Keep, Lose, Fill}
 use Rattle.lift_replay.specs.declared.line.ScriptLine.{ScriptLine}
-use Rattle.lift_replay.specs.declared.line.ScriptLine.TheVariants.{Place, Call, Stop, Turn, Stops, Cost, Rows, Fuse, Cut}
+use Rattle.lift_replay.specs.declared.line.ScriptLine.TheVariants.{Place, Call, Stop, Turn, Stops}
+use Rattle.lift_replay.specs.declared.line.ScriptLine.TheVariants.{Cost, Rows, Fuse, Cut}
 
 -- how the power cut's outcome is written
 abbrev pub outcome_words : Outcome → List (List ℕ)
@@ -15,15 +16,18 @@ outcome_words (Fill byte) = codes "fill" ∷ decimal byte ∷ []
 
 -- these words ask for this
 abbrev pub AskFor : List (List ℕ) → ScriptLine → Type 0
-AskFor words (Place car floor dir) = words ≡ codes "place" ∷ letter_text car ∷ decimal floor ∷ dir_text dir ∷ []
+AskFor words (Place car floor dir) =
+    words ≡ codes "place" ∷ letter_text car ∷ decimal floor ∷ dir_text dir ∷ []
 AskFor words (Call kiosk number floor party) =
-    (last : List (List ℕ)) × ArePartyWords last party × (words ≡ codes "call" ∷ decimal kiosk ∷ decimal number ∷ decimal floor ∷ last)
+    (last : List (List ℕ)) × ArePartyWords last party
+    × (words ≡ codes "call" ∷ decimal kiosk ∷ decimal number ∷ decimal floor ∷ last)
 AskFor words (Stop car number floor dir) =
     words ≡ codes "stop" ∷ letter_text car ∷ decimal number ∷ decimal floor ∷ dir_text dir ∷ []
 AskFor words Turn = words ≡ codes "turn" ∷ []
 AskFor words (Stops car) = words ≡ codes "stops" ∷ letter_text car ∷ []
 AskFor words (Cost kiosk floor party) =
-    (last : List (List ℕ)) × ArePartyWords last party × (words ≡ codes "cost" ∷ decimal kiosk ∷ decimal floor ∷ last)
+    (last : List (List ℕ)) × ArePartyWords last party
+    × (words ≡ codes "cost" ∷ decimal kiosk ∷ decimal floor ∷ last)
 AskFor words Rows = words ≡ codes "rows" ∷ []
 AskFor words (Fuse calls) = words ≡ codes "fuse" ∷ decimal calls ∷ []
 AskFor words (Cut outcome) = words ≡ codes "cut" ∷ outcome_words outcome
@@ -36,7 +40,8 @@ IsOutcomeInRange (Fill byte) = byte < 256
 -- cars A to P, kiosks 0 to 46, floors 0 to 63, numbers up to 16,777,215, parties of 1 to 15
 abbrev pub IsInRange : ScriptLine → Type 0
 IsInRange (Place car floor dir) = (car < 16) × (floor < 64)
-IsInRange (Call kiosk number floor party) = (kiosk < 47) × (number < 16777216) × (floor < 64) × (1 ≤ party) × (party ≤ 15)
+IsInRange (Call kiosk number floor party) = (kiosk < 47) × (number < 16777216) × (floor < 64)
+    × (1 ≤ party) × (party ≤ 15)
 IsInRange (Stop car number floor dir) = (car < 16) × (number < 16777216) × (floor < 64)
 IsInRange Turn = Unit {0}
 IsInRange (Stops car) = car < 16
@@ -47,7 +52,8 @@ IsInRange (Cut outcome) = IsOutcomeInRange outcome
 
 -- The words of this line ask for this. What spells nothing in range is malformed.
 abbrev pub Spells : List ℕ → ScriptLine → Type 0
-Spells line wanted = (words : List (List ℕ)) × AreWords line words × AskFor words wanted × IsInRange wanted
+Spells line wanted = (words : List (List ℕ)) × AreWords line words × AskFor words wanted
+    × IsInRange wanted
 
 -- empty lines, and those that begin with `#`, ask for nothing
 abbrev pub IsSkipped : List ℕ → Type 0

@@ -1,7 +1,11 @@
--- What a script's group is between two of its lines, what a line tells of it, and what it makes of it: functions of the script.
-use Rattle.std.specs.Prelude.{ℕ, suc, ◌+◌, ◌-◌, ◌==◌, Bool, true, false, not, if◌then◌else◌, nat_le, List, [], ◌∷◌, ◌++◌, length, replicate, slice_index_or, slice_set, codes, Option, Some, None}
+-- What a script's group is between two of its lines, what a line tells of it, and what it makes of
+-- it: functions of the script.
+use Rattle.std.specs.Prelude.{ℕ, suc, ◌+◌, ◌-◌, ◌==◌, Bool, true, false, not, if◌then◌else◌, nat_le}
+use Rattle.std.specs.Prelude.{List, [], ◌∷◌, ◌++◌, length, replicate, slice_index_or, slice_set}
+use Rattle.std.specs.Prelude.{codes, Option, Some, None}
 use Rattle.lift_base.specs.declared.command.Body.{Body}
-use Rattle.lift_base.specs.declared.command.Body.TheVariants.{Call as Calls, Stop as Stopping, Place as Placing}
+use Rattle.lift_base.specs.declared.command.Body.TheVariants.{Call as Calls, Stop as Stopping}
+use Rattle.lift_base.specs.declared.command.Body.TheVariants.{Place as Placing}
 use Rattle.lift_base.specs.declared.command.Reply.{Reply}
 use Rattle.lift_base.specs.declared.history.Entry.{Entry}
 use Rattle.lift_base.specs.declared.travel.Position.{Position}
@@ -19,11 +23,14 @@ use Rattle.lift_policy.specs.Run.{unknowns}
 use Rattle.lift_policy.specs.Step.{State}
 use Rattle.lift_policy.specs.View.{ViewState}
 use Rattle.lift_desk.specs.declared.words.Ask.{Ask}
-use Rattle.lift_keeper.specs.Writer.{room_calls, room_used, room_second, commit_calls, commit_used, commit_second}
+use Rattle.lift_keeper.specs.Writer.{room_calls, room_used, room_second, commit_calls, commit_used}
+use Rattle.lift_keeper.specs.Writer.{commit_second}
 use Rattle.lift_clerk.specs.Visits.{command_at}
 use Rattle.lift_replay.specs.declared.line.ScriptLine.{ScriptLine}
-use Rattle.lift_replay.specs.declared.line.ScriptLine.TheVariants.{Place, Call, Stop, Turn, Stops, Cost, Rows, Fuse, Cut}
-use Rattle.lift_replay.specs.Report.{waiting_text, spent_text, turn_text, fault_text, heard_text, cut_text, register_text}
+use Rattle.lift_replay.specs.declared.line.ScriptLine.TheVariants.{Place, Call, Stop, Turn, Stops}
+use Rattle.lift_replay.specs.declared.line.ScriptLine.TheVariants.{Cost, Rows, Fuse, Cut}
+use Rattle.lift_replay.specs.Report.{waiting_text, spent_text, turn_text, fault_text, heard_text}
+use Rattle.lift_replay.specs.Report.{cut_text, register_text}
 use Rattle.lift_replay.specs.Shown.{stops_text, costs_text}
 
 -- how often a terminal has asked, and its ask that waits for the answer
@@ -68,7 +75,15 @@ no_positions = replicate 16 None
 
 -- over a formatted device
 abbrev pub first_group : Plan → GroupState
-first_group plan = record { register = empty; positions = no_positions; is_second = false; used = 0; passing = None; stopped = None; terminals = new_terminals plan }
+first_group plan = record {
+  register = empty;
+  positions = no_positions;
+  is_second = false;
+  used = 0;
+  passing = None;
+  stopped = None;
+  terminals = new_terminals plan;
+}
 
 abbrev pub view_in : GroupState → ViewState
 view_in g = record { register = g.register; positions = g.positions }
@@ -81,37 +96,49 @@ ask_text None turns terminal number = if turns == 1048575 then spent_text termin
 -- how far it is then
 abbrev pub asking_more : Option Ask → ℕ → Ask → Asking
 asking_more (Some ask) turns more = record { turns = turns; waiting = Some ask }
-asking_more None turns more = if turns == 1048575 then record { turns = turns; waiting = None } else record { turns = suc turns; waiting = Some more }
+asking_more None turns more =
+    if turns == 1048575 then record {
+      turns = turns;
+      waiting = None;
+    } else record { turns = suc turns; waiting = Some more }
 
 abbrev pub after_ask : List Asking → ℕ → Ask → List Asking
 after_ask terminals terminal ask =
-    slice_set terminals terminal (asking_more (asking_at terminals terminal).waiting (asking_at terminals terminal).turns ask)
+    slice_set terminals terminal
+    (asking_more (asking_at terminals terminal).waiting
+    (asking_at terminals terminal).turns ask)
 
 -- the commands that wait, from this terminal on, by rising terminal
 abbrev pub commands_in : ℕ → List Asking → List Command
 commands_in terminal [] = []
-commands_in terminal (asking ∷ terminals) = command_at terminal asking.waiting ++ commands_in (suc terminal) terminals
+commands_in terminal (asking ∷ terminals) =
+    command_at terminal asking.waiting ++ commands_in (suc terminal) terminals
 
 -- once each of them has heard its answer
 abbrev pub having_heard : List Asking → List Asking
 having_heard [] = []
-having_heard (asking ∷ terminals) = record { turns = asking.turns; waiting = None } ∷ having_heard terminals
+having_heard (asking ∷ terminals) =
+    record { turns = asking.turns; waiting = None } ∷ having_heard terminals
 
--- the state behind these commands, each decided on what the earlier ones left, and the replies to them
+-- the state behind these commands, each decided on what the earlier ones left, and the replies to
+-- them
 abbrev pub state_by : Plan → State → List Command → State
 state_by plan state [] = state
-state_by plan state (c ∷ commands) = state_by plan (decision_by etd_pick plan state c.terminal c.number c.body).next commands
+state_by plan state (c ∷ commands) =
+    state_by plan (decision_by etd_pick plan state c.terminal c.number c.body).next commands
 
 abbrev pub replies_by : Plan → State → List Command → List Reply
 replies_by plan state [] = []
 replies_by plan state (c ∷ commands) =
-    (decision_by etd_pick plan state c.terminal c.number c.body).reply ∷ replies_by plan (decision_by etd_pick plan state c.terminal c.number c.body).next commands
+    (decision_by etd_pick plan state c.terminal c.number c.body).reply
+    ∷ replies_by plan (decision_by etd_pick plan state c.terminal c.number c.body).next commands
 
 -- what the terminals of these commands hear
 abbrev pub answers_text : List Command → List Reply → List ℕ
 answers_text [] replies = []
 answers_text (c ∷ commands) [] = []
-answers_text (c ∷ commands) (reply ∷ replies) = heard_text c.terminal c.number reply ++ answers_text commands replies
+answers_text (c ∷ commands) (reply ∷ replies) =
+    heard_text c.terminal c.number reply ++ answers_text commands replies
 
 -- what decisions begin from
 abbrev pub beginning : GroupState → State
@@ -136,7 +163,8 @@ abbrev pub passing_after : Option ℕ → ℕ → Option ℕ
 passing_after None calls = None
 passing_after (Some left) calls = Some (left - calls)
 
--- how many calls a commit has made that the device stops: those that passed, and the one that failed
+-- how many calls a commit has made that the device stops: those that passed, and the one that
+-- failed
 abbrev pub calls_to_stop : Option ℕ → ℕ
 calls_to_stop None = 0
 calls_to_stop (Some left) = suc left
@@ -155,7 +183,13 @@ after_turn g state = record {
 
 -- or the device has stopped it
 abbrev pub after_stop : GroupState → State → GroupState
-after_stop g state = record g { stopped = Some (record { made = calls_to_stop g.passing; batch = state.batch }); terminals = having_heard g.terminals }
+after_stop g state = record g {
+  stopped = Some (record {
+    made = calls_to_stop g.passing;
+    batch = state.batch;
+  });
+  terminals = having_heard g.terminals;
+}
 
 abbrev pub after_commit : Bool → GroupState → State → GroupState
 after_commit true g state = after_turn g state
@@ -163,8 +197,10 @@ after_commit false g state = after_stop g state
 
 abbrev pub commit_text : Bool → Plan → GroupState → State → List ℕ
 commit_text true plan g state =
-    turn_text (length (commands_of g)) (length state.batch) ++ answers_text (commands_of g) (replies_by plan (beginning g) (commands_of g))
-commit_text false plan g state = fault_text (codes "turn") 1 ++ answers_text (commands_of g) (unknowns (commands_of g))
+    turn_text (length (commands_of g)) (length state.batch)
+    ++ answers_text (commands_of g) (replies_by plan (beginning g) (commands_of g))
+commit_text false plan g state =
+    fault_text (codes "turn") 1 ++ answers_text (commands_of g) (unknowns (commands_of g))
 
 -- whether the turn's commit is not stopped
 abbrev pub is_made : Plan → GroupState → Bool
@@ -173,7 +209,8 @@ is_made plan g = passes g.passing (calls_for g (decided plan g))
 -- a turn; while something is stopped each command is answered Unknown
 abbrev pub turn_told : Option Stopped → Plan → GroupState → List ℕ
 turn_told None plan g = commit_text (is_made plan g) plan g (decided plan g)
-turn_told (Some stopped) plan g = fault_text (codes "turn") 5 ++ answers_text (commands_of g) (unknowns (commands_of g))
+turn_told (Some stopped) plan g =
+    fault_text (codes "turn") 5 ++ answers_text (commands_of g) (unknowns (commands_of g))
 
 abbrev pub turned : Option Stopped → Plan → GroupState → GroupState
 turned None plan g = after_commit (is_made plan g) g (decided plan g)
@@ -185,8 +222,9 @@ pub record Found : Type 0 where
   pub is_second : Bool
   pub used : ℕ
 
--- A mark is written after so many calls, and then made safe. Of a run that is stopped a cut leaves what was there before,
--- or what the mark makes of it; where it fills the mark's sector, that goes by its byte.
+-- A mark is written after so many calls, and then made safe. Of a run that is stopped a cut leaves
+-- what was there before, or what the mark makes of it; where it fills the mark's sector, that goes
+-- by its byte.
 abbrev pub by_mark : Outcome → Bool → (before behind marked others : Found) → Found
 by_mark Keep is_written before behind marked others = if is_written then behind else before
 by_mark Lose is_written before behind marked others = before
@@ -194,18 +232,27 @@ by_mark (Fill byte) is_written before behind marked others = if byte == 165 then
 
 abbrev pub at_mark : Outcome → (mark made : ℕ) → (before behind marked others : Found) → Found
 at_mark outcome mark made before behind marked others =
-    if nat_le made mark then before else by_mark outcome (nat_le (mark + 2) made) before behind marked others
+    if nat_le made mark then before else by_mark outcome
+    (nat_le (mark + 2) made) before behind marked others
 
 -- the safe register where it stands, and once it is a checkpoint in the other half
 abbrev pub standing : GroupState → Found
 standing g = record { register = g.register; is_second = g.is_second; used = g.used }
 
 abbrev pub folded : GroupState → Found
-folded g = record { register = g.register; is_second = not g.is_second; used = sectors_for (length (base_records g.register)) }
+folded g = record {
+  register = g.register;
+  is_second = not g.is_second;
+  used = sectors_for (length (base_records g.register));
+}
 
 -- once there is room for so many entries, and with these
 abbrev pub with_room : GroupState → ℕ → Found
-with_room g count = record { register = g.register; is_second = room_second g.is_second g.used half count; used = room_used g.register g.used half count }
+with_room g count = record {
+  register = g.register;
+  is_second = room_second g.is_second g.used half count;
+  used = room_used g.register g.used half count;
+}
 
 abbrev pub with_batch : GroupState → List Entry → Found
 with_batch g batch = record {
@@ -217,13 +264,15 @@ with_batch g batch = record {
 -- within the checkpoint that the batch needs: the mark is the pick
 abbrev pub in_folding : Outcome → GroupState → ℕ → Found
 in_folding outcome g made =
-    at_mark outcome (sectors_for (length (base_records g.register)) + 2) made (standing g) (folded g)
+    at_mark outcome (sectors_for (length (base_records g.register)) + 2) made (standing g)
+    (folded g)
     (if g.is_second then standing g else folded g) (if g.is_second then folded g else standing g)
 
 -- behind it, so many calls within the append: the mark is the batch's gate
 abbrev pub in_append : Outcome → GroupState → List Entry → ℕ → Found
 in_append outcome g batch made =
-    at_mark outcome (bodies (length batch) + 2) made (with_room g (length batch)) (with_batch g batch) (with_batch g batch) (with_room g (length batch))
+    at_mark outcome (bodies (length batch) + 2) made (with_room g (length batch))
+    (with_batch g batch) (with_batch g batch) (with_room g (length batch))
 
 abbrev pub room_for : GroupState → List Entry → ℕ
 room_for g batch = room_calls g.register g.used half (length batch)
@@ -231,7 +280,9 @@ room_for g batch = room_calls g.register g.used half (length batch)
 -- what a cut leaves
 abbrev pub left_of : Option Stopped → Outcome → GroupState → Found
 left_of None outcome g = standing g
-left_of (Some s) outcome g = if nat_le s.made (room_for g s.batch) then in_folding outcome g s.made else in_append outcome g s.batch (s.made - room_for g s.batch)
+left_of (Some s) outcome g =
+    if nat_le s.made (room_for g s.batch) then in_folding outcome g s.made else in_append outcome g
+    s.batch (s.made - room_for g s.batch)
 
 abbrev pub left_by : Outcome → GroupState → Found
 left_by outcome g = left_of g.stopped outcome g
@@ -254,10 +305,18 @@ unless_stopped None line text = text
 unless_stopped (Some stopped) line text = fault_text line 5
 
 abbrev pub asked_text : GroupState → (terminal number : ℕ) → List ℕ
-asked_text g terminal number = ask_text (asking_at g.terminals terminal).waiting (asking_at g.terminals terminal).turns terminal number
+asked_text g terminal number =
+    ask_text (asking_at g.terminals terminal).waiting
+    (asking_at g.terminals terminal).turns terminal number
 
 abbrev pub asked : GroupState → (terminal number : ℕ) → Body → GroupState
-asked g terminal number body = record g { terminals = after_ask g.terminals terminal (record { number = number; body = body }) }
+asked g terminal number body =
+    record g {
+      terminals = after_ask g.terminals terminal (record {
+        number = number;
+        body = body;
+      });
+    }
 
 -- what each line tells
 abbrev pub line_text : Plan → GroupState → ScriptLine → List ℕ
@@ -267,7 +326,12 @@ line_text plan g (Stop car number floor dir) = asked_text g car number
 line_text plan g Turn = turn_told g.stopped plan g
 line_text plan g (Stops car) = unless_stopped g.stopped (codes "stops") (stops_text (view_in g) car)
 line_text plan g (Cost kiosk floor party) =
-    unless_stopped g.stopped (codes "cost") (costs_text plan (view_in g) (record { from = kiosk_floor_of plan kiosk; to = floor; party = party }))
+    unless_stopped g.stopped (codes "cost")
+    (costs_text plan (view_in g) (record {
+      from = kiosk_floor_of plan kiosk;
+      to = floor;
+      party = party;
+    }))
 line_text plan g Rows = unless_stopped g.stopped (codes "rows") (register_text g.register)
 line_text plan g (Fuse calls) = []
 line_text plan g (Cut outcome) = cut_text (open_count (left_by outcome g).register)

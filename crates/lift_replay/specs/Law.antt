@@ -9,11 +9,13 @@ use Rattle.lift_replay.specs.Running.{TellsLines}
 -- There is a text with a verdict of which this is so, and no other.
 abbrev pub HasOne : (List ℕ → Verdict → Type 0) → Type 0
 HasOne IsSuch = (text : List ℕ) × (verdict : Verdict) × IsSuch text verdict
-    × ((other : List ℕ) (second : Verdict) → IsSuch other second → (other ≡ text) × (second ≡ verdict))
+    × ((other : List ℕ) (second : Verdict) → IsSuch other second
+    → (other ≡ text) × (second ≡ verdict))
 
 -- Any lines tell one text of a group of a building, and have one verdict.
 abbrev pub EachTellsOneText : Type 0
-EachTellsOneText = (plan : Plan) (count : ℕ) (g : GroupState) (script : List (List ℕ)) → HasOne (TellsLines plan count g script)
+EachTellsOneText = (plan : Plan) (count : ℕ) (g : GroupState) (script : List (List ℕ))
+    → HasOne (TellsLines plan count g script)
 
 -- Any bytes, as a script, have one report, and one verdict.
 abbrev pub EachHasOneReport : Type 0

@@ -15,31 +15,41 @@ use Rattle.lift_replay.specs.Source.{IsScript, LacksDivider}
 -- a building that is refused, or what the lines tell from an empty journal on
 abbrev pub IsPartsReport : (building : List ℕ) → List (List ℕ) → List ℕ → Verdict → Type 0
 IsPartsReport building script report verdict = (RefusesBuilding building report × (verdict ≡ Bad))
-    ⊎ ((plan : Plan) × SaysBuilding building plan × TellsLines plan 0 (first_group plan) script report verdict)
+    ⊎ ((plan : Plan) × SaysBuilding building plan
+    × TellsLines plan 0 (first_group plan) script report verdict)
 
 abbrev pub IsTextReport : (text report : List ℕ) → Verdict → Type 0
-IsTextReport text report verdict = (LacksDivider text × (report ≡ codes "NO SCRIPT\n") × (verdict ≡ Bad))
-    ⊎ ((building : List ℕ) × (script : List (List ℕ)) × IsScript text building script × IsPartsReport building script report verdict)
+IsTextReport text report verdict =
+    (LacksDivider text × (report ≡ codes "NO SCRIPT\n") × (verdict ≡ Bad))
+    ⊎ ((building : List ℕ) × (script : List (List ℕ)) × IsScript text building script
+    × IsPartsReport building script report verdict)
 
--- The first of these that is so: it is too long, it is no UTF-8, it has no divider, its building is refused, or else what its
--- lines tell.
+-- The first of these that is so: it is too long, it is no UTF-8, it has no divider, its building is
+-- refused, or else what its lines tell.
 abbrev pub IsReport : (bytes report : List ℕ) → Verdict → Type 0
-IsReport bytes report verdict = ((most_bytes < length bytes) × (report ≡ codes "TOO LONG\n") × (verdict ≡ Bad))
-    ⊎ (((length bytes ≤ most_bytes) × (¬ IsUtf8 bytes) × (report ≡ codes "NOT TEXT\n") × (verdict ≡ Bad))
+IsReport bytes report verdict =
+    ((most_bytes < length bytes) × (report ≡ codes "TOO LONG\n") × (verdict ≡ Bad))
+    ⊎ (((length bytes ≤ most_bytes) × (¬ IsUtf8 bytes) × (report ≡ codes "NOT TEXT\n")
+    × (verdict ≡ Bad))
     ⊎ (IsText bytes × IsTextReport bytes report verdict))
 
 -- what was written is such a report, with this verdict
-abbrev pub Writes : (List ℕ → Verdict → Type 0) → (before after : Option (List ℕ)) → Verdict → Type 0
-Writes IsSuch before after verdict = (report : List ℕ) × IsSuch report verdict × Appends before after report
+abbrev pub Writes : (List ℕ → Verdict → Type 0) → (before after : Option (List ℕ)) → Verdict
+    → Type 0
+Writes IsSuch before after verdict = (report : List ℕ) × IsSuch report verdict
+    × Appends before after report
 
 -- what was written is a front of such a report
 abbrev pub WritesFront : (List ℕ → Verdict → Type 0) → (before after : Option (List ℕ)) → Type 0
-WritesFront IsSuch before after = (report : List ℕ) × (verdict : Verdict) × IsSuch report verdict × AppendsFront before after report
+WritesFront IsSuch before after = (report : List ℕ) × (verdict : Verdict) × IsSuch report verdict
+    × AppendsFront before after report
 
 -- what was written is the report of this input
 abbrev pub ReportsInput : (input before after : Option (List ℕ)) → Verdict → Type 0
-ReportsInput input before after verdict = (bytes : List ℕ) × IsInput input bytes × Writes (IsReport bytes) before after verdict
+ReportsInput input before after verdict = (bytes : List ℕ) × IsInput input bytes
+    × Writes (IsReport bytes) before after verdict
 
 -- or a front of it
 abbrev pub ReportsFront : (input before after : Option (List ℕ)) → Type 0
-ReportsFront input before after = (bytes : List ℕ) × IsInput input bytes × WritesFront (IsReport bytes) before after
+ReportsFront input before after = (bytes : List ℕ) × IsInput input bytes
+    × WritesFront (IsReport bytes) before after

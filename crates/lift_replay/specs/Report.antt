@@ -1,5 +1,6 @@
 -- The lines of a report.
-use Rattle.std.specs.Prelude.{ℕ, ◌≡◌, Bool, true, false, List, [], ◌∷◌, ◌++◌, codes, nat_lt, if◌then◌else◌, Option}
+use Rattle.std.specs.Prelude.{ℕ, ◌≡◌, Bool, true, false, List, [], ◌∷◌, ◌++◌, codes, nat_lt}
+use Rattle.std.specs.Prelude.{if◌then◌else◌, Option}
 use Rattle.std.specs.Fmt.{decimal}
 use Rattle.std.specs.List.{flat_map}
 use Rattle.std.specs.Io.KnownBytes.{Appends}
@@ -15,7 +16,9 @@ use Rattle.lift_register.specs.Balanced.{open_count}
 use Rattle.lift_register.specs.Register.{RegisterState, rows_of, cars}
 use Rattle.lift_building.specs.Text.{fault_number}
 use Rattle.lift_building.specs.declared.fault.BuildingFault.{BuildingFault}
-use Rattle.lift_building.specs.declared.fault.BuildingFault.TheVariants.{NotToml, Missing, WrongType, OutOfRange, TableShape, Detour, Memory}
+use Rattle.lift_building.specs.declared.fault.BuildingFault.TheVariants.{NotToml, Missing}
+use Rattle.lift_building.specs.declared.fault.BuildingFault.TheVariants.{WrongType, OutOfRange}
+use Rattle.lift_building.specs.declared.fault.BuildingFault.TheVariants.{TableShape, Detour, Memory}
 
 -- whether a call's passengers wait or ride
 abbrev pub status_text : Bool → List ℕ
@@ -29,7 +32,8 @@ party_text party = if nat_lt 1 party then codes " x" ++ decimal party else []
 -- one open call
 abbrev pub row_text : Row → List ℕ
 row_text row =
-    letter_text row.car ++ 32 ∷ terminal_text row.kiosk ++ 32 ∷ decimal row.number ++ 32 ∷ decimal row.from ++ 32 ∷ decimal row.to
+    letter_text row.car ++ 32 ∷ terminal_text row.kiosk ++ 32 ∷ decimal row.number ++ 32
+    ∷ decimal row.from ++ 32 ∷ decimal row.to
     ++ 32 ∷ status_text row.aboard ++ party_text row.party ++ 10 ∷ []
 
 -- the head of the open calls: how many are open, and how many are done
@@ -40,9 +44,11 @@ rows_text calls done = codes "rows " ++ decimal calls ++ 32 ∷ decimal done ++ 
 abbrev pub car_text : RegisterState → ℕ → List ℕ
 car_text register car = flat_map row_text (rows_of register car)
 
--- the open calls of a register by rising car, in each in order of allotment, behind how many are open and how many are done
+-- the open calls of a register by rising car, in each in order of allotment, behind how many are
+-- open and how many are done
 abbrev pub register_text : RegisterState → List ℕ
-register_text register = rows_text (open_count register) register.done ++ flat_map (car_text register) cars
+register_text register =
+    rows_text (open_count register) register.done ++ flat_map (car_text register) cars
 
 -- a halt, as a stop list shows it
 abbrev pub halt_text : Halt → List ℕ
@@ -50,15 +56,18 @@ halt_text halt = 32 ∷ decimal (pass_number halt.pass) ++ 58 ∷ decimal halt.f
 
 -- what a terminal hears
 abbrev pub heard_text : (terminal number : ℕ) → Reply → List ℕ
-heard_text terminal number reply = terminal_text terminal ++ 32 ∷ decimal number ++ 32 ∷ reply_text reply ++ 10 ∷ []
+heard_text terminal number reply =
+    terminal_text terminal ++ 32 ∷ decimal number ++ 32 ∷ reply_text reply ++ 10 ∷ []
 
 -- an ask that the terminal may not make while one waits
 abbrev pub waiting_text : (terminal number : ℕ) → List ℕ
-waiting_text terminal number = terminal_text terminal ++ 32 ∷ decimal number ++ codes " WAITING" ++ 10 ∷ []
+waiting_text terminal number =
+    terminal_text terminal ++ 32 ∷ decimal number ++ codes " WAITING" ++ 10 ∷ []
 
 -- an ask of a terminal that has used up its turns
 abbrev pub spent_text : (terminal number : ℕ) → List ℕ
-spent_text terminal number = terminal_text terminal ++ 32 ∷ decimal number ++ codes " SPENT" ++ 10 ∷ []
+spent_text terminal number =
+    terminal_text terminal ++ 32 ∷ decimal number ++ codes " SPENT" ++ 10 ∷ []
 
 -- how many calls are open once the power has come back
 abbrev pub cut_text : ℕ → List ℕ
@@ -100,19 +109,22 @@ floors_text Memory = []
 
 -- a text is no building
 abbrev pub building_text : BuildingFault → List ℕ
-building_text fault = codes "BUILDING " ++ decimal (fault_number fault) ++ floors_text fault ++ 10 ∷ []
+building_text fault = codes "BUILDING " ++ decimal (fault_number fault) ++ floors_text fault ++ 10
+    ∷ []
 
 -- a front of this text was written
 abbrev pub AppendsFront : (old new : Option (List ℕ)) → List ℕ → Type 0
 AppendsFront old new text = (written : List ℕ) × IsPrefix written text × Appends old new written
 
--- The report grew by this. A part of it was written, behind what had been kept back, and the rest is kept back.
+-- The report grew by this. A part of it was written, behind what had been kept back, and the rest
+-- is kept back.
 pub record Reports (old new : Option (List ℕ)) (before after added : List ℕ) : Type 0 where
   pub written : List ℕ
   pub appends : Appends old new written
   pub same : before ++ added ≡ written ++ after
 
--- The report grew by a front of this. What was written, with what is kept back, is a front of what had been kept back and this.
+-- The report grew by a front of this. What was written, with what is kept back, is a front of what
+-- had been kept back and this.
 pub record ReportsPart (old new : Option (List ℕ)) (before after all : List ℕ) : Type 0 where
   pub written : List ℕ
   pub appends : Appends old new written

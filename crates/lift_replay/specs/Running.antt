@@ -18,35 +18,49 @@ use Rattle.lift_replay.specs.Script.{IsBadLine}
 use Rattle.lift_replay.specs.Shows.{Shows, IsKept}
 use Rattle.lift_replay.specs.Told.{ScriptClerk}
 
--- These lines, behind `count` others, tell this of a group, and the run of them has this verdict: skipped ones tell
--- nothing, a malformed one ends the run, and each other tells what it asks for and leaves the group to the next.
+-- These lines, behind `count` others, tell this of a group, and the run of them has this verdict:
+-- skipped ones tell nothing, a malformed one ends the run, and each other tells what it asks for
+-- and leaves the group to the next.
 abbrev pub TellsLines : Plan → ℕ → GroupState → List (List ℕ) → List ℕ → Verdict → Type 0
 TellsLines plan count g [] text verdict = (text ≡ []) × (verdict ≡ Good)
 TellsLines plan count g (line ∷ lines) text verdict =
     (IsSkipped line × TellsLines plan (suc count) g lines text verdict)
-    ⊎ (((wanted : ScriptLine) × (more : List ℕ) × (¬ IsSkipped line) × Spells line wanted × IsKnown plan wanted
-    × TellsLines plan (suc count) (after plan g wanted) lines more verdict × (text ≡ line_text plan g wanted ++ more))
+    ⊎ (((wanted : ScriptLine) × (more : List ℕ) × (¬ IsSkipped line) × Spells line wanted
+    × IsKnown plan wanted
+    × TellsLines plan (suc count) (after plan g wanted) lines more verdict
+    × (text ≡ line_text plan g wanted ++ more))
     ⊎ (IsBadLine plan line × (text ≡ bad_text (suc count)) × (verdict ≡ Bad)))
 
--- What the later lines tell of the later group, behind this text, all of them tell of the first one.
-abbrev pub Continues : Plan → (count : ℕ) → GroupState → List (List ℕ) → List ℕ → (later : ℕ) → GroupState → List (List ℕ) → Type 0
+-- What the later lines tell of the later group, behind this text, all of them tell of the first
+-- one.
+abbrev pub Continues : Plan → (count : ℕ) → GroupState → List (List ℕ) → List ℕ → (later : ℕ)
+    → GroupState → List (List ℕ) → Type 0
 Continues plan count g script text later next rest =
-    (more : List ℕ) (verdict : Verdict) → TellsLines plan later next rest more verdict → TellsLines plan count g script (text ++ more) verdict
+    (more : List ℕ) (verdict : Verdict) → TellsLines plan later next rest more verdict
+    → TellsLines plan count g script (text ++ more) verdict
 
 -- The lines tell some text of the group, and the report grew by a front of it.
-abbrev pub TellsPart : Plan → (count : ℕ) → GroupState → List (List ℕ) → (old new : Option (List ℕ)) → (before after : List ℕ) → Type 0
+abbrev pub TellsPart : Plan → (count : ℕ) → GroupState → List (List ℕ) → (old new : Option (List ℕ))
+    → (before after : List ℕ) → Type 0
 TellsPart plan count g script old new before after =
-    (all : List ℕ) × (verdict : Verdict) × TellsLines plan count g script all verdict × ReportsPart old new before after all
+    (all : List ℕ) × (verdict : Verdict) × TellsLines plan count g script all verdict
+    × ReportsPart old new before after all
 
 -- Where lines end at a desk: all are told, or a power cut is left to do.
-abbrev pub LinesEnd : Plan → (count : ℕ) → GroupState → List (List ℕ) → List ℕ → (later : ℕ) → List (List ℕ) → ScriptClerk → List TerminalSeat → End → Type 0
-LinesEnd plan count g script text later rest clerk seats (Over verdict) = TellsLines plan count g script text verdict
+abbrev pub LinesEnd : Plan → (count : ℕ) → GroupState → List (List ℕ) → List ℕ → (later : ℕ)
+    → List (List ℕ) → ScriptClerk → List TerminalSeat → End → Type 0
+LinesEnd plan count g script text later rest clerk seats (Over verdict) =
+    TellsLines plan count g script text verdict
 LinesEnd plan count g script text later rest clerk seats (Power outcome) =
     (next : GroupState) × Shows plan next clerk seats
-    × Continues plan count g script (text ++ cut_text (open_count (left_by outcome next).register)) later (recovered plan (left_by outcome next)) rest
+    × Continues plan count g script (text ++ cut_text (open_count (left_by outcome next).register))
+    later (recovered plan (left_by outcome next)) rest
 
 -- where a segment ends: all lines are told, or a keeper goes on
-abbrev pub SegmentEnds : Plan → (count : ℕ) → GroupState → List (List ℕ) → List ℕ → (later : ℕ) → List (List ℕ) → SegmentEnd → Type 0
-SegmentEnds plan count g script text later rest (Run verdict) = TellsLines plan count g script text verdict
+abbrev pub SegmentEnds : Plan → (count : ℕ) → GroupState → List (List ℕ) → List ℕ → (later : ℕ)
+    → List (List ℕ) → SegmentEnd → Type 0
+SegmentEnds plan count g script text later rest (Run verdict) =
+    TellsLines plan count g script text verdict
 SegmentEnds plan count g script text later rest (Cut keeper) =
-    (next : GroupState) × IsKept plan next keeper × (next.terminals ≡ new_terminals plan) × Continues plan count g script text later next rest
+    (next : GroupState) × IsKept plan next keeper × (next.terminals ≡ new_terminals plan)
+    × Continues plan count g script text later next rest

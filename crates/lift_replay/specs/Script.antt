@@ -12,14 +12,17 @@ use Rattle.lift_replay.specs.Known.{IsKnown}
 use Rattle.lift_replay.specs.Reading.{most_bytes}
 use Rattle.lift_replay.specs.Report.{building_text}
 
--- a line is malformed: it is not skipped, and it asks for nothing, or for something that the building does not know
+-- a line is malformed: it is not skipped, and it asks for nothing, or for something that the
+-- building does not know
 abbrev pub IsBadLine : Plan → List ℕ → Type 0
 IsBadLine plan line = (¬ IsSkipped line)
-    × (((wanted : ScriptLine) → Spells line wanted → ⊥) ⊎ ((wanted : ScriptLine) × Spells line wanted × (¬ IsKnown plan wanted)))
+    × (((wanted : ScriptLine) → Spells line wanted → ⊥)
+    ⊎ ((wanted : ScriptLine) × Spells line wanted × (¬ IsKnown plan wanted)))
 
 -- the building is refused, with its first fault; want of memory is no fault of a script
 abbrev pub RefusesBuilding : (building report : List ℕ) → Type 0
-RefusesBuilding building report = (fault : BuildingFault) × (fault ≢ Memory) × IsFirstFault building fault × (report ≡ building_text fault)
+RefusesBuilding building report = (fault : BuildingFault) × (fault ≢ Memory)
+    × IsFirstFault building fault × (report ≡ building_text fault)
 
 -- the text says that the building is so
 abbrev pub SaysBuilding : List ℕ → Plan → Type 0

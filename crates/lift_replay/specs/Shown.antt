@@ -1,5 +1,6 @@
 -- What the lines show of a view: the stop list of a car, and what a call would cost.
-use Rattle.std.specs.Prelude.{ℕ, ◌==◌, nat_le, if◌then◌else◌, Bool, List, [], ◌∷◌, ◌++◌, codes, Option, Some, None}
+use Rattle.std.specs.Prelude.{ℕ, ◌==◌, nat_le, if◌then◌else◌, Bool, List, [], ◌∷◌, ◌++◌, codes}
+use Rattle.std.specs.Prelude.{Option, Some, None}
 use Rattle.std.specs.List.{flat_map}
 use Rattle.lift_base.specs.Text.{letter_text}
 use Rattle.lift_base.specs.declared.travel.Halt.{Halt}
@@ -28,14 +29,16 @@ placed_text rows (Some position) = halts_text (stop_list rows position)
 -- the line of a stop list
 abbrev pub stops_text : ViewState → ℕ → List ℕ
 stops_text view car =
-    codes "stops " ++ letter_text car ++ placed_text (rows_of view.register car) (position_of view.positions car) ++ 10 ∷ []
+    codes "stops " ++ letter_text car
+    ++ placed_text (rows_of view.register car) (position_of view.positions car) ++ 10 ∷ []
 
 -- what a call would cost each of these cars, or that there is none
 abbrev pub prices_text : (ℕ → ℕ) → List ℕ → List ℕ
 prices_text cost [] = codes " -"
 prices_text cost (car ∷ cars) = flat_map (λ other. cost_text other (cost other)) (car ∷ cars)
 
--- the costs by rising letter, or the cause for which the call would be refused wherever the cars are
+-- the costs by rising letter, or the cause for which the call would be refused wherever the cars
+-- are
 abbrev pub between_text : Plan → ViewState → NewCall → List ℕ
 between_text plan view call =
     if nat_le plan.floors call.to then refused_text NoSuchFloor

@@ -1,5 +1,6 @@
 -- Which group a script's clerk and terminals are.
-use Rattle.std.specs.Prelude.{ℕ, suc, ◌≡◌, ◌<◌, true, false, List, [], ◌∷◌, ◌++◌, length, Option, Some, None}
+use Rattle.std.specs.Prelude.{ℕ, suc, ◌≡◌, ◌<◌, true, false, List, [], ◌∷◌, ◌++◌, length, Option}
+use Rattle.std.specs.Prelude.{Some, None}
 use Rattle.lift_building.specs.Plan.{Plan}
 use Rattle.lift_disk.specs.Disk.{DiskState, Image, MayLeave, IsTold}
 use Rattle.lift_disk.specs.Faults.{AllAfter, IfArmed, fuse_state_of}
@@ -14,16 +15,20 @@ use Rattle.lift_desk.specs.Spelled.{IsAsk}
 use Rattle.lift_desk.specs.Seats.{TerminalSeat, ClerkPlace, view_at}
 use Rattle.lift_keeper.specs.Images.{IsImageIn}
 use Rattle.lift_keeper.specs.Keeper.{KeeperView}
-use Rattle.lift_replay.specs.Group.{Asking, GroupState, Stopped, Found, asking_at, beginning, half, left_by}
+use Rattle.lift_replay.specs.Group.{Asking, GroupState, Stopped, Found, asking_at, beginning, half}
+use Rattle.lift_replay.specs.Group.{left_by}
 use Rattle.lift_replay.specs.Terminals.{seat_at}
 use Rattle.lift_replay.specs.Told.{ScriptClerk}
 
 -- all that the terminal asked is taken, or all but the ask that waits
 abbrev pub WaitsFor : Option Ask → TerminalView → ClerkView → Type 0
 WaitsFor None seat place = seat.asked ≡ place.taken
-WaitsFor (Some ask) seat place = IsAsk ask × (seat.asked ≡ place.taken ++ ask_word (suc (length place.taken)) ask.number ask.body ∷ [])
+WaitsFor (Some ask) seat place =
+    IsAsk ask × (seat.asked ≡ place.taken ++ ask_word (suc (length place.taken)) ask.number ask.body
+    ∷ [])
 
--- The clerk was told of all that the terminal asked, has answered all that it took, and the terminal has heard all of it.
+-- The clerk was told of all that the terminal asked, has answered all that it took, and the
+-- terminal has heard all of it.
 pub record IsInStep (asking : Asking) (seat : TerminalView) (place : ClerkView) : Type 0 where
   pub turns : length seat.asked ≡ asking.turns
   pub told : place.told ≡ seat.asked
@@ -31,11 +36,13 @@ pub record IsInStep (asking : Asking) (seat : TerminalView) (place : ClerkView) 
   pub even : length place.answered ≡ length place.taken
   pub waits : WaitsFor asking.waiting seat place
 
-pub record AreInStep (terminals : List Asking) (seats : List TerminalSeat) (places : List ClerkPlace) : Type 0 where
+pub record AreInStep (terminals : List Asking) (seats : List TerminalSeat)
+    (places : List ClerkPlace) : Type 0 where
   pub seat_count : length seats ≡ length terminals
   pub place_count : length places ≡ length terminals
   pub own : (t : ℕ) → t < length terminals → (seat_at seats t).terminal ≡ t
-  pub each : (t : ℕ) → t < length terminals → IsInStep (asking_at terminals t) (seat_at seats t).view (view_at places t)
+  pub each : (t : ℕ) → t < length terminals
+      → IsInStep (asking_at terminals t) (seat_at seats t).view (view_at places t)
 
 -- the image is a journal of the building, in a half of a script's disk, with what was found
 abbrev pub IsFound : Plan → Found → Image → Type 0
@@ -48,13 +55,17 @@ pub record IsFused (passing : Option ℕ) (disk : DiskState) : Type 0 where
 
 -- what each cut leaves
 abbrev pub IsCutAs : Plan → GroupState → DiskState → Type 0
-IsCutAs plan g disk = (outcome : Outcome) (image : Image) → IsLeftBy outcome disk image → MayLeave disk image → IsFound plan (left_by outcome g) image
+IsCutAs plan g disk = (outcome : Outcome) (image : Image) → IsLeftBy outcome disk image
+    → MayLeave disk image → IsFound plan (left_by outcome g) image
 
--- While nothing is stopped the keeper stands there; behind that each cut leaves what the stopped commit's calls say.
+-- While nothing is stopped the keeper stands there; behind that each cut leaves what the stopped
+-- commit's calls say.
 abbrev pub Stands : Option Stopped → Plan → GroupState → KeeperView FuseDisk → Type 0
-Stands None plan g keeper = (keeper.writer.is_broken ≡ false) × (keeper.state ≡ beginning g) × (keeper.writer.used ≡ g.used) × (keeper.writer.is_second ≡ g.is_second)
+Stands None plan g keeper = (keeper.writer.is_broken ≡ false) × (keeper.state ≡ beginning g)
+    × (keeper.writer.used ≡ g.used) × (keeper.writer.is_second ≡ g.is_second)
     × IsFused g.passing (fuse_state_of keeper.writer.device)
-Stands (Some stopped) plan g keeper = (keeper.writer.is_broken ≡ true) × IsCutAs plan g (fuse_state_of keeper.writer.device)
+Stands (Some stopped) plan g keeper = (keeper.writer.is_broken ≡ true)
+    × IsCutAs plan g (fuse_state_of keeper.writer.device)
 
 pub record IsKept (plan : Plan) (g : GroupState) (keeper : KeeperView FuseDisk) : Type 0 where
   pub same_plan : keeper.writer.plan ≡ plan
@@ -63,6 +74,7 @@ pub record IsKept (plan : Plan) (g : GroupState) (keeper : KeeperView FuseDisk) 
   pub stands : Stands g.stopped plan g keeper
 
 -- The clerk and the terminals are this group.
-pub record Shows (plan : Plan) (g : GroupState) (clerk : ScriptClerk) (seats : List TerminalSeat) : Type 0 where
+pub record Shows (plan : Plan) (g : GroupState) (clerk : ScriptClerk)
+    (seats : List TerminalSeat) : Type 0 where
   pub keeper : IsKept plan g clerk.keeper
   pub terminals : AreInStep g.terminals seats clerk.seat

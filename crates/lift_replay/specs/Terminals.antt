@@ -1,13 +1,16 @@
 -- The seats of a desk's terminals, what they ask, and what they hear.
-use Rattle.std.specs.Prelude.{ℕ, suc, ◌≡◌, ◌<◌, ◌≤◌, ◌⊎◌, List, [], ◌∷◌, ◌++◌, length, slice_index_or, Option, Some, None}
+use Rattle.std.specs.Prelude.{ℕ, suc, ◌≡◌, ◌<◌, ◌≤◌, ◌⊎◌, List, [], ◌∷◌, ◌++◌, length}
+use Rattle.std.specs.Prelude.{slice_index_or, Option, Some, None}
 use Rattle.atomic_table.specs.Seated.{TableId}
 use Rattle.lift_base.specs.declared.command.Body.{Body}
 use Rattle.lift_base.specs.declared.command.Reply.{Reply}
 use Rattle.lift_desk.specs.Words.{ask_word, number_of, last_of}
 use Rattle.lift_desk.specs.declared.view.ClerkView.{ClerkView}
 use Rattle.lift_desk.specs.Rule.{no_asks, IsInOrder}
-use Rattle.lift_desk.specs.Steps.{with_ask, with_hearing, with_told_answers, with_told_asks, lists_of}
-use Rattle.lift_desk.specs.Seats.{TerminalSeat, ClerkPlace, AreSeatsOf, Waits, HearsOf, IsToldAnswer, seat_with, no_table, view_at}
+use Rattle.lift_desk.specs.Steps.{with_ask, with_hearing, with_told_answers, with_told_asks}
+use Rattle.lift_desk.specs.Steps.{lists_of}
+use Rattle.lift_desk.specs.Seats.{TerminalSeat, ClerkPlace, AreSeatsOf, Waits, HearsOf}
+use Rattle.lift_desk.specs.Seats.{IsToldAnswer, seat_with, no_table, view_at}
 use Rattle.lift_replay.specs.Report.{heard_text}
 
 -- what stands in for the seat of a terminal that the desk lacks
@@ -31,26 +34,32 @@ pub record IsSpanned (seats : List TerminalSeat) (first end : ℕ) : Type 0 wher
 
 -- the terminal's seat once it has asked this, with its next turn
 abbrev pub having_asked : TerminalSeat → ℕ → Body → TerminalSeat
-having_asked seat number body = seat_with seat (with_ask seat.view (ask_word (suc (length seat.view.asked)) number body))
+having_asked seat number body =
+    seat_with seat (with_ask seat.view (ask_word (suc (length seat.view.asked)) number body))
 
 -- the terminal's seat once it was told what the clerk has answered there
 abbrev pub told_seat : TerminalSeat → ClerkView → TerminalSeat
 told_seat seat view = seat_with seat (with_told_answers seat.view view.answered)
 
--- The clerk was told what each terminal asked, and each terminal what was answered there; what they have stored fits together.
+-- The clerk was told what each terminal asked, and each terminal what was answered there; what they
+-- have stored fits together.
 pub record AreTold (seats told : List TerminalSeat) (places known : List ClerkPlace) : Type 0 where
   pub count : length told ≡ length seats
   pub place_count : length known ≡ length places
-  pub seat : (i : ℕ) → i < length seats → seat_at told i ≡ told_seat (seat_at seats i) (view_at places i)
-  pub place : (i : ℕ) → i < length seats → view_at known i ≡ with_told_asks (view_at places i) (seat_at seats i).view.asked
-  pub in_order : (i : ℕ) → i < length seats → IsInOrder (lists_of (seat_at seats i).view (view_at places i))
+  pub seat : (i : ℕ) → i < length seats
+      → seat_at told i ≡ told_seat (seat_at seats i) (view_at places i)
+  pub place : (i : ℕ) → i < length seats
+      → view_at known i ≡ with_told_asks (view_at places i) (seat_at seats i).view.asked
+  pub in_order : (i : ℕ) → i < length seats
+      → IsInOrder (lists_of (seat_at seats i).view (view_at places i))
 
 -- what the report shows of what a terminal hears
 abbrev pub line_of : TerminalSeat → Option Reply → List ℕ
 line_of seat None = []
 line_of seat (Some reply) = heard_text seat.terminal (number_of (last_of seat.view.asked)) reply
 
--- A terminal that waits has looked once for its answer, and the report shows what it heard: what it was told of, if that was an answer.
+-- A terminal that waits has looked once for its answer, and the report shows what it heard: what it
+-- was told of, if that was an answer.
 pub record HasHeard (old new : TerminalSeat) (line : List ℕ) : Type 0 where
   pub word : ℕ
   pub reply : Option Reply
@@ -70,4 +79,5 @@ AllHear [] [] lines = lines ≡ []
 AllHear [] (new ∷ news) lines = ⊥
 AllHear (old ∷ olds) [] lines = ⊥
 AllHear (old ∷ olds) (new ∷ news) lines =
-    (line : List ℕ) × (others : List ℕ) × Hears old new line × AllHear olds news others × (lines ≡ line ++ others)
+    (line : List ℕ) × (others : List ℕ) × Hears old new line × AllHear olds news others
+    × (lines ≡ line ++ others)

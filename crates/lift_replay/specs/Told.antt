@@ -1,7 +1,9 @@
 -- What each line tells as it is carried out.
-use Rattle.std.specs.Prelude.{ℕ, ◌≡◌, ◌⊎◌, ◌↔◌, ◌+◌, ◌<◌, ◌≤◌, true, false, List, [], ◌++◌, codes, length, slice_set, Option, Some, None}
+use Rattle.std.specs.Prelude.{ℕ, ◌≡◌, ◌⊎◌, ◌↔◌, ◌+◌, ◌<◌, ◌≤◌, true, false, List, [], ◌++◌, codes}
+use Rattle.std.specs.Prelude.{length, slice_set, Option, Some, None}
 use Rattle.lift_base.specs.declared.command.Body.{Body}
-use Rattle.lift_base.specs.declared.command.Body.TheVariants.{Call as Calls, Stop as Stopping, Place as Placing}
+use Rattle.lift_base.specs.declared.command.Body.TheVariants.{Call as Calls, Stop as Stopping}
+use Rattle.lift_base.specs.declared.command.Body.TheVariants.{Place as Placing}
 use Rattle.lift_building.specs.Plan.{Plan, kiosk_floor_of}
 use Rattle.lift_disk.specs.Disk.{DiskState, IsUnchanged, IsTold}
 use Rattle.lift_disk.specs.Faults.{AllAfter, fuse_state_of}
@@ -18,13 +20,15 @@ use Rattle.lift_clerk.specs.Clerk.{ClerkState}
 use Rattle.lift_clerk.specs.Turn.{IsTurn, IsFailedTurn, IsBrokenTurn}
 use Rattle.lift_clerk.specs.declared.counts.Counts.{Counts}
 use Rattle.lift_replay.specs.declared.line.ScriptLine.{ScriptLine}
-use Rattle.lift_replay.specs.declared.line.ScriptLine.TheVariants.{Place, Call, Stop, Turn, Stops, Cost, Rows, Fuse, Cut}
+use Rattle.lift_replay.specs.declared.line.ScriptLine.TheVariants.{Place, Call, Stop, Turn, Stops}
+use Rattle.lift_replay.specs.declared.line.ScriptLine.TheVariants.{Cost, Rows, Fuse, Cut}
 use Rattle.lift_replay.specs.declared.lines.End.{End}
 use Rattle.lift_replay.specs.declared.lines.End.TheVariants.{Run as Over, Cut as Power}
 use Rattle.lift_replay.specs.declared.lines.Verdict.TheVariants.{Bad}
 use Rattle.lift_replay.specs.Grammar.{Spells, IsSkipped}
 use Rattle.lift_replay.specs.Known.{IsKnown}
-use Rattle.lift_replay.specs.Report.{waiting_text, spent_text, turn_text, fault_text, register_text, bad_text}
+use Rattle.lift_replay.specs.Report.{waiting_text, spent_text, turn_text, fault_text, register_text}
+use Rattle.lift_replay.specs.Report.{bad_text}
 use Rattle.lift_replay.specs.Script.{IsBadLine}
 use Rattle.lift_replay.specs.Shown.{stops_text, costs_text, unless_broken}
 use Rattle.lift_replay.specs.Terminals.{seat_at, having_asked, told_seat, AreTold, AllHear}
@@ -38,19 +42,27 @@ abbrev pub IsSpent : TerminalSeat → Type 0
 IsSpent seat = length seat.view.asked ≡ 1048575
 
 -- The terminal asks this, and the clerk is told of it.
-pub record HasAsked (seats after : List TerminalSeat) (places known : List ClerkPlace) (terminal number : ℕ) (body : Body) : Type 0 where
+pub record HasAsked (seats after : List TerminalSeat) (places known : List ClerkPlace)
+    (terminal number : ℕ) (body : Body) : Type 0 where
   pub asked : List TerminalSeat
   pub asks : asked ≡ slice_set seats terminal (having_asked (seat_at seats terminal) number body)
   pub in_range : IsAsk (record { number = number; body = body })
-  pub seat : after ≡ slice_set asked terminal (told_seat (seat_at asked terminal) (view_at places terminal))
-  pub knows : known ≡ clerk_with places terminal (with_told_asks (view_at places terminal) (seat_at asked terminal).view.asked)
+  pub seat : after ≡ slice_set asked terminal
+      (told_seat (seat_at asked terminal) (view_at places terminal))
+  pub knows : known ≡ clerk_with places terminal
+      (with_told_asks (view_at places terminal) (seat_at asked terminal).view.asked)
 
--- A terminal asks, and tells nothing. Where it still waits for an answer, or has used up its turns, it tells that.
-abbrev pub Asks : (seats after : List TerminalSeat) (places known : List ClerkPlace) → (terminal number : ℕ) → Body → List ℕ → Type 0
+-- A terminal asks, and tells nothing. Where it still waits for an answer, or has used up its turns,
+-- it tells that.
+abbrev pub Asks : (seats after : List TerminalSeat) (places known : List ClerkPlace)
+    → (terminal number : ℕ) → Body → List ℕ → Type 0
 Asks seats after places known terminal number body text =
-    (Waits (seat_at seats terminal).view × (after ≡ seats) × (known ≡ places) × (text ≡ waiting_text terminal number))
-    ⊎ (((¬ Waits (seat_at seats terminal).view) × IsSpent (seat_at seats terminal) × (after ≡ seats) × (known ≡ places) × (text ≡ spent_text terminal number))
-    ⊎ ((¬ Waits (seat_at seats terminal).view) × (¬ IsSpent (seat_at seats terminal)) × HasAsked seats after places known terminal number body × (text ≡ [])))
+    (Waits (seat_at seats terminal).view × (after ≡ seats) × (known ≡ places)
+    × (text ≡ waiting_text terminal number))
+    ⊎ (((¬ Waits (seat_at seats terminal).view) × IsSpent (seat_at seats terminal) × (after ≡ seats)
+    × (known ≡ places) × (text ≡ spent_text terminal number))
+    ⊎ ((¬ Waits (seat_at seats terminal).view) × (¬ IsSpent (seat_at seats terminal))
+    × HasAsked seats after places known terminal number body × (text ≡ [])))
 
 -- but for the clerk's seats nothing of it has changed
 abbrev pub KeepsKeeper : (old new : ScriptClerk) → Type 0
@@ -65,9 +77,15 @@ pub record HasCommitted (old new : ScriptClerk) (accepted : ℕ) : Type 0 where
   pub was_whole : old.keeper.writer.is_broken ≡ false
   pub whole : new.keeper.writer.is_broken ≡ false
   pub register : new.keeper.writer.register ≡ new.keeper.state.register
-  pub calls : (device_of new).calls ≡ (device_of old).calls + commit_calls old.keeper.writer.register old.keeper.writer.used old.keeper.writer.half accepted
-  pub used : new.keeper.writer.used ≡ commit_used old.keeper.writer.register old.keeper.writer.used old.keeper.writer.half accepted
-  pub second : new.keeper.writer.is_second ≡ commit_second old.keeper.writer.is_second old.keeper.writer.used old.keeper.writer.half accepted
+  pub calls : (device_of new).calls
+      ≡ (device_of old).calls + commit_calls old.keeper.writer.register old.keeper.writer.used
+      old.keeper.writer.half accepted
+  pub used : new.keeper.writer.used
+      ≡ commit_used old.keeper.writer.register old.keeper.writer.used old.keeper.writer.half
+      accepted
+  pub second : new.keeper.writer.is_second
+      ≡ commit_second old.keeper.writer.is_second old.keeper.writer.used old.keeper.writer.half
+      accepted
   pub none_fails : NoneFails (device_of old) (device_of new)
 
 -- the device has stopped the turn's commit: its last call failed
@@ -76,25 +94,35 @@ pub record WasStopped (old new : ScriptClerk) : Type 0 where
   pub broken : new.keeper.writer.is_broken ≡ true
   pub register : new.keeper.writer.register ≡ old.keeper.writer.register
   pub calls : (device_of new).calls
-      ≤ (device_of old).calls + commit_calls old.keeper.writer.register old.keeper.writer.used old.keeper.writer.half (length new.keeper.state.batch)
-  pub stops : StopsCommit old.keeper.writer.plan old.keeper.writer.half old.keeper.writer.is_second old.keeper.writer.used old.keeper.writer.register
+      ≤ (device_of old).calls + commit_calls old.keeper.writer.register old.keeper.writer.used
+      old.keeper.writer.half (length new.keeper.state.batch)
+  pub stops : StopsCommit old.keeper.writer.plan old.keeper.writer.half old.keeper.writer.is_second
+      old.keeper.writer.used old.keeper.writer.register
       new.keeper.writer.doubt (device_of old) (device_of new)
   pub last_fails : LastFails (device_of old) (device_of new)
 
--- What a turn took and accepted, or fault 1 where the device failed it, or fault 5 while the journal is broken.
+-- What a turn took and accepted, or fault 1 where the device failed it, or fault 5 while the
+-- journal is broken.
 abbrev pub TurnTells : (old new : ScriptClerk) → List ℕ → Type 0
-TurnTells old new text = ((counts : Counts) × IsTurn IsEtdChoice old new counts × HasCommitted old new counts.accepted × (text ≡ turn_text counts.taken counts.accepted))
-    ⊎ ((IsFailedTurn IsEtdChoice old new × WasStopped old new × (text ≡ fault_text (codes "turn") 1))
-    ⊎ ((old.keeper.writer.is_broken ≡ true) × IsBrokenTurn old new × (text ≡ fault_text (codes "turn") 5)))
+TurnTells old new text =
+    ((counts : Counts) × IsTurn IsEtdChoice old new counts × HasCommitted old new counts.accepted
+    × (text ≡ turn_text counts.taken counts.accepted))
+    ⊎ ((IsFailedTurn IsEtdChoice old new × WasStopped old new
+    × (text ≡ fault_text (codes "turn") 1))
+    ⊎ ((old.keeper.writer.is_broken ≡ true) × IsBrokenTurn old new
+    × (text ≡ fault_text (codes "turn") 5)))
 
 -- what a turn leaves as it was
 pub record KeepsPlace (old new : ScriptClerk) : Type 0 where
   pub plan : new.keeper.writer.plan ≡ old.keeper.writer.plan
   pub half : new.keeper.writer.half ≡ old.keeper.writer.half
-  pub fuse : (call : ℕ) → (device_of new).calls < call → (device_of new).fails_at call ↔ (device_of old).fails_at call
+  pub fuse : (call : ℕ) → (device_of new).calls < call → (device_of new).fails_at call
+      ↔ (device_of old).fails_at call
 
--- what a turn tells, and below it what each terminal hears, by rising terminal: all are told before what was answered
-pub record OutcomeTells (old new : ScriptClerk) (seats after : List TerminalSeat) (text : List ℕ) : Type 0 where
+-- what a turn tells, and below it what each terminal hears, by rising terminal: all are told before
+-- what was answered
+pub record OutcomeTells (old new : ScriptClerk) (seats after : List TerminalSeat)
+    (text : List ℕ) : Type 0 where
   pub turned : ScriptClerk
   pub told : List TerminalSeat
   pub head : List ℕ
@@ -112,8 +140,10 @@ shown_text clerk line text = unless_broken clerk.keeper.writer.is_broken line te
 
 -- The device of the clerk is told to fail every call after so many, and nothing else changes.
 pub record IsArmed (calls : ℕ) (old new : ScriptClerk) : Type 0 where
-  pub told : IsTold (AllAfter calls (fuse_state_of old.keeper.writer.device).calls) (fuse_state_of new.keeper.writer.device)
-  pub unchanged : IsUnchanged (fuse_state_of old.keeper.writer.device) (fuse_state_of new.keeper.writer.device)
+  pub told : IsTold (AllAfter calls (fuse_state_of old.keeper.writer.device).calls)
+      (fuse_state_of new.keeper.writer.device)
+  pub unchanged : IsUnchanged (fuse_state_of old.keeper.writer.device)
+      (fuse_state_of new.keeper.writer.device)
   pub rest : new ≡ record old { keeper = record old.keeper { writer = record old.keeper.writer { device = new.keeper.writer.device } } }
 
 -- the clerk and the terminals are as before
@@ -122,17 +152,32 @@ pub record Rests (old new : ScriptClerk) (seats after : List TerminalSeat) : Typ
   pub terminals : after ≡ seats
 
 -- what a line tells in a building, to a clerk and terminals, and how it leaves them
-abbrev pub Tells : Plan → (old new : ScriptClerk) → (seats after : List TerminalSeat) → ScriptLine → List ℕ → Type 0
-Tells plan old new seats after (Place car floor dir) text = Asks seats after old.seat new.seat car 0 (Placing floor dir) text × KeepsKeeper old new
-Tells plan old new seats after (Call kiosk number floor party) text = Asks seats after old.seat new.seat (16 + kiosk) number (Calls floor party) text × KeepsKeeper old new
-Tells plan old new seats after (Stop car number floor dir) text = Asks seats after old.seat new.seat car number (Stopping floor dir) text × KeepsKeeper old new
+abbrev pub Tells : Plan → (old new : ScriptClerk) → (seats after : List TerminalSeat) → ScriptLine
+    → List ℕ → Type 0
+Tells plan old new seats after (Place car floor dir) text =
+    Asks seats after old.seat new.seat car 0 (Placing floor dir) text × KeepsKeeper old new
+Tells plan old new seats after (Call kiosk number floor party) text =
+    Asks seats after old.seat new.seat (16 + kiosk) number (Calls floor party) text
+    × KeepsKeeper old new
+Tells plan old new seats after (Stop car number floor dir) text =
+    Asks seats after old.seat new.seat car number (Stopping floor dir) text × KeepsKeeper old new
 Tells plan old new seats after Turn text = OutcomeTells old new seats after text
-Tells plan old new seats after (Stops car) text = (text ≡ shown_text old (codes "stops") (stops_text (view_of old.keeper.state) car)) × Rests old new seats after
-Tells plan old new seats after (Cost kiosk floor party) text =
-    (text ≡ shown_text old (codes "cost") (costs_text plan (view_of old.keeper.state) (record { from = kiosk_floor_of plan kiosk; to = floor; party = party })))
+Tells plan old new seats after (Stops car) text =
+    (text ≡ shown_text old (codes "stops") (stops_text (view_of old.keeper.state) car))
     × Rests old new seats after
-Tells plan old new seats after Rows text = (text ≡ shown_text old (codes "rows") (register_text old.keeper.state.register)) × Rests old new seats after
-Tells plan old new seats after (Fuse calls) text = (text ≡ []) × IsArmed calls old new × (after ≡ seats)
+Tells plan old new seats after (Cost kiosk floor party) text =
+    (text ≡ shown_text old (codes "cost")
+    (costs_text plan (view_of old.keeper.state) (record {
+      from = kiosk_floor_of plan kiosk;
+      to = floor;
+      party = party;
+    })))
+    × Rests old new seats after
+Tells plan old new seats after Rows text =
+    (text ≡ shown_text old (codes "rows") (register_text old.keeper.state.register))
+    × Rests old new seats after
+Tells plan old new seats after (Fuse calls) text = (text ≡ []) × IsArmed calls old new
+    × (after ≡ seats)
 Tells plan old new seats after (Cut outcome) text = (text ≡ []) × Rests old new seats after
 
 -- a power cut ends the lines at this desk, and no other line does
@@ -141,18 +186,28 @@ end_of (Cut outcome) = Some (Power outcome)
 end_of line = None
 
 -- the line is skipped
-abbrev pub Skips : (old new : ScriptClerk) → (seats after : List TerminalSeat) → List ℕ → Option End → List ℕ → Type 0
-Skips old new seats after line end text = IsSkipped line × (end ≡ None) × (text ≡ []) × Rests old new seats after
+abbrev pub Skips : (old new : ScriptClerk) → (seats after : List TerminalSeat) → List ℕ → Option End
+    → List ℕ → Type 0
+Skips old new seats after line end text = IsSkipped line × (end ≡ None) × (text ≡ [])
+    × Rests old new seats after
 
 -- the line asks for something that the building knows, and it is carried out
-abbrev pub CarriesOut : Plan → (old new : ScriptClerk) → (seats after : List TerminalSeat) → List ℕ → Option End → List ℕ → Type 0
+abbrev pub CarriesOut : Plan → (old new : ScriptClerk) → (seats after : List TerminalSeat) → List ℕ
+    → Option End → List ℕ → Type 0
 CarriesOut plan old new seats after line end text =
-    (wanted : ScriptLine) × Spells line wanted × IsKnown plan wanted × Tells plan old new seats after wanted text × (end ≡ end_of wanted) × (¬ IsSkipped line)
+    (wanted : ScriptLine) × Spells line wanted × IsKnown plan wanted
+    × Tells plan old new seats after wanted text × (end ≡ end_of wanted) × (¬ IsSkipped line)
 
 -- the line is malformed, and ends the run
-abbrev pub Refuses : Plan → (old new : ScriptClerk) → (seats after : List TerminalSeat) → List ℕ → ℕ → Option End → List ℕ → Type 0
-Refuses plan old new seats after line number end text = IsBadLine plan line × (end ≡ Some (Over Bad)) × (text ≡ bad_text number) × Rests old new seats after
+abbrev pub Refuses : Plan → (old new : ScriptClerk) → (seats after : List TerminalSeat) → List ℕ → ℕ
+    → Option End → List ℕ → Type 0
+Refuses plan old new seats after line number end text =
+    IsBadLine plan line × (end ≡ Some (Over Bad)) × (text ≡ bad_text number)
+    × Rests old new seats after
 
-abbrev pub LineTells : Plan → (old new : ScriptClerk) → (seats after : List TerminalSeat) → List ℕ → ℕ → Option End → List ℕ → Type 0
+abbrev pub LineTells : Plan → (old new : ScriptClerk) → (seats after : List TerminalSeat) → List ℕ
+    → ℕ → Option End → List ℕ → Type 0
 LineTells plan old new seats after line number end text =
-    Skips old new seats after line end text ⊎ (CarriesOut plan old new seats after line end text ⊎ Refuses plan old new seats after line number end text)
+    Skips old new seats after line end text
+    ⊎ (CarriesOut plan old new seats after line end text
+    ⊎ Refuses plan old new seats after line number end text)

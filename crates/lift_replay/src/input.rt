@@ -1,6 +1,7 @@
 //! All bytes of a reader, within bounds.
 
-ghost use Rattle.std.specs.Prelude.{◌≡◌, ℕ, List, ◌+◌, ◌≤◌, ◌<◌, ◌^◌, ◌++◌, length, vec_len, IfOk, OnErr, OnOk, IfSome, ◌⊎◌, true, false};
+ghost use Rattle.std.specs.Prelude.{◌≡◌, ℕ, List, ◌+◌, ◌≤◌, ◌<◌, ◌^◌, ◌++◌, length, vec_len, IfOk};
+ghost use Rattle.std.specs.Prelude.{OnErr, OnOk, IfSome, ◌⊎◌, true, false};
 ghost use Rattle.std.specs.Io.KnownBytes.{Consumes, IsAtEnd, Keeps};
 ghost use Rattle.lift_replay.specs.Reading.{TakesByEach, TakesUpTo};
 ghost use Rattle.lift_replay.specs.declared.input.InputFault.TheVariants.{Memory as NoMemory};
@@ -28,8 +29,8 @@ impl From<AllocError> for InputFault {
 
 const CHUNK: usize = 4096;
 
-/// One call of the reader, which adds what it gives to the bytes, as long as these are no more than `most` and one.
-/// The answer is whether anything came.
+/// One call of the reader, which adds what it gives to the bytes, as long as these are no more than
+/// `most` and one. The answer is whether anything came.
 fn read_some<R: Read + Drop>(
     input: &mut Counted<R>,
     bytes: &mut Vec<u8>,
@@ -43,7 +44,8 @@ fn read_some<R: Read + Drop>(
     ensures taken { (more : List ℕ) × (vec_len bytes.old + length more ≤ most + 1)
         × Consumes (R.remaining input.old.reader) (R.remaining input.new.reader) more }
     ensures grows { result ≡ Ok true → vec_len bytes.old < vec_len bytes.new }
-    ensures kept { result ≡ Err InputFault.Read → Keeps (R.remaining input.old.reader) (R.remaining input.new.reader) }
+    ensures kept { result ≡ Err InputFault.Read
+        → Keeps (R.remaining input.old.reader) (R.remaining input.new.reader) }
     ensures end { result ≡ Ok false → IsAtEnd (R.remaining input.new.reader) }
     ensures found_end { result ≡ Ok false → input.new.ended ≡ true }
     ensures ended { IfOk result (λ came. came ≡ true → input.new.ended ≡ input.old.ended) }
@@ -64,8 +66,8 @@ fn read_some<R: Read + Drop>(
     }
 }
 
-/// All bytes of a reader that was not called yet. Reading stops once more than `most` have come; that the end was not
-/// found in so many calls is a fault.
+/// All bytes of a reader that was not called yet. Reading stops once more than `most` have come;
+/// that the end was not found in so many calls is a fault.
 pub fn read_all<R: Read + Drop>(
     alloc: Global,
     input: &mut Counted<R>,
@@ -84,7 +86,8 @@ pub fn read_all<R: Read + Drop>(
     ensures ended { IfOk result (λ bytes. vec_len bytes ≤ most
         → (input.new.ended ≡ true) × IsAtEnd (R.remaining input.new.reader)) }
     ensures taken { TakesUpTo (most + 1) R.remaining input.old.reader input.new.reader }
-    ensures taken_till_fault { result ≡ Err InputFault.Read → TakesUpTo most R.remaining input.old.reader input.new.reader }
+    ensures taken_till_fault { result ≡ Err InputFault.Read
+        → TakesUpTo most R.remaining input.old.reader input.new.reader }
     ensures each_call { TakesByEach (most + 1) R.remaining input.old.reader input.new }
     ensures few_calls { input.new.calls ≤ calls }
     ensures unfailed { OnOk result (input.new.failed ≡ false) }

@@ -1,4 +1,5 @@
-//! Scripts for the group controller: what each line asks for, what it does, and the lines of their reports.
+//! Scripts for the group controller: what each line asks for, what it does, and the lines of their
+//! reports.
 #![tactic(auto)]
 
 mod input;

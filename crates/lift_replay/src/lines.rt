@@ -1,13 +1,15 @@
 //! What each line of a script does, and what it reports.
 
-ghost use Rattle.std.specs.Prelude.{◌≡◌, ◌<◌, ◌+◌, ◌↔◌, ◌++◌, ℕ, List, length, string_bytes, IsTrue, OnOk, IfOk, codes};
+ghost use Rattle.std.specs.Prelude.{◌≡◌, ◌<◌, ◌+◌, ◌↔◌, ◌++◌, ℕ, List, length, string_bytes};
+ghost use Rattle.std.specs.Prelude.{IsTrue, OnOk, IfOk, codes};
 ghost use Rattle.lift_building.specs.Plan.{kiosk_floor_of};
 ghost use Rattle.lift_policy.specs.Step.{view_of};
 ghost use Rattle.lift_replay.specs.Known.{IsKnown};
 ghost use Rattle.lift_replay.specs.Report.{register_text};
 ghost use Rattle.lift_replay.specs.Shown.{stops_text, costs_text};
 ghost use Rattle.lift_desk.specs.Seats.{IsClerkOf};
-ghost use Rattle.lift_replay.specs.Told.{Asks, KeepsKeeper, KeepsPlace, TurnTells, OutcomeTells, Tells, LineTells, IsArmed, shown_text, end_of};
+ghost use Rattle.lift_replay.specs.Told.{Asks, KeepsKeeper, KeepsPlace, TurnTells, OutcomeTells};
+ghost use Rattle.lift_replay.specs.Told.{Tells, LineTells, IsArmed, shown_text, end_of};
 ghost use Rattle.lift_replay.specs.declared.line.ScriptLine.TheVariants.{Fuse, Cut as CutLine};
 ghost use Rattle.lift_disk.specs.declared.outcome.Outcome.{Outcome as Cut};
 
@@ -54,7 +56,8 @@ fn push_ask(
 ) -> Result<(), AllocError>
     requires { terminal < length station.old.terminals.seats.items }
     ensures asks { OnOk result ((told : List ℕ)
-        × Asks station.old.terminals.seats.items station.new.terminals.seats.items station.old.clerk.seat station.new.clerk.seat terminal number body told
+        × Asks station.old.terminals.seats.items station.new.terminals.seats.items
+        station.old.clerk.seat station.new.clerk.seat terminal number body told
         × (string_bytes report.new ≡ string_bytes report.old ++ told)) }
     ensures building { station.new.building ≡ station.old.building }
     ensures clerk { KeepsKeeper station.old.clerk station.new.clerk }
@@ -74,7 +77,8 @@ fn push_taken(
     report: &mut String,
     clerk: &mut Clerk<'_, '_, FuseDisk, Etd>,
 ) -> Result<(), AllocError>
-    ensures tells { OnOk result ((told : List ℕ) × TurnTells clerk.old clerk.new told × (string_bytes report.new ≡ string_bytes report.old ++ told)) }
+    ensures tells { OnOk result ((told : List ℕ) × TurnTells clerk.old clerk.new told
+        × (string_bytes report.new ≡ string_bytes report.old ++ told)) }
     ensures desk { clerk.new.desk ≡ clerk.old.desk }
     ensures plan { clerk.new.keeper.writer.plan ≡ clerk.old.keeper.writer.plan }
     ensures place { KeepsPlace clerk.old clerk.new }
@@ -89,7 +93,8 @@ fn push_taken(
 /// One turn, and then what each terminal hears.
 fn push_turn_of(report: &mut String, station: &mut Station) -> Result<(), AllocError>
     ensures outcome { OnOk result ((told : List ℕ)
-        × OutcomeTells station.old.clerk station.new.clerk station.old.terminals.seats.items station.new.terminals.seats.items told
+        × OutcomeTells station.old.clerk station.new.clerk station.old.terminals.seats.items
+        station.new.terminals.seats.items told
         × (string_bytes report.new ≡ string_bytes report.old ++ told)) }
     ensures building { station.new.building ≡ station.old.building }
 {
@@ -118,7 +123,9 @@ fn is_known(building: &Building, line: &ScriptLine) -> bool
 /// The stop list of a car, where it is known to be safe.
 fn show_stops(report: &mut String, station: &Station, car: Letter) -> Result<(), AllocError>
     ensures { OnOk result (string_bytes report.new
-        ≡ string_bytes report.old ++ shown_text station.now.clerk (codes "stops") (stops_text (view_of station.now.clerk.keeper.state) car)) }
+        ≡ string_bytes report.old
+        ++ shown_text station.now.clerk (codes "stops")
+        (stops_text (view_of station.now.clerk.keeper.state) car)) }
 {
     let keeper = station.clerk.keeper();
     if keeper.is_broken() {
@@ -136,9 +143,14 @@ fn show_costs(
     party: Party,
 ) -> Result<(), AllocError>
     requires known { kiosk < length station.now.building.now.kiosks }
-    ensures { OnOk result (string_bytes report.new ≡ string_bytes report.old ++ shown_text station.now.clerk (codes "cost")
+    ensures { OnOk result (string_bytes report.new ≡ string_bytes report.old
+        ++ shown_text station.now.clerk (codes "cost")
         (costs_text station.now.building.now (view_of station.now.clerk.keeper.state)
-        (record { from = kiosk_floor_of station.now.building.now kiosk; to = to; party = party }))) }
+        (record {
+          from = kiosk_floor_of station.now.building.now kiosk;
+          to = to;
+          party = party;
+        }))) }
 {
     let keeper = station.clerk.keeper();
     if keeper.is_broken() {
@@ -154,7 +166,9 @@ fn show_costs(
 /// The open calls, where they are known to be safe.
 fn show_rows(report: &mut String, station: &Station) -> Result<(), AllocError>
     ensures { OnOk result (string_bytes report.new
-        ≡ string_bytes report.old ++ shown_text station.now.clerk (codes "rows") (register_text station.now.clerk.keeper.state.register)) }
+        ≡ string_bytes report.old
+        ++ shown_text station.now.clerk (codes "rows")
+        (register_text station.now.clerk.keeper.state.register)) }
 {
     let keeper = station.clerk.keeper();
     if keeper.is_broken() {
@@ -173,7 +187,8 @@ fn push_call(
 ) -> Result<(), AllocError>
     requires { kiosk < length station.old.building.now.kiosks }
     ensures asks { OnOk result ((told : List ℕ)
-        × Asks station.old.terminals.seats.items station.new.terminals.seats.items station.old.clerk.seat station.new.clerk.seat (16 + kiosk) number body told
+        × Asks station.old.terminals.seats.items station.new.terminals.seats.items
+        station.old.clerk.seat station.new.clerk.seat (16 + kiosk) number body told
         × (string_bytes report.new ≡ string_bytes report.old ++ told)) }
     ensures building { station.new.building ≡ station.old.building }
     ensures clerk { KeepsKeeper station.old.clerk station.new.clerk }
@@ -193,11 +208,15 @@ fn carry_out(
 ) -> Result<Option<End>, AllocError>
     requires known { IsKnown station.old.building.now line.now }
     ensures tells { OnOk result ((told : List ℕ)
-        × Tells station.old.building.now station.old.clerk station.new.clerk station.old.terminals.seats.items station.new.terminals.seats.items line.now told
+        × Tells station.old.building.now station.old.clerk station.new.clerk
+        station.old.terminals.seats.items station.new.terminals.seats.items line.now told
         × (string_bytes report.new ≡ string_bytes report.old ++ told)) }
     ensures end { IfOk result (λ end. end ≡ end_of line.now) }
-    ensures fuse { (calls : ℕ) → line.now ≡ Fuse calls → OnOk result (IsArmed calls station.old.clerk station.new.clerk × (station.new.terminals ≡ station.old.terminals)) }
-    ensures cut { (outcome : Cut) → line.now ≡ CutLine outcome → OnOk result (station.new ≡ station.old) }
+    ensures fuse { (calls : ℕ) → line.now ≡ Fuse calls
+        → OnOk result (IsArmed calls station.old.clerk station.new.clerk
+        × (station.new.terminals ≡ station.old.terminals)) }
+    ensures cut { (outcome : Cut) → line.now ≡ CutLine outcome
+        → OnOk result (station.new ≡ station.old) }
     ensures building { station.new.building ≡ station.old.building }
 {
     let _cars = station.building.cars();
@@ -241,9 +260,9 @@ fn carry_out(
     Ok(None)
 }
 
-/// Carries out the line with this number, counted from 1, and adds what it reports. A malformed line, or one that names
-/// what the building lacks, ends the run. Empty lines and those that begin with `#` are skipped. None where the next line
-/// is to be carried out.
+/// Carries out the line with this number, counted from 1, and adds what it reports. A malformed
+/// line, or one that names what the building lacks, ends the run. Empty lines and those that begin
+/// with `#` are skipped. None where the next line is to be carried out.
 pub fn push_line(
     report: &mut String,
     station: &mut Station,
@@ -251,7 +270,9 @@ pub fn push_line(
     number: usize,
 ) -> Result<Option<End>, AllocError>
     ensures tells { IfOk result (λ end. (told : List ℕ)
-        × LineTells station.old.building.now station.old.clerk station.new.clerk station.old.terminals.seats.items station.new.terminals.seats.items text.now number end told
+        × LineTells station.old.building.now station.old.clerk station.new.clerk
+        station.old.terminals.seats.items station.new.terminals.seats.items text.now number end
+        told
         × (string_bytes report.new ≡ string_bytes report.old ++ told)) }
     ensures building { station.new.building ≡ station.old.building }
 {

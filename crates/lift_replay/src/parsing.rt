@@ -1,9 +1,11 @@
 //! From a script's line to what it asks for.
 
-ghost use Rattle.std.specs.Prelude.{◌≡◌, ◌≢◌, ◌<◌, ◌≤◌, ◌⊎◌, ◌∷◌, [], ℕ, List, map, IfSome, IfNone, codes};
+ghost use Rattle.std.specs.Prelude.{◌≡◌, ◌≢◌, ◌<◌, ◌≤◌, ◌⊎◌, ◌∷◌, [], ℕ, List, map, IfSome, IfNone};
+ghost use Rattle.std.specs.Prelude.{codes};
 ghost use Rattle.std.specs.Fmt.{decimal};
 ghost use Rattle.lift_base.specs.Text.{letter_text, dir_text};
-ghost use Rattle.lift_replay.specs.Grammar.{Spells, AskFor, outcome_words, IsOutcomeInRange, IsInRange};
+ghost use Rattle.lift_replay.specs.Grammar.{Spells, AskFor, outcome_words, IsOutcomeInRange};
+ghost use Rattle.lift_replay.specs.Grammar.{IsInRange};
 ghost use Rattle.lift_disk.specs.declared.outcome.Outcome.{Outcome as Left};
 ghost use Rattle.lift_replay.specs.declared.line.ScriptLine.{ScriptLine as Wanted};
 
@@ -38,7 +40,8 @@ fn kiosk_of(word: &str) -> Option<u8>
 
 /// What the last words of a power cut say that it leaves.
 fn outcome_of(words: &[&str]) -> Option<Outcome>
-    ensures some { IfSome result (λ outcome. map (λ word. word.now) words.now ≡ outcome_words outcome) }
+    ensures some { IfSome result (λ outcome.
+        map (λ word. word.now) words.now ≡ outcome_words outcome) }
     ensures range { IfSome result (λ outcome. IsOutcomeInRange outcome) }
     ensures none { IfNone result ((outcome : Left) → IsOutcomeInRange outcome
         → map (λ word. word.now) words.now ≢ outcome_words outcome) }

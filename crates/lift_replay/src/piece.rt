@@ -9,13 +9,17 @@ use std::io::Write;
 /// A piece is written once it has so many bytes.
 const PIECE_BYTES: usize = 32_768;
 
-/// The room for a piece: its last line, the longest of which shows 512 calls in less than 20,000 bytes, goes beyond it.
+/// The room for a piece: its last line, the longest of which shows 512 calls in less than 20,000
+/// bytes, goes beyond it.
 pub const ROOM_BYTES: usize = 65_536;
 
 /// Writes a piece of whole lines, and empties it, also where the writer doesn't take all of it.
 pub fn put_piece<W: Write>(writer: &mut W, piece: &mut String) -> Result<(), WriteFault>
-    ensures ok { OnOk result (Appends (W.contents writer.old) (W.contents writer.new) (string_bytes piece.old)) }
-    ensures front { IfErr result (λ fault. Appends (W.contents writer.old) (W.contents writer.new) (take fault.written (string_bytes piece.old))) }
+    ensures ok { OnOk result
+        (Appends (W.contents writer.old) (W.contents writer.new) (string_bytes piece.old)) }
+    ensures front { IfErr result (λ fault.
+        Appends (W.contents writer.old) (W.contents writer.new)
+        (take fault.written (string_bytes piece.old))) }
     ensures emptied { string_bytes piece.new ≡ [] }
 {
     let end = put_all(writer, piece.as_bytes());
@@ -25,9 +29,12 @@ pub fn put_piece<W: Write>(writer: &mut W, piece: &mut String) -> Result<(), Wri
 
 /// Writes a piece of whole lines, and empties it, if it is large enough.
 pub fn put_large_piece<W: Write>(writer: &mut W, piece: &mut String) -> Result<(), WriteFault>
-    ensures ok { OnOk result ((written : List ℕ) × Appends (W.contents writer.old) (W.contents writer.new) written
+    ensures ok { OnOk result ((written : List ℕ)
+        × Appends (W.contents writer.old) (W.contents writer.new) written
         × (string_bytes piece.old ≡ written ++ string_bytes piece.new)) }
-    ensures front { IfErr result (λ fault. Appends (W.contents writer.old) (W.contents writer.new) (take fault.written (string_bytes piece.old))) }
+    ensures front { IfErr result (λ fault.
+        Appends (W.contents writer.old) (W.contents writer.new)
+        (take fault.written (string_bytes piece.old))) }
     ensures emptied { OnErr result (string_bytes piece.new ≡ []) }
 {
     if piece.len() < PIECE_BYTES {

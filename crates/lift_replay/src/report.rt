@@ -3,7 +3,10 @@
 ghost use Rattle.std.specs.Prelude.{◌≡◌, ◌++◌, OnOk, decimal, string_bytes};
 ghost use Rattle.lift_base.specs.declared.command.Reply.TheVariants.{Car};
 ghost use Rattle.lift_base.specs.Text.{letter_text, terminal_text, next_text, reply_text};
-ghost use Rattle.lift_replay.specs.Report.{status_text, party_text, row_text, rows_text, car_text, register_text, halt_text, heard_text, waiting_text, spent_text, cut_text, turn_text, cost_text, bad_text, fault_text, refused_text, building_text, detour_text};
+ghost use Rattle.lift_replay.specs.Report.{status_text, party_text, row_text, rows_text, car_text};
+ghost use Rattle.lift_replay.specs.Report.{register_text, halt_text, heard_text, waiting_text};
+ghost use Rattle.lift_replay.specs.Report.{spent_text, cut_text, turn_text, cost_text, bad_text};
+ghost use Rattle.lift_replay.specs.Report.{fault_text, refused_text, building_text, detour_text};
 
 use itoa::Buffer;
 use lift_base::{Dir, Floor, Halt, Letter, Number, Party, Reason, Reply, Row, Stop, Terminal};
@@ -12,7 +15,8 @@ use lift_register::Register;
 use std::alloc::AllocError;
 use std::fmt::Write;
 
-/// Adds a number. A turn tells several, so it is done without a formatter, and most of them have one digit.
+/// Adds a number. A turn tells several, so it is done without a formatter, and most of them have
+/// one digit.
 fn push_number(report: &mut String, number: u64) -> Result<(), AllocError>
     ensures { OnOk result (string_bytes report.new ≡ string_bytes report.old ++ decimal number) }
 {
@@ -24,7 +28,8 @@ fn push_number(report: &mut String, number: u64) -> Result<(), AllocError>
 
 /// Adds the name of a terminal.
 fn push_terminal(report: &mut String, terminal: Terminal) -> Result<(), AllocError>
-    ensures { OnOk result (string_bytes report.new ≡ string_bytes report.old ++ terminal_text terminal) }
+    ensures { OnOk result (string_bytes report.new ≡ string_bytes report.old
+        ++ terminal_text terminal) }
 {
     let index = terminal.get();
     if index < 16 {
@@ -44,7 +49,8 @@ fn push_letter(report: &mut String, car: Letter) -> Result<(), AllocError>
 
 /// Adds the car that a call was given, as it is answered.
 fn push_car(report: &mut String, car: Letter) -> Result<(), AllocError>
-    ensures { OnOk result (string_bytes report.new ≡ string_bytes report.old ++ reply_text (Car car)) }
+    ensures { OnOk result (string_bytes report.new ≡ string_bytes report.old
+        ++ reply_text (Car car)) }
 {
     report.push_str("CAR ")?;
     push_letter(report, car)
@@ -114,14 +120,16 @@ pub fn push_row(report: &mut String, row: &Row) -> Result<(), AllocError>
 
 /// Adds the head of the open calls.
 pub fn push_rows_head(report: &mut String, calls: usize, done: u32) -> Result<(), AllocError>
-    ensures { OnOk result (string_bytes report.new ≡ string_bytes report.old ++ rows_text calls done) }
+    ensures { OnOk result (string_bytes report.new ≡ string_bytes report.old
+        ++ rows_text calls done) }
 {
     writeln!(report, "rows {calls} {done}")
 }
 
 /// Adds the open calls of a car, a line each.
 fn push_rows_of(report: &mut String, register: &Register, car: Letter) -> Result<(), AllocError>
-    ensures { OnOk result (string_bytes report.new ≡ string_bytes report.old ++ car_text register.now car) }
+    ensures { OnOk result (string_bytes report.new ≡ string_bytes report.old
+        ++ car_text register.now car) }
 {
     for row in register.open_rows(car) {
         push_row(report, row)?;
@@ -131,7 +139,8 @@ fn push_rows_of(report: &mut String, register: &Register, car: Letter) -> Result
 
 /// Adds the open calls by rising car, with their number and that of the done ones before them.
 pub fn push_rows(report: &mut String, register: &Register) -> Result<(), AllocError>
-    ensures { OnOk result (string_bytes report.new ≡ string_bytes report.old ++ register_text register.now) }
+    ensures { OnOk result (string_bytes report.new ≡ string_bytes report.old
+        ++ register_text register.now) }
 {
     push_rows_head(report, register.open_count() as usize, register.done())?;
     for index in 0..16u8 {
@@ -145,7 +154,8 @@ pub fn push_rows(report: &mut String, register: &Register) -> Result<(), AllocEr
 
 /// Adds a halt to the line of a stop list.
 pub fn push_halt(report: &mut String, halt: &Halt) -> Result<(), AllocError>
-    ensures { OnOk result (string_bytes report.new ≡ string_bytes report.old ++ halt_text halt.now) }
+    ensures { OnOk result (string_bytes report.new ≡ string_bytes report.old
+        ++ halt_text halt.now) }
 {
     let pass = halt.pass.number();
     let floor = halt.floor.get();
@@ -159,7 +169,8 @@ pub fn push_heard(
     number: Number,
     reply: Reply,
 ) -> Result<(), AllocError>
-    ensures { OnOk result (string_bytes report.new ≡ string_bytes report.old ++ heard_text terminal number reply) }
+    ensures { OnOk result (string_bytes report.new ≡ string_bytes report.old
+        ++ heard_text terminal number reply) }
 {
     push_terminal(report, terminal)?;
     report.push(' ')?;
@@ -175,7 +186,8 @@ pub fn push_waiting(
     terminal: Terminal,
     number: Number,
 ) -> Result<(), AllocError>
-    ensures { OnOk result (string_bytes report.new ≡ string_bytes report.old ++ waiting_text terminal number) }
+    ensures { OnOk result (string_bytes report.new ≡ string_bytes report.old
+        ++ waiting_text terminal number) }
 {
     push_terminal(report, terminal)?;
     report.push(' ')?;
@@ -185,7 +197,8 @@ pub fn push_waiting(
 
 /// Adds that a terminal has no turn left to ask with.
 pub fn push_spent(report: &mut String, terminal: Terminal, number: Number) -> Result<(), AllocError>
-    ensures { OnOk result (string_bytes report.new ≡ string_bytes report.old ++ spent_text terminal number) }
+    ensures { OnOk result (string_bytes report.new ≡ string_bytes report.old
+        ++ spent_text terminal number) }
 {
     let number = number.get();
     writeln!(report, "{terminal} {number} SPENT")
@@ -200,7 +213,8 @@ pub fn push_cut(report: &mut String, calls: u32) -> Result<(), AllocError>
 
 /// Adds what a turn took and accepted.
 pub fn push_turn(report: &mut String, taken: usize, accepted: usize) -> Result<(), AllocError>
-    ensures { OnOk result (string_bytes report.new ≡ string_bytes report.old ++ turn_text taken accepted) }
+    ensures { OnOk result (string_bytes report.new ≡ string_bytes report.old
+        ++ turn_text taken accepted) }
 {
     report.push_str("turn ")?;
     push_number(report, taken as u64)?;
@@ -211,7 +225,8 @@ pub fn push_turn(report: &mut String, taken: usize, accepted: usize) -> Result<(
 
 /// Adds what a call would cost a car to the line of costs.
 pub fn push_cost(report: &mut String, car: Letter, cost: u64) -> Result<(), AllocError>
-    ensures { OnOk result (string_bytes report.new ≡ string_bytes report.old ++ cost_text car cost) }
+    ensures { OnOk result (string_bytes report.new ≡ string_bytes report.old
+        ++ cost_text car cost) }
 {
     report.push(' ')?;
     push_letter(report, car)?;
@@ -226,16 +241,19 @@ pub fn push_bad(report: &mut String, line: usize) -> Result<(), AllocError>
     writeln!(report, "BAD {line}")
 }
 
-/// Adds the fault in place of what a line shows: of a turn, or of one that would show what isn't safe.
+/// Adds the fault in place of what a line shows: of a turn, or of one that would show what isn't
+/// safe.
 pub fn push_fault(report: &mut String, line: &str, fault: u8) -> Result<(), AllocError>
-    ensures { OnOk result (string_bytes report.new ≡ string_bytes report.old ++ fault_text line.now fault) }
+    ensures { OnOk result (string_bytes report.new ≡ string_bytes report.old
+        ++ fault_text line.now fault) }
 {
     writeln!(report, "{line} FAULT {fault}")
 }
 
 /// Adds to the line of costs why there are none.
 pub fn push_refused(report: &mut String, reason: Reason) -> Result<(), AllocError>
-    ensures { OnOk result (string_bytes report.new ≡ string_bytes report.old ++ refused_text reason) }
+    ensures { OnOk result (string_bytes report.new ≡ string_bytes report.old
+        ++ refused_text reason) }
 {
     let reason = reason.number();
     write!(report, " NO {reason}")
@@ -243,7 +261,8 @@ pub fn push_refused(report: &mut String, reason: Reason) -> Result<(), AllocErro
 
 /// Adds why a text is no building.
 pub fn push_building_fault(report: &mut String, fault: &BuildingFault) -> Result<(), AllocError>
-    ensures { OnOk result (string_bytes report.new ≡ string_bytes report.old ++ building_text fault.now) }
+    ensures { OnOk result (string_bytes report.new ≡ string_bytes report.old
+        ++ building_text fault.now) }
 {
     let number = fault.number();
     write!(report, "BUILDING {number}")?;
@@ -254,7 +273,8 @@ pub fn push_building_fault(report: &mut String, fault: &BuildingFault) -> Result
 }
 
 fn push_detour(report: &mut String, from: Floor, by: Floor, to: Floor) -> Result<(), AllocError>
-    ensures { OnOk result (string_bytes report.new ≡ string_bytes report.old ++ detour_text from by to) }
+    ensures { OnOk result (string_bytes report.new ≡ string_bytes report.old
+        ++ detour_text from by to) }
 {
     let from = from.get();
     let by = by.get();

@@ -1,14 +1,17 @@
 //! A whole script, from its bytes to its report.
 
-ghost use Rattle.std.specs.Prelude.{◌≡◌, ◌≢◌, ◌⊎◌, ◌+◌, ◌≤◌, ◌++◌, ℕ, List, [], length, string_bytes, true, false, OnOk, OnErr, IfOk};
+ghost use Rattle.std.specs.Prelude.{◌≡◌, ◌≢◌, ◌⊎◌, ◌+◌, ◌≤◌, ◌++◌, ℕ, List, [], length};
+ghost use Rattle.std.specs.Prelude.{string_bytes, true, false, OnOk, OnErr, IfOk};
 ghost use Rattle.std.specs.Io.KnownBytes.{Appends};
 ghost use Rattle.lift_replay.specs.Reading.{IsRead, TakesByEach, TakesUpTo, most_bytes};
 ghost use Rattle.lift_replay.specs.Report.{AppendsFront, Reports, building_text};
 ghost use Rattle.lift_replay.specs.Group.{first_group};
 ghost use Rattle.lift_replay.specs.Running.{TellsLines, TellsPart};
-ghost use Rattle.lift_replay.specs.Replaying.{IsTextReport, ReportsFront, ReportsInput, Writes, WritesFront};
+ghost use Rattle.lift_replay.specs.Replaying.{IsTextReport, ReportsFront, ReportsInput, Writes};
+ghost use Rattle.lift_replay.specs.Replaying.{WritesFront};
 ghost use Rattle.lift_replay.specs.Source.{lines_in};
-ghost use Rattle.lift_replay.specs.declared.script.ReplayFault.TheVariants.{Memory as NoMemory, Write as NoOutput};
+ghost use Rattle.lift_replay.specs.declared.script.ReplayFault.TheVariants.{Memory as NoMemory};
+ghost use Rattle.lift_replay.specs.declared.script.ReplayFault.TheVariants.{Write as NoOutput};
 
 use crate::input::{InputFault, read_all};
 use crate::lines::Verdict;
@@ -70,7 +73,8 @@ fn refuse<W: Write>(writer: &mut W, report: &str) -> Result<Verdict, ReplayFault
     ensures cause { result ≢ Err ReplayFault.Memory }
     ensures not_good { result ≢ Ok Verdict.Good }
     ensures bad { OnOk result (Appends (W.contents writer.old) (W.contents writer.new) report.now) }
-    ensures front { OnErr result (AppendsFront (W.contents writer.old) (W.contents writer.new) report.now) }
+    ensures front { OnErr result
+        (AppendsFront (W.contents writer.old) (W.contents writer.new) report.now) }
 {
     put_all(writer, report.as_bytes())?;
     Ok(Verdict::Bad)
@@ -85,10 +89,13 @@ fn refuse_building<W: Write>(
     ensures output { result ≢ Err ReplayFault.Read }
     ensures not_good { result ≢ Ok Verdict.Good }
     ensures memory { fault ≡ BuildingFault.Memory → result ≡ Err ReplayFault.Memory }
-    ensures silent { result ≡ Err ReplayFault.Memory → W.contents writer.new ≡ W.contents writer.old }
-    ensures bad { OnOk result ((fault ≢ BuildingFault.Memory) × Appends (W.contents writer.old) (W.contents writer.new) (building_text fault)) }
+    ensures silent { result ≡ Err ReplayFault.Memory
+        → W.contents writer.new ≡ W.contents writer.old }
+    ensures bad { OnOk result ((fault ≢ BuildingFault.Memory)
+        × Appends (W.contents writer.old) (W.contents writer.new) (building_text fault)) }
     ensures front { OnErr result ((W.contents writer.new ≡ W.contents writer.old)
-        ⊎ ((fault ≢ BuildingFault.Memory) × AppendsFront (W.contents writer.old) (W.contents writer.new) (building_text fault))) }
+        ⊎ ((fault ≢ BuildingFault.Memory)
+        × AppendsFront (W.contents writer.old) (W.contents writer.new) (building_text fault))) }
 {
     if fault == BuildingFault::Memory {
         return Err(ReplayFault::Memory);
@@ -98,8 +105,8 @@ fn refuse_building<W: Write>(
     refuse(writer, &report)
 }
 
-/// Carries out the lines, segment by segment: over a formatted device up to the first power cut, and then over what each
-/// cut left.
+/// Carries out the lines, segment by segment: over a formatted device up to the first power cut,
+/// and then over what each cut left.
 fn add_segments<W: Write>(
     alloc: Global,
     building: &Building,
@@ -108,10 +115,15 @@ fn add_segments<W: Write>(
     writer: &mut W,
 ) -> Result<Verdict, ReplayFault>
     ensures output { result ≢ Err ReplayFault.Read }
-    ensures tells { IfOk result (λ verdict. (added : List ℕ) × TellsLines building.now 0 (first_group building.now) (lines_in text.now) added verdict
-        × Reports (W.contents writer.old) (W.contents writer.new) (string_bytes piece.old) (string_bytes piece.new) added) }
-    ensures front { OnErr result (TellsPart building.now 0 (first_group building.now) (lines_in text.now)
-        (W.contents writer.old) (W.contents writer.new) (string_bytes piece.old) (string_bytes piece.new)) }
+    ensures tells { IfOk result (λ verdict.
+        (added : List ℕ) × TellsLines building.now 0 (first_group building.now)
+        (lines_in text.now) added verdict
+        × Reports (W.contents writer.old) (W.contents writer.new) (string_bytes piece.old)
+        (string_bytes piece.new) added) }
+    ensures front { OnErr result
+        (TellsPart building.now 0 (first_group building.now) (lines_in text.now)
+        (W.contents writer.old) (W.contents writer.new) (string_bytes piece.old)
+        (string_bytes piece.new)) }
 {
     let mut lines = Lines::new(text);
     let mut keeper = first_keeper(alloc, building)?;
@@ -125,7 +137,8 @@ fn add_segments<W: Write>(
     unreachable!()
 }
 
-/// Carries out the lines, and writes what they report, up to the end or to the line that ended the run.
+/// Carries out the lines, and writes what they report, up to the end or to the line that ended the
+/// run.
 fn run_lines<W: Write>(
     alloc: Global,
     building: &Building,
@@ -134,9 +147,11 @@ fn run_lines<W: Write>(
 ) -> Result<Verdict, ReplayFault>
     ensures output { result ≢ Err ReplayFault.Read }
     ensures tells { IfOk result (λ verdict.
-        Writes (TellsLines building.now 0 (first_group building.now) (lines_in lines.now)) (W.contents writer.old) (W.contents writer.new) verdict) }
+        Writes (TellsLines building.now 0 (first_group building.now) (lines_in lines.now))
+        (W.contents writer.old) (W.contents writer.new) verdict) }
     ensures front { OnErr result
-        (WritesFront (TellsLines building.now 0 (first_group building.now) (lines_in lines.now)) (W.contents writer.old) (W.contents writer.new)) }
+        (WritesFront (TellsLines building.now 0 (first_group building.now) (lines_in lines.now))
+        (W.contents writer.old) (W.contents writer.new)) }
 {
     let mut piece = String::with_capacity(alloc, ROOM_BYTES)?;
     let end = add_segments(alloc, building, lines, &mut piece, writer);
@@ -149,8 +164,10 @@ fn run_lines<W: Write>(
 /// Carries out a script that has come whole.
 fn run_text<W: Write>(alloc: Global, text: &str, writer: &mut W) -> Result<Verdict, ReplayFault>
     ensures output { result ≢ Err ReplayFault.Read }
-    ensures tells { IfOk result (λ verdict. Writes (IsTextReport text.now) (W.contents writer.old) (W.contents writer.new) verdict) }
-    ensures front { OnErr result (WritesFront (IsTextReport text.now) (W.contents writer.old) (W.contents writer.new)) }
+    ensures tells { IfOk result (λ verdict.
+        Writes (IsTextReport text.now) (W.contents writer.old) (W.contents writer.new) verdict) }
+    ensures front { OnErr result
+        (WritesFront (IsTextReport text.now) (W.contents writer.old) (W.contents writer.new)) }
 {
     let Some((building, lines)) = split_script(alloc, text)? else {
         return refuse(writer, "NO SCRIPT\n");
@@ -161,9 +178,9 @@ fn run_text<W: Write>(alloc: Global, text: &str, writer: &mut W) -> Result<Verdi
     }
 }
 
-/// Carries out a script: reads it whole, and writes its report in pieces of whole lines. The verdict is Bad where the
-/// script, its building or one of its lines is malformed. After `Read` nothing was written, and after `Memory` or `Write`
-/// a front of the report.
+/// Carries out a script: reads it whole, and writes its report in pieces of whole lines. The
+/// verdict is Bad where the script, its building or one of its lines is malformed. After `Read`
+/// nothing was written, and after `Memory` or `Write` a front of the report.
 pub fn run<R: Read + Drop, W: Write>(
     alloc: Global,
     input: &mut Counted<R>,
@@ -172,20 +189,28 @@ pub fn run<R: Read + Drop, W: Write>(
     requires fresh { input.old.calls ≡ 0 }
     requires unhurt { input.old.failed ≡ false }
     requires before_end { input.old.ended ≡ false }
-    // What was written is the one report of the reader's input, and the verdict is that of it; else it is a front of it.
-    ensures report { IfOk result (λ verdict. ReportsInput (R.remaining input.old.reader) (W.contents writer.old) (W.contents writer.new) verdict) }
-    ensures front { OnErr result (ReportsFront (R.remaining input.old.reader) (W.contents writer.old) (W.contents writer.new)) }
-    ensures unwritten { result ≡ Err ReplayFault.Read → W.contents writer.new ≡ W.contents writer.old }
+    // What was written is the one report of the reader's input, and the verdict is that of it; else
+    // it is a front of it.
+    ensures report { IfOk result (λ verdict.
+        ReportsInput (R.remaining input.old.reader) (W.contents writer.old)
+        (W.contents writer.new) verdict) }
+    ensures front { OnErr result
+        (ReportsFront (R.remaining input.old.reader) (W.contents writer.old)
+        (W.contents writer.new)) }
+    ensures unwritten { result ≡ Err ReplayFault.Read
+        → W.contents writer.new ≡ W.contents writer.old }
     ensures unread { result ≡ Err ReplayFault.Read
         → (input.new.failed ≡ true) ⊎ ((input.new.calls ≡ 2097152) × (input.new.ended ≡ false)) }
     ensures failed { input.new.failed ≡ true → result ≡ Err ReplayFault.Read }
-    // A report is written, or refused by the writer, only of a script that was read; a good one was read to its end.
+    // A report is written, or refused by the writer, only of a script that was read; a good one was
+    // read to its end.
     ensures read { OnOk result (IsRead R.remaining input.old input.new) }
     ensures output { result ≡ Err ReplayFault.Write → IsRead R.remaining input.old input.new }
     ensures good { result ≡ Ok Verdict.Good → input.new.ended ≡ true }
     // Reading stops a byte above what a script may have, and fails only below that.
     ensures taken { TakesUpTo (most_bytes + 1) R.remaining input.old.reader input.new.reader }
-    ensures taken_till_fault { result ≡ Err ReplayFault.Read → TakesUpTo most_bytes R.remaining input.old.reader input.new.reader }
+    ensures taken_till_fault { result ≡ Err ReplayFault.Read
+        → TakesUpTo most_bytes R.remaining input.old.reader input.new.reader }
     ensures each_call { TakesByEach (most_bytes + 1) R.remaining input.old.reader input.new }
     ensures few_calls { input.new.calls ≤ 2097152 }
 {

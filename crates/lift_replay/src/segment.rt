@@ -1,6 +1,7 @@
 //! What a script does between two power cuts.
 
-ghost use Rattle.std.specs.Prelude.{◌≡◌, ◌≢◌, ◌<◌, ◌≤◌, List, ℕ, [], length, string_bytes, OnOk, OnErr, IfOk};
+ghost use Rattle.std.specs.Prelude.{◌≡◌, ◌≢◌, ◌<◌, ◌≤◌, List, ℕ, [], length, string_bytes, OnOk};
+ghost use Rattle.std.specs.Prelude.{OnErr, IfOk};
 ghost use Rattle.lift_replay.specs.Group.{GroupState, new_terminals};
 ghost use Rattle.lift_replay.specs.Report.{Reports, ReportsPart, cut_text};
 ghost use Rattle.lift_replay.specs.Running.{LinesEnd, SegmentEnds, TellsPart};
@@ -30,8 +31,9 @@ pub enum SegmentEnd<'b> {
     Cut(Keeper<'b, FuseDisk>),
 }
 
-/// Carries out lines up to a power cut or to the end of the run, and adds what each reports to a piece of the report,
-/// which is written once it is large enough. What is left in the piece is of whole lines.
+/// Carries out lines up to a power cut or to the end of the run, and adds what each reports to a
+/// piece of the report, which is written once it is large enough. What is left in the piece is of
+/// whole lines.
 fn add_lines<W: Write>(
     alloc: Global,
     station: &mut Station,
@@ -42,15 +44,21 @@ fn add_lines<W: Write>(
     ensures output { result ≢ Err ReplayFault.Read }
     ensures emptied { result ≡ Err ReplayFault.Write → string_bytes piece.new ≡ [] }
     // What they tell is what is computed, of whichever group the station shows.
-    ensures tells { IfOk result (λ end. (g : GroupState) → Shows station.old.building.now g station.old.clerk station.old.terminals.seats.items
-        → (added : List ℕ) × LinesEnd station.old.building.now lines.old.count g (lines_in lines.old.rest.now) added lines.new.count (lines_in lines.new.rest.now)
+    ensures tells { IfOk result (λ end. (g : GroupState)
+        → Shows station.old.building.now g station.old.clerk station.old.terminals.seats.items
+        → (added : List ℕ) × LinesEnd station.old.building.now lines.old.count g
+        (lines_in lines.old.rest.now) added lines.new.count (lines_in lines.new.rest.now)
         station.new.clerk station.new.terminals.seats.items end
-        × Reports (W.contents writer.old) (W.contents writer.new) (string_bytes piece.old) (string_bytes piece.new) added) }
-    ensures front { OnErr result ((g : GroupState) → Shows station.old.building.now g station.old.clerk station.old.terminals.seats.items
+        × Reports (W.contents writer.old) (W.contents writer.new) (string_bytes piece.old)
+        (string_bytes piece.new) added) }
+    ensures front { OnErr result ((g : GroupState)
+        → Shows station.old.building.now g station.old.clerk station.old.terminals.seats.items
         → TellsPart station.old.building.now lines.old.count g (lines_in lines.old.rest.now)
-        (W.contents writer.old) (W.contents writer.new) (string_bytes piece.old) (string_bytes piece.new)) }
+        (W.contents writer.old) (W.contents writer.new) (string_bytes piece.old)
+        (string_bytes piece.new)) }
     ensures shorter { OnOk result (length lines.new.rest.now ≤ length lines.old.rest.now) }
-    ensures cut { IfOk result (λ end. IsCut end → length lines.new.rest.now < length lines.old.rest.now) }
+    ensures cut { IfOk result (λ end. IsCut end
+        → length lines.new.rest.now < length lines.old.rest.now) }
     ensures building { station.new.building ≡ station.old.building }
 {
     decisions_are_computed();
@@ -78,8 +86,12 @@ fn add_cut<W: Write>(
     writer: &mut W,
 ) -> Result<(), ReplayFault>
     ensures output { result ≢ Err ReplayFault.Read }
-    ensures reports { OnOk result (Reports (W.contents writer.old) (W.contents writer.new) (string_bytes piece.old) (string_bytes piece.new) (cut_text calls)) }
-    ensures front { OnErr result (ReportsPart (W.contents writer.old) (W.contents writer.new) (string_bytes piece.old) (string_bytes piece.new) (cut_text calls)) }
+    ensures reports { OnOk result
+        (Reports (W.contents writer.old) (W.contents writer.new) (string_bytes piece.old)
+        (string_bytes piece.new) (cut_text calls)) }
+    ensures front { OnErr result
+        (ReportsPart (W.contents writer.old) (W.contents writer.new) (string_bytes piece.old)
+        (string_bytes piece.new) (cut_text calls)) }
 {
     let mut report = String::new(alloc);
     push_cut(&mut report, calls)?;
@@ -88,7 +100,8 @@ fn add_cut<W: Write>(
     Ok(())
 }
 
-/// Opens a desk for the building, and carries out lines over it and the keeper, up to a power cut or to the end of the run.
+/// Opens a desk for the building, and carries out lines over it and the keeper, up to a power cut
+/// or to the end of the run.
 pub fn add_segment<'b, W: Write>(
     alloc: Global,
     building: &'b Building,
@@ -101,13 +114,19 @@ pub fn add_segment<'b, W: Write>(
     requires settled { keeper.state.batch ≡ [] }
     ensures output { result ≢ Err ReplayFault.Read }
     // What they tell is what is computed, of whichever group the keeper is of.
-    ensures tells { IfOk result (λ end. (g : GroupState) → IsKept building.now g keeper.entry → g.terminals ≡ new_terminals building.now
-        → (added : List ℕ) × SegmentEnds building.now lines.old.count g (lines_in lines.old.rest.now) added lines.new.count (lines_in lines.new.rest.now) end
-        × Reports (W.contents writer.old) (W.contents writer.new) (string_bytes piece.old) (string_bytes piece.new) added) }
-    ensures front { OnErr result ((g : GroupState) → IsKept building.now g keeper.entry → g.terminals ≡ new_terminals building.now
+    ensures tells { IfOk result (λ end. (g : GroupState) → IsKept building.now g keeper.entry
+        → g.terminals ≡ new_terminals building.now
+        → (added : List ℕ) × SegmentEnds building.now lines.old.count g
+        (lines_in lines.old.rest.now) added lines.new.count (lines_in lines.new.rest.now) end
+        × Reports (W.contents writer.old) (W.contents writer.new) (string_bytes piece.old)
+        (string_bytes piece.new) added) }
+    ensures front { OnErr result ((g : GroupState) → IsKept building.now g keeper.entry
+        → g.terminals ≡ new_terminals building.now
         → TellsPart building.now lines.old.count g (lines_in lines.old.rest.now)
-        (W.contents writer.old) (W.contents writer.new) (string_bytes piece.old) (string_bytes piece.new)) }
-    ensures cut { IfOk result (λ end. IfCut end (λ keeper. length lines.new.rest.now < length lines.old.rest.now)) }
+        (W.contents writer.old) (W.contents writer.new) (string_bytes piece.old)
+        (string_bytes piece.new)) }
+    ensures cut { IfOk result (λ end.
+        IfCut end (λ keeper. length lines.new.rest.now < length lines.old.rest.now)) }
     ensures plan { IfOk result (λ end. IfCut end (λ keeper. keeper.writer.plan ≡ building.now)) }
     ensures settled { IfOk result (λ end. IfCut end (λ keeper. keeper.state.batch ≡ [])) }
 {

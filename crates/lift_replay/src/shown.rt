@@ -5,7 +5,8 @@ ghost use Rattle.lift_policy.specs.View.{IsViewIn};
 ghost use Rattle.lift_policy.specs.Eligible.{is_eligible, eligible_cars};
 ghost use Rattle.lift_policy.specs.Choices.{total_cost_at};
 ghost use Rattle.lift_replay.specs.Report.{cost_text};
-ghost use Rattle.lift_replay.specs.Shown.{halts_text, stops_text, prices_text, between_text, costs_text};
+ghost use Rattle.lift_replay.specs.Shown.{halts_text, stops_text, prices_text, between_text};
+ghost use Rattle.lift_replay.specs.Shown.{costs_text};
 
 use crate::report::{push_cost, push_halt, push_refused};
 use lift_base::{Halt, Letter, Reason};
@@ -17,7 +18,8 @@ use std::fmt::Write;
 
 /// Halts in their order, or that there are none.
 fn push_halts(report: &mut String, halts: &[Halt]) -> Result<(), AllocError>
-    ensures { OnOk result (string_bytes report.new ≡ string_bytes report.old ++ halts_text halts.now) }
+    ensures { OnOk result (string_bytes report.new ≡ string_bytes report.old
+        ++ halts_text halts.now) }
 {
     if halts.is_empty() {
         return report.push_str(" -");
@@ -30,7 +32,8 @@ fn push_halts(report: &mut String, halts: &[Halt]) -> Result<(), AllocError>
 
 /// The stop list of a car, if it has told where it is.
 pub fn push_stops(report: &mut String, view: &View, car: Letter) -> Result<(), AllocError>
-    ensures { OnOk result (string_bytes report.new ≡ string_bytes report.old ++ stops_text view.now car) }
+    ensures { OnOk result (string_bytes report.new ≡ string_bytes report.old
+        ++ stops_text view.now car) }
 {
     write!(report, "stops {car}")?;
     match view.schedule(car) {
@@ -52,7 +55,8 @@ fn push_cost_of(
     requires from { call.now.from < building.now.floors }
     requires to { call.now.to < building.now.floors }
     requires eligible { is_eligible building.now view.now call.now car ≡ true }
-    ensures { OnOk result (string_bytes report.new ≡ string_bytes report.old ++ cost_text car (total_cost_at building.now view.now call.now car)) }
+    ensures { OnOk result (string_bytes report.new ≡ string_bytes report.old
+        ++ cost_text car (total_cost_at building.now view.now call.now car)) }
 {
     match Etd::cost(building, view, call, car) {
         Some(cost) => push_cost(report, car, cost),
@@ -71,7 +75,8 @@ fn push_costs(
     requires from { call.now.from < building.now.floors }
     requires to { call.now.to < building.now.floors }
     ensures { OnOk result (string_bytes report.new
-        ≡ string_bytes report.old ++ prices_text (total_cost_at building.now view.now call.now) (eligible_cars building.now view.now call.now)) }
+        ≡ string_bytes report.old ++ prices_text (total_cost_at building.now view.now call.now)
+        (eligible_cars building.now view.now call.now)) }
 {
     match Eligible::among(building, view, *call) {
         None => report.push_str(" -"),
@@ -84,7 +89,8 @@ fn push_costs(
     }
 }
 
-/// The costs of a call between two floors, or the cause for which it would be refused wherever the cars are.
+/// The costs of a call between two floors, or the cause for which it would be refused wherever the
+/// cars are.
 fn push_between(
     report: &mut String,
     building: &Building,
@@ -93,7 +99,8 @@ fn push_between(
 ) -> Result<(), AllocError>
     requires possible { IsViewIn building.now view.now }
     requires from { call.now.from < building.now.floors }
-    ensures { OnOk result (string_bytes report.new ≡ string_bytes report.old ++ between_text building.now view.now call.now) }
+    ensures { OnOk result (string_bytes report.new ≡ string_bytes report.old
+        ++ between_text building.now view.now call.now) }
 {
     if call.to.get() >= building.floors() {
         push_refused(report, Reason::NoSuchFloor)
@@ -113,7 +120,8 @@ pub fn push_costs_between(
 ) -> Result<(), AllocError>
     requires possible { IsViewIn building.now view.now }
     requires from { call.now.from < building.now.floors }
-    ensures { OnOk result (string_bytes report.new ≡ string_bytes report.old ++ costs_text building.now view.now call.now) }
+    ensures { OnOk result (string_bytes report.new ≡ string_bytes report.old
+        ++ costs_text building.now view.now call.now) }
 {
     report.push_str("cost")?;
     push_between(report, building, view, call)?;

@@ -1,14 +1,15 @@
 //! The text of a script: its building, and its lines.
 
-ghost use Rattle.std.specs.Prelude.{◌≡◌, ◌<◌, ◌≤◌, ◌+◌, ◌^◌, ◌∷◌, [], length, string_bytes, IfSome, IfNone, IfOk};
+ghost use Rattle.std.specs.Prelude.{◌≡◌, ◌<◌, ◌≤◌, ◌+◌, ◌^◌, ◌∷◌, [], length, string_bytes, IfSome};
+ghost use Rattle.std.specs.Prelude.{IfNone, IfOk};
 ghost use Rattle.std.specs.Str.Lines.{lines};
 ghost use Rattle.lift_replay.specs.Source.{IsScript, LacksDivider};
 
 use lift_base::text::split_at_byte;
 use std::alloc::{AllocError, Global};
 
-/// A line without its end (a line feed, with a carriage return before it or none), and what stands behind it; none where
-/// the text is at its end. The last line may lack its end.
+/// A line without its end (a line feed, with a carriage return before it or none), and what stands
+/// behind it; none where the text is at its end. The last line may lack its end.
 fn next_line(text: &str) -> Option<(&str, &str)>
     ensures first { IfSome result (λ found. lines text.now ≡ found.0.now ∷ lines found.1.now) }
     ensures shorter { IfSome result (λ found. length found.1.now < length text.now) }
@@ -26,13 +27,14 @@ fn next_line(text: &str) -> Option<(&str, &str)>
     }
 }
 
-/// The lines before the first that is `---`, each with its end, and the text behind that one; none where there is no
-/// such line.
+/// The lines before the first that is `---`, each with its end, and the text behind that one; none
+/// where there is no such line.
 pub fn split_script<'a>(
     alloc: Global,
     text: &'a str,
 ) -> Result<Option<(String, &'a str)>, AllocError>
-    ensures found { IfOk result (λ found. IfSome found (λ parts. IsScript text.now (string_bytes parts.0) (lines parts.1.now))) }
+    ensures found { IfOk result (λ found.
+        IfSome found (λ parts. IsScript text.now (string_bytes parts.0) (lines parts.1.now))) }
     ensures none { IfOk result (λ found. IfNone found (LacksDivider text.now)) }
 {
     let mut building = String::new(alloc);
@@ -80,10 +82,12 @@ impl<'a> Lines<'a> {
 
     /// The next line with its number, counted from 1; none where there are no more.
     pub fn next(&mut self) -> Option<(usize, &'a str)>
-        ensures first { IfSome result (λ found. lines self.old.rest.now ≡ found.1.now ∷ lines self.new.rest.now) }
+        ensures first { IfSome result (λ found.
+            lines self.old.rest.now ≡ found.1.now ∷ lines self.new.rest.now) }
         ensures number { IfSome result (λ found. found.0 ≡ self.old.count + 1) }
         ensures counted { IfSome result (λ found. self.new.count ≡ found.0) }
-        ensures shorter { IfSome result (λ found. length self.new.rest.now < length self.old.rest.now) }
+        ensures shorter { IfSome result (λ found.
+            length self.new.rest.now < length self.old.rest.now) }
         ensures over { IfNone result (self.old.rest.now ≡ []) }
         ensures kept { IfNone result (self.new ≡ self.old) }
     {

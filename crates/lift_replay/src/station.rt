@@ -1,4 +1,5 @@
-//! The group that a script runs between two power cuts: its terminals, and its clerk over a device in memory.
+//! The group that a script runs between two power cuts: its terminals, and its clerk over a device
+//! in memory.
 
 ghost use Rattle.std.specs.Prelude.{◌≡◌, ◌+◌, length, false, [], IfOk};
 ghost use Rattle.lift_disk.specs.Disk.{IsUnarmed};
@@ -37,15 +38,17 @@ pub struct Station<'d, 'b> {
     ghost count: { length terminals.seats.items ≡ 16 + length building.now.kiosks },
 }
 
-/// The keeper over a device in memory that fails no call by itself, and reads as a register of the building: there an opening
-/// isn't refused.
+/// The keeper over a device in memory that fails no call by itself, and reads as a register of the
+/// building: there an opening isn't refused.
 fn keeper_over(disk: FuseDisk, building: &Building) -> Keeper<'_, FuseDisk>
     requires unarmed { IsUnarmed (fuse_state_of disk) }
-    requires readable { (register : RegisterState) × IsImageOf building.now register (fuse_state_of disk).image }
+    requires readable { (register : RegisterState)
+        × IsImageOf building.now register (fuse_state_of disk).image }
     ensures opens { Reopens building.now (fuse_state_of disk) (fuse_state_of result.writer.device)
         result.writer.register result.writer.half result.writer.is_second result.writer.used }
     ensures image { (fuse_state_of result.writer.device).image ≡ (fuse_state_of disk).image }
-    ensures recovers { Recovers building.now (fuse_state_of result.writer.device).image result.writer.register }
+    ensures recovers { Recovers building.now
+        (fuse_state_of result.writer.device).image result.writer.register }
     ensures unarmed { IsUnarmed (fuse_state_of result.writer.device) }
     ensures state { result.state ≡ starting result.writer.register }
     ensures plan { result.writer.plan ≡ building.now }
@@ -57,13 +60,15 @@ fn keeper_over(disk: FuseDisk, building: &Building) -> Keeper<'_, FuseDisk>
     }
 }
 
-/// The keeper over a formatted device in memory: nobody has called. It is refused only where the device takes its memory.
+/// The keeper over a formatted device in memory: nobody has called. It is refused only where the
+/// device takes its memory.
 pub fn first_keeper(alloc: Global, building: &Building) -> Result<Keeper<'_, FuseDisk>, Memory>
     ensures empty { IfOk result (λ keeper. keeper.writer.register ≡ empty) }
     ensures unarmed { IfOk result (λ keeper. IsUnarmed (fuse_state_of keeper.writer.device)) }
     ensures state { IfOk result (λ keeper. keeper.state ≡ starting keeper.writer.register) }
     ensures plan { IfOk result (λ keeper. keeper.writer.plan ≡ building.now) }
-    ensures whole { IfOk result (λ keeper. (keeper.writer.is_broken ≡ false) × (keeper.writer.doubt ≡ [])) }
+    ensures whole { IfOk result (λ keeper. (keeper.writer.is_broken ≡ false)
+        × (keeper.writer.doubt ≡ [])) }
     ensures kept { IfOk result (λ keeper. IsKept building.now (first_group building.now) keeper) }
 {
     let mut disk = FuseDisk::new(MemDisk::new(alloc, 2 * HALF + 2)?);
@@ -101,17 +106,22 @@ impl<'d, 'b> Station<'d, 'b> {
         }
     }
 
-    /// The power is cut, and comes back: the keeper that recovers what is left, over a device that fails no call by itself.
+    /// The power is cut, and comes back: the keeper that recovers what is left, over a device that
+    /// fails no call by itself.
     pub fn cut(self, outcome: Outcome) -> Keeper<'b, FuseDisk>
-        ensures left { IsLeftBy outcome (fuse_state_of self.entry.clerk.keeper.writer.device) (fuse_state_of result.writer.device).image }
-        ensures recovers { Recovers self.entry.building.now (fuse_state_of result.writer.device).image result.writer.register }
+        ensures left { IsLeftBy outcome (fuse_state_of self.entry.clerk.keeper.writer.device)
+            (fuse_state_of result.writer.device).image }
+        ensures recovers { Recovers self.entry.building.now
+            (fuse_state_of result.writer.device).image result.writer.register }
         ensures unarmed { IsUnarmed (fuse_state_of result.writer.device) }
         ensures state { result.state ≡ starting result.writer.register }
         ensures plan { result.writer.plan ≡ self.entry.building.now }
         ensures whole { (result.writer.is_broken ≡ false) × (result.writer.doubt ≡ []) }
         // It is the keeper of the group that the cut leaves, of whichever group the station shows.
-        ensures kept { (g : GroupState) → Shows self.entry.building.now g self.entry.clerk self.entry.terminals.seats.items
-            → IsKept self.entry.building.now (recovered self.entry.building.now (left_by outcome g)) result }
+        ensures kept { (g : GroupState)
+            → Shows self.entry.building.now g self.entry.clerk self.entry.terminals.seats.items
+            → IsKept self.entry.building.now (recovered self.entry.building.now (left_by outcome g))
+            result }
     {
         let _placed = self.clerk.keeper().safe_register();
         let (_seat, keeper, _policy) = self.clerk.into_parts();

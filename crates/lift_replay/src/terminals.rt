@@ -1,12 +1,14 @@
 //! The terminals' seats at a desk: what they ask, and what they hear.
 
-ghost use Rattle.std.specs.Prelude.{◌≡◌, ◌<◌, ◌++◌, ◌↔◌, List, ℕ, length, slice_set, string_bytes, true, OnOk, OnErr, IfOk};
+ghost use Rattle.std.specs.Prelude.{◌≡◌, ◌<◌, ◌++◌, ◌↔◌, List, ℕ, length, slice_set, string_bytes};
+ghost use Rattle.std.specs.Prelude.{true, OnOk, OnErr, IfOk};
 ghost use Rattle.lift_desk.specs.Rule.{IsInOrder};
 ghost use Rattle.lift_desk.specs.Seats.{AreSeatsOf, IsClerkOf, Waits, seats_from, view_at};
 ghost use Rattle.lift_desk.specs.Spelled.{IsAsk};
 ghost use Rattle.lift_desk.specs.Steps.{lists_of};
 ghost use Rattle.lift_clerk.specs.Clerk.{IsToldAt};
-ghost use Rattle.lift_replay.specs.Terminals.{AreTerminalsOf, IsSpanned, AllHear, AreTold, Hears, having_asked, seat_at, told_seat};
+ghost use Rattle.lift_replay.specs.Terminals.{AreTerminalsOf, IsSpanned, AllHear, AreTold, Hears};
+ghost use Rattle.lift_replay.specs.Terminals.{having_asked, seat_at, told_seat};
 
 use crate::report::push_heard;
 use lift_base::{Body, Number, Terminal};
@@ -21,7 +23,8 @@ use std::alloc::AllocError;
 pub struct Terminals<'d> {
     desk: &'d Desk,
     seats: Vec<Seat>,
-    /// No terminal before the first one or from the end on waits for an answer, so that a turn need not tell them all.
+    /// No terminal before the first one or from the end on waits for an answer, so that a turn need
+    /// not tell them all.
     first: u8,
     end: u8,
     ghost own: { AreTerminalsOf desk.now seats.items },
@@ -47,11 +50,14 @@ impl<'d> Terminals<'d> {
     /// The terminal asks, unless its last ask has not been heard or all its turns were used.
     pub fn ask(&mut self, terminal: Terminal, number: Number, body: Body) -> Result<(), AskRefusal>
         requires { terminal < length self.old.seats.items }
-        ensures waiting { (result ≡ Err AskRefusal.Waiting) ↔ Waits (seat_at self.old.seats.items terminal).view }
-        ensures spent { (result ≡ Err AskRefusal.Spent) ↔ (¬ (Waits (seat_at self.old.seats.items terminal).view)
+        ensures waiting { (result ≡ Err AskRefusal.Waiting)
+            ↔ Waits (seat_at self.old.seats.items terminal).view }
+        ensures spent { (result ≡ Err AskRefusal.Spent)
+            ↔ (¬ (Waits (seat_at self.old.seats.items terminal).view)
             × (length (seat_at self.old.seats.items terminal).view.asked ≡ 1048575)) }
         ensures asked { OnOk result (self.new.seats.items
-            ≡ slice_set self.old.seats.items terminal (having_asked (seat_at self.old.seats.items terminal) number body)) }
+            ≡ slice_set self.old.seats.items terminal
+            (having_asked (seat_at self.old.seats.items terminal) number body)) }
         ensures in_range { OnOk result (IsAsk (record { number = number; body = body })) }
         ensures kept { OnErr result (self.new.seats.items ≡ self.old.seats.items) }
         ensures desk { self.new.desk ≡ self.old.desk }
@@ -65,24 +71,30 @@ impl<'d> Terminals<'d> {
         Ok(())
     }
 
-    /// Tells the clerk what a terminal has asked so far, and the terminal what was answered there so far.
+    /// Tells the clerk what a terminal has asked so far, and the terminal what was answered there
+    /// so far.
     pub fn tell(&mut self, clerk: &mut Clerk<'_, '_, FuseDisk, Etd>, index: u8)
         requires desk { clerk.old.desk ≡ self.old.desk.now }
         requires inside { index < length self.old.seats.items }
         ensures seats { self.new.seats.items
-            ≡ slice_set self.old.seats.items index (told_seat (seat_at self.old.seats.items index) (view_at clerk.old.seat index)) }
-        ensures told { IsToldAt clerk.old clerk.new index (seat_at self.old.seats.items index).view.asked }
-        ensures in_order { IsInOrder (lists_of (seat_at self.old.seats.items index).view (view_at clerk.old.seat index)) }
+            ≡ slice_set self.old.seats.items index
+            (told_seat (seat_at self.old.seats.items index) (view_at clerk.old.seat index)) }
+        ensures told { IsToldAt clerk.old clerk.new index
+            (seat_at self.old.seats.items index).view.asked }
+        ensures in_order { IsInOrder
+            (lists_of (seat_at self.old.seats.items index).view (view_at clerk.old.seat index)) }
         ensures desk { self.new.desk ≡ self.old.desk }
     {
         clerk.tell(&mut self.seats[usize::from(index)]);
     }
 
-    /// Tells the clerk what each terminal has asked so far, and each terminal what was answered there so far.
+    /// Tells the clerk what each terminal has asked so far, and each terminal what was answered
+    /// there so far.
     pub fn tell_all(&mut self, clerk: &mut Clerk<'_, '_, FuseDisk, Etd>)
         requires desk { clerk.old.desk ≡ self.old.desk.now }
         requires places { length clerk.old.seat ≡ length self.old.seats.items }
-        ensures told { AreTold self.old.seats.items self.new.seats.items clerk.old.seat clerk.new.seat }
+        ensures told { AreTold self.old.seats.items self.new.seats.items clerk.old.seat
+            clerk.new.seat }
         ensures rest { clerk.new ≡ record clerk.old { seat = clerk.new.seat } }
         ensures desk { self.new.desk ≡ self.old.desk }
     {
@@ -91,13 +103,17 @@ impl<'d> Terminals<'d> {
         }
     }
 
-    /// A terminal that waits looks for its answer, and the report shows what it hears. The answer is whether it waits on.
+    /// A terminal that waits looks for its answer, and the report shows what it hears. The answer
+    /// is whether it waits on.
     fn push_heard_at(&mut self, report: &mut String, index: u8) -> Result<bool, AllocError>
         requires { index < length self.old.seats.items }
-        ensures hears { OnOk result ((line : List ℕ) × Hears (seat_at self.old.seats.items index) (seat_at self.new.seats.items index) line
+        ensures hears { OnOk result ((line : List ℕ)
+            × Hears (seat_at self.old.seats.items index) (seat_at self.new.seats.items index) line
             × (string_bytes report.new ≡ string_bytes report.old ++ line)) }
-        ensures waits { IfOk result (λ waits. (waits ≡ true) ↔ Waits (seat_at self.new.seats.items index).view) }
-        ensures others { self.new.seats.items ≡ slice_set self.old.seats.items index (seat_at self.new.seats.items index) }
+        ensures waits { IfOk result (λ waits. (waits ≡ true)
+            ↔ Waits (seat_at self.new.seats.items index).view) }
+        ensures others { self.new.seats.items
+            ≡ slice_set self.old.seats.items index (seat_at self.new.seats.items index) }
         ensures desk { self.new.desk ≡ self.old.desk }
         ensures span { (self.new.first ≡ self.old.first) × (self.new.end ≡ self.old.end) }
     {
@@ -112,9 +128,11 @@ impl<'d> Terminals<'d> {
         Ok(false)
     }
 
-    /// All terminals that wait for an answer look for it, by rising terminal, and the report shows what each hears.
+    /// All terminals that wait for an answer look for it, by rising terminal, and the report shows
+    /// what each hears.
     pub fn push_all_heard(&mut self, report: &mut String) -> Result<(), AllocError>
-        ensures hears { OnOk result ((lines : List ℕ) × AllHear self.old.seats.items self.new.seats.items lines
+        ensures hears { OnOk result ((lines : List ℕ)
+            × AllHear self.old.seats.items self.new.seats.items lines
             × (string_bytes report.new ≡ string_bytes report.old ++ lines)) }
         ensures desk { self.new.desk ≡ self.old.desk }
         ensures count { length self.new.seats.items ≡ length self.old.seats.items }

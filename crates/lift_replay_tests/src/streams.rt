@@ -7,7 +7,8 @@ use std::io;
 use std::io::{Read, Write};
 use std::test::Fail;
 
-/// A writer that takes so many bytes, some of them in each call, and keeps them. Then it fails, or takes nothing.
+/// A writer that takes so many bytes, some of them in each call, and keeps them. Then it fails, or
+/// takes nothing.
 #[derive(Drop)]
 struct Narrow {
     room: usize,
@@ -149,7 +150,8 @@ fn halted(alloc: Global, halt: usize, fails: bool) -> (Result<Verdict, ReplayFau
     (end, report)
 }
 
-/// Whether a reader that fails there has nothing written, and one that ends there comes to what the front that it gave comes to.
+/// Whether a reader that fails there has nothing written, and one that ends there comes to what the
+/// front that it gave comes to.
 fn halts_at(alloc: Global, halt: usize) -> bool {
     let (failed, unwritten) = halted(alloc, halt, true);
     let (ended, report) = halted(alloc, halt, false);
@@ -179,7 +181,8 @@ fn readers_halt_at_each_call(rt: HostRuntime) {
     assert!(rt; end == Ok(Verdict::Good) && report.as_slice() == CALLED);
 }
 
-/// Whether a writer that takes so many bytes, two at most in a call, and then fails or takes nothing, has the report's front.
+/// Whether a writer that takes so many bytes, two at most in a call, and then fails or takes
+/// nothing, has the report's front.
 fn halts_writing(alloc: Global, room: usize, fails: bool) -> bool {
     let mut writer = Narrow {
         room,

@@ -8,11 +8,13 @@ use Rattle.lift_kiosk.specs.declared.line.NoLine.TheVariants.{AtEnd, NoCalls, Fa
 use Rattle.lift_serve.specs.FirstLine.{SpeaksFor}
 use Rattle.lift_serve.specs.Visits.{HeldState, IsServed, Visits}
 use Rattle.lift_serve.specs.declared.attending.Outcome.{Outcome}
-use Rattle.lift_serve.specs.declared.attending.Outcome.TheVariants.{NoLine, Bad, Busy, Unseated, Visited}
+use Rattle.lift_serve.specs.declared.attending.Outcome.TheVariants.{NoLine, Bad, Busy, Unseated}
+use Rattle.lift_serve.specs.declared.attending.Outcome.TheVariants.{Visited}
 
 -- all of these bytes were written, or a front of them, before which the writer failed
 abbrev pub IsSaid : List ℕ → (before after : Sink) → Type 0
-IsSaid bytes before after = Takes bytes before after ⊎ ((count : ℕ) × TakesFront count bytes before after)
+IsSaid bytes before after = Takes bytes before after
+    ⊎ ((count : ℕ) × TakesFront count bytes before after)
 
 -- how often the reader is called at most for a first line
 abbrev pub first_reads : ℕ
@@ -36,18 +38,31 @@ pub record NamesNone (cars kiosks : ℕ) (before after : Source) : Type 0 where
   pub few : CallsUpTo first_reads before after
   pub none : (terminal : ℕ) → SpeaksFor cars kiosks (strip_carriage_return line) terminal → ⊥
 
--- Reading ended without a line, within so many calls, and for this reason: the end was found, or a call failed, or all of the calls were used.
+-- Reading ended without a line, within so many calls, and for this reason: the end was found, or a
+-- call failed, or all of the calls were used.
 abbrev pub EndsWithoutLine : (calls : ℕ) → LineMissing → (before after : Source) → Type 0
-EndsWithoutLine calls AtEnd before after = (part : List ℕ) × (mid : Source) × GivesPart part before mid × FindsEnd mid after × CallsUpTo calls before after
-EndsWithoutLine calls Fault before after = (part : List ℕ) × (mid : Source) × GivesPart part before mid × Fails mid after × CallsUpTo calls before after
-EndsWithoutLine calls NoCalls before after = (part : List ℕ) × GivesPart part before after × (after.calls ≡ before.calls + calls)
+EndsWithoutLine calls AtEnd before after = (part : List ℕ) × (mid : Source)
+    × GivesPart part before mid × FindsEnd mid after × CallsUpTo calls before after
+EndsWithoutLine calls Fault before after = (part : List ℕ) × (mid : Source)
+    × GivesPart part before mid × Fails mid after × CallsUpTo calls before after
+EndsWithoutLine calls NoCalls before after = (part : List ℕ) × GivesPart part before after
+    × (after.calls ≡ before.calls + calls)
 
--- Nothing is written where no line came; BAD where it names no terminal, or one that the lobby's desk hasn't; BUSY where the
--- seat of the one that it names was taken out; else there was a session of it, and the seat was put back as the session left it.
-abbrev pub Attends : (cars kiosks : ℕ) → Outcome → (source source' : Source) → (sink sink' : Sink) → Type 0
-Attends cars kiosks (NoLine reason) source source' sink sink' = EndsWithoutLine first_reads reason source source' × (sink' ≡ sink)
-Attends cars kiosks Bad source source' sink sink' = NamesNone cars kiosks source source' × IsSaid (codes "BAD" ++ 10 ∷ []) sink sink'
-Attends cars kiosks (Busy absent) source source' sink sink' = Names cars kiosks absent.terminal source source' × IsSaid (codes "BUSY" ++ 10 ∷ []) sink sink'
-Attends cars kiosks (Unseated missing) source source' sink sink' = Names cars kiosks missing.terminal source source' × (length missing.desk ≤ missing.terminal) × IsSaid (codes "BAD" ++ 10 ∷ []) sink sink'
-Attends cars kiosks (Visited held' end) source source' sink sink' = (terminal : ℕ) × (mid : Source) × Names cars kiosks terminal source mid
-    × (held : HeldState) × IsServed held × (held.seat.terminal ≡ terminal) × Visits held end held' mid source' sink sink'
+-- Nothing is written where no line came; BAD where it names no terminal, or one that the lobby's
+-- desk hasn't; BUSY where the seat of the one that it names was taken out; else there was a session
+-- of it, and the seat was put back as the session left it.
+abbrev pub Attends : (cars kiosks : ℕ) → Outcome → (source source' : Source) → (sink sink' : Sink)
+    → Type 0
+Attends cars kiosks (NoLine reason) source source' sink sink' =
+    EndsWithoutLine first_reads reason source source' × (sink' ≡ sink)
+Attends cars kiosks Bad source source' sink sink' = NamesNone cars kiosks source source'
+    × IsSaid (codes "BAD" ++ 10 ∷ []) sink sink'
+Attends cars kiosks (Busy absent) source source' sink sink' =
+    Names cars kiosks absent.terminal source source' × IsSaid (codes "BUSY" ++ 10 ∷ []) sink sink'
+Attends cars kiosks (Unseated missing) source source' sink sink' =
+    Names cars kiosks missing.terminal source source' × (length missing.desk ≤ missing.terminal)
+    × IsSaid (codes "BAD" ++ 10 ∷ []) sink sink'
+Attends cars kiosks (Visited held' end) source source' sink sink' = (terminal : ℕ) × (mid : Source)
+    × Names cars kiosks terminal source mid
+    × (held : HeldState) × IsServed held × (held.seat.terminal ≡ terminal)
+    × Visits held end held' mid source' sink sink'

@@ -5,7 +5,8 @@ use Rattle.lift_base.specs.Text.{AreWords, letter_text}
 
 -- the terminal of a kiosk, 16 behind the kiosk's number
 abbrev pub IsKioskWord : (kiosks : ℕ) → List ℕ → (terminal : ℕ) → Type 0
-IsKioskWord kiosks word terminal = (kiosk : ℕ) × (word ≡ decimal kiosk) × (kiosk < kiosks) × (terminal ≡ 16 + kiosk)
+IsKioskWord kiosks word terminal = (kiosk : ℕ) × (word ≡ decimal kiosk) × (kiosk < kiosks)
+    × (terminal ≡ 16 + kiosk)
 
 -- the terminal of a car, by its letter
 abbrev pub IsCarWord : (cars : ℕ) → List ℕ → (terminal : ℕ) → Type 0

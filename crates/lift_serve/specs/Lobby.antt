@@ -5,7 +5,8 @@ use Rattle.lift_desk.specs.Seats.{TerminalSeat}
 use Rattle.lift_register.specs.Register.{RegisterState, last_of}
 use Rattle.lift_serve.specs.Visits.{AreAtTheirPlaces, HeldState, known_of}
 
--- a lobby: its desk's tables, and the places of the desk's terminals, by terminal; the seat of a place may be out
+-- a lobby: its desk's tables, and the places of the desk's terminals, by terminal; the seat of a
+-- place may be out
 pub record LobbyState : Type 0 where
   pub desk : List TableId
   pub places : List (Option HeldState)
@@ -17,18 +18,22 @@ pub record AskedState : Type 0 where
 
 -- The terminal has its place in the lobby that was asked, and its seat is out.
 abbrev pub IsTakenOut : LobbyState → ℕ → AskedState → Type 0
-IsTakenOut lobby terminal asked = (asked ≡ record { desk = lobby.desk; terminal = terminal }) × (slice_get lobby.places terminal ≡ Some None)
+IsTakenOut lobby terminal asked = (asked ≡ record { desk = lobby.desk; terminal = terminal })
+    × (slice_get lobby.places terminal ≡ Some None)
 
 -- The desk of the lobby that was asked has no such terminal.
 abbrev pub IsUnknown : LobbyState → ℕ → AskedState → Type 0
-IsUnknown lobby terminal asked = (asked ≡ record { desk = lobby.desk; terminal = terminal }) × (length asked.desk ≤ asked.terminal)
+IsUnknown lobby terminal asked = (asked ≡ record { desk = lobby.desk; terminal = terminal })
+    × (length asked.desk ≤ asked.terminal)
 
--- There is a place for each terminal of the desk, and each seat that waits is that of its place's terminal.
+-- There is a place for each terminal of the desk, and each seat that waits is that of its place's
+-- terminal.
 pub record IsLobbyOf (desk : List TableId) (places : List (Option HeldState)) : Type 0 where
   pub own : AreAtTheirPlaces places
   pub all : length places ≡ length desk
 
--- The place that was taken out, whatever was said at its seat meanwhile: the same seat of the same desk, and the same that the recovery found.
+-- The place that was taken out, whatever was said at its seat meanwhile: the same seat of the same
+-- desk, and the same that the recovery found.
 pub record IsSamePlace (taken held : HeldState) : Type 0 where
   pub desk : held.desk ≡ taken.desk
   pub table : held.seat.table ≡ taken.seat.table
@@ -37,11 +42,18 @@ pub record IsSamePlace (taken held : HeldState) : Type 0 where
 
 -- a new seat's place, with what a register has of its terminal's last command
 abbrev pub found_at : RegisterState → List TableId → TerminalSeat → HeldState
-found_at register desk seat = record { desk = desk; seat = seat; last = known_of (last_of register seat.terminal); found = known_of (last_of register seat.terminal) }
+found_at register desk seat =
+    record {
+      desk = desk;
+      seat = seat;
+      last = known_of (last_of register seat.terminal);
+      found = known_of (last_of register seat.terminal);
+    }
 
 -- each of these seats, at its place
 abbrev pub all_found : RegisterState → List TableId → List TerminalSeat → List (Option HeldState)
-all_found register desk seats = map (λ (seat : TerminalSeat). Some (found_at register desk seat)) seats
+all_found register desk seats =
+    map (λ (seat : TerminalSeat). Some (found_at register desk seat)) seats
 
 -- each pager is that of its place's terminal
 abbrev pub AreInOrder : List ℕ → Type 0

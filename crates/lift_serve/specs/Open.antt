@@ -1,7 +1,8 @@
 -- Which connections are open.
 use Rattle.std.specs.Prelude.{ℕ, List}
 
--- the numbers of the open connections, the next number, and how many may still end before all are closed
+-- the numbers of the open connections, the next number, and how many may still end before all are
+-- closed
 pub record OpenState : Type 0 where
   pub numbers : List ℕ
   pub next : ℕ

@@ -1,5 +1,6 @@
 -- What becomes of a clerk whose work two threads do.
-use Rattle.std.specs.Prelude.{ℕ, ◌≡◌, ◌≢◌, ◌⊎◌, ◌+◌, Bool, true, false, ◌||◌, is_err, Option, Some, None, Result, Err, IfOk, length}
+use Rattle.std.specs.Prelude.{ℕ, ◌≡◌, ◌≢◌, ◌⊎◌, ◌+◌, Bool, true, false, ◌||◌, is_err, Option, Some}
+use Rattle.std.specs.Prelude.{None, Result, Err, IfOk, length}
 use Rattle.lift_disk.specs.Disk.{DiskState}
 use Rattle.lift_policy.specs.Eligible.{Choice}
 use Rattle.lift_journal.specs.declared.fault.JournalFault.TheVariants.{Disk}
@@ -18,10 +19,13 @@ use Rattle.lift_relay.specs.Relay.{AreOfOne, AreParts, IsRejoined}
 use Rattle.lift_serve.specs.declared.serving.ServeFault.{ServeFault}
 use Rattle.lift_serve.specs.declared.serving.ServeFault.TheVariants.{Network, Thread, Memory}
 use Rattle.lift_serve.specs.declared.serving.Lack.{Lack}
-use Rattle.lift_serve.specs.declared.serving.Lack.TheVariants.{Thread as NoThread, Memory as NoMemory}
+use Rattle.lift_serve.specs.declared.serving.Lack.TheVariants.{Thread as NoThread}
+use Rattle.lift_serve.specs.declared.serving.Lack.TheVariants.{Memory as NoMemory}
 
--- What a turn of the clerk did, by its result. Behind one that failed the keeper is broken, behind another it is whole.
-pub record TurnsTo {D P : Type 0} (choice : Choice) (before after : ClerkState D P) (result : Result Counts KeeperFault) : Type 0 where
+-- What a turn of the clerk did, by its result. Behind one that failed the keeper is broken, behind
+-- another it is whole.
+pub record TurnsTo {D P : Type 0} (choice : Choice) (before after : ClerkState D P)
+    (result : Result Counts KeeperFault) : Type 0 where
   pub turns : IfOk result (IsTurn choice before after)
   pub fails : result ≡ Err (Journal Disk) → IsFailedTurn choice before after
   pub rests : before.keeper.writer.is_broken ≡ true → IsBrokenTurn before after
@@ -30,8 +34,11 @@ pub record TurnsTo {D P : Type 0} (choice : Choice) (before after : ClerkState D
   pub desk : after.desk ≡ before.desk
   pub policy : after.policy ≡ before.policy
 
--- Both parts ran, and all that was sent is received and answered; or no thread could be made, and they are as they were.
-pub record HaveRunOn {D P : Type 0} (choice : Choice) (state : D → DiskState) (a b : AllocatorState P) (f g : FlusherState D) (fault : Option RunFault) : Type 0 where
+-- Both parts ran, and all that was sent is received and answered; or no thread could be made, and
+-- they are as they were.
+pub record HaveRunOn {D P : Type 0} (choice : Choice) (state : D
+    → DiskState) (a b : AllocatorState P) (f g : FlusherState D)
+    (fault : Option RunFault) : Type 0 where
   pub refused : fault ≡ Some Spawn → (b ≡ a) × (g ≡ f)
   pub ran : fault ≢ Some Spawn → HaveRun choice state a b f g fault
   pub received : fault ≢ Some Spawn → b.end.sent ≡ g.end.received
@@ -40,7 +47,8 @@ pub record HaveRunOn {D P : Type 0} (choice : Choice) (state : D → DiskState) 
   pub of_one : AreOfOne b g
 
 -- the clerk of both parts, behind one turn more
-pub record IsLastTurn {D P : Type 0} (choice : Choice) (a : AllocatorState P) (f : FlusherState D) (after : ClerkState D P) : Type 0 where
+pub record IsLastTurn {D P : Type 0} (choice : Choice) (a : AllocatorState P) (f : FlusherState D)
+    (after : ClerkState D P) : Type 0 where
   pub joined : ClerkState D P
   pub rejoined : IsRejoined a f joined
   pub result : Result Counts KeeperFault
@@ -69,9 +77,11 @@ told None = None
 told (Some NoThread) = Some Thread
 told (Some NoMemory) = Some Memory
 
--- The clerk was split, its parts ran, each on a thread of its own, or came to this fault, and the clerk of both turned once more.
--- The keeper is broken at the end exactly where a turn of the flusher failed or this last one. Desk and policy stay.
-pub record Relayed {D P : Type 0} (choice : Choice) (state : D → DiskState) (before after : ClerkState D P) (fault : Option RunFault) : Type 0 where
+-- The clerk was split, its parts ran, each on a thread of its own, or came to this fault, and the
+-- clerk of both turned once more. The keeper is broken at the end exactly where a turn of the
+-- flusher failed or this last one. Desk and policy stay.
+pub record Relayed {D P : Type 0} (choice : Choice) (state : D
+    → DiskState) (before after : ClerkState D P) (fault : Option RunFault) : Type 0 where
   pub allocator : AllocatorState P
   pub flusher : FlusherState D
   pub parts : AreParts before allocator flusher
@@ -83,8 +93,10 @@ pub record Relayed {D P : Type 0} (choice : Choice) (state : D → DiskState) (b
   pub desk : after.desk ≡ before.desk
   pub policy : after.policy ≡ before.policy
 
--- The keeper came to this by the turns of the two parts of a clerk with this policy, and by the clerk's last one.
-pub record IsRelayedKeeper {D P : Type 0} (choice : Choice) (state : D → DiskState) (policy : P) (keeper keeper' : KeeperView D) : Type 0 where
+-- The keeper came to this by the turns of the two parts of a clerk with this policy, and by the
+-- clerk's last one.
+pub record IsRelayedKeeper {D P : Type 0} (choice : Choice) (state : D
+    → DiskState) (policy : P) (keeper keeper' : KeeperView D) : Type 0 where
   pub before : ClerkState D P
   pub after : ClerkState D P
   pub fault : Option RunFault
@@ -93,19 +105,26 @@ pub record IsRelayedKeeper {D P : Type 0} (choice : Choice) (state : D → DiskS
   pub relayed : Relayed choice state before after fault
   pub ends : after.keeper ≡ keeper'
 
--- The keeper was relayed to this at a desk with a seat for each terminal that its building may have, 16 cars and its kiosks. Where no
--- thread could be made for the accepting or for the parts, that is told, whatever else there was; and behind the beginning the socket is no fault.
-pub record IsServedKeeper {D P : Type 0} (choice : Choice) (state : D → DiskState) (policy : P) (keeper keeper' : KeeperView D) (fault : Option ServeFault) : Type 0 where
+-- The keeper was relayed to this at a desk with a seat for each terminal that its building may
+-- have, 16 cars and its kiosks. Where no thread could be made for the accepting or for the parts,
+-- that is told, whatever else there was; and behind the beginning the socket is no fault.
+pub record IsServedKeeper {D P : Type 0} (choice : Choice) (state : D
+    → DiskState) (policy : P) (keeper keeper' : KeeperView D)
+    (fault : Option ServeFault) : Type 0 where
   pub relayed : IsRelayedKeeper choice state policy keeper keeper'
   pub seats : length relayed.before.desk ≡ 16 + length keeper.writer.plan.kiosks
   pub tells : relayed.fault ≡ Some Spawn → fault ≡ Some Thread
   pub begun : fault ≢ Some Network
 
--- Nobody was served: the keeper is as it was, and that the socket failed or that memory was wanting is told.
-pub record IsUnserved {D : Type 0} (keeper keeper' : KeeperView D) (fault : Option ServeFault) : Type 0 where
+-- Nobody was served: the keeper is as it was, and that the socket failed or that memory was wanting
+-- is told.
+pub record IsUnserved {D : Type 0} (keeper keeper' : KeeperView D)
+    (fault : Option ServeFault) : Type 0 where
   pub keeper_is : keeper' ≡ keeper
   pub tells : (fault ≡ Some Network) ⊎ (fault ≡ Some Memory)
 
 -- what a serving comes to
-abbrev pub ComesTo : {D P : Type 0} → Choice → (D → DiskState) → (policy : P) → (keeper keeper' : KeeperView D) → (fault : Option ServeFault) → Type 0
-ComesTo choice state policy keeper keeper' fault = IsServedKeeper choice state policy keeper keeper' fault ⊎ IsUnserved keeper keeper' fault
+abbrev pub ComesTo : {D P : Type 0} → Choice → (D → DiskState) → (policy : P)
+    → (keeper keeper' : KeeperView D) → (fault : Option ServeFault) → Type 0
+ComesTo choice state policy keeper keeper' fault =
+    IsServedKeeper choice state policy keeper keeper' fault ⊎ IsUnserved keeper keeper' fault

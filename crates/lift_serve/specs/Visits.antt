@@ -1,5 +1,6 @@
 -- A terminal's sessions, one after the other.
-use Rattle.std.specs.Prelude.{ℕ, ◌≡◌, Bool, true, false, nat_lt, List, [], ◌∷◌, Option, Some, None, slice_get}
+use Rattle.std.specs.Prelude.{ℕ, ◌≡◌, Bool, true, false, nat_lt, List, [], ◌∷◌, Option, Some, None}
+use Rattle.std.specs.Prelude.{slice_get}
 use Rattle.lift_desk.specs.Rule.{no_asks}
 use Rattle.atomic_table.specs.Seated.{TableId}
 use Rattle.lift_base.specs.Output.{Sink}
@@ -44,12 +45,15 @@ abbrev pub unrested : PortView → PortView
 unrested port = record port { rests = 0 }
 
 -- Each session began where the one before it ended, with the last command and the seat alike.
-abbrev pub AreVisits : (terminal : ℕ) → LastLetter → PortView → List Visit → LastLetter → PortView → Type 0
+abbrev pub AreVisits : (terminal : ℕ) → LastLetter → PortView → List Visit → LastLetter → PortView
+    → Type 0
 AreVisits terminal last port [] last' port' = (last' ≡ last) × (port' ≡ port)
 AreVisits terminal last port (v ∷ vs) last' port' = (v.before.last ≡ last) × (v.before.port ≡ port)
-    × IsVisit terminal v.end v.before v.after × AreVisits terminal v.after.last (unrested v.after.port) vs last' port'
+    × IsVisit terminal v.end v.before v.after
+    × AreVisits terminal v.after.last (unrested v.after.port) vs last' port'
 
--- a terminal's place: its desk's tables, its seat, the last command that is known, and the one that the recovery found
+-- a terminal's place: its desk's tables, its seat, the last command that is known, and the one that
+-- the recovery found
 pub record HeldState : Type 0 where
   pub desk : List TableId
   pub seat : TerminalSeat
@@ -60,16 +64,21 @@ pub record HeldState : Type 0 where
 abbrev pub view_of : TerminalSeat → PortView
 view_of seat = port_view seat.view 0
 
--- The seat is of the desk, and what is known came from what the recovery found, at a new seat, by sessions one after the other.
+-- The seat is of the desk, and what is known came from what the recovery found, at a new seat, by
+-- sessions one after the other.
 pub record IsServed (held : HeldState) : Type 0 where
   pub seated : IsSeatOf held.desk held.seat
   pub visits : List Visit
-  pub are_visits : AreVisits held.seat.terminal held.found (port_view no_asks 0) visits held.last (view_of held.seat)
+  pub are_visits : AreVisits held.seat.terminal held.found (port_view no_asks 0) visits held.last
+      (view_of held.seat)
 
--- A session of the place, which ended so: from what was known, over this reader and this writer. The seat stays its desk's and its terminal's.
-pub record Visits (held : HeldState) (end : End) (held' : HeldState) (source source' : Source) (sink sink' : Sink) : Type 0 where
+-- A session of the place, which ended so: from what was known, over this reader and this writer.
+-- The seat stays its desk's and its terminal's.
+pub record Visits (held : HeldState) (end : End) (held' : HeldState) (source source' : Source)
+    (sink sink' : Sink) : Type 0 where
   pub rests : ℕ
-  pub visit : IsVisit held.seat.terminal end (standing held.last (view_of held.seat) source sink) (standing held'.last (port_view held'.seat.view rests) source' sink')
+  pub visit : IsVisit held.seat.terminal end (standing held.last (view_of held.seat) source sink)
+      (standing held'.last (port_view held'.seat.view rests) source' sink')
   pub desk : held'.desk ≡ held.desk
   pub table : held'.seat.table ≡ held.seat.table
   pub terminal : held'.seat.terminal ≡ held.seat.terminal
@@ -85,10 +94,13 @@ abbrev pub known_of : Option Last → LastLetter
 known_of None = record { number = 0; letter = None }
 known_of (Some last) = record { number = last.number; letter = letter_in last.content }
 
--- Each seat that waits is of this desk, and what is known of its terminal's last command is what the register has of it.
+-- Each seat that waits is of this desk, and what is known of its terminal's last command is what
+-- the register has of it.
 abbrev pub AreAsFound : RegisterState → List TableId → List (Option HeldState) → Type 0
-AreAsFound register desk places = (place : ℕ) (held : HeldState) → slice_get places place ≡ Some (Some held)
-    → (held.desk ≡ desk) × (held.found ≡ known_of (last_of register place)) × (held.last ≡ held.found)
+AreAsFound register desk places = (place : ℕ) (held : HeldState)
+    → slice_get places place ≡ Some (Some held)
+    → (held.desk ≡ desk) × (held.found ≡ known_of (last_of register place))
+    × (held.last ≡ held.found)
 
 -- nobody's seat waits
 abbrev pub AreEmpty : List (Option HeldState) → Type 0
@@ -96,4 +108,5 @@ AreEmpty places = (place : ℕ) (held : HeldState) → slice_get places place �
 
 -- each seat that waits is that of its place's terminal
 abbrev pub AreAtTheirPlaces : List (Option HeldState) → Type 0
-AreAtTheirPlaces places = (place : ℕ) (held : HeldState) → slice_get places place ≡ Some (Some held) → held.seat.terminal ≡ place
+AreAtTheirPlaces places = (place : ℕ) (held : HeldState) → slice_get places place ≡ Some (Some held)
+    → held.seat.terminal ≡ place

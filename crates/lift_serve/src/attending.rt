@@ -3,7 +3,8 @@
 ghost use Rattle.std.specs.Prelude.{◌≡◌, ◌≤◌, ℕ, List, Err, IfOk, IfErr, length};
 ghost use Rattle.lift_base.specs.Output.{sink_of};
 ghost use Rattle.lift_kiosk.specs.Lines.{GivesLine, Keeps65, source_of};
-ghost use Rattle.lift_serve.specs.Connections.{Attends, CallsUpTo, EndsWithoutLine, IsSaid, first_reads};
+ghost use Rattle.lift_serve.specs.Connections.{Attends, CallsUpTo, EndsWithoutLine, IsSaid};
+ghost use Rattle.lift_serve.specs.Connections.{first_reads};
 ghost use Rattle.lift_serve.specs.Lobby.{AskedState, IsSamePlace};
 
 use crate::connections::Ticket;
@@ -32,17 +33,22 @@ pub enum Outcome<'d> {
     Busy(Absent<'d>),
     /// The lobby's desk hasn't the terminal that it names.
     Unseated(Missing<'d>),
-    /// There was a session of the terminal that it names, which ended so, and whose seat is back in the lobby.
+    /// There was a session of the terminal that it names, which ended so, and whose seat is back in
+    /// the lobby.
     Visited(Returned<'d>, End),
 }
 
 /// The first line.
 #[tactic(auto, using(crate::proofs::FirstLines::without_line))]
 fn read_first<I: Read + Drop>(reader: &mut Counted<I>) -> Result<Line, NoLine>
-    ensures line { IfOk result (λ found. (line : List ℕ) × Keeps65 line found.bytes.items found.is_longer
+    ensures line { IfOk result (λ found.
+        (line : List ℕ) × Keeps65 line found.bytes.items found.is_longer
         × GivesLine line (source_of I.remaining reader.old) (source_of I.remaining reader.new)) }
-    ensures few { CallsUpTo first_reads (source_of I.remaining reader.old) (source_of I.remaining reader.new) }
-    ensures none { IfErr result (λ reason. EndsWithoutLine first_reads reason (source_of I.remaining reader.old) (source_of I.remaining reader.new)) }
+    ensures few { CallsUpTo first_reads (source_of I.remaining reader.old)
+        (source_of I.remaining reader.new) }
+    ensures none { IfErr result (λ reason.
+        EndsWithoutLine first_reads reason (source_of I.remaining reader.old)
+        (source_of I.remaining reader.new)) }
 {
     let mut left = FIRST_READS;
     read_line(reader, &mut left)
@@ -56,9 +62,12 @@ fn take<'d>(
 ) -> Result<(Held<'d>, Vacancy<'d>), NoSeat<'d>>
     ensures own { IfOk result (λ taken. taken.0.seat.terminal ≡ terminal) }
     ensures vacant { IfOk result (λ taken. taken.1 ≡ taken.0) }
-    ensures out { (absent : AskedState) → result ≡ Err (NoSeat.Taken absent) → absent.terminal ≡ terminal }
-    ensures unknown { (missing : AskedState) → result ≡ Err (NoSeat.Unknown missing) → missing.terminal ≡ terminal }
-    ensures lacks { (missing : AskedState) → result ≡ Err (NoSeat.Unknown missing) → length missing.desk ≤ missing.terminal }
+    ensures out { (absent : AskedState) → result ≡ Err (NoSeat.Taken absent)
+        → absent.terminal ≡ terminal }
+    ensures unknown { (missing : AskedState) → result ≡ Err (NoSeat.Unknown missing)
+        → missing.terminal ≡ terminal }
+    ensures lacks { (missing : AskedState) → result ≡ Err (NoSeat.Unknown missing)
+        → length missing.desk ≤ missing.terminal }
 {
     lobby.lock(rt).take(ticket, terminal)
 }
@@ -85,8 +94,9 @@ fn say<O: Write + Drop>(writer: &mut Watched<O>, bytes: &[u8])
     }
 }
 
-/// Reads the first line, and serves the terminal that it names. Where the line names none of the building, or one whose seat
-/// the lobby's desk hasn't, `BAD` is answered, and where its seat is in use `BUSY`.
+/// Reads the first line, and serves the terminal that it names. Where the line names none of the
+/// building, or one whose seat the lobby's desk hasn't, `BAD` is answered, and where its seat is in
+/// use `BUSY`.
 pub fn attend<'d, R: Wait + Clock, I: Read + Drop, O: Write + Drop>(
     rt: &R,
     lobby: &Mutex<Lobby<'d>>,
@@ -99,7 +109,8 @@ pub fn attend<'d, R: Wait + Clock, I: Read + Drop, O: Write + Drop>(
 ) -> Outcome<'d>
     requires cars { cars ≤ 16 }
     requires kiosks { kiosks ≤ 47 }
-    ensures { Attends cars kiosks result (source_of I.remaining reader.old) (source_of I.remaining reader.new)
+    ensures { Attends cars kiosks result (source_of I.remaining reader.old)
+        (source_of I.remaining reader.new)
         (sink_of O.contents writer.old) (sink_of O.contents writer.new) }
 {
     let line = match read_first(reader) {

@@ -1,6 +1,7 @@
 //! The connections that are open, and how many have ended.
 
-ghost use Rattle.std.specs.Prelude.{◌≡◌, ℕ, ◌+◌, ◌%◌, ◌^◌, ◌∷◌, ◌++◌, [], pred, Ok, Some, None, IfErr, IsTrue, ◌↔◌, not, ◌==◌, filter};
+ghost use Rattle.std.specs.Prelude.{◌≡◌, ℕ, ◌+◌, ◌%◌, ◌^◌, ◌∷◌, ◌++◌, [], pred, Ok, Some, None};
+ghost use Rattle.std.specs.Prelude.{IfErr, IsTrue, ◌↔◌, not, ◌==◌, filter};
 
 use std::alloc::{AllocError, Global};
 use std::marker::Model;
@@ -37,8 +38,8 @@ impl Ticket {
     }
 }
 
-/// The connections that are open, and how many may still end before all of them are closed. Contracts see the numbers of
-/// those that are open, the next number, and how many are left.
+/// The connections that are open, and how many may still end before all of them are closed.
+/// Contracts see the numbers of those that are open, the next number, and how many are left.
 #[derive(Drop)]
 pub struct Connections {
     open: Vec<Open>,
@@ -54,7 +55,11 @@ impl Model for Connections {
 
     ghost Value = { OpenState };
 
-    ghost view = { λ c. record { numbers = map (λ o. o.number) c.open.items; next = c.next; left = c.left } };
+    ghost view = { λ c. record {
+      numbers = map (λ o. o.number) c.open.items;
+      next = c.next;
+      left = c.left;
+    } };
 }
 
 impl Connections {
@@ -84,11 +89,15 @@ impl Connections {
         self.open.is_empty()
     }
 
-    /// A connection is open from now on, by the number of the ticket. None where all have ended that were to end.
+    /// A connection is open from now on, by the number of the ticket. None where all have ended
+    /// that were to end.
     pub fn enter(&mut self, stream: Arc<TcpStream>) -> Result<Option<Ticket>, AllocError>
         ensures over { self.old.left ≡ 0 → result ≡ Ok None }
         ensures let_in { (number : ℕ) → result ≡ Ok (Some number) → (number ≡ self.old.next)
-            × (self.new ≡ record self.old { numbers = self.old.numbers ++ number ∷ []; next = (self.old.next + 1) % 2 ^ 64 }) }
+            × (self.new ≡ record self.old {
+              numbers = self.old.numbers ++ number ∷ [];
+              next = (self.old.next + 1) % 2 ^ 64;
+            }) }
         ensures left_out { result ≡ Ok None → (self.old.left ≡ 0) × (self.new ≡ self.old) }
         ensures unchanged { IfErr result (λ _. self.new ≡ self.old) }
     {
@@ -103,14 +112,18 @@ impl Connections {
 
     /// The connection of this number has ended.
     pub fn leave(&mut self, number: u64)
-        ensures { self.new ≡ record self.old { numbers = filter (λ n. not (n == number)) self.old.numbers; left = pred self.old.left } }
+        ensures { self.new ≡ record self.old {
+          numbers = filter (λ n.
+              not (n == number)) self.old.numbers;
+          left = pred self.old.left;
+        } }
     {
         self.open.retain(|open| open.number != number);
         self.ended();
     }
 
-    /// One connection more has ended. Behind the last one that is to end no more are accepted, and nothing more is read from
-    /// the others.
+    /// One connection more has ended. Behind the last one that is to end no more are accepted, and
+    /// nothing more is read from the others.
     pub fn ended(&mut self)
         ensures { self.new ≡ record self.old { left = pred self.old.left } }
     {

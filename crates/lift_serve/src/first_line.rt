@@ -39,8 +39,10 @@ fn car_named(word: &str, cars: u8) -> Option<Terminal>
 fn named_by(words: &[&str], cars: u8, kiosks: u8) -> Option<Terminal>
     requires cars { cars ≤ 16 }
     requires kiosks { kiosks ≤ 47 }
-    ensures some { IfSome result (λ terminal. AreTerminalWords cars kiosks (map (λ word. word.now) words.now) terminal) }
-    ensures none { IfNone result ((terminal : ℕ) → AreTerminalWords cars kiosks (map (λ word. word.now) words.now) terminal → ⊥) }
+    ensures some { IfSome result (λ terminal.
+        AreTerminalWords cars kiosks (map (λ word. word.now) words.now) terminal) }
+    ensures none { IfNone result ((terminal : ℕ)
+        → AreTerminalWords cars kiosks (map (λ word. word.now) words.now) terminal → ⊥) }
 {
     match words {
         [kind, name] => {
@@ -56,15 +58,16 @@ fn named_by(words: &[&str], cars: u8, kiosks: u8) -> Option<Terminal>
     }
 }
 
-/// The terminal, of a building with so many cars and kiosks, that a first line names; none where it is malformed, or
-/// where the building lacks it.
+/// The terminal, of a building with so many cars and kiosks, that a first line names; none where it
+/// is malformed, or where the building lacks it.
 pub fn terminal_of(line: &Line, cars: u8, kiosks: u8) -> Option<Terminal>
     requires cars { cars ≤ 16 }
     requires kiosks { kiosks ≤ 47 }
     ensures some { (bytes : List ℕ) → Keeps65 bytes line.now.bytes.items line.now.is_longer
         → IfSome result (λ terminal. SpeaksFor cars kiosks (strip_carriage_return bytes) terminal) }
     ensures none { (bytes : List ℕ) → Keeps65 bytes line.now.bytes.items line.now.is_longer
-        → IfNone result ((terminal : ℕ) → SpeaksFor cars kiosks (strip_carriage_return bytes) terminal → ⊥) }
+        → IfNone result ((terminal : ℕ)
+        → SpeaksFor cars kiosks (strip_carriage_return bytes) terminal → ⊥) }
 {
     if line.is_longer {
         return None;

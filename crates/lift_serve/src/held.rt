@@ -26,8 +26,9 @@ const LIMITS: Limits = Limits {
     reads: 100_000_000,
 };
 
-/// A terminal's seat and its own pager, with the last command that is known to be in, and the one that the recovery found. One session at a
-/// time has it. What is known came from what was found by sessions, each of which began where the one before ended.
+/// A terminal's seat and its own pager, with the last command that is known to be in, and the one
+/// that the recovery found. One session at a time has it. What is known came from what was found by
+/// sessions, each of which began where the one before ended.
 #[derive(Drop)]
 pub struct Held<'d> {
     desk: &'d Desk,
@@ -43,9 +44,16 @@ impl<'d> Model for Held<'d> {
 
     ghost Value = { HeldState };
 
-    ghost view = { λ h. record { desk = h.desk.now; seat = h.seat; last = h.last; found = h.found } };
+    ghost view = { λ h. record {
+      desk = h.desk.now;
+      seat = h.seat;
+      last = h.last;
+      found = h.found;
+    } };
 
-    ghost invariant = { λ h. IsServed (record { desk = h.desk.now; seat = h.seat; last = h.last; found = h.found }) × (h.pager.now ≡ h.seat.terminal) };
+    ghost invariant = { λ h.
+        IsServed (record { desk = h.desk.now; seat = h.seat; last = h.last; found = h.found })
+        × (h.pager.now ≡ h.seat.terminal) };
 }
 
 impl<'d> Held<'d> {
@@ -82,7 +90,8 @@ impl<'d> Held<'d> {
         writer: &mut Watched<O>,
     ) -> (Held<'d>, End)
         requires { 16 ≤ self.seat.terminal }
-        ensures { Visits self.entry result.1 result.0 (source_of I.remaining reader.old) (source_of I.remaining reader.new)
+        ensures { Visits self.entry result.1 result.0 (source_of I.remaining reader.old)
+            (source_of I.remaining reader.new)
             (sink_of O.contents writer.old) (sink_of O.contents writer.new) }
     {
         let Held {
@@ -118,7 +127,8 @@ impl<'d> Held<'d> {
         writer: &mut Watched<O>,
     ) -> (Held<'d>, End)
         requires { self.seat.terminal < 16 }
-        ensures { Visits self.entry result.1 result.0 (source_of I.remaining reader.old) (source_of I.remaining reader.new)
+        ensures { Visits self.entry result.1 result.0 (source_of I.remaining reader.old)
+            (source_of I.remaining reader.new)
             (sink_of O.contents writer.old) (sink_of O.contents writer.new) }
     {
         let Held {
@@ -153,7 +163,8 @@ impl<'d> Held<'d> {
         reader: &mut Counted<I>,
         writer: &mut Watched<O>,
     ) -> (Held<'d>, End)
-        ensures { Visits self.entry result.1 result.0 (source_of I.remaining reader.old) (source_of I.remaining reader.new)
+        ensures { Visits self.entry result.1 result.0 (source_of I.remaining reader.old)
+            (source_of I.remaining reader.new)
             (sink_of O.contents writer.old) (sink_of O.contents writer.new) }
     {
         if self.seat.terminal().is_kiosk() {

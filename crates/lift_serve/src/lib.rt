@@ -1,5 +1,5 @@
-//! The lift group on sockets: connections that speak for a terminal, each on a thread of its own, beside the
-//! allocator's and the flusher's.
+//! The lift group on sockets: connections that speak for a terminal, each on a thread of its own,
+//! beside the allocator's and the flusher's.
 #![tactic(auto)]
 
 mod attending;

@@ -1,6 +1,7 @@
 //! Where the terminals' seats wait for their next sessions.
 
-ghost use Rattle.std.specs.Prelude.{◌≡◌, IfOk, IfErr, IfSome, IfNone, None, Some, Err, slice_get, slice_set};
+ghost use Rattle.std.specs.Prelude.{◌≡◌, IfOk, IfErr, IfSome, IfNone, None, Some, Err, slice_get};
+ghost use Rattle.std.specs.Prelude.{slice_set};
 ghost use Rattle.lift_serve.specs.Lobby.{AskedState, IsLobbyOf, IsSamePlace, IsTakenOut, IsUnknown};
 
 use crate::connections::Ticket;
@@ -11,8 +12,8 @@ use lift_desk::Desk;
 use std::marker::Model;
 use std::snapshot::Snapshot;
 
-/// The seats of a desk that no session has, each at its terminal's place: there is one for each terminal of the desk. Who has
-/// no desk can make none.
+/// The seats of a desk that no session has, each at its terminal's place: there is one for each
+/// terminal of the desk. Who has no desk can make none.
 #[derive(Drop)]
 pub struct Lobby<'d> {
     desk: &'d Desk,
@@ -29,8 +30,8 @@ impl<'d> Model for Lobby<'d> {
     ghost invariant = { λ l. IsLobbyOf l.desk.now l.places.items };
 }
 
-/// That the seat of this place was taken out of a lobby. It can't be let go: only `put_back` ends it, so a seat that was taken
-/// out is put back. Only `take` makes one.
+/// That the seat of this place was taken out of a lobby. It can't be let go: only `put_back` ends
+/// it, so a seat that was taken out is put back. Only `take` makes one.
 pub struct Vacancy<'d> {
     held: Snapshot<Held<'d>>,
 }
@@ -82,7 +83,8 @@ pub enum NoSeat<'d> {
     Unknown(Missing<'d>),
 }
 
-/// That this place of a terminal, with its seat and what is known of it, was put back into a lobby. Only `put_back` makes one.
+/// That this place of a terminal, with its seat and what is known of it, was put back into a lobby.
+/// Only `put_back` makes one.
 #[derive(Drop)]
 pub struct Returned<'d> {
     held: Snapshot<Held<'d>>,
@@ -105,11 +107,13 @@ impl<'d> Lobby<'d> {
         Lobby { desk, places }
     }
 
-    /// What is at a terminal's place, which is vacant then; none where the desk hasn't the terminal.
+    /// What is at a terminal's place, which is vacant then; none where the desk hasn't the
+    /// terminal.
     #[tactic(auto, using(crate::proofs::Places::vacant_place))]
     fn vacate(&mut self, terminal: Terminal) -> Option<Option<Held<'d>>>
         ensures found { result ≡ slice_get self.old.places terminal }
-        ensures vacant { IfSome result (λ _. self.new ≡ record self.old { places = slice_set self.old.places terminal None }) }
+        ensures vacant { IfSome result (λ _.
+            self.new ≡ record self.old { places = slice_set self.old.places terminal None }) }
         ensures none { IfNone result (self.new ≡ self.old) }
     {
         match self.places.get_mut(usize::from(terminal.get())) {
@@ -118,9 +122,9 @@ impl<'d> Lobby<'d> {
         }
     }
 
-    /// The seat of a terminal, and its place, which is vacant then. It is refused only where the seat was taken out before, or
-    /// where the desk hasn't the terminal. Each connection may ask once, by its ticket: so whoever is told that the seat is out
-    /// didn't take it.
+    /// The seat of a terminal, and its place, which is vacant then. It is refused only where the
+    /// seat was taken out before, or where the desk hasn't the terminal. Each connection may ask
+    /// once, by its ticket: so whoever is told that the seat is out didn't take it.
     #[tactic(auto, using(crate::proofs::Places::is_at_its_place, crate::proofs::Places::nothing_taken))]
     pub fn take(
         &mut self,
@@ -128,11 +132,15 @@ impl<'d> Lobby<'d> {
         terminal: Terminal,
     ) -> Result<(Held<'d>, Vacancy<'d>), NoSeat<'d>>
         ensures own { IfOk result (λ taken. taken.0.seat.terminal ≡ terminal) }
-        ensures there { IfOk result (λ taken. slice_get self.old.places terminal ≡ Some (Some taken.0)) }
+        ensures there { IfOk result (λ taken.
+            slice_get self.old.places terminal ≡ Some (Some taken.0)) }
         ensures vacant { IfOk result (λ taken. taken.1 ≡ taken.0) }
-        ensures taken { IfOk result (λ taken. self.new ≡ record self.old { places = slice_set self.old.places terminal None }) }
-        ensures out { (absent : AskedState) → result ≡ Err (NoSeat.Taken absent) → IsTakenOut self.old terminal absent }
-        ensures unknown { (missing : AskedState) → result ≡ Err (NoSeat.Unknown missing) → IsUnknown self.old terminal missing }
+        ensures taken { IfOk result (λ taken.
+            self.new ≡ record self.old { places = slice_set self.old.places terminal None }) }
+        ensures out { (absent : AskedState) → result ≡ Err (NoSeat.Taken absent)
+            → IsTakenOut self.old terminal absent }
+        ensures unknown { (missing : AskedState) → result ≡ Err (NoSeat.Unknown missing)
+            → IsUnknown self.old terminal missing }
         ensures unchanged { IfErr result (λ _. self.new ≡ self.old) }
     {
         let _used = ticket;
@@ -153,7 +161,10 @@ impl<'d> Lobby<'d> {
     #[tactic(auto, using(crate::proofs::Places::own_place))]
     pub fn put_back(&mut self, held: Held<'d>, vacancy: Vacancy<'d>) -> Returned<'d>
         requires same { IsSamePlace vacancy held }
-        ensures put { self.new ≡ record self.old { places = slice_set self.old.places held.entry.seat.terminal (Some held.entry) } }
+        ensures put { self.new ≡ record self.old {
+          places = slice_set self.old.places
+              held.entry.seat.terminal (Some held.entry);
+        } }
         ensures returned { result ≡ held.entry }
     {
         let Vacancy { held: _ } = vacancy;

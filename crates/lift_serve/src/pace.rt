@@ -7,10 +7,12 @@ use std::sync::atomic::{AtomicU64, Ordering};
 use std::thread::Parker;
 use std::time::Duration;
 
-/// So many ms after the flusher took a batch in hand the next one is decided, where it isn't done with it before.
+/// So many ms after the flusher took a batch in hand the next one is decided, where it isn't done
+/// with it before.
 const AHEAD_MS: u64 = 1;
 
-/// What wakes the two threads: the allocator's waits for asks, or for the flusher to go on; the flusher's waits for batches.
+/// What wakes the two threads: the allocator's waits for asks, or for the flusher to go on; the
+/// flusher's waits for batches.
 #[derive(Drop)]
 pub struct Bells {
     asks: Parker,
@@ -40,8 +42,8 @@ impl Bells {
     }
 }
 
-/// The gate of a serving: both parts go on until the word is no longer 0. A part that has nothing to do waits until it is
-/// woken, and each terminal's pager is told how far its ask is.
+/// The gate of a serving: both parts go on until the word is no longer 0. A part that has nothing
+/// to do waits until it is woken, and each terminal's pager is told how far its ask is.
 #[derive(Drop)]
 pub struct Pace<'s> {
     bells: &'s Bells,
@@ -84,8 +86,8 @@ impl<'s> Pace<'s> {
         sent <= self.flushed.load(Ordering::SeqCst).saturating_add(batches)
     }
 
-    /// Waits until the flusher has nothing in hand, or has had one batch in hand for a while. A batch that is decided later is
-    /// fuller, and whoever is in it waits for one batch less.
+    /// Waits until the flusher has nothing in hand, or has had one batch in hand for a while. A
+    /// batch that is decided later is fuller, and whoever is in it waits for one batch less.
     fn wait_for_room<R: Wait>(&self, rt: &R, sent: u64) {
         let room = &self.bells.room;
         // A ring that was left over ends no wait.
@@ -127,8 +129,8 @@ impl<'s> Gate for Pace<'s> {
 
     fn has_flushed<R: Wait>(&self, _rt: &R, count: u64) {
         self.flushed.store(count, Ordering::SeqCst);
-        // Whoever is answered may ask again before the next batch is decided, which is fuller then. One that was decided
-        // ahead comes first: the allocator wakes the others.
+        // Whoever is answered may ask again before the next batch is decided, which is fuller then.
+        // One that was decided ahead comes first: the allocator wakes the others.
         for pager in self.pagers {
             if self.sent.load(Ordering::SeqCst) > count {
                 break;

@@ -22,12 +22,13 @@ const ASKED: u64 = 1;
 /// The answer is stored, and no rest was ended for it.
 const ANSWERED: u64 = 2;
 
-/// From here on the ask is in a batch, at the latest in the one whose number, from 1, is so much less.
+/// From here on the ask is in a batch, at the latest in the one whose number, from 1, is so much
+/// less.
 const IN_BATCH: u64 = 2;
 
-/// How far a terminal's ask is, and where its session rests. The session says that it asked and heard, the allocator's thread
-/// that a scan begins, and the flusher's which batches are answered. None waits for another. Contracts see the terminal, which
-/// only proofs read.
+/// How far a terminal's ask is, and where its session rests. The session says that it asked and
+/// heard, the allocator's thread that a scan begins, and the flusher's which batches are answered.
+/// None waits for another. Contracts see the terminal, which only proofs read.
 #[derive(Drop)]
 pub struct Pager {
     terminal: Terminal,
@@ -70,7 +71,8 @@ impl Pager {
         self.goes_on(ASKED, batch.saturating_add(IN_BATCH));
     }
 
-    /// So many batches are flushed: all that was in them is answered. A session that rests for its answer wakes.
+    /// So many batches are flushed: all that was in them is answered. A session that rests for its
+    /// answer wakes.
     pub fn is_flushed(&self, batches: u64) {
         let stage = self.stage.load(Ordering::SeqCst);
         if stage > IN_BATCH
@@ -81,7 +83,8 @@ impl Pager {
         }
     }
 
-    /// Rests for a millisecond. Nothing ends that earlier but the terminal's own answer, once: the next look finds it.
+    /// Rests for a millisecond. Nothing ends that earlier but the terminal's own answer, once: the
+    /// next look finds it.
     pub fn rest<R: Wait + Clock>(&self, rt: &R) {
         let whole = Duration::from_millis(REST_MS);
         let Ok(start) = Instant::now(rt) else {

@@ -11,8 +11,8 @@ use std::sync::Wait;
 use std::thread::Parker;
 use std::time::Clock;
 
-/// A terminal's port at the desk. Behind each ask it wakes the clerk, and it rests by sleeping for a millisecond, or until
-/// its answer is stored.
+/// A terminal's port at the desk. Behind each ask it wakes the clerk, and it rests by sleeping for
+/// a millisecond, or until its answer is stored.
 #[derive(Drop)]
 pub struct RestingPort<'d, 'r, R: Wait + Clock> {
     port: DeskPort<'d>,

@@ -20,7 +20,8 @@ pub struct Parts<'d, 'b, D: Disk + Drop, P: Policy + Drop> {
     pub fault: Option<RunFault>,
 }
 
-/// Both parts run while the gate goes on, the flusher on this thread, and are given back behind the last batch.
+/// Both parts run while the gate goes on, the flusher on this thread, and are given back behind the
+/// last batch.
 pub fn run_parts<'d, 'b, R, G, D, P>(
     rt: &R,
     gate: &G,
@@ -32,7 +33,8 @@ where
     D: Disk + Drop,
     P: Policy + Drop + Send,
     requires of_one { AreOfOne parts.allocator parts.flusher }
-    ensures { HaveRunOn (P.chooses parts.entry.allocator.policy) D.state parts.entry.allocator result.allocator parts.entry.flusher result.flusher result.fault }
+    ensures { HaveRunOn (P.chooses parts.entry.allocator.policy) D.state parts.entry.allocator
+        result.allocator parts.entry.flusher result.flusher result.fault }
 {
     let Parts {
         mut allocator,
@@ -53,7 +55,8 @@ pub fn unrun<'d, 'b, D: Disk + Drop, P: Policy + Drop>(
     parts: Parts<'d, 'b, D, P>,
 ) -> Parts<'d, 'b, D, P>
     requires of_one { AreOfOne parts.allocator parts.flusher }
-    ensures unrun { HaveRunOn (P.chooses parts.entry.allocator.policy) D.state parts.entry.allocator result.allocator parts.entry.flusher result.flusher result.fault }
+    ensures unrun { HaveRunOn (P.chooses parts.entry.allocator.policy) D.state parts.entry.allocator
+        result.allocator parts.entry.flusher result.flusher result.fault }
     ensures spawn { result.fault ≡ Some RunFault.Spawn }
 {
     let Parts {
@@ -77,7 +80,8 @@ fn turn_once<D: Disk, P: Policy + Drop>(
     clerk.turn()
 }
 
-/// The clerk of both parts, between which nothing is on its way, behind one turn more: it finds what was asked at last.
+/// The clerk of both parts, between which nothing is on its way, behind one turn more: it finds
+/// what was asked at last.
 pub fn turn_rejoined<'d, 'b, D: Disk, P: Policy + Drop>(
     allocator: Allocator<'d, 'b, P>,
     flusher: Flusher<'d, 'b, D>,

@@ -8,7 +8,8 @@ use std::marker::Model;
 use std::sync::Wait;
 use std::time::Clock;
 
-/// How many rests there were, which only proofs read. The only way to count is to rest at a pager, so the count binds.
+/// How many rests there were, which only proofs read. The only way to count is to rest at a pager,
+/// so the count binds.
 #[derive(Drop)]
 pub(crate) struct Rests {
     times: ProofCount,

@@ -82,7 +82,8 @@ fn add<'d>(places: &mut ArrayVec<Option<Held<'d>>, 63>, held: Held<'d>)
     places.push(Some(held));
 }
 
-/// The lobby with all seats of a desk, each at its place, and what a register knows of their terminals.
+/// The lobby with all seats of a desk, each at its place, and what a register knows of their
+/// terminals.
 #[tactic(auto, using(crate::proofs::Places::one_taken_more))]
 pub(crate) fn lobby_of<'d>(
     desk: &'d Desk,

@@ -57,7 +57,8 @@ enum Lack {
 /// What came of the serving.
 #[derive(Drop)]
 pub struct Served<'b, D: Disk + Drop> {
-    /// The keeper behind the last turn, or as it was where none was made. It is broken where a call of the device failed.
+    /// The keeper behind the last turn, or as it was where none was made. It is broken where a call
+    /// of the device failed.
     pub keeper: Keeper<'b, D>,
     /// That no thread could be had for the serving itself, and else the first fault of the rest.
     pub fault: Option<ServeFault>,
@@ -69,7 +70,8 @@ const AHEAD: usize = 512;
 /// How long the accepting of connections rests where it failed, ms.
 const REST_MS: u64 = 10;
 
-/// How long sessions that are on their way have for their last answers, once all have ended that were to end, ms.
+/// How long sessions that are on their way have for their last answers, once all have ended that
+/// were to end, ms.
 const FAREWELL_MS: u64 = 1_000;
 
 /// What the threads of a serving share.
@@ -159,7 +161,8 @@ impl<'a, 'd> Shared<'a, 'd> {
         self.connections.lock(rt).is_empty()
     }
 
-    /// Sessions that wait for an answer have a while to write it. What is still open then is closed.
+    /// Sessions that wait for an answer have a while to write it. What is still open then is
+    /// closed.
     fn see_off<R: Wait + Clock>(self, rt: &R) {
         for _ in 0..FAREWELL_MS {
             if self.is_empty(rt) {
@@ -238,7 +241,8 @@ fn admit<R: Wait>(
     }
 }
 
-/// Accepts connections until all have ended that were to end, and returns when each thread of one has.
+/// Accepts connections until all have ended that were to end, and returns when each thread of one
+/// has.
 fn welcome<R: Threads + Wait + Clock + Sync>(
     rt: &R,
     alloc: Global,
@@ -293,8 +297,9 @@ fn welcome_all<R: Threads + Wait + Clock + Sync>(
     shared.bells.ring_all();
 }
 
-/// Both parts run, the flusher on this thread, while connections are accepted on another. Where no thread could be had for
-/// the accepting, the parts are as they were; where none could be had for the allocator, all connections are given up.
+/// Both parts run, the flusher on this thread, while connections are accepted on another. Where no
+/// thread could be had for the accepting, the parts are as they were; where none could be had for
+/// the allocator, all connections are given up.
 fn run_beside<'d, 'b, R, G, D, P>(
     rt: &R,
     alloc: Global,
@@ -309,14 +314,18 @@ where
     D: Disk + Drop,
     P: Policy + Drop + Send,
     requires of_one { AreOfOne parts.allocator parts.flusher }
-    ensures { HaveRunOn (P.chooses parts.entry.allocator.policy) D.state parts.entry.allocator result.allocator parts.entry.flusher result.flusher result.fault }
+    ensures { HaveRunOn (P.chooses parts.entry.allocator.policy) D.state parts.entry.allocator
+        result.allocator parts.entry.flusher result.flusher result.fault }
 {
     thread::scope(
         thread::scope_env(),
         rt,
         move |scope| -> Parts<D, P>
-            requires { IsSync R.row × IsSync G.row × IsSend P.row × AreOfOne parts.allocator parts.flusher }
-            ensures { HaveRunOn (P.chooses parts.entry.allocator.policy) D.state parts.entry.allocator result.allocator parts.entry.flusher result.flusher result.fault }
+            requires { IsSync R.row × IsSync G.row × IsSend P.row
+                × AreOfOne parts.allocator parts.flusher }
+            ensures { HaveRunOn (P.chooses parts.entry.allocator.policy) D.state
+                parts.entry.allocator result.allocator parts.entry.flusher result.flusher
+                result.fault }
         {
             if scope
                 .spawn(move || welcome_all(rt, alloc, listener, shared))
@@ -333,9 +342,9 @@ where
     )
 }
 
-/// The clerk's work is done in two parts while connections are accepted. It turns once more behind them. What the parts' run by itself is
-/// undone for is told beside the clerk: no contract knows what a lock holds. Where memory was wanting for the parts the clerk comes
-/// back as it was.
+/// The clerk's work is done in two parts while connections are accepted. It turns once more behind
+/// them. What the parts' run by itself is undone for is told beside the clerk: no contract knows
+/// what a lock holds. Where memory was wanting for the parts the clerk comes back as it was.
 #[tactic(auto, using(crate::proofs::Relayings::relayed_on, crate::proofs::Relayings::none_in_hand, crate::proofs::Relayings::all_received))]
 fn run<'d, 'b, R: Threads + Wait + Clock + Sync, D: Disk + Drop, P: Policy + Drop + Send>(
     rt: &R,
@@ -345,7 +354,9 @@ fn run<'d, 'b, R: Threads + Wait + Clock + Sync, D: Disk + Drop, P: Policy + Dro
     pagers: &[Pager],
     clerk: Clerk<'d, 'b, D, P>,
 ) -> Result<(Clerk<'d, 'b, D, P>, Option<Lack>), Clerk<'d, 'b, D, P>>
-    ensures ran { IfOk result (λ ran. (fault : Option Fault) × Relayed (P.chooses clerk.entry.policy) D.state clerk.entry ran.0 fault × (ran.1 ≡ undone fault)) }
+    ensures ran { IfOk result (λ ran.
+        (fault : Option Fault) × Relayed (P.chooses clerk.entry.policy) D.state clerk.entry ran.0
+        fault × (ran.1 ≡ undone fault)) }
     ensures refused { IfErr result (λ back. back ≡ clerk.entry) }
 {
     match split(alloc, clerk) {
@@ -386,9 +397,11 @@ fn serve_from<'d, 'b, R: Threads + Wait + Clock + Sync, D: Disk + Drop, P: Polic
     clerk: Clerk<'d, 'b, D, P>,
 ) -> Served<'b, D>
     requires desk { lobby.desk ≡ clerk.desk }
-    requires all { lobby.places ≡ all_found clerk.keeper.state.register clerk.desk (seats_from 0 clerk.desk) }
+    requires all { lobby.places
+        ≡ all_found clerk.keeper.state.register clerk.desk (seats_from 0 clerk.desk) }
     requires count { length clerk.desk ≡ 16 + length clerk.keeper.writer.plan.kiosks }
-    ensures { ComesTo (P.chooses clerk.entry.policy) D.state clerk.entry.policy clerk.entry.keeper result.keeper result.fault }
+    ensures { ComesTo (P.chooses clerk.entry.policy) D.state clerk.entry.policy clerk.entry.keeper
+        result.keeper result.fault }
 {
     let building = clerk.keeper().building();
     let lobby = Mutex::new(lobby);
@@ -436,16 +449,19 @@ fn serve_at<'b, R: Threads + Wait + Clock + Sync, D: Disk + Drop, P: Policy + Dr
     requires seats { AreSeatsOf clerk.desk seats.items }
     requires all { seats.items ≡ seats_from 0 clerk.desk }
     requires count { length clerk.desk ≡ 16 + length clerk.keeper.writer.plan.kiosks }
-    ensures { ComesTo (P.chooses clerk.entry.policy) D.state clerk.entry.policy clerk.entry.keeper result.keeper result.fault }
+    ensures { ComesTo (P.chooses clerk.entry.policy) D.state clerk.entry.policy clerk.entry.keeper
+        result.keeper result.fault }
 {
     let register = clerk.keeper().register();
     let lobby = lobby_of(clerk.desk(), pagers, seats, register);
     serve_from(rt, alloc, listener, connections, pagers, lobby, clerk)
 }
 
-/// Serves the keeper's building on a listening socket until so many connections have ended, those that were refused included: each
-/// has a thread of its own, beside the allocator's and the flusher's. A fault of the device ends nothing: what is asked from then on is answered
-/// Unknown. The keeper always comes back; where nobody could be served for want of memory, or since the socket failed, it is as it was.
+/// Serves the keeper's building on a listening socket until so many connections have ended, those
+/// that were refused included: each has a thread of its own, beside the allocator's and the
+/// flusher's. A fault of the device ends nothing: what is asked from then on is answered Unknown.
+/// The keeper always comes back; where nobody could be served for want of memory, or since the
+/// socket failed, it is as it was.
 pub fn serve<'b, R: Threads + Wait + Clock + Sync, D: Disk + Drop, P: Policy + Drop + Send>(
     rt: &R,
     alloc: Global,
@@ -455,7 +471,8 @@ pub fn serve<'b, R: Threads + Wait + Clock + Sync, D: Disk + Drop, P: Policy + D
     policy: P,
 ) -> Served<'b, D>
     requires settled { keeper.state.batch ≡ [] }
-    // What the keeper has at the end came to it by the turns of the two parts of a clerk with this policy, and by its last one; or it is as it was, and why is told.
+    // What the keeper has at the end came to it by the turns of the two parts of a clerk with this
+    // policy, and by its last one; or it is as it was, and why is told.
     ensures { ComesTo (P.chooses policy) D.state policy keeper.entry result.keeper result.fault }
 {
     let terminals = 16 + usize::from(keeper.building().kiosks());

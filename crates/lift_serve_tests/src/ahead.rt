@@ -1,4 +1,5 @@
-//! Tests: a call is decided, and the last connection that counts ends, while the device holds the sync of a call.
+//! Tests: a call is decided, and the last connection that counts ends, while the device holds the
+//! sync of a call.
 ghost use Rattle.std.specs.Prelude.{◌≡◌, []};
 
 use crate::callers::{address, connected, end_server, follows, follows_step};
@@ -76,7 +77,8 @@ impl Shared {
         }
     }
 
-    /// Holds the first sync behind a call until it is released, as by a second call. True where it wasn't.
+    /// Holds the first sync behind a call until it is released, as by a second call. True where it
+    /// wasn't.
     fn is_held_in_vain(&self) -> bool {
         if self.asked.load(Ordering::SeqCst) == 0 || self.held.swap(1, Ordering::SeqCst) == 1 {
             return false;
@@ -131,7 +133,9 @@ impl<'a> Disk for Holding<'a> {
 
     ghost counts_now = { λ d _ t left le now. inl now };
 
-    ghost only_now = { λ d _ left since. no_other d.inner.history.first d.inner.history.calls d.inner.image.items d.inner.loose.items left since };
+    ghost only_now = { λ d _ left since.
+        no_other d.inner.history.first d.inner.history.calls d.inner.image.items d.inner.loose.items
+        left since };
 
     ghost may_lose = { λ d _. d.inner.kept };
 
@@ -180,8 +184,8 @@ fn both_call<R: Net<Listener = TcpListener, Stream = TcpStream>>(
     Some(have_heard)
 }
 
-/// Kiosk 0 calls, and the sync for its call is held when the last connection that counts ends. It is released behind that; the
-/// kiosk hears its letter, and is closed then.
+/// Kiosk 0 calls, and the sync for its call is held when the last connection that counts ends. It
+/// is released behind that; the kiosk hears its letter, and is closed then.
 fn one_calls<R: Clock + Net<Listener = TcpListener, Stream = TcpStream>>(
     rt: &R,
     port: u16,
@@ -223,7 +227,8 @@ fn call<R: Clock + Net<Listener = TcpListener, Stream = TcpStream>>(
     }
 }
 
-/// Serves until so many connections have ended, while one kiosk calls or both do: how many calls are open behind it.
+/// Serves until so many connections have ended, while one kiosk calls or both do: how many calls
+/// are open behind it.
 fn serve_callers<
     R: Threads + Wait + Clock + Abort + Net<Listener = TcpListener, Stream = TcpStream> + Sync,
 >(rt: &R, alloc: Global, shared: &Shared, sessions: u32, are_both: bool) -> Result<u32, Fail> {
@@ -238,9 +243,7 @@ fn serve_callers<
     let policy = Counting { shared };
     let calls = move || call(rt, alloc, port, shared, are_both);
     let ended = &shared.ended;
-    match serve_beside(
-        rt, alloc, &listener, sessions, keeper, policy, ended, calls,
-    ) {
+    match serve_beside(rt, alloc, &listener, sessions, keeper, policy, ended, calls) {
         Served {
             keeper,
             fault: None,

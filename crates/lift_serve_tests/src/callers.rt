@@ -57,13 +57,15 @@ fn says(stream: &TcpStream, text: &str) -> bool {
     (&mut &*stream).write_all(text.as_bytes()).is_ok()
 }
 
-/// Waits for something to be sent to it. A connection that is let go then, with this unread, is reset.
+/// Waits for something to be sent to it. A connection that is let go then, with this unread, is
+/// reset.
 fn has_unread(stream: &TcpStream) -> bool {
     let mut heard = [0u8];
     matches!(stream.peek(&mut heard), Ok(1))
 }
 
-/// Connects and says a line, again and again for a second while it is answered `BUSY`. The connection that is answered otherwise.
+/// Connects and says a line, again and again for a second while it is answered `BUSY`. The
+/// connection that is answered otherwise.
 fn comes_back<R: Clock + Net<Listener = TcpListener, Stream = TcpStream>>(
     rt: &R,
     port: u16,
@@ -102,7 +104,8 @@ pub(crate) fn follows_step(stream: &TcpStream, step: &str) -> bool {
     }
 }
 
-/// Carries out one line of a script: a connection's digit, and its step. Whether it is as the script has it.
+/// Carries out one line of a script: a connection's digit, and its step. Whether it is as the
+/// script has it.
 fn follows_line<R: Clock + Net<Listener = TcpListener, Stream = TcpStream>>(
     rt: &R,
     port: u16,
@@ -173,10 +176,11 @@ pub(crate) fn end_server<R: Net<Listener = TcpListener, Stream = TcpStream>>(
     }
 }
 
-/// Whether all goes as the script has it. Its lines: `1+` connection 1 is made; `1>TEXT` it says this line, `1~TEXT` these
-/// bytes; `1<TEXT` it hears just this line; `1.` it hears that the other end is closed; `1-` the same, behind closing its
-/// own; `1!` it is reset; `1*TEXT` it is made and says this line, again for a second while it is `BUSY`; `1=` other connections
-/// are made and closed until the server has ended.
+/// Whether all goes as the script has it. Its lines: `1+` connection 1 is made; `1>TEXT` it says
+/// this line, `1~TEXT` these bytes; `1<TEXT` it hears just this line; `1.` it hears that the other
+/// end is closed; `1-` the same, behind closing its own; `1!` it is reset; `1*TEXT` it is made and
+/// says this line, again for a second while it is `BUSY`; `1=` other connections are made and
+/// closed until the server has ended.
 pub(crate) fn follows<R: Clock + Net<Listener = TcpListener, Stream = TcpStream>>(
     rt: &R,
     alloc: Global,

@@ -8,7 +8,8 @@ use lift_keeper::Keeper;
 use std::alloc::Global;
 use std::test::Fail;
 
-/// Ten floors, kiosks on floors 0 and 5; a flight takes 2,000 ms and 1,000 ms for each floor; cars A and B, for 8 persons.
+/// Ten floors, kiosks on floors 0 and 5; a flight takes 2,000 ms and 1,000 ms for each floor; cars
+/// A and B, for 8 persons.
 const DEMO: &str = "\
 floors = 10
 door_ms = 6000

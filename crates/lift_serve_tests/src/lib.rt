@@ -1,4 +1,5 @@
-//! Tests: a building that is served on a socket of this machine, in one process with the kiosks and cars that call.
+//! Tests: a building that is served on a socket of this machine, in one process with the kiosks and
+//! cars that call.
 #![tactic(auto)]
 
 #[cfg(test)]

@@ -17,8 +17,9 @@ use std::test::Fail;
 use std::thread::Threads;
 use std::time::Clock;
 
-/// Eight connections end: three that are refused, a kiosk's one, a car's three, and another car's one. The last of them ends
-/// one that is silent, one in the middle of a line, and a kiosk that nobody closed.
+/// Eight connections end: three that are refused, a kiosk's one, a car's three, and another car's
+/// one. The last of them ends one that is silent, one in the middle of a line, and a kiosk that
+/// nobody closed.
 const A_DAY: &str = "\
 0+
 1+
@@ -89,7 +90,8 @@ const THE_NEXT_DAY: &str = "\
 1-
 ";
 
-/// Both cars are placed, and kiosk 0 calls to floors 5, 8 and 3. The first answer is A by each policy.
+/// Both cars are placed, and kiosk 0 calls to floors 5, 8 and 3. The first answer is A by each
+/// policy.
 const FEWEST: &str = "\
 1+
 1>CAR A
@@ -138,7 +140,8 @@ const SHORTEST: &str = "\
 2.
 ";
 
-/// A car is placed. The second call of the device fails then, and all behind it: nobody knows what becomes of a command.
+/// A car is placed. The second call of the device fails then, and all behind it: nobody knows what
+/// becomes of a command.
 const FAILING: &str = "\
 1+
 1>CAR A
@@ -241,9 +244,7 @@ fn served<
     let (followed, end) = (AtomicU64::new(0), AtomicU64::new(0));
     let (count, ended) = (&followed, &end);
     let calls = move || follow(rt, alloc, port, script, count, ended);
-    match serve_beside(
-        rt, alloc, &listener, sessions, keeper, policy, ended, calls,
-    ) {
+    match serve_beside(rt, alloc, &listener, sessions, keeper, policy, ended, calls) {
         Served {
             keeper,
             fault: None,

@@ -29,7 +29,8 @@ fn watch<R: Clock + Abort>(rt: &R, ended: &AtomicU64) {
     panic!(rt; "serving has not ended");
 }
 
-/// Serves on a socket until so many connections have ended, while a thread calls and another one watches.
+/// Serves on a socket until so many connections have ended, while a thread calls and another one
+/// watches.
 pub(crate) fn serve_beside<'b, R, D, P, C>(
     rt: &R,
     alloc: Global,

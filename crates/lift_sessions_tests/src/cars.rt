@@ -114,7 +114,8 @@ fn malformed_moves(rt: HostRuntime) -> Result<(), Fail> {
     Ok(())
 }
 
-/// A session of a car at floor 0 over these streams, which is told its stop there and is idle behind it.
+/// A session of a car at floor 0 over these streams, which is told its stop there and is idle
+/// behind it.
 fn talk_over<R: Read + Drop, W: Write + Drop>(
     alloc: Global,
     reader: R,
@@ -166,7 +167,8 @@ fn readers_fail(rt: HostRuntime) -> Result<(), Fail> {
     Ok(())
 }
 
-/// A writer that fails, or takes nothing more, after so many bytes: these were written, and the stop that was heard counts.
+/// A writer that fails, or takes nothing more, after so many bytes: these were written, and the
+/// stop that was heard counts.
 #[test]
 fn writers_fail(rt: HostRuntime) -> Result<(), Fail> {
     for room in 0..27usize {

@@ -8,7 +8,8 @@ use std::alloc::{AllocError, Global};
 use std::cell::Cell;
 use std::test::Fail;
 
-/// A model car with the places that it was sent to, each with how many asks its port had stored until then.
+/// A model car with the places that it was sent to, each with how many asks its port had stored
+/// until then.
 #[derive(Drop)]
 struct Recorder<'a> {
     car: ModelCar,
@@ -134,8 +135,8 @@ fn counted_drive(
     })
 }
 
-/// The car takes its passengers at floor 0 to floor 5, and is idle there. It goes to each stop before it reports it: to the
-/// first behind its first ask, to the second behind its second.
+/// The car takes its passengers at floor 0 to floor 5, and is idle there. It goes to each stop
+/// before it reports it: to the first behind its first ask, to the second behind its second.
 #[test]
 fn car_makes_its_stops(rt: HostRuntime) -> Result<(), Fail> {
     let driven = driven(
@@ -162,7 +163,8 @@ fn car_makes_its_stops(rt: HostRuntime) -> Result<(), Fail> {
     Ok(())
 }
 
-/// The answers, the last number and the asks allowed; how the drive ends, the last number then, and how many asks it made.
+/// The answers, the last number and the asks allowed; how the drive ends, the last number then, and
+/// how many asks it made.
 type Row = ([Reply; 2], u32, u32, Ending, u32, usize);
 
 fn ends_so(alloc: Global, row: &Row) -> Result<bool, Fail> {

@@ -62,7 +62,8 @@ fn readers_fail(rt: HostRuntime) -> Result<(), Fail> {
     Ok(())
 }
 
-/// A writer that fails, or takes nothing more, after so many bytes: these were written, and the letters that were heard count.
+/// A writer that fails, or takes nothing more, after so many bytes: these were written, and the
+/// letters that were heard count.
 #[test]
 fn writers_fail(rt: HostRuntime) -> Result<(), Fail> {
     for room in 0..24usize {

@@ -1,4 +1,5 @@
-//! Tests of the sessions of kiosks and cars, and of drives, over a desk whose clerk is played while the port rests.
+//! Tests of the sessions of kiosks and cars, and of drives, over a desk whose clerk is played while
+//! the port rests.
 #![tactic(auto)]
 
 #[cfg(test)]

@@ -14,7 +14,8 @@ fn reply_at(replies: &[Reply], place: usize) -> Reply {
     }
 }
 
-/// A terminal's port at a desk of its own. The clerk looks when the port rests, and answers with the next of the replies.
+/// A terminal's port at a desk of its own. The clerk looks when the port rests, and answers with
+/// the next of the replies.
 #[derive(Drop)]
 pub struct Served<'d> {
     desk: &'d Desk,

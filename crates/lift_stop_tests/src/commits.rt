@@ -1,4 +1,5 @@
-//! Commits that are stopped, with and without a checkpoint before the batch, and the openings behind them.
+//! Commits that are stopped, with and without a checkpoint before the batch, and the openings
+//! behind them.
 use crate::failing::{CUTS, Failing, Failures, NEVER};
 use crate::group::{
     BROKEN, DISK, building, call, car, floor, formatted, kiosk, number, place, stop,
@@ -12,19 +13,22 @@ use lift_policy::Etd;
 use std::alloc::Global;
 use std::test::Fail;
 
-/// A commit of kiosk 0's second call, behind its first one and so many stops of car A, each in a batch of its own.
+/// A commit of kiosk 0's second call, behind its first one and so many stops of car A, each in a
+/// batch of its own.
 #[derive(Clone, Copy)]
 pub(crate) struct Work {
     pub(crate) stops: u32,
     /// How many calls of the device the commit makes.
     pub(crate) calls: u32,
-    /// How many of them make the checkpoint, if there is one: the last but one writes the pick, and the last one syncs it.
+    /// How many of them make the checkpoint, if there is one: the last but one writes the pick, and
+    /// the last one syncs it.
     calls_of_checkpoint: u32,
 }
 
 impl Work {
-    /// How many calls an opening makes behind these first failures: the sync, the stamp, the pick, the chain twice, two
-    /// sectors for each batch, and the closing gate once. The half that a checkpoint begins has one batch.
+    /// How many calls an opening makes behind these first failures: the sync, the stamp, the pick,
+    /// the chain twice, two sectors for each batch, and the closing gate once. The half that a
+    /// checkpoint begins has one batch.
     pub(crate) fn calls_of_opening(&self, first: &Failures) -> u32 {
         let batches = if first.is_in(self.calls) {
             2
@@ -87,7 +91,8 @@ fn opened<'b, D: Failing + Drop>(
     Ok(Keeper::open(device, building).ok().ok_or("refused")?)
 }
 
-/// The recovery where no power is cut: the keeper is reopened, and again where the device fails it, as it has to if it is told so.
+/// The recovery where no power is cut: the keeper is reopened, and again where the device fails it,
+/// as it has to if it is told so.
 fn reopened<'b, D: Failing + Drop>(
     tally: &mut Tally,
     keeper: Keeper<'b, D>,
@@ -108,7 +113,8 @@ fn reopened<'b, D: Failing + Drop>(
     Ok(keeper)
 }
 
-/// The recovery of what a power cut leaves, begun again where the device fails it, as it has to if it is told so.
+/// The recovery of what a power cut leaves, begun again where the device fails it, as it has to if
+/// it is told so.
 fn recovered<'b, D: Failing + Drop>(
     tally: &mut Tally,
     device: D,
@@ -146,7 +152,8 @@ fn shows<D: Failing + Drop>(keeper: &Keeper<D>, work: &Work, is_in: bool) -> boo
         && keeper.view().position(Letter::default()) == None
 }
 
-/// The register goes on from there: the repeat of a call that is in gets its letter, though no car has told where it is.
+/// The register goes on from there: the repeat of a call that is in gets its letter, though no car
+/// has told where it is.
 fn go_on<D: Failing + Drop>(
     tally: &mut Tally,
     keeper: Keeper<D>,
@@ -198,8 +205,8 @@ fn stop_at<D: Failing + Drop>(
     go_on(tally, keeper, building, work, failures.is_in(work.calls))
 }
 
-/// Each call of the recovery fails in turn, and none where it is one behind the last. Behind the first of them, the sync, loose
-/// sectors end in each way.
+/// Each call of the recovery fails in turn, and none where it is one behind the last. Behind the
+/// first of them, the sync, loose sectors end in each way.
 fn stop_recoveries<D: Failing + Drop>(
     alloc: Global,
     tally: &mut Tally,
@@ -218,7 +225,8 @@ fn stop_recoveries<D: Failing + Drop>(
     Ok(())
 }
 
-/// Each call of the device fails in turn, and none where it is one behind the last; loose sectors end in each way.
+/// Each call of the device fails in turn, and none where it is one behind the last; loose sectors
+/// end in each way.
 fn stop_all<D: Failing + Drop>(alloc: Global, tally: &mut Tally, work: &Work) -> Result<(), Fail> {
     let building = building(alloc)?;
     for place in 0..work.calls.saturating_add(1).saturating_mul(6) {

@@ -52,8 +52,8 @@ impl Failing for FlakyDisk {
     }
 }
 
-/// The calls of the device that are the first to fail, in the work and in the recovery, counted from 1, and how the power is
-/// cut behind each of these failures, if it is.
+/// The calls of the device that are the first to fail, in the work and in the recovery, counted
+/// from 1, and how the power is cut behind each of these failures, if it is.
 #[derive(Clone, Copy)]
 pub(crate) struct Failures {
     pub(crate) work: u32,
@@ -63,7 +63,8 @@ pub(crate) struct Failures {
 }
 
 impl Failures {
-    /// What became of the gate, if it was loose. Once the recovery's sync, its first call, has succeeded, no cut changes it.
+    /// What became of the gate, if it was loose. Once the recovery's sync, its first call, has
+    /// succeeded, no cut changes it.
     fn outcome(&self) -> Outcome {
         let first = self.cut.unwrap_or(Outcome::Keep);
         match self.cut_again {
@@ -72,8 +73,8 @@ impl Failures {
         }
     }
 
-    /// Whether the batch is in behind the recovery, for work of so many calls: the last but one writes its gate, and the last
-    /// one syncs it.
+    /// Whether the batch is in behind the recovery, for work of so many calls: the last but one
+    /// writes its gate, and the last one syncs it.
     pub(crate) fn is_in(&self, calls: u32) -> bool {
         self.work > calls
             || match self.outcome() {

@@ -1,7 +1,9 @@
-//! Each device call of a commit, of a clerk's turn and of a flusher's is stopped in turn, by a device that fails once and by one that
-//! fails from then on; behind it the power is cut in five ways or not at all, and the recovery is stopped at each of its own calls
-//! too, and begun again. What was told is there each time. These are 5,432 stops of each device, and as many of each kind of work.
-//! (Appends, checkpoints and openings of a journal are stopped so in `lift_journal_tests`.)
+//! Each device call of a commit, of a clerk's turn and of a flusher's is stopped in turn, by a
+//! device that fails once and by one that fails from then on; behind it the power is cut in five
+//! ways or not at all, and the recovery is stopped at each of its own calls too, and begun again.
+//! What was told is there each time. These are 5,432 stops of each device, and as many of each kind
+//! of work. (Appends, checkpoints and openings of a journal are stopped so in
+//! `lift_journal_tests`.)
 #![tactic(auto)]
 
 #[cfg(test)]

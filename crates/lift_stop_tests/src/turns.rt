@@ -1,5 +1,6 @@
-//! Turns that are stopped, of a clerk and of its two parts, with and without a checkpoint before the batch, and the recoveries
-//! behind them: by reopening at the same desk, or behind a power cut at a new one.
+//! Turns that are stopped, of a clerk and of its two parts, with and without a checkpoint before
+//! the batch, and the recoveries behind them: by reopening at the same desk, or behind a power cut
+//! at a new one.
 use crate::commits::{APPENDED, CHECKPOINTED, Work};
 use crate::desks::{Terminals, clerk_of, open};
 use crate::failing::{CUTS, Failing, Failures, NEVER};
@@ -64,7 +65,8 @@ fn letter() -> Option<Reply> {
     Some(Reply::Car(Letter::default()))
 }
 
-/// So many stops of car A, and kiosk 0's first call, each in a batch of its own: the letter was heard.
+/// So many stops of car A, and kiosk 0's first call, each in a batch of its own: the letter was
+/// heard.
 fn begin<D: Failing + Drop>(
     tally: &mut Tally,
     group: &mut Terminals,
@@ -80,7 +82,8 @@ fn begin<D: Failing + Drop>(
     tally.want(group.kiosk_asks(clerk, 1, 5) == letter());
 }
 
-/// The letters that were heard are told again, without a car that has told where it is; and the second call gets its own.
+/// The letters that were heard are told again, without a car that has told where it is; and the
+/// second call gets its own.
 fn go_on<D: Failing + Drop>(
     tally: &mut Tally,
     group: &mut Terminals,
@@ -163,7 +166,8 @@ fn begin_again<D: Failing + Drop>(
     Ok(())
 }
 
-/// The recovery without a power cut, begun again where the device fails it, and the same terminals go on.
+/// The recovery without a power cut, begun again where the device fails it, and the same terminals
+/// go on.
 fn go_on_here<D: Failing + Drop>(
     tally: &mut Tally,
     group: &mut Terminals,
@@ -217,8 +221,8 @@ fn stop_at<R: Wait, D: Failing + Drop>(
     begin_again(alloc, tally, clerk, case)
 }
 
-/// Each call of the recovery fails in turn, and none where it is one behind the last. Behind the first of them, the sync, loose
-/// sectors end in each way.
+/// Each call of the recovery fails in turn, and none where it is one behind the last. Behind the
+/// first of them, the sync, loose sectors end in each way.
 fn stop_recoveries<R: Wait, D: Failing + Drop>(
     rt: &R,
     alloc: Global,
@@ -238,7 +242,8 @@ fn stop_recoveries<R: Wait, D: Failing + Drop>(
     Ok(())
 }
 
-/// Each call of the device in this work's turn fails in turn, and none where it is one behind the last; loose sectors end in each way.
+/// Each call of the device in this work's turn fails in turn, and none where it is one behind the
+/// last; loose sectors end in each way.
 fn stop_work<R: Wait, D: Failing + Drop>(
     rt: &R,
     alloc: Global,

@@ -16,9 +16,10 @@ pub record ScheduleState : Type 0 where
 abbrev pub position_after : Stop → Position
 position_after stop = record { floor = stop.floor; dir = stop.dir }
 
--- The halts are those of the calls' legs, in order, and beside each is the number of its legs. Each leg is a floor that
--- a building may have.
-pub record IsPlanned (position : Position) (rows : List Row) (halts : List Halt) (counts : List ℕ) : Type 0 where
+-- The halts are those of the calls' legs, in order, and beside each is the number of its legs. Each
+-- leg is a floor that a building may have.
+pub record IsPlanned (position : Position) (rows : List Row) (halts : List Halt)
+    (counts : List ℕ) : Type 0 where
   pub tally : IsTally position.dir (legs_at position rows) halts counts
   pub few : length rows ≤ 33
   pub floors : All HasFloors rows

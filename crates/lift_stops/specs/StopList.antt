@@ -1,5 +1,7 @@
 -- The halts that a car still has to make, in the order in which it makes them.
-use Rattle.std.specs.Prelude.{◌≡◌, ℕ, ◌<◌, All, ◌==◌, ◌&&◌, if◌then◌else◌, nat_le, Bool, true, false, List, [], ◌∷◌, ◌++◌, ◌-◌, map, filter, slice_get, Option, option_map}
+use Rattle.std.specs.Prelude.{◌≡◌, ℕ, ◌<◌, All, ◌==◌, ◌&&◌, if◌then◌else◌, nat_le, Bool, true}
+use Rattle.std.specs.Prelude.{false, List, [], ◌∷◌, ◌++◌, ◌-◌, map, filter, slice_get, Option}
+use Rattle.std.specs.Prelude.{option_map}
 use Rattle.std.specs.List.{list_any, range_with_len}
 use Rattle.lift_base.specs.Travel.{reverse_of, same_dir}
 use Rattle.lift_base.specs.History.{dir_of}
@@ -12,8 +14,8 @@ use Rattle.lift_base.specs.declared.travel.Stop.{Stop}
 use Rattle.lift_base.specs.declared.travel.Halt.{Halt}
 use Rattle.lift_base.specs.declared.history.Row.{Row}
 
--- the floors that a call still needs its car at: where its passengers board, unless aboard, and then where they
--- leave
+-- the floors that a call still needs its car at: where its passengers board, unless aboard, and
+-- then where they leave
 abbrev pub legs_of : Row → List ℕ
 legs_of row = if row.aboard then row.to ∷ [] else row.from ∷ row.to ∷ []
 
@@ -29,8 +31,8 @@ abbrev pub is_ahead : Dir → (floor other : ℕ) → Bool
 is_ahead Up floor other = nat_le other floor
 is_ahead Down floor other = nat_le floor other
 
--- the pass in which a car makes a call: the first where the call goes the car's way and starts ahead, the second where
--- it goes the other way, the third where it starts behind
+-- the pass in which a car makes a call: the first where the call goes the car's way and starts
+-- ahead, the second where it goes the other way, the third where it starts behind
 abbrev pub pass_of : Position → Row → Pass
 pass_of position row =
     if same_dir (dir_of row.from row.to) position.dir
@@ -72,7 +74,8 @@ floors_along Down = map (λ floor. 63 - floor) (range_with_len 0 64)
 
 -- every halt of a pass, in the order of travel
 abbrev pub halts_in : Dir → Pass → List Halt
-halts_in dir pass = map (λ floor. record { pass = pass; floor = floor }) (floors_along (dir_in dir pass))
+halts_in dir pass = map (λ floor.
+    record { pass = pass; floor = floor }) (floors_along (dir_in dir pass))
 
 -- every halt, in the order in which a car of this direction would make them all
 abbrev pub all_halts : Dir → List Halt
@@ -88,14 +91,16 @@ stop_of halt position = record { floor = halt.floor; dir = dir_in position.dir h
 
 -- the stop at the first halt
 abbrev pub next_stop : List Row → Position → Option Stop
-next_stop rows position = option_map (λ halt. stop_of halt position) (slice_get (stop_list rows position) 0)
+next_stop rows position =
+    option_map (λ halt. stop_of halt position) (slice_get (stop_list rows position) 0)
 
 -- a call's own halts, in the order in which its passengers need them
 abbrev pub halts_of : Position → Row → List Halt
-halts_of position row = map (λ floor. record { pass = pass_of position row; floor = floor }) (legs_of row)
+halts_of position row = map (λ floor. record { pass = pass_of position row; floor = floor })
+    (legs_of row)
 
--- Wherever the car is, its list without the halts of the other calls is this call's halts in the order in which its
--- passengers need them.
+-- Wherever the car is, its list without the halts of the other calls is this call's halts in the
+-- order in which its passengers need them.
 abbrev pub StopsInOrder : List Row → Row → Type 0
 StopsInOrder rows row = (position : Position)
     → filter (is_halt_of position row) (stop_list rows position) ≡ halts_of position row

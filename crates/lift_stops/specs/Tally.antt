@@ -15,8 +15,10 @@ times_in legs halt = count_by (λ leg. same_halt leg halt) legs
 abbrev pub legs_at : Position → List Row → List Halt
 legs_at position rows = flat_map (halts_of position) rows
 
--- Some legs have these halts, in the order of a car of this direction, and so many of them are at each.
-pub record IsTally (dir : Dir) (legs : List Halt) (halts : List Halt) (counts : List ℕ) : Type 0 where
+-- Some legs have these halts, in the order of a car of this direction, and so many of them are at
+-- each.
+pub record IsTally (dir : Dir) (legs : List Halt) (halts : List Halt)
+    (counts : List ℕ) : Type 0 where
   pub listed : halts ≡ filter (λ halt. nat_lt 0 (times_in legs halt)) (all_halts dir)
   pub counted : counts ≡ map (times_in legs) halts
 
@@ -27,7 +29,8 @@ pub record HasTally (dir : Dir) (most : ℕ) (halts : List Halt) (counts : List 
   pub few : length legs ≤ most
 
 -- A tally of a call's legs and those of at most 32 more.
-pub record HasRow (position : Position) (row : Row) (halts : List Halt) (counts : List ℕ) : Type 0 where
+pub record HasRow (position : Position) (row : Row) (halts : List Halt)
+    (counts : List ℕ) : Type 0 where
   pub before : List Halt
   pub after : List Halt
   pub tally : IsTally position.dir (before ++ (halts_of position row ++ after)) halts counts

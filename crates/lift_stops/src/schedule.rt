@@ -39,11 +39,13 @@ fn rows_after(rows: &[Row], stop: &Stop) -> ArrayVec<Row, 33>
     left
 }
 
-/// The tally after a stop. A car that turns passes its calls in another order, so that its tally is made anew.
+/// The tally after a stop. A car that turns passes its calls in another order, so that its tally is
+/// made anew.
 fn tally_served(tally: &mut Tally, here: &Position, rows: &[Row], stop: &Stop, left: &[Row])
     requires few { length rows.now ≤ 33 }
     requires left { left.now ≡ flat_map (row_after stop.now) rows.now }
-    requires tally { IsTally here.now.dir (legs_at here.now rows.now) tally.old.halts.items tally.old.counts.items }
+    requires tally { IsTally here.now.dir
+        (legs_at here.now rows.now) tally.old.halts.items tally.old.counts.items }
     ensures { IsTally stop.now.dir (legs_at (position_after stop.now) left.now)
         tally.new.halts.items tally.new.counts.items }
 {
@@ -61,8 +63,10 @@ fn tally_served(tally: &mut Tally, here: &Position, rows: &[Row], stop: &Stop, l
 /// The tally at another position.
 fn tally_moved(tally: &mut Tally, here: &Position, there: &Position, rows: &[Row])
     requires few { length rows.now ≤ 33 }
-    requires tally { IsTally here.now.dir (legs_at here.now rows.now) tally.old.halts.items tally.old.counts.items }
-    ensures { IsTally there.now.dir (legs_at there.now rows.now) tally.new.halts.items tally.new.counts.items }
+    requires tally { IsTally here.now.dir
+        (legs_at here.now rows.now) tally.old.halts.items tally.old.counts.items }
+    ensures { IsTally there.now.dir (legs_at there.now rows.now) tally.new.halts.items
+        tally.new.counts.items }
 {
     if there.dir == here.dir {
         move_on(tally, here, there, rows);
@@ -71,8 +75,8 @@ fn tally_moved(tally: &mut Tally, here: &Position, there: &Position, rows: &[Row
     }
 }
 
-/// Where a car is, its open calls, and the halts that it still has to make for them. After any changes these are the
-/// halts of the stop list that is made from nothing.
+/// Where a car is, its open calls, and the halts that it still has to make for them. After any
+/// changes these are the halts of the stop list that is made from nothing.
 #[derive(Drop)]
 pub struct Schedule {
     position: Position,
@@ -87,7 +91,8 @@ impl Model for Schedule {
 
     ghost view = { λ s. record { position = s.position; rows = s.rows.items } };
 
-    ghost invariant = { λ s. IsPlanned s.position s.rows.items s.tally.halts.items s.tally.counts.items };
+    ghost invariant = { λ s.
+        IsPlanned s.position s.rows.items s.tally.halts.items s.tally.counts.items };
 }
 
 impl Schedule {
@@ -111,10 +116,13 @@ impl Schedule {
         self.rows.push(row);
     }
 
-    /// The car made a stop: its position is there, the passengers for this floor have left, and those who waited there
-    /// for its direction have boarded.
+    /// The car made a stop: its position is there, the passengers for this floor have left, and
+    /// those who waited there for its direction have boarded.
     pub fn serve(&mut self, stop: Stop)
-        ensures { self.new ≡ record { position = position_after stop; rows = flat_map (row_after stop) self.old.rows } }
+        ensures { self.new ≡ record {
+          position = position_after stop;
+          rows = flat_map (row_after stop) self.old.rows;
+        } }
     {
         if self.rows.is_empty() {
             self.replace_position(Position {
@@ -128,7 +136,10 @@ impl Schedule {
 
     /// The stop of a car with calls.
     fn serve_rows(&mut self, stop: &Stop)
-        ensures { self.new ≡ record { position = position_after stop.now; rows = flat_map (row_after stop.now) self.old.rows } }
+        ensures { self.new ≡ record {
+          position = position_after stop.now;
+          rows = flat_map (row_after stop.now) self.old.rows;
+        } }
     {
         let left = rows_after(&self.rows, stop);
         tally_served(&mut self.tally, &self.position, &self.rows, stop, &left);
@@ -155,8 +166,10 @@ impl Schedule {
         // No halt stands twice.
         ensures differ { AllDiffer result.now }
 
-        // Wherever the car is, the halts of an open call stand in the list in the order in which its passengers need them.
-        ensures in_order { (row : RowValue) → Contains self.now.rows row → row.from ≢ row.to → StopsInOrder self.now.rows row }
+        // Wherever the car is, the halts of an open call stand in the list in the order in which
+        // its passengers need them.
+        ensures in_order { (row : RowValue) → Contains self.now.rows row → row.from ≢ row.to
+            → StopsInOrder self.now.rows row }
     {
         self.tally.halts()
     }

@@ -1,11 +1,13 @@
 //! The stops that a car still has to make, in the order in which it makes them.
 
-ghost use Rattle.std.specs.Prelude.{◌≡◌, ◌≢◌, ℕ, ◌+◌, ◌<◌, ◌≤◌, nat_lt, List, [], ◌∷◌, ◌++◌, IfOk, IfErr, Contains, insert, length, slice_index_or};
+ghost use Rattle.std.specs.Prelude.{◌≡◌, ◌≢◌, ℕ, ◌+◌, ◌<◌, ◌≤◌, nat_lt, List, [], ◌∷◌, ◌++◌, IfOk};
+ghost use Rattle.std.specs.Prelude.{IfErr, Contains, insert, length, slice_index_or};
 ghost use Rattle.arrayvec.specs.ArrayVec.{array_vec_len};
 ghost use Rattle.lift_base.specs.declared.history.Row.{Row as RowValue};
 ghost use Rattle.lift_stops.specs.Insertion.{put, rank_of};
 ghost use Rattle.lift_stops.specs.Parts.{AllDiffer};
-ghost use Rattle.lift_stops.specs.StopList.{HasFloors, StopsInOrder, is_ahead, pass_of, dir_in, stop_list, stop_of, next_stop};
+ghost use Rattle.lift_stops.specs.StopList.{HasFloors, StopsInOrder, is_ahead, pass_of, dir_in};
+ghost use Rattle.lift_stops.specs.StopList.{stop_list, stop_of, next_stop};
 
 use arrayvec::ArrayVec;
 use lift_base::{Dir, Floor, Halt, Pass, Position, Row, Stop};
@@ -19,8 +21,9 @@ fn is_ahead(dir: Dir, floor: Floor, other: Floor) -> bool
     }
 }
 
-/// The pass in which a car at this position makes a call: the first where the call goes the car's way and its next
-/// leg is at the car or ahead of it, the second where it goes the other way, the third where that leg is behind.
+/// The pass in which a car at this position makes a call: the first where the call goes the car's
+/// way and its next leg is at the car or ahead of it, the second where it goes the other way, the
+/// third where that leg is behind.
 pub fn pass_of(row: &Row, position: Position) -> Pass
     ensures { result ≡ pass_of position row.now }
 {
@@ -71,7 +74,8 @@ fn comes_before(dir: Dir, halt: &Halt, other: &Halt) -> bool
 
 /// Where this halt stands among sorted ones, or else the place to put it at.
 pub fn find_halt(halts: &[Halt], dir: Dir, halt: &Halt) -> Result<usize, usize>
-    ensures found { IfOk result (λ at. at < length halts.now × slice_index_or halts.now at halt.now ≡ halt.now
+    ensures found { IfOk result (λ at. at < length halts.now × slice_index_or halts.now at halt.now
+        ≡ halt.now
         × put (rank_of dir) halt.now halts.now ≡ halts.now) }
     ensures missing { IfErr result
         (λ at. at ≤ length halts.now
@@ -116,15 +120,18 @@ pub fn insert_row(halts: &mut ArrayVec<Halt, 66>, position: &Position, row: &Row
     }
 }
 
-/// The halts that a car at this position still has to make for these calls, in the order in which it makes them.
+/// The halts that a car at this position still has to make for these calls, in the order in which
+/// it makes them.
 pub fn stop_list(rows: &[Row], position: Position) -> ArrayVec<Halt, 66>
     requires { length rows.now ≤ 33 }
     ensures halts { result.items ≡ stop_list rows.now position }
     // No halt stands twice.
     ensures differ { AllDiffer result.items }
 
-    // Wherever the car is, the halts of an open call stand in the list in the order in which its passengers need them.
-    ensures in_order { (row : RowValue) → Contains rows.now row → row.from ≢ row.to → StopsInOrder rows.now row }
+    // Wherever the car is, the halts of an open call stand in the list in the order in which its
+    // passengers need them.
+    ensures in_order { (row : RowValue) → Contains rows.now row → row.from ≢ row.to
+        → StopsInOrder rows.now row }
 {
     let mut halts = ArrayVec::new();
     for row in rows {

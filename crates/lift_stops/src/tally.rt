@@ -1,6 +1,7 @@
 //! How many legs of some calls are at each halt.
 
-ghost use Rattle.std.specs.Prelude.{◌≡◌, true, ◌+◌, ◌-◌, ◌<◌, ◌≤◌, List, [], ◌∷◌, ◌++◌, length, slice_index, slice_set};
+ghost use Rattle.std.specs.Prelude.{◌≡◌, true, ◌+◌, ◌-◌, ◌<◌, ◌≤◌, List, [], ◌∷◌, ◌++◌, length};
+ghost use Rattle.std.specs.Prelude.{slice_index, slice_set};
 ghost use Rattle.std.specs.List.{flat_map};
 ghost use Rattle.arrayvec.specs.ArrayVec.{array_vec_len};
 ghost use Rattle.lift_base.specs.History.{row_after};
@@ -13,7 +14,8 @@ use crate::stops::{find_halt, pass_of};
 use arrayvec::ArrayVec;
 use lift_base::{Dir, Halt, Position, Row, Stop};
 
-/// The halts of some legs in the order in which a car makes them, and how many of the legs are at each.
+/// The halts of some legs in the order in which a car makes them, and how many of the legs are at
+/// each.
 #[derive(Drop)]
 pub struct Tally {
     pub halts: ArrayVec<Halt, 66>,
@@ -23,7 +25,8 @@ pub struct Tally {
 fn count_up(counts: &mut ArrayVec<u8, 66>, at: usize)
     requires within { at < array_vec_len counts.old }
     requires few { slice_index counts.old.items at ≤ 66 }
-    ensures { counts.new.items ≡ slice_set counts.old.items at (slice_index counts.old.items at + 1) }
+    ensures { counts.new.items
+        ≡ slice_set counts.old.items at (slice_index counts.old.items at + 1) }
 {
     counts.as_mut_slice()[at] += 1;
 }
@@ -31,7 +34,8 @@ fn count_up(counts: &mut ArrayVec<u8, 66>, at: usize)
 fn count_down(counts: &mut ArrayVec<u8, 66>, at: usize)
     requires within { at < array_vec_len counts.old }
     requires some { 0 < slice_index counts.old.items at }
-    ensures { counts.new.items ≡ slice_set counts.old.items at (slice_index counts.old.items at - 1) }
+    ensures { counts.new.items
+        ≡ slice_set counts.old.items at (slice_index counts.old.items at - 1) }
 {
     counts.as_mut_slice()[at] -= 1;
 }
@@ -156,7 +160,8 @@ fn change_row(tally: &mut Tally, here: &Position, there: &Position, row: &Row, n
     }
 }
 
-/// A call passes from one position of its car to another of the same direction, at which the car made a stop.
+/// A call passes from one position of its car to another of the same direction, at which the car
+/// made a stop.
 fn pass_row(tally: &mut Tally, here: &Position, there: &Position, row: &Row, stop: &Stop)
     requires same_way { there.now.dir ≡ here.now.dir }
     requires among { HasRow here.now row.now tally.old.halts.items tally.old.counts.items }
@@ -176,7 +181,8 @@ fn pass_row(tally: &mut Tally, here: &Position, there: &Position, row: &Row, sto
 pub fn pass_stop(tally: &mut Tally, here: &Position, there: &Position, rows: &[Row], stop: &Stop)
     requires same_way { there.now.dir ≡ here.now.dir }
     requires few { length rows.now ≤ 33 }
-    requires tally { IsTally here.now.dir (legs_at here.now rows.now) tally.old.halts.items tally.old.counts.items }
+    requires tally { IsTally here.now.dir
+        (legs_at here.now rows.now) tally.old.halts.items tally.old.counts.items }
     ensures { IsTally here.now.dir (legs_at there.now (flat_map (row_after stop.now) rows.now))
         tally.new.halts.items tally.new.counts.items }
 {
@@ -189,8 +195,10 @@ pub fn pass_stop(tally: &mut Tally, here: &Position, there: &Position, rows: &[R
 pub fn move_on(tally: &mut Tally, here: &Position, there: &Position, rows: &[Row])
     requires same_way { there.now.dir ≡ here.now.dir }
     requires few { length rows.now ≤ 33 }
-    requires tally { IsTally here.now.dir (legs_at here.now rows.now) tally.old.halts.items tally.old.counts.items }
-    ensures { IsTally here.now.dir (legs_at there.now rows.now) tally.new.halts.items tally.new.counts.items }
+    requires tally { IsTally here.now.dir
+        (legs_at here.now rows.now) tally.old.halts.items tally.old.counts.items }
+    ensures { IsTally here.now.dir (legs_at there.now rows.now) tally.new.halts.items
+        tally.new.counts.items }
 {
     for row in rows {
         change_row(tally, here, there, row, row);
@@ -200,7 +208,8 @@ pub fn move_on(tally: &mut Tally, here: &Position, there: &Position, rows: &[Row
 /// The tally of all legs of these calls, from nothing.
 pub fn tally_of(position: &Position, rows: &[Row]) -> Tally
     requires { length rows.now ≤ 33 }
-    ensures { IsTally position.now.dir (legs_at position.now rows.now) result.halts.items result.counts.items }
+    ensures { IsTally position.now.dir (legs_at position.now rows.now) result.halts.items
+        result.counts.items }
 {
     let mut tally = Tally::new();
     for row in rows {

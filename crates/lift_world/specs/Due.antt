@@ -19,8 +19,9 @@ pub record GetsUnknown (w after : World) (c : Taken) : Type 0 where
   pub reply : c.reply ≡ Unknown
   pub fails : (is_broken w.power || is_broken after.power) ≡ true
 
--- Whatever comes, a command that is due was so before, or its batch, refusals and all, became safe with that event, or it
--- gets Unknown. A cut leaves nothing that its recovery could make due.
+-- Whatever comes, a command that is due was so before, or its batch, refusals and all, became safe
+-- with that event, or it gets Unknown. A cut leaves nothing that its recovery could make due.
 abbrev pub DueOnceSafe : World → Type 0
 DueOnceSafe w = HoldsNothingWhileOff w → (event : Event) (after : World) → next w event ≡ Some after
-    → All (λ (c : Taken). Contains w.due c ⊎ IsOfSafeBatch w after c ⊎ GetsUnknown w after c) after.due
+    → All (λ (c : Taken). Contains w.due c ⊎ IsOfSafeBatch w after c
+    ⊎ GetsUnknown w after c) after.due

@@ -1,5 +1,6 @@
 -- What holds at each point of every run.
-use Rattle.std.specs.Prelude.{ℕ, ◌≡◌, ◌≢◌, ◌<◌, ◌≤◌, ◌+◌, ◌⊎◌, true, false, List, [], ◌∷◌, ◌++◌, length, map, filter, count_by, All, Contains, IsTrue, Some}
+use Rattle.std.specs.Prelude.{ℕ, ◌≡◌, ◌≢◌, ◌<◌, ◌≤◌, ◌+◌, ◌⊎◌, true, false, List, [], ◌∷◌, ◌++◌}
+use Rattle.std.specs.Prelude.{length, map, filter, count_by, All, Contains, IsTrue, Some}
 use Rattle.lift_base.specs.declared.history.Entry.{Entry}
 use Rattle.lift_base.specs.declared.history.Entry.TheVariants.{Allot}
 use Rattle.lift_base.specs.declared.history.Row.{Row}
@@ -14,13 +15,15 @@ use Rattle.lift_world.specs.declared.event.Answer.{Answer}
 use Rattle.lift_world.specs.declared.event.Taken.{Taken}
 use Rattle.lift_world.specs.declared.event.Event.{Event}
 use Rattle.lift_world.specs.declared.event.Event.TheVariants.{Ask, Reopen}
-use Rattle.lift_world.specs.World.{World, Batch, no_batch, unplaced, register_after, outcome, may_keep, acknowledged, is_off, asks, is_taken_of, is_answer_to}
+use Rattle.lift_world.specs.World.{World, Batch, no_batch, unplaced, register_after, outcome}
+use Rattle.lift_world.specs.World.{may_keep, acknowledged, is_off, asks, is_taken_of, is_answer_to}
 use Rattle.lift_world.specs.Next.{next, answer_of, unanswered}
 
 abbrev pub IsPrefixOf : List Entry → List Entry → Type 0
 IsPrefixOf xs ys = (rest : List Entry) × (xs ++ rest ≡ ys)
 
--- the call is open as a row of that car, whose remaining stops stand in the car's list in order wherever the car is
+-- the call is open as a row of that car, whose remaining stops stand in the car's list in order
+-- wherever the car is
 pub record IsOpenWith (entries : List Entry) (kiosk number from to car party : ℕ) : Type 0 where
   pub row : Row
   pub is : record row { aboard = false } ≡ waiting_row kiosk number from to car party
@@ -37,7 +40,8 @@ pub record IsDone (entries : List Entry) (kiosk number from to car party : ℕ) 
 -- the letter that was shown for this call still names its car
 abbrev pub StillNames : List Entry → Entry → Type 0
 StillNames entries (Allot kiosk number from to car party) =
-    IsOpenWith entries kiosk number from to car party ⊎ IsDone entries kiosk number from to car party
+    IsOpenWith entries kiosk number from to car party
+    ⊎ IsDone entries kiosk number from to car party
 StillNames entries other = Unit {0}
 
 -- each recovery gives a prefix of what was accepted
@@ -46,25 +50,32 @@ RecoversPrefix w = (kept : Kept) → IsTrue (may_keep w kept) → IsPrefixOf (ou
 
 -- which has each acknowledged entry
 abbrev pub RecoversAcknowledged : World → Type 0
-RecoversAcknowledged w = (kept : Kept) → IsTrue (may_keep w kept) → All (Contains (outcome w kept)) (acknowledged w)
+RecoversAcknowledged w = (kept : Kept) → IsTrue (may_keep w kept)
+    → All (Contains (outcome w kept)) (acknowledged w)
 
 -- and each letter that was shown
 abbrev pub RecoversLetters : World → Type 0
-RecoversLetters w = (kept : Kept) → IsTrue (may_keep w kept) → All (StillNames (outcome w kept)) (acknowledged w)
+RecoversLetters w = (kept : Kept) → IsTrue (may_keep w kept)
+    → All (StillNames (outcome w kept)) (acknowledged w)
 
 -- each entry of which fits the register of those before it, so that no recovery refuses one
 abbrev pub RecoversFitting : World → Type 0
-RecoversFitting w = (kept : Kept) → IsTrue (may_keep w kept) → FitFrom w.building empty (outcome w kept)
+RecoversFitting w = (kept : Kept) → IsTrue (may_keep w kept)
+    → FitFrom w.building empty (outcome w kept)
 
--- what each terminal heard is, in order and each once, the first of what it was answered since the last power cut
+-- what each terminal heard is, in order and each once, the first of what it was answered since the
+-- last power cut
 abbrev pub HearsInOrder : World → Type 0
-HearsInOrder w = (terminal : ℕ) → (rest : List Answer) × (filter (is_answer_to terminal) w.heard ++ rest ≡ filter (is_answer_to terminal) w.answered)
+HearsInOrder w = (terminal : ℕ)
+    → (rest : List Answer) × (filter (is_answer_to terminal) w.heard ++ rest
+    ≡ filter (is_answer_to terminal) w.answered)
 
 -- what is sealed is a front of what is accepted
 abbrev pub SealsAccepted : World → Type 0
 SealsAccepted w = w.sealed ≤ length w.accepted
 
--- what was stored since the last power cut is, one for one and in order, the answers of the last commands given
+-- what was stored since the last power cut is, one for one and in order, the answers of the last
+-- commands given
 pub record StoresGiven (w : World) : Type 0 where
   pub before : List Taken
   pub since : List Taken
@@ -82,7 +93,8 @@ FliesNothingWhileIdle w = w.phase ≡ Idle → w.flight ≡ no_batch
 
 -- while running a reopening, wherever it is possible, unplaces the cars and changes nothing else
 abbrev pub ReopensInPlace : World → Type 0
-ReopensInPlace w = (kept : Kept) (after : World) → w.power ≡ Running → next w (Reopen kept) ≡ Some after → after ≡ record w { positions = unplaced }
+ReopensInPlace w = (kept : Kept) (after : World) → w.power ≡ Running
+    → next w (Reopen kept) ≡ Some after → after ≡ record w { positions = unplaced }
 
 -- no command is on its way
 pub record HoldsNothing (w : World) : Type 0 where
@@ -94,10 +106,11 @@ pub record HoldsNothing (w : World) : Type 0 where
 abbrev pub HoldsNothingWhileOff : World → Type 0
 HoldsNothingWhileOff w = is_off w.power ≡ true → HoldsNothing w
 
--- a terminal was answered at most what it asked, those on their way counted too, of which there is at most one; and it
--- asked at most one more than it heard
+-- a terminal was answered at most what it asked, those on their way counted too, of which there is
+-- at most one; and it asked at most one more than it heard
 pub record AsksOneByOne (w : World) (terminal : ℕ) : Type 0 where
-  pub answered : count_by (is_answer_to terminal) w.answered + count_by (is_taken_of terminal) (unanswered w) ≤ count_by (asks terminal) w.asked
+  pub answered : count_by (is_answer_to terminal) w.answered + count_by (is_taken_of terminal)
+      (unanswered w) ≤ count_by (asks terminal) w.asked
   pub one_on_its_way : count_by (is_taken_of terminal) (unanswered w) ≤ 1
   pub asked : count_by (asks terminal) w.asked ≤ count_by (is_answer_to terminal) w.heard + 1
 

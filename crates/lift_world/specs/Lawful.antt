@@ -1,4 +1,5 @@
--- What is accepted, and what recoveries give, can be written: each entry fits, and is a record that the journal may hold.
+-- What is accepted, and what recoveries give, can be written: each entry fits, and is a record that
+-- the journal may hold.
 use Rattle.std.specs.Prelude.{All, IsTrue}
 use Rattle.lift_base.specs.History.{record_of}
 use Rattle.lift_base.specs.Records.{IsRecord, IsTypedCommand}
@@ -18,9 +19,11 @@ IsTypedEvent event = Unit {0}
 
 -- each recovery gives entries that are records of the journal
 abbrev pub RecoversRecords : World → Type 0
-RecoversRecords w = (kept : Kept) → IsTrue (may_keep w kept) → All (λ (e : Entry). IsRecord (record_of e)) (outcome w kept)
+RecoversRecords w = (kept : Kept) → IsTrue (may_keep w kept)
+    → All (λ (e : Entry). IsRecord (record_of e)) (outcome w kept)
 
--- All that was accepted, safe or not, fits one after another: what a batch is asked for before its first device call.
+-- All that was accepted, safe or not, fits one after another: what a batch is asked for before its
+-- first device call.
 abbrev pub AcceptsFitting : World → Type 0
 AcceptsFitting w = FitFrom w.building empty w.accepted
 

@@ -1,5 +1,8 @@
 -- What each event does, and where it is possible.
-use Rattle.std.specs.Prelude.{ℕ, ◌==◌, ◌+◌, Bool, true, false, not, ◌&&◌, ◌||◌, if◌then◌else◌, nat_lt, nat_le, List, [], ◌∷◌, ◌++◌, length, map, take, reverse, filter, find, count_by, slice_get, Option, Some, None, option_map, option_and_then, unwrap_or}
+use Rattle.std.specs.Prelude.{ℕ, ◌==◌, ◌+◌, Bool, true, false, not, ◌&&◌, ◌||◌, if◌then◌else◌}
+use Rattle.std.specs.Prelude.{nat_lt, nat_le, List, [], ◌∷◌, ◌++◌, length, map, take, reverse}
+use Rattle.std.specs.Prelude.{filter, find, count_by, slice_get, Option, Some, None, option_map}
+use Rattle.std.specs.Prelude.{option_and_then, unwrap_or}
 use Rattle.std.specs.List.{list_any, flat_map}
 use Rattle.lift_base.specs.declared.command.Reply.TheVariants.{Unknown}
 use Rattle.lift_policy.specs.declared.command.Command.{Command}
@@ -11,9 +14,14 @@ use Rattle.lift_world.specs.declared.event.Phase.TheVariants.{Idle, Writing, Syn
 use Rattle.lift_world.specs.declared.event.Taken.{Taken}
 use Rattle.lift_world.specs.declared.event.Answer.{Answer}
 use Rattle.lift_world.specs.declared.event.Event.{Event}
-use Rattle.lift_world.specs.declared.event.Event.TheVariants.{Ask, Take, Seal, Pull, Fold, Body as BodyWrite, FirstSync, Gate, SecondSync, Answer as Answering, Hear, Fault, Cut, Reopen}
+use Rattle.lift_world.specs.declared.event.Event.TheVariants.{Ask, Take, Seal, Pull, Fold}
+use Rattle.lift_world.specs.declared.event.Event.TheVariants.{Body as BodyWrite, FirstSync, Gate}
+use Rattle.lift_world.specs.declared.event.Event.TheVariants.{SecondSync, Answer as Answering, Hear}
+use Rattle.lift_world.specs.declared.event.Event.TheVariants.{Fault, Cut, Reopen}
 use Rattle.lift_world.specs.Decided.{Decision, decided, when}
-use Rattle.lift_world.specs.World.{World, Batch, no_batch, unplaced, is_running, is_broken, is_off, is_idle, is_synced, is_gate_written, written, same_kept, asks, is_taken_of, is_answer_to, state_of, batch_of, may_keep, outcome}
+use Rattle.lift_world.specs.World.{World, Batch, no_batch, unplaced, is_running, is_broken, is_off}
+use Rattle.lift_world.specs.World.{is_idle, is_synced, is_gate_written, written, same_kept, asks}
+use Rattle.lift_world.specs.World.{is_taken_of, is_answer_to, state_of, batch_of, may_keep, outcome}
 
 abbrev pub is_empty : {A : Type 0} → List A → Bool
 is_empty [] = true
@@ -21,7 +29,8 @@ is_empty (x ∷ xs) = false
 
 -- a terminal asks once it has heard the answers to all its asks
 abbrev pub may_ask : World → ℕ → Bool
-may_ask w terminal = not (is_off w.power) && count_by (asks terminal) w.asked == count_by (is_answer_to terminal) w.heard
+may_ask w terminal = not (is_off w.power) && count_by (asks terminal) w.asked
+    == count_by (is_answer_to terminal) w.heard
 
 abbrev pub asking : World → Command → World
 asking w command = record w { asked = w.asked ++ command ∷ [] }
@@ -33,7 +42,8 @@ unanswered w = w.due ++ w.flight.commands ++ flat_map (λ (b : Batch). b.command
 -- the terminal has an ask that isn't taken
 abbrev pub is_waiting : World → ℕ → Bool
 is_waiting w terminal =
-    nat_lt (count_by (is_answer_to terminal) w.answered) (count_by (asks terminal) w.asked) && not (list_any (is_taken_of terminal) (unanswered w))
+    nat_lt (count_by (is_answer_to terminal) w.answered) (count_by (asks terminal) w.asked) && not
+    (list_any (is_taken_of terminal) (unanswered w))
 
 -- the allocator decides on while four batches are sealed ahead, also after a fault
 abbrev pub may_take : World → ℕ → Bool
@@ -44,18 +54,30 @@ abbrev pub deciding : World → Command → Decision → World
 deciding w command decision = record w {
   accepted = take w.sealed w.accepted ++ decision.next.batch;
   positions = decision.next.positions;
-  taken = w.taken ++ record { terminal = command.terminal; number = command.number; body = command.body; reply = decision.reply } ∷ [];
+  taken = w.taken ++ record {
+    terminal = command.terminal;
+    number = command.number;
+    body = command.body;
+    reply = decision.reply;
+  } ∷ [];
 }
 
 abbrev pub taking : World → Option ℕ → Command → Option World
-taking w letter command = option_map (deciding w command) (decided w.building (state_of w) command.terminal command.number command.body letter)
+taking w letter command =
+    option_map (deciding w command)
+    (decided w.building (state_of w) command.terminal command.number command.body letter)
 
 abbrev pub may_seal : World → Bool
 may_seal w = not (is_off w.power) && not (is_empty w.taken)
 
 -- what was taken becomes the last batch of the queue
 abbrev pub sealing : World → World
-sealing w = record w { queue = w.queue ++ record { commands = w.taken; upto = length w.accepted } ∷ []; sealed = length w.accepted; taken = [] }
+sealing w = record w {
+  queue = w.queue ++ record { commands = w.taken; upto = length w.accepted }
+      ∷ [];
+  sealed = length w.accepted;
+  taken = [];
+}
 
 abbrev pub unknown_to : Taken → Taken
 unknown_to c = record c { reply = Unknown }
@@ -63,7 +85,8 @@ unknown_to c = record c { reply = Unknown }
 abbrev pub may_pull : World → Bool
 may_pull w = is_broken w.power || (is_running w.power && is_idle w.phase)
 
--- the batch is in flight; one without entries is due at once, and after a fault so is each, answered Unknown
+-- the batch is in flight; one without entries is due at once, and after a fault so is each,
+-- answered Unknown
 abbrev pub pulling : World → Batch → List Batch → World
 pulling w batch rest =
     if is_broken w.power
@@ -95,16 +118,25 @@ may_sync w n = is_running w.power && n == writes_of w
 
 -- the batch in flight is safe, and its commands are due
 abbrev pub settling : World → World
-settling w = record w { safe = w.flight.upto; flight = no_batch; phase = Idle; due = w.due ++ w.flight.commands }
+settling w = record w {
+  safe = w.flight.upto;
+  flight = no_batch;
+  phase = Idle;
+  due = w.due ++ w.flight.commands;
+}
 
--- a device call may fail while a batch is written, and while none is, where a reopening makes one; a failed write of the
--- gate is that write and then the fault
+-- a device call may fail while a batch is written, and while none is, where a reopening makes one;
+-- a failed write of the gate is that write and then the fault
 abbrev pub may_fail : World → Bool
 may_fail w = is_running w.power && not (is_synced w.phase)
 
 -- the batch stays in doubt, and its commands are answered Unknown
 abbrev pub failing : World → World
-failing w = record w { power = Broken; flight = record { commands = []; upto = w.flight.upto }; due = w.due ++ map unknown_to w.flight.commands }
+failing w = record w {
+  power = Broken;
+  flight = record { commands = []; upto = w.flight.upto };
+  due = w.due ++ map unknown_to w.flight.commands;
+}
 
 abbrev pub others : ℕ → List Taken → List Taken
 others terminal taken = filter (λ (c : Taken). not (is_taken_of terminal c)) taken
@@ -114,11 +146,16 @@ answer_of c = record { terminal = c.terminal; number = c.number; reply = c.reply
 
 abbrev pub answering : World → ℕ → Taken → World
 answering w terminal command =
-    record w { due = others terminal w.due; answered = w.answered ++ answer_of command ∷ []; given = w.given ++ command ∷ [] }
+    record w {
+      due = others terminal w.due;
+      answered = w.answered ++ answer_of command ∷ [];
+      given = w.given ++ command ∷ [];
+    }
 
 -- the answer after those that the terminal heard
 abbrev pub next_answer : World → ℕ → Option Answer
-next_answer w terminal = slice_get (filter (is_answer_to terminal) w.answered) (count_by (is_answer_to terminal) w.heard)
+next_answer w terminal =
+    slice_get (filter (is_answer_to terminal) w.answered) (count_by (is_answer_to terminal) w.heard)
 
 abbrev pub hearing : World → Answer → World
 hearing w answer = record w { heard = w.heard ++ answer ∷ [] }
@@ -141,8 +178,9 @@ cutting w kept = record w {
 abbrev pub is_quiet : World → Bool
 is_quiet w = is_idle w.phase && is_empty w.queue && is_empty w.taken
 
--- A reopening has the outcome of the last cut; after a fault alone any that the phase allows, once the queue is empty.
--- While running it is possible where no batch is on its way, and so with the safe list alone.
+-- A reopening has the outcome of the last cut; after a fault alone any that the phase allows, once
+-- the queue is empty. While running it is possible where no batch is on its way, and so with the
+-- safe list alone.
 abbrev pub may_reopen : World → Power → Kept → Bool
 may_reopen w Running kept = is_quiet w && may_keep w kept
 may_reopen w Broken kept = is_empty w.queue && may_keep w kept
@@ -163,22 +201,30 @@ reopened w kept = record w {
   due = w.due ++ map unknown_to w.taken;
 }
 
--- The world after an event, where it is possible. A checkpoint's call changes nothing: it copies what is safe into the
--- other half, and at each of its calls either half that may be picked reads as the register of the safe list. So
--- whatever a cut or a fault leaves of it, the outcomes are those of the batch behind it, of which nothing is written.
+-- The world after an event, where it is possible. A checkpoint's call changes nothing: it copies
+-- what is safe into the other half, and at each of its calls either half that may be picked reads
+-- as the register of the safe list. So whatever a cut or a fault leaves of it, the outcomes are
+-- those of the batch behind it, of which nothing is written.
 abbrev pub next : World → Event → Option World
-next w (Ask terminal number body) = when (may_ask w terminal) (asking w (record { terminal = terminal; number = number; body = body }))
+next w (Ask terminal number body) =
+    when (may_ask w terminal)
+    (asking w (record { terminal = terminal; number = number; body = body }))
 next w (Take terminal letter) =
-    if may_take w terminal then option_and_then (taking w letter) (find (asks terminal) (reverse w.asked)) else None
+    if may_take w terminal then option_and_then (taking w letter)
+    (find (asks terminal) (reverse w.asked)) else None
 next w Seal = when (may_seal w) (sealing w)
 next w Pull = if may_pull w then pulled w w.queue else None
 next w Fold = option_and_then (λ n. when (is_running w.power && n == 0) w) (written w.phase)
-next w BodyWrite = option_and_then (λ n. when (may_write w n) (in_phase w (Writing (n + 1)))) (written w.phase)
+next w BodyWrite = option_and_then (λ n. when (may_write w n) (in_phase w (Writing (n + 1))))
+    (written w.phase)
 next w FirstSync = option_and_then (λ n. when (may_sync w n) (in_phase w Synced)) (written w.phase)
 next w Gate = when (is_running w.power && is_synced w.phase) (in_phase w GateWritten)
 next w SecondSync = when (is_running w.power && is_gate_written w.phase) (settling w)
-next w (Answering terminal) = if not (is_off w.power) then option_map (answering w terminal) (find (is_taken_of terminal) w.due) else None
-next w (Hear terminal) = if not (is_off w.power) then option_map (hearing w) (next_answer w terminal) else None
+next w (Answering terminal) =
+    if not (is_off w.power) then option_map (answering w terminal)
+    (find (is_taken_of terminal) w.due) else None
+next w (Hear terminal) =
+    if not (is_off w.power) then option_map (hearing w) (next_answer w terminal) else None
 next w Fault = when (may_fail w) (failing w)
 next w (Cut kept) = when (may_keep w kept) (cutting w kept)
 next w (Reopen kept) = when (may_reopen w w.power kept) (reopened w kept)

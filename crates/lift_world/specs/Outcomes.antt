@@ -15,16 +15,18 @@ moves_outcomes SecondSync = true
 moves_outcomes (Reopen kept) = true
 moves_outcomes event = false
 
--- After it the same may be kept, and gives the same list. And the batch in flight, which a gate's write may offer later,
--- has the same entries, but for a pull, which brings the next one.
+-- After it the same may be kept, and gives the same list. And the batch in flight, which a gate's
+-- write may offer later, has the same entries, but for a pull, which brings the next one.
 pub record SameOutcomes (w : World) (event : Event) (after : World) : Type 0 where
   pub same_choice : (kept : Kept) → may_keep after kept ≡ may_keep w kept
   pub same_outcome : (kept : Kept) → IsTrue (may_keep w kept) → outcome after kept ≡ outcome w kept
   pub same_batch : event ≢ Pull → batch_of after ≡ batch_of w
 
--- no other event moves them: no ask, look or seal, no other device call, no answer, no fault and no cut
+-- no other event moves them: no ask, look or seal, no other device call, no answer, no fault and no
+-- cut
 abbrev pub OutcomesStay : World → Type 0
-OutcomesStay w = IsQueueInOrder w → (event : Event) (after : World) → moves_outcomes event ≡ false → next w event ≡ Some after → SameOutcomes w event after
+OutcomesStay w = IsQueueInOrder w → (event : Event) (after : World) → moves_outcomes event ≡ false
+    → next w event ≡ Some after → SameOutcomes w event after
 
 -- a gate's write offers the batch, and changes no list
 pub record GateOffersBatch (w after : World) : Type 0 where
@@ -42,7 +44,8 @@ pub record SyncKeepsBatch (w after : World) : Type 0 where
   pub no_more : may_keep after WithBatch ≡ false
 
 abbrev pub SyncsKeepBatches : World → Type 0
-SyncsKeepBatches w = IsQueueInOrder w → (after : World) → next w SecondSync ≡ Some after → SyncKeepsBatch w after
+SyncsKeepBatches w = IsQueueInOrder w → (after : World) → next w SecondSync ≡ Some after
+    → SyncKeepsBatch w after
 
 -- a reopening makes the list that it kept the safe one, and no batch can be kept then
 pub record ReopeningKeepsOne (w : World) (kept : Kept) (after : World) : Type 0 where
@@ -51,4 +54,5 @@ pub record ReopeningKeepsOne (w : World) (kept : Kept) (after : World) : Type 0 
   pub no_more : may_keep after WithBatch ≡ false
 
 abbrev pub ReopeningsKeepOne : World → Type 0
-ReopeningsKeepOne w = (kept : Kept) (after : World) → next w (Reopen kept) ≡ Some after → ReopeningKeepsOne w kept after
+ReopeningsKeepOne w = (kept : Kept) (after : World) → next w (Reopen kept) ≡ Some after
+    → ReopeningKeepsOne w kept after

@@ -1,5 +1,6 @@
 -- What the machine in memory is: its view, and its register as that of its list.
-use Rattle.std.specs.Prelude.{ℕ, ◌≡◌, Bool, List, [], ◌∷◌, ◌++◌, Option, Some, None, IsSome, true, false}
+use Rattle.std.specs.Prelude.{ℕ, ◌≡◌, Bool, List, [], ◌∷◌, ◌++◌, Option, Some, None, IsSome, true}
+use Rattle.std.specs.Prelude.{false}
 use Rattle.lift_base.specs.declared.travel.Position.{Position}
 use Rattle.lift_base.specs.declared.history.Entry.{Entry}
 use Rattle.lift_building.specs.Plan.{Plan}
@@ -12,7 +13,10 @@ use Rattle.lift_world.specs.declared.event.Power.{Power}
 use Rattle.lift_world.specs.declared.event.Taken.{Taken}
 use Rattle.lift_world.specs.declared.event.Answer.{Answer}
 use Rattle.lift_world.specs.declared.event.Event.{Event}
-use Rattle.lift_world.specs.declared.event.Event.TheVariants.{Ask, Take, Seal, Pull, Fold, Body as BodyWrite, FirstSync, Gate, SecondSync, Answer as Answering, Hear, Fault, Cut, Reopen}
+use Rattle.lift_world.specs.declared.event.Event.TheVariants.{Ask, Take, Seal, Pull, Fold}
+use Rattle.lift_world.specs.declared.event.Event.TheVariants.{Body as BodyWrite, FirstSync, Gate}
+use Rattle.lift_world.specs.declared.event.Event.TheVariants.{SecondSync, Answer as Answering, Hear}
+use Rattle.lift_world.specs.declared.event.Event.TheVariants.{Fault, Cut, Reopen}
 use Rattle.lift_world.specs.World.{World, Batch, register_after}
 use Rattle.lift_world.specs.Next.{next}
 
@@ -23,29 +27,33 @@ FitAfter building before (entry ∷ entries) =
     Fits building (register_after before) entry × FitAfter building (before ++ entry ∷ []) entries
 
 -- the register is that of the accepted entries, which fit
-pub record IsTight (building : Plan) (register : RegisterState) (accepted : List Entry) : Type 0 where
+pub record IsTight (building : Plan) (register : RegisterState)
+    (accepted : List Entry) : Type 0 where
   pub fits : FitAfter building [] accepted
   pub register_is : register ≡ register_after accepted
   pub balanced : IsBalanced register
 
-abbrev pub view_of : Plan → List Entry → ℕ → ℕ → Batch → Phase → List Batch → Power → List (Option Position) → List Taken → List Taken → List Command → List Answer → List Answer → List Taken → World
-view_of building accepted safe sealed flight phase queue power positions taken due asked answered heard given = record {
-  building = building;
-  accepted = accepted;
-  safe = safe;
-  sealed = sealed;
-  flight = flight;
-  phase = phase;
-  queue = queue;
-  power = power;
-  positions = positions;
-  taken = taken;
-  due = due;
-  asked = asked;
-  answered = answered;
-  heard = heard;
-  given = given;
-}
+abbrev pub view_of : Plan → List Entry → ℕ → ℕ → Batch → Phase → List Batch → Power
+    → List (Option Position) → List Taken → List Taken → List Command → List Answer → List Answer
+    → List Taken → World
+view_of building accepted safe sealed flight phase queue power positions taken due asked answered
+    heard given = record {
+      building = building;
+      accepted = accepted;
+      safe = safe;
+      sealed = sealed;
+      flight = flight;
+      phase = phase;
+      queue = queue;
+      power = power;
+      positions = positions;
+      taken = taken;
+      due = due;
+      asked = asked;
+      answered = answered;
+      heard = heard;
+      given = given;
+    }
 
 -- what a step answers and leaves: an event that isn't possible changes nothing
 abbrev pub MovesTo : Option World → World → Bool → World → Type 0
@@ -55,7 +63,8 @@ MovesTo (Some w) old possible new = (possible ≡ true) × (new ≡ w)
 abbrev pub Moves : World → Event → Bool → World → Type 0
 Moves old event possible new = MovesTo (next old event) old possible new
 
--- Where memory may be wanting: only where the event is possible. The device's calls before the second sync and a cut want none.
+-- Where memory may be wanting: only where the event is possible. The device's calls before the
+-- second sync and a cut want none.
 abbrev pub MayWant : World → Event → Type 0
 MayWant w (Ask terminal number body) = IsSome (next w (Ask terminal number body))
 MayWant w (Take terminal letter) = IsSome (next w (Take terminal letter))

@@ -8,10 +8,12 @@ abbrev pub AreShort : ℕ → List Batch → Type 0
 AreShort low [] = Unit {0}
 AreShort low (batch ∷ queue) = (batch.upto ≤ low + 63) × AreShort batch.upto queue
 
--- The batch in flight or in doubt has at most 63 entries, and so has the one that is being gathered. While running the first
--- queued one begins where the batch in flight ends, so that each queued one has at most 63 too. A fault leaves batches out of
--- the queue, and then the world doesn't hold where the first one begins: only that some place at or behind the end of the
--- batch in doubt lies at most 63 before its end, which bounds no count of its entries; each one behind it has at most 63.
+-- The batch in flight or in doubt has at most 63 entries, and so has the one that is being
+-- gathered. While running the first queued one begins where the batch in flight ends, so that each
+-- queued one has at most 63 too. A fault leaves batches out of the queue, and then the world
+-- doesn't hold where the first one begins: only that some place at or behind the end of the batch
+-- in doubt lies at most 63 before its end, which bounds no count of its entries; each one behind it
+-- has at most 63.
 pub record HoldsFewEntries (w : World) : Type 0 where
   pub flying : length (batch_of w) ≤ 63
   pub begins : ℕ

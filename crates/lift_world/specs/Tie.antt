@@ -1,4 +1,5 @@
--- Each take of the machine is one decision of the rules, and each decision that the rules allow is a take.
+-- Each take of the machine is one decision of the rules, and each decision that the rules allow is
+-- a take.
 use Rattle.std.specs.Prelude.{ℕ, ◌≡◌, ◌≤◌, true, reverse, find, length, Option, Some}
 use Rattle.lift_base.specs.declared.command.Reply.{Reply}
 use Rattle.lift_policy.specs.Eligible.{Choice, any_eligible}
@@ -15,7 +16,8 @@ naming letter plan view call eligible car = letter ≡ Some car
 
 -- the ask that a take finds
 abbrev pub Finds : World → ℕ → Command → Type 0
-Finds w terminal command = (may_take w terminal ≡ true) × (find (asks terminal) (reverse w.asked) ≡ Some command)
+Finds w terminal command = (may_take w terminal ≡ true)
+    × (find (asks terminal) (reverse w.asked) ≡ Some command)
 
 -- the take decides that ask by the rules, under the policy that names its letter
 pub record IsStep (w : World) (terminal : ℕ) (letter : Option ℕ) (after : World) : Type 0 where
@@ -23,18 +25,24 @@ pub record IsStep (w : World) (terminal : ℕ) (letter : Option ℕ) (after : Wo
   pub reply : Reply
   pub state : State
   pub finds : Finds w terminal command
-  pub step : Step w.building (naming letter) (state_of w) command.terminal command.number command.body reply state
+  pub step : Step w.building (naming letter)
+      (state_of w) command.terminal command.number command.body reply state
   pub decided : after ≡ deciding w command (record { reply = reply; next = state })
   pub state_is : w.sealed ≤ length w.accepted → state_of after ≡ state
 
 abbrev pub TakesAreSteps : World → Type 0
-TakesAreSteps w = (terminal : ℕ) (letter : Option ℕ) (after : World) → next w (Take terminal letter) ≡ Some after → IsStep w terminal letter after
+TakesAreSteps w = (terminal : ℕ) (letter : Option ℕ) (after : World)
+    → next w (Take terminal letter) ≡ Some after → IsStep w terminal letter after
 
--- whatever the rules allow under the policy that may name any eligible car, some take has that outcome
+-- whatever the rules allow under the policy that may name any eligible car, some take has that
+-- outcome
 abbrev pub StepsAreTakes : World → Type 0
-StepsAreTakes w = (terminal : ℕ) (command : Command) (reply : Reply) (state : State) → Finds w terminal command
-    → Step w.building any_eligible (state_of w) command.terminal command.number command.body reply state
-    → (letter : Option ℕ) × (next w (Take terminal letter) ≡ Some (deciding w command (record { reply = reply; next = state })))
+StepsAreTakes w = (terminal : ℕ) (command : Command) (reply : Reply) (state : State)
+    → Finds w terminal command
+    → Step w.building any_eligible (state_of w) command.terminal command.number command.body reply
+    state
+    → (letter : Option ℕ) × (next w (Take terminal letter)
+    ≡ Some (deciding w command (record { reply = reply; next = state })))
 
 -- the ask that a look finds, and a decision of the rules on it that some take makes
 pub record HasTake (w : World) (terminal : ℕ) : Type 0 where
@@ -43,7 +51,8 @@ pub record HasTake (w : World) (terminal : ℕ) : Type 0 where
   pub reply : Reply
   pub state : State
   pub finds : Finds w terminal command
-  pub takes : next w (Take terminal letter) ≡ Some (deciding w command (record { reply = reply; next = state }))
+  pub takes : next w (Take terminal letter)
+      ≡ Some (deciding w command (record { reply = reply; next = state }))
 
 -- wherever a terminal can be looked at, a take is possible: the rules decide on every ask
 abbrev pub LooksAreTakes : World → Type 0

@@ -1,5 +1,6 @@
 -- What the machine of events knows, and what a recovery may give.
-use Rattle.std.specs.Prelude.{ℕ, ◌==◌, ◌-◌, Bool, true, false, List, [], ◌∷◌, ◌++◌, take, drop, replicate, Option, Some, None}
+use Rattle.std.specs.Prelude.{ℕ, ◌==◌, ◌-◌, Bool, true, false, List, [], ◌∷◌, ◌++◌, take, drop}
+use Rattle.std.specs.Prelude.{replicate, Option, Some, None}
 use Rattle.std.specs.List.{flat_map}
 use Rattle.lift_base.specs.declared.travel.Position.{Position}
 use Rattle.lift_base.specs.declared.history.Entry.{Entry}
@@ -130,10 +131,15 @@ is_answer_to terminal answer = answer.terminal == terminal
 abbrev pub register_after : List Entry → RegisterState
 register_after entries = register_of empty entries
 
--- what decisions read: the register of all that is accepted, also of what isn't safe yet, and the batch so far
+-- what decisions read: the register of all that is accepted, also of what isn't safe yet, and the
+-- batch so far
 abbrev pub state_at : List Entry → ℕ → List (Option Position) → State
 state_at accepted sealed positions =
-    record { register = register_after accepted; positions = positions; batch = drop sealed accepted }
+    record {
+      register = register_after accepted;
+      positions = positions;
+      batch = drop sealed accepted;
+    }
 
 abbrev pub state_of : World → State
 state_of w = state_at w.accepted w.sealed w.positions
@@ -145,7 +151,8 @@ safe_list w = take w.safe w.accepted
 abbrev pub batch_of : World → List Entry
 batch_of w = take (w.flight.upto - w.safe) (drop w.safe w.accepted)
 
--- what a power cut, or a reopening after a fault, may keep: the batch only where its gate was written
+-- what a power cut, or a reopening after a fault, may keep: the batch only where its gate was
+-- written
 abbrev pub may_keep : World → Kept → Bool
 may_keep w Safe = true
 may_keep w WithBatch = is_gate_written w.phase
@@ -156,7 +163,8 @@ outcome w WithBatch = safe_list w ++ batch_of w
 
 -- the entry that a reply tells of
 abbrev pub told_by : Plan → ℕ → ℕ → Body → Reply → List Entry
-told_by building terminal number (Call to party) (Car car) = Allot terminal number (kiosk_floor building terminal) to car party ∷ []
+told_by building terminal number (Call to party) (Car car) =
+    Allot terminal number (kiosk_floor building terminal) to car party ∷ []
 told_by building terminal number (Stop floor dir) (Stopped next) = Stopping terminal number floor dir ∷ []
 told_by building terminal number _ _ = []
 

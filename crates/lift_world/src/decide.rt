@@ -1,5 +1,6 @@
 //! One decision.
-ghost use Rattle.std.specs.Prelude.{◌≡◌, ◌<◌, ◌==◌, ◌+◌, ◌++◌, [], List, Option, Some, None, true, option_map, slice_set};
+ghost use Rattle.std.specs.Prelude.{◌≡◌, ◌<◌, ◌==◌, ◌+◌, ◌++◌, [], List, Option, Some, None, true};
+ghost use Rattle.std.specs.Prelude.{option_map, slice_set};
 ghost use Rattle.lift_base.specs.declared.history.Entry.{Entry as EntryValue};
 ghost use Rattle.lift_base.specs.declared.command.Reply.{Reply as ReplyValue};
 ghost use Rattle.lift_base.specs.declared.command.Body.{Body as BodyValue};
@@ -34,7 +35,10 @@ fn cause_of(
     positions: &[Option<Position>; 16],
     command: &Command,
 ) -> Option<Reason>
-    ensures { (batch : List EntryValue) → result ≡ first_cause building.now (state_with register.now positions.now batch) command.now.terminal command.now.number command.now.body }
+    ensures { (batch : List EntryValue)
+        → result ≡ first_cause building.now
+        (state_with register.now positions.now batch) command.now.terminal command.now.number
+        command.now.body }
 {
     let schedules = schedules_at(register, positions);
     let view = View::new(register, &schedules);
@@ -50,7 +54,8 @@ fn is_eligible(
     call: &NewCall,
     car: Letter,
 ) -> bool
-    ensures { result ≡ is_among car (eligible_cars building.now (seen register.now positions.now) call.now) }
+    ensures { result ≡ is_among car
+        (eligible_cars building.now (seen register.now positions.now) call.now) }
 {
     positions[usize::from(car.get())].is_some() && can_take(building, register, *call, car)
 }
@@ -72,11 +77,18 @@ fn allot(
     party: Party,
     car: Letter,
 ) -> Option<Decided>
-    requires clear { (batch : List EntryValue) → first_cause building.now (state_with register.old positions.now batch) command.now.terminal command.now.number command.now.body ≡ None }
+    requires clear { (batch : List EntryValue)
+        → first_cause building.now
+        (state_with register.old positions.now batch) command.now.terminal command.now.number
+        command.now.body ≡ None }
     requires call { command.now.body ≡ BodyValue.Call to party }
-    requires new { (command.now.number == last_number register.old command.now.terminal + 1) ≡ true }
+    requires new { (command.now.number == last_number register.old command.now.terminal + 1)
+        ≡ true }
     requires balanced { IsBalanced register.old }
-    ensures carries { (batch : List EntryValue) → Carries (allotted building.now (state_with register.old positions.now batch) command.now.terminal command.now.number to party car)
+    ensures carries { (batch : List EntryValue)
+        → Carries (allotted building.now
+        (state_with register.old positions.now batch) command.now.terminal command.now.number to
+        party car)
         register.old positions.now batch result register.new positions.now }
     ensures balanced { IsBalanced register.new }
 {
@@ -101,7 +113,8 @@ fn allot(
 
 /// A repeated call gets its kept letter.
 fn repeat(register: &Register, command: &Command) -> Option<Decided>
-    ensures { result ≡ option_map (λ car. record { reply = ReplyValue.Car car; entry = None }) (kept_letter (last_of register.now command.now.terminal)) }
+    ensures { result ≡ option_map (λ car. record { reply = ReplyValue.Car car; entry = None })
+        (kept_letter (last_of register.now command.now.terminal)) }
 {
     let last = register.last(command.terminal)?;
     match &last.content {
@@ -120,12 +133,16 @@ fn join(
     floor: Floor,
     dir: Dir,
 ) -> Option<Entry>
-    requires clear { first_cause building.now (state_with register.old positions.now []) command.now.terminal command.now.number command.now.body ≡ None }
+    requires clear { first_cause building.now
+        (state_with register.old positions.now []) command.now.terminal command.now.number
+        command.now.body ≡ None }
     requires stop { command.now.body ≡ BodyValue.Stop floor dir }
     requires own { car ≡ command.now.terminal }
     requires balanced { IsBalanced register.old }
-    ensures joined { (batch : List EntryValue) → state_with register.new positions.now (batch ++ option_to_list result)
-        ≡ joined (state_with register.old positions.now batch) command.now.terminal command.now.number floor dir }
+    ensures joined { (batch : List EntryValue)
+        → state_with register.new positions.now (batch ++ option_to_list result)
+        ≡ joined (state_with register.old positions.now batch) command.now.terminal
+        command.now.number floor dir }
     ensures balanced { IsBalanced register.new }
 {
     if !is_next(register, command.terminal, command.number) {
@@ -151,11 +168,17 @@ fn stop(
     floor: Floor,
     dir: Dir,
 ) -> Option<Decided>
-    requires clear { (batch : List EntryValue) → first_cause building.now (state_with register.old positions.old batch) command.now.terminal command.now.number command.now.body ≡ None }
+    requires clear { (batch : List EntryValue)
+        → first_cause building.now
+        (state_with register.old positions.old batch) command.now.terminal command.now.number
+        command.now.body ≡ None }
     requires stop { command.now.body ≡ BodyValue.Stop floor dir }
     requires own { car ≡ command.now.terminal }
     requires balanced { IsBalanced register.old }
-    ensures carries { (batch : List EntryValue) → Carries (decided building.now (state_with register.old positions.old batch) command.now.terminal command.now.number command.now.body None)
+    ensures carries { (batch : List EntryValue)
+        → Carries (decided building.now
+        (state_with register.old positions.old batch) command.now.terminal command.now.number
+        command.now.body None)
         register.old positions.old batch result register.new positions.new }
     ensures balanced { IsBalanced register.new }
 {
@@ -174,8 +197,10 @@ fn place(
     floor: Floor,
     dir: Dir,
 ) -> Reply
-    ensures positions { positions.new ≡ slice_set positions.old car (Some (record { floor = floor; dir = dir })) }
-    ensures reply { result ≡ ReplyValue.Placed (next_stop (rows_of register.now car) (record { floor = floor; dir = dir })) }
+    ensures positions { positions.new
+        ≡ slice_set positions.old car (Some (record { floor = floor; dir = dir })) }
+    ensures reply { result ≡ ReplyValue.Placed
+        (next_stop (rows_of register.now car) (record { floor = floor; dir = dir })) }
 {
     positions[usize::from(car.get())] = Some(Position { floor, dir });
     let schedule = schedule_of(register, car, Position { floor, dir });
@@ -190,9 +215,15 @@ fn proceed(
     command: &Command,
     letter: Option<Letter>,
 ) -> Option<Decided>
-    requires clear { (batch : List EntryValue) → first_cause building.now (state_with register.old positions.old batch) command.now.terminal command.now.number command.now.body ≡ None }
+    requires clear { (batch : List EntryValue)
+        → first_cause building.now
+        (state_with register.old positions.old batch) command.now.terminal command.now.number
+        command.now.body ≡ None }
     requires balanced { IsBalanced register.old }
-    ensures carries { (batch : List EntryValue) → Carries (decided building.now (state_with register.old positions.old batch) command.now.terminal command.now.number command.now.body letter)
+    ensures carries { (batch : List EntryValue)
+        → Carries (decided building.now
+        (state_with register.old positions.old batch) command.now.terminal command.now.number
+        command.now.body letter)
         register.old positions.old batch result register.new positions.new }
     ensures balanced { IsBalanced register.new }
 {
@@ -223,7 +254,8 @@ fn proceed(
     }
 }
 
-/// Decides one command, with this car for a new call and no car for any other; none where the letter doesn't fit.
+/// Decides one command, with this car for a new call and no car for any other; none where the
+/// letter doesn't fit.
 pub fn decide(
     building: &Building,
     register: &mut Register,
@@ -232,7 +264,10 @@ pub fn decide(
     letter: Option<Letter>,
 ) -> Option<Decided>
     requires balanced { IsBalanced register.old }
-    ensures carries { (batch : List EntryValue) → Carries (decided building.now (state_with register.old positions.old batch) command.now.terminal command.now.number command.now.body letter)
+    ensures carries { (batch : List EntryValue)
+        → Carries (decided building.now
+        (state_with register.old positions.old batch) command.now.terminal command.now.number
+        command.now.body letter)
         register.old positions.old batch result register.new positions.new }
     ensures balanced { IsBalanced register.new }
 {

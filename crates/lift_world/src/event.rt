@@ -15,14 +15,16 @@ pub enum Kept {
 pub enum Event {
     /// A terminal asks.
     Ask(Terminal, Number, Body),
-    /// The ask of a terminal is looked at and decided. A new call is given this car, any other command none.
+    /// The ask of a terminal is looked at and decided. A new call is given this car, any other
+    /// command none.
     Take(Terminal, Option<Letter>),
     /// What was taken becomes a batch, the last of the queue.
     Seal,
     /// The first batch of the queue becomes the one in flight.
     Pull,
-    /// One device call of a checkpoint, before the batch in flight is written. Either half that may be picked reads as the
-    /// register of what is safe, so nothing changes that a recovery could see.
+    /// One device call of a checkpoint, before the batch in flight is written. Either half that may
+    /// be picked reads as the register of what is safe, so nothing changes that a recovery could
+    /// see.
     Fold,
     /// One write of a body sector of the batch, or of the gate after it.
     Body,
@@ -38,8 +40,8 @@ pub enum Event {
     Fault,
     /// The power fails.
     Cut(Kept),
-    /// A whole recovery, after a power cut, after a fault, or while running and no batch is on its way. What was taken and
-    /// not sealed is dropped, and answered Unknown.
+    /// A whole recovery, after a power cut, after a fault, or while running and no batch is on its
+    /// way. What was taken and not sealed is dropped, and answered Unknown.
     Reopen(Kept),
 }
 

@@ -1,4 +1,5 @@
-//! The controller as a machine of events: what terminals ask, what is decided, what the disk keeps, what is answered.
+//! The controller as a machine of events: what terminals ask, what is decided, what the disk keeps,
+//! what is answered.
 #![tactic(auto)]
 
 mod decide;

@@ -1,5 +1,7 @@
 //! Lists of asks and answers by terminal.
-ghost use Rattle.std.specs.Prelude.{◌≡◌, ◌≤◌, ◌++◌, ◌+◌, ◌-◌, OnOk, OnErr, length, map, drop, count_by, find, reverse, filter, slice_get, vec_len, vec_capacity};
+ghost use Rattle.std.specs.Prelude.{◌≡◌, ◌≤◌, ◌++◌, ◌+◌, ◌-◌, OnOk, OnErr, length, map, drop};
+ghost use Rattle.std.specs.Prelude.{count_by, find, reverse, filter, slice_get, vec_len};
+ghost use Rattle.std.specs.Prelude.{vec_capacity};
 ghost use Rattle.std.specs.List.{list_any};
 ghost use Rattle.lift_world.specs.World.{asks, is_answer_to, is_taken_of};
 ghost use Rattle.lift_world.specs.Next.{others, unknown_to};

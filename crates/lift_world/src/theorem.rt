@@ -1,12 +1,14 @@
 //! What holds of the machine.
-ghost use Rattle.std.specs.Prelude.{ℕ, ◌≡◌, ◌≢◌, ◌<◌, ◌≤◌, ◌⊎◌, ◌↔◌, false, List, filter, Contains, IsTrue};
+ghost use Rattle.std.specs.Prelude.{ℕ, ◌≡◌, ◌≢◌, ◌<◌, ◌≤◌, ◌⊎◌, ◌↔◌, false, List, filter, Contains};
+ghost use Rattle.std.specs.Prelude.{IsTrue};
 ghost use Rattle.std.specs.List.{AllByRecursion};
 ghost use Rattle.lift_base.specs.declared.travel.Dir.{Dir};
 ghost use Rattle.lift_base.specs.declared.travel.Position.{Position};
 ghost use Rattle.lift_base.specs.declared.history.Entry.{Entry};
 ghost use Rattle.lift_base.specs.declared.history.Entry.TheVariants.{Allot};
 ghost use Rattle.lift_base.specs.declared.history.Row.{Row};
-ghost use Rattle.lift_base.specs.declared.command.Body.TheVariants.{Call as Calling, Stop as Stopping, Place};
+ghost use Rattle.lift_base.specs.declared.command.Body.TheVariants.{Call as Calling};
+ghost use Rattle.lift_base.specs.declared.command.Body.TheVariants.{Stop as Stopping, Place};
 ghost use Rattle.lift_building.specs.Plan.{Plan, IsBuilding};
 ghost use Rattle.lift_register.specs.Register.{Call, rows_of, calls_in, waiting_row, status};
 ghost use Rattle.lift_register.specs.Status.{Done};
@@ -16,42 +18,68 @@ ghost use Rattle.lift_policy.specs.declared.command.Command.{Command};
 ghost use Rattle.lift_world.specs.Next.{run};
 ghost use Rattle.lift_world.specs.declared.event.Kept.{Kept};
 ghost use Rattle.lift_world.specs.declared.event.Event.TheVariants.{Ask, Cut, Reopen};
-ghost use Rattle.lift_world.specs.Headline.{RecoversPrefix, RecoversAcknowledged, RecoversLetters, RecoversFitting, HearsInOrder, SealsAccepted, StoresGiven, QueuesFew, HoldsNothingWhileOff, AllAskOneByOne, IsOfTerminal, HoldsFew};
-ghost use Rattle.lift_world.specs.World.{World, start, register_after, outcome, may_keep, acknowledged};
-ghost use Rattle.lift_world.specs.Possible.{CutsToSafe, CutsWithBatch, CutsGive, ReopensAfterCut, OnlyReopensAfterCut, ReopensAfterFault, ReopeningsGive, ReopensWhileQuiet};
-ghost use Rattle.lift_world.specs.Possible.{AsksOnceHeard, HearsTheNext, TakesNeedLooks, Seals, PullsInTurn, CallsInOrder, AnswersDue, AnswersOnlyDue, GivenStays, FillsSectors, AcknowledgesReplies, StoresTheReply, ReopeningsUnplace};
+ghost use Rattle.lift_world.specs.Headline.{RecoversPrefix, RecoversAcknowledged, RecoversLetters};
+ghost use Rattle.lift_world.specs.Headline.{RecoversFitting, HearsInOrder, SealsAccepted};
+ghost use Rattle.lift_world.specs.Headline.{StoresGiven, QueuesFew, HoldsNothingWhileOff};
+ghost use Rattle.lift_world.specs.Headline.{AllAskOneByOne, IsOfTerminal, HoldsFew};
+ghost use Rattle.lift_world.specs.World.{World, start, register_after, outcome, may_keep};
+ghost use Rattle.lift_world.specs.World.{acknowledged};
+ghost use Rattle.lift_world.specs.Possible.{CutsToSafe, CutsWithBatch, CutsGive, ReopensAfterCut};
+ghost use Rattle.lift_world.specs.Possible.{OnlyReopensAfterCut, ReopensAfterFault, ReopeningsGive};
+ghost use Rattle.lift_world.specs.Possible.{ReopensWhileQuiet};
+ghost use Rattle.lift_world.specs.Possible.{AsksOnceHeard, HearsTheNext, TakesNeedLooks, Seals};
+ghost use Rattle.lift_world.specs.Possible.{PullsInTurn, CallsInOrder, AnswersDue, AnswersOnlyDue};
+ghost use Rattle.lift_world.specs.Possible.{GivenStays, FillsSectors, AcknowledgesReplies};
+ghost use Rattle.lift_world.specs.Possible.{StoresTheReply, ReopeningsUnplace};
 ghost use Rattle.lift_world.specs.Asking.{AsksStand};
-ghost use Rattle.lift_world.specs.Beside.{GoesAreRuns, RunsJoin, TerminalsPass, TerminalsStandBeside};
-ghost use Rattle.lift_world.specs.Relay.{IsQueueInOrder, AllocationsAreEvents, FullQueueWaits, FlushesAreEvents, FailedFlushesAreEvents, BrokenFlushesAreEvents, TurnsMeet, PartsMeet, FlusherPassesScans, FlusherComesFirst, FlusherPassesSeals};
-ghost use Rattle.lift_world.specs.Among.{FlusherMightComeFirst, FlusherGoesAmong, PossibleStandAmong, AsksStandAtOnce, AsksStandOn, LooksFindAsks, SealsAloneQueue, ScansGoAmong, AllocationsGoAmong};
-ghost use Rattle.lift_world.specs.Stays.{StaysBetweenScans, StaysBetweenFlushes, StaysBrokenBetween, StaysInOrder, HearsOnInOrder, AsksOnOneByOne, RestsInOrder};
-ghost use Rattle.lift_world.specs.Lawful.{IsTypedEvent, RecoversRecords, AcceptsFitting, AcceptsRecords};
+ghost use Rattle.lift_world.specs.Beside.{GoesAreRuns, RunsJoin, TerminalsPass};
+ghost use Rattle.lift_world.specs.Beside.{TerminalsStandBeside};
+ghost use Rattle.lift_world.specs.Relay.{IsQueueInOrder, AllocationsAreEvents, FullQueueWaits};
+ghost use Rattle.lift_world.specs.Relay.{FlushesAreEvents, FailedFlushesAreEvents};
+ghost use Rattle.lift_world.specs.Relay.{BrokenFlushesAreEvents, TurnsMeet, PartsMeet};
+ghost use Rattle.lift_world.specs.Relay.{FlusherPassesScans, FlusherComesFirst, FlusherPassesSeals};
+ghost use Rattle.lift_world.specs.Among.{FlusherMightComeFirst, FlusherGoesAmong};
+ghost use Rattle.lift_world.specs.Among.{PossibleStandAmong, AsksStandAtOnce, AsksStandOn};
+ghost use Rattle.lift_world.specs.Among.{LooksFindAsks, SealsAloneQueue, ScansGoAmong};
+ghost use Rattle.lift_world.specs.Among.{AllocationsGoAmong};
+ghost use Rattle.lift_world.specs.Stays.{StaysBetweenScans, StaysBetweenFlushes};
+ghost use Rattle.lift_world.specs.Stays.{StaysBrokenBetween, StaysInOrder, HearsOnInOrder};
+ghost use Rattle.lift_world.specs.Stays.{AsksOnOneByOne, RestsInOrder};
+ghost use Rattle.lift_world.specs.Lawful.{IsTypedEvent, RecoversRecords, AcceptsFitting};
+ghost use Rattle.lift_world.specs.Lawful.{AcceptsRecords};
 ghost use Rattle.lift_world.specs.Policies.{StepsAreAny, RunsAreAny};
 ghost use Rattle.lift_world.specs.Due.{DueOnceSafe};
-ghost use Rattle.lift_world.specs.Faults.{FaultsLeaveDoubt, OnlyFaultsBreak, UnknownAfterFault, UnknownOverReopening};
+ghost use Rattle.lift_world.specs.Faults.{FaultsLeaveDoubt, OnlyFaultsBreak, UnknownAfterFault};
+ghost use Rattle.lift_world.specs.Faults.{UnknownOverReopening};
 ghost use Rattle.lift_world.specs.Faults.{goes_on};
 ghost use Rattle.lift_world.specs.Tie.{TakesAreSteps, StepsAreTakes, LooksAreTakes};
-ghost use Rattle.lift_world.specs.Turns.{HasRun, RunsAreTakes, TurnsAreRuns, FailuresAreRuns, BrokenTurnsAreRuns, BrokenTurnsChangeNothing};
-ghost use Rattle.lift_world.specs.Turns.{IsAtRest, TurnsEndAtRest, FailuresEndAtRest, BrokenTurnsEndAtRest, ReopeningsEndAtRest, CutsEndAtRest};
+ghost use Rattle.lift_world.specs.Turns.{HasRun, RunsAreTakes, TurnsAreRuns, FailuresAreRuns};
+ghost use Rattle.lift_world.specs.Turns.{BrokenTurnsAreRuns, BrokenTurnsChangeNothing};
+ghost use Rattle.lift_world.specs.Turns.{IsAtRest, TurnsEndAtRest, FailuresEndAtRest};
+ghost use Rattle.lift_world.specs.Turns.{BrokenTurnsEndAtRest, ReopeningsEndAtRest, CutsEndAtRest};
 ghost use Rattle.lift_world.specs.Turns.{RunningReopeningsEndAtRest, FailedReopeningsEndAtRest};
-ghost use Rattle.lift_world.specs.Headline.{FliesNothingWhileIdle, ReopensInPlace, IsOpenWith, IsDone, StillNames};
-ghost use Rattle.lift_world.specs.Outcomes.{OutcomesStay, GatesOfferBatches, SyncsKeepBatches, ReopeningsKeepOne};
+ghost use Rattle.lift_world.specs.Headline.{FliesNothingWhileIdle, ReopensInPlace, IsOpenWith};
+ghost use Rattle.lift_world.specs.Headline.{IsDone, StillNames};
+ghost use Rattle.lift_world.specs.Outcomes.{OutcomesStay, GatesOfferBatches, SyncsKeepBatches};
+ghost use Rattle.lift_world.specs.Outcomes.{ReopeningsKeepOne};
 ghost use Rattle.lift_world.specs.Short.{HoldsFewEntries};
 
 use crate::event::Event;
 use lift_base::{Body, Number, Terminal};
 use lift_policy::Policy;
 
-/// What holds at each point of every run, whatever comes: each recovery that a power cut or a fault may lead to gives a
-/// prefix of what was accepted, has every acknowledged entry, still names the car of each letter that was shown, and is
-/// refused for no entry. The call of such a letter is open, and its remaining stops stand in order in its car's list
-/// wherever the car is, or it is done. All that was accepted fits, one entry after another, and is a record of the
-/// journal where asks are as their types hold them. What is acknowledged or shown is read from what was given, and each
-/// stored answer is that of a command given. Each terminal asks one by one, and hears what it was answered, in order
-/// and each once. At most five batches are queued, and where asks are of the 63 terminals none of more than 63
-/// commands, nor, while running, of more entries; between batches none is in flight, and a reopening while nothing
-/// failed unplaces the cars alone; a cut leaves no command on its way; and what is sealed is a front of what is
-/// accepted, which a scan's law asks for.
+/// What holds at each point of every run, whatever comes: each recovery that a power cut or a fault
+/// may lead to gives a prefix of what was accepted, has every acknowledged entry, still names the
+/// car of each letter that was shown, and is refused for no entry. The call of such a letter is
+/// open, and its remaining stops stand in order in its car's list wherever the car is, or it is
+/// done. All that was accepted fits, one entry after another, and is a record of the journal where
+/// asks are as their types hold them. What is acknowledged or shown is read from what was given,
+/// and each stored answer is that of a command given. Each terminal asks one by one, and hears what
+/// it was answered, in order and each once. At most five batches are queued, and where asks are of
+/// the 63 terminals none of more than 63 commands, nor, while running, of more entries; between
+/// batches none is in flight, and a reopening while nothing failed unplaces the cars alone; a cut
+/// leaves no command on its way; and what is sealed is a front of what is accepted, which a scan's
+/// law asks for.
 pub fn every_run()
     ensures prefix { (building : Plan) (events : List Event) → IsBuilding building
         → RecoversPrefix (run events (start building)) }
@@ -59,37 +87,54 @@ pub fn every_run()
         → RecoversAcknowledged (run events (start building)) }
     ensures letters { (building : Plan) (events : List Event) → IsBuilding building
         → RecoversLetters (run events (start building)) }
-    ensures remaining { (building : Plan) (events : List Event) (kept : Kept) (kiosk number from to car party : ℕ)
+    ensures remaining { (building : Plan) (events : List Event) (kept : Kept)
+        (kiosk number from to car party : ℕ)
         → let w = run events (start building) in let entries = outcome w kept in
         let rows = rows_of (register_after entries) car in let waiting = waiting_row kiosk number from to car party in
         IsBuilding building → IsTrue (may_keep w kept)
         → Contains (acknowledged w) (Allot kiosk number from to car party)
         → ((row : Row) × (record row { aboard = false } ≡ waiting) × Contains rows row
-        × ((position : Position) → filter (is_halt_of position row) (stop_list rows position) ≡ halts_of position row))
-        ⊎ ((call : Call) × (call.row ≡ waiting) × Contains (calls_in entries) call × (status call ≡ Done)) }
+        × ((position : Position)
+        → filter (is_halt_of position row) (stop_list rows position) ≡ halts_of position row))
+        ⊎ ((call : Call) × (call.row ≡ waiting) × Contains (calls_in entries) call
+        × (status call ≡ Done)) }
     ensures fitting { (building : Plan) (events : List Event) → IsBuilding building
         → RecoversFitting (run events (start building)) }
-    ensures lawful { (building : Plan) (events : List Event) → IsBuilding building → AllByRecursion IsTypedEvent events
+    ensures lawful { (building : Plan) (events : List Event) → IsBuilding building
+        → AllByRecursion IsTypedEvent events
         → RecoversRecords (run events (start building)) }
-    ensures accepted { (building : Plan) (events : List Event) → IsBuilding building → AcceptsFitting (run events (start building)) }
-    ensures written { (building : Plan) (events : List Event) → IsBuilding building → AllByRecursion IsTypedEvent events
+    ensures accepted { (building : Plan) (events : List Event) → IsBuilding building
+        → AcceptsFitting (run events (start building)) }
+    ensures written { (building : Plan) (events : List Event) → IsBuilding building
+        → AllByRecursion IsTypedEvent events
         → AcceptsRecords (run events (start building)) }
-    ensures heard { (building : Plan) (events : List Event) → HearsInOrder (run events (start building)) }
-    ensures sealed { (building : Plan) (events : List Event) → SealsAccepted (run events (start building)) }
-    ensures shown { (building : Plan) (events : List Event) → StoresGiven (run events (start building)) }
-    ensures in_order { (building : Plan) (events : List Event) → IsQueueInOrder (run events (start building)) }
-    ensures queued { (building : Plan) (events : List Event) → QueuesFew (run events (start building)) }
-    ensures off { (building : Plan) (events : List Event) → HoldsNothingWhileOff (run events (start building)) }
-    ensures asked { (building : Plan) (events : List Event) → AllAskOneByOne (run events (start building)) }
-    ensures few { (building : Plan) (events : List Event) → AllByRecursion IsOfTerminal events → HoldsFew (run events (start building)) }
-    ensures few_entries { (building : Plan) (events : List Event) → AllByRecursion IsOfTerminal events → HoldsFewEntries (run events (start building)) }
-    ensures idle { (building : Plan) (events : List Event) → FliesNothingWhileIdle (run events (start building)) }
-    ensures in_place { (building : Plan) (events : List Event) → ReopensInPlace (run events (start building)) }
+    ensures heard { (building : Plan) (events : List Event)
+        → HearsInOrder (run events (start building)) }
+    ensures sealed { (building : Plan) (events : List Event)
+        → SealsAccepted (run events (start building)) }
+    ensures shown { (building : Plan) (events : List Event)
+        → StoresGiven (run events (start building)) }
+    ensures in_order { (building : Plan) (events : List Event)
+        → IsQueueInOrder (run events (start building)) }
+    ensures queued { (building : Plan) (events : List Event)
+        → QueuesFew (run events (start building)) }
+    ensures off { (building : Plan) (events : List Event)
+        → HoldsNothingWhileOff (run events (start building)) }
+    ensures asked { (building : Plan) (events : List Event)
+        → AllAskOneByOne (run events (start building)) }
+    ensures few { (building : Plan) (events : List Event) → AllByRecursion IsOfTerminal events
+        → HoldsFew (run events (start building)) }
+    ensures few_entries { (building : Plan) (events : List Event)
+        → AllByRecursion IsOfTerminal events → HoldsFewEntries (run events (start building)) }
+    ensures idle { (building : Plan) (events : List Event)
+        → FliesNothingWhileIdle (run events (start building)) }
+    ensures in_place { (building : Plan) (events : List Event)
+        → ReopensInPlace (run events (start building)) }
 {}
 
-/// Which events are possible, in whatever world, and what they leave: so the theorem speaks of cuts, faults and recoveries
-/// that happen, of asks that are decided, of batches that are sealed and written, and of answers that are heard. What was
-/// given stays given over all of them.
+/// Which events are possible, in whatever world, and what they leave: so the theorem speaks of
+/// cuts, faults and recoveries that happen, of asks that are decided, of batches that are sealed
+/// and written, and of answers that are heard. What was given stays given over all of them.
 pub fn events_are_possible()
     ensures cut { (w : World) → CutsToSafe w }
     ensures cut_with_batch { (w : World) → CutsWithBatch w }
@@ -115,9 +160,10 @@ pub fn events_are_possible()
     ensures acknowledges { (w : World) → AcknowledgesReplies w }
 {}
 
-/// Each take is one decision of the rules, and whatever the rules allow, under any policy, is a take; they decide on every
-/// command, and whatever terminals may ask comes to stand. A scan is a list of takes. A turn that answers Ok, one in which
-/// any of its device calls fails, and one while broken are lists of events; the last changes the answers alone.
+/// Each take is one decision of the rules, and whatever the rules allow, under any policy, is a
+/// take; they decide on every command, and whatever terminals may ask comes to stand. A scan is a
+/// list of takes. A turn that answers Ok, one in which any of its device calls fails, and one while
+/// broken are lists of events; the last changes the answers alone.
 pub fn turns_are_events()
     ensures steps { (w : World) → TakesAreSteps w }
     ensures takes { (w : World) → StepsAreTakes w }
@@ -127,12 +173,14 @@ pub fn turns_are_events()
     ensures broken { (w : World) → BrokenTurnsAreRuns w }
     ensures broken_changes { (w : World) → BrokenTurnsChangeNothing w }
     ensures asks { (w : World) → AsksStand w }
-    ensures decided { (building : Plan) (state : State) (commands : List Command) → HasRun building state commands }
+    ensures decided { (building : Plan) (state : State) (commands : List Command)
+        → HasRun building state commands }
 {}
 
-/// Where turns begin: at rest, as the machine starts. A turn that answers Ok ends there, and so does a reopening after a
-/// turn that failed, whatever turns came between, and the recovery after any cut. A reopening while nothing failed begins
-/// and ends there too; one whose device call fails is broken at rest, and the next one leaves what it would have left.
+/// Where turns begin: at rest, as the machine starts. A turn that answers Ok ends there, and so
+/// does a reopening after a turn that failed, whatever turns came between, and the recovery after
+/// any cut. A reopening while nothing failed begins and ends there too; one whose device call fails
+/// is broken at rest, and the next one leaves what it would have left.
 pub fn turns_end_at_rest()
     ensures start { (building : Plan) → IsAtRest (start building) }
     ensures turns { (w : World) → TurnsEndAtRest w }
@@ -144,9 +192,9 @@ pub fn turns_end_at_rest()
     ensures failed_reopenings { (w : World) → FailedReopeningsEndAtRest w }
 {}
 
-/// When replies are told. A command is due once its batch is safe, or else with Unknown, where a device call failed: then
-/// Unknown alone is told of each command that wasn't due, in flight, queued, in hand or taken later, also by the reopening
-/// that ends it.
+/// When replies are told. A command is due once its batch is safe, or else with Unknown, where a
+/// device call failed: then Unknown alone is told of each command that wasn't due, in flight,
+/// queued, in hand or taken later, also by the reopening that ends it.
 pub fn replies_are_safe()
     ensures due { (w : World) → DueOnceSafe w }
     ensures faults { (w : World) → FaultsLeaveDoubt w }
@@ -155,9 +203,10 @@ pub fn replies_are_safe()
     ensures reopening { (w : World) → UnknownOverReopening w }
 {}
 
-/// What a power cut or a reopening could recover moves with three events alone. The write of a gate offers the batch; the
-/// second sync makes the list with the batch the safe one; a reopening makes the list that it kept the safe one. No look,
-/// seal, pull, answer, fault or cut changes what may be kept, or any list of it; nor, but for a pull, the batch in flight.
+/// What a power cut or a reopening could recover moves with three events alone. The write of a gate
+/// offers the batch; the second sync makes the list with the batch the safe one; a reopening makes
+/// the list that it kept the safe one. No look, seal, pull, answer, fault or cut changes what may
+/// be kept, or any list of it; nor, but for a pull, the batch in flight.
 pub fn outcomes_move()
     ensures kept { (w : World) → OutcomesStay w }
     ensures gate { (w : World) → GatesOfferBatches w }
@@ -165,12 +214,13 @@ pub fn outcomes_move()
     ensures reopening { (w : World) → ReopeningsKeepOne w }
 {}
 
-/// The turns of an allocator and of a flusher, with batches queued between them. An allocator's turn, wherever the flusher
-/// is, and each turn of the flusher, one that answers Ok, one in which any device call fails and one after that, are lists
-/// of events, whichever asks the flusher's own look gives: what it doesn't give stays due. With the queue full nothing is
-/// taken. Each ends where the next one begins; a split of a clerk at rest and a
-/// rejoining with nothing queued keep the world. What the flusher does behind a take it might have done before it, and
-/// behind a seal it leaves what it leaves before it, but for what was sealed.
+/// The turns of an allocator and of a flusher, with batches queued between them. An allocator's
+/// turn, wherever the flusher is, and each turn of the flusher, one that answers Ok, one in which
+/// any device call fails and one after that, are lists of events, whichever asks the flusher's own
+/// look gives: what it doesn't give stays due. With the queue full nothing is taken. Each ends
+/// where the next one begins; a split of a clerk at rest and a rejoining with nothing queued keep
+/// the world. What the flusher does behind a take it might have done before it, and behind a seal
+/// it leaves what it leaves before it, but for what was sealed.
 pub fn relays_are_events()
     ensures allocations { (w : World) → AllocationsAreEvents w }
     ensures full { (w : World) → FullQueueWaits w }
@@ -184,27 +234,30 @@ pub fn relays_are_events()
     ensures seals { (w : World) → FlusherPassesSeals w }
 {}
 
-/// The parts among one another. Whatever the flusher does among others' events it might have done first, and whatever it can
-/// do alone it can do among them, wherever they come: so each turn of it above is possible in every interleaving. An ask
-/// stands as soon as it is made and until it is taken, or a power cut empties the words; a look finds it exactly where at
-/// most four batches are queued, and the queue grows by seals alone. An allocator's scan and its seal go on among the events
-/// of terminals and of the flusher, and leave what these leave alone, with what was decided.
+/// The parts among one another. Whatever the flusher does among others' events it might have done
+/// first, and whatever it can do alone it can do among them, wherever they come: so each turn of it
+/// above is possible in every interleaving. An ask stands as soon as it is made and until it is
+/// taken, or a power cut empties the words; a look finds it exactly where at most four batches are
+/// queued, and the queue grows by seals alone. An allocator's scan and its seal go on among the
+/// events of terminals and of the flusher, and leave what these leave alone, with what was decided.
 pub fn parts_interleave()
     ensures first { (w : World) → FlusherMightComeFirst w }
     ensures flushes { (w : World) → FlusherGoesAmong w }
     ensures among { (w : World) → PossibleStandAmong w }
     ensures asked { (w : World) → AsksStandAtOnce w }
     ensures stands { (w : World) → AsksStandOn w }
-    ensures looks { (w : World) (terminal : ℕ) (command : Command) → LooksFindAsks w terminal command }
+    ensures looks { (w : World) (terminal : ℕ) (command : Command)
+        → LooksFindAsks w terminal command }
     ensures queue { (w : World) → SealsAloneQueue w }
     ensures scans { (w : World) → ScansGoAmong w }
     ensures allocations { (w : World) → AllocationsGoAmong w }
 {}
 
-/// Where a part is, the others leave it: the allocator between two scans until something is taken, and the flusher between
-/// two turns, whole or broken, until a cut or a reopening. A queue in order stays so, and terminals go on to hear in order
-/// and to ask one by one, over every event and in whatever world that was so, also one that no run of events from an empty
-/// journal leads to; and at rest the queue is in order.
+/// Where a part is, the others leave it: the allocator between two scans until something is taken,
+/// and the flusher between two turns, whole or broken, until a cut or a reopening. A queue in order
+/// stays so, and terminals go on to hear in order and to ask one by one, over every event and in
+/// whatever world that was so, also one that no run of events from an empty journal leads to; and
+/// at rest the queue is in order.
 pub fn parts_stay()
     ensures scans { (w : World) → StaysBetweenScans w }
     ensures flushes { (w : World) → StaysBetweenFlushes w }
@@ -215,9 +268,10 @@ pub fn parts_stay()
     ensures rest { (w : World) → RestsInOrder w }
 {}
 
-/// What terminals do at other moments passes through. Wherever asks and hears come among the events of a turn or of a
-/// reopening, before, between and behind them, all of it is possible, and it leaves what the controller's events leave and
-/// then the terminals'. A list of possible events is a run, of which all of the above holds.
+/// What terminals do at other moments passes through. Wherever asks and hears come among the events
+/// of a turn or of a reopening, before, between and behind them, all of it is possible, and it
+/// leaves what the controller's events leave and then the terminals'. A list of possible events is
+/// a run, of which all of the above holds.
 pub fn terminals_pass()
     ensures possible { (w : World) → GoesAreRuns w }
     ensures joined { (w : World) → RunsJoin w }
@@ -225,31 +279,36 @@ pub fn terminals_pass()
     ensures stand { (w : World) → TerminalsStandBeside w }
 {}
 
-/// Every policy is covered: what it may decide, on one command or on many, is a decision under the policy that may name any
-/// eligible car, and so a take, a scan or a turn of the machine.
+/// Every policy is covered: what it may decide, on one command or on many, is a decision under the
+/// policy that may name any eligible car, and so a take, a scan or a turn of the machine.
 pub fn policies_are_covered<P: Policy>()
     ensures steps { (policy : P) → StepsAreAny (P.chooses policy) }
     ensures runs { (policy : P) → RunsAreAny (P.chooses policy) }
 {}
 
-/// What definitions of these laws say, spelled out. A letter still names its car where the call is open there, with its
-/// remaining stops in order in the car's list wherever the car is, or is done. Asks alone are bound to ranges: those of
-/// their types, and the 63 terminals. All events go on but a cut and a reopening.
+/// What definitions of these laws say, spelled out. A letter still names its car where the call is
+/// open there, with its remaining stops in order in the car's list wherever the car is, or is done.
+/// Asks alone are bound to ranges: those of their types, and the 63 terminals. All events go on but
+/// a cut and a reopening.
 pub fn definitions_are_exact()
     ensures open_call { (entries : List Entry) (kiosk number from to car party : ℕ)
-        → let rows = rows_of (register_after entries) car in let waiting = waiting_row kiosk number from to car party in
+        → let rows = rows_of (register_after entries) car in let waiting =
+        waiting_row kiosk number from to car party in
         IsOpenWith entries kiosk number from to car party
         ↔ ((row : Row) × (record row { aboard = false } ≡ waiting) × Contains rows row
         × ((position : Position)
         → filter (is_halt_of position row) (stop_list rows position) ≡ halts_of position row)) }
     ensures done_call { (entries : List Entry) (kiosk number from to car party : ℕ)
         → IsDone entries kiosk number from to car party
-        ↔ ((call : Call) × (call.row ≡ waiting_row kiosk number from to car party) × Contains (calls_in entries) call
+        ↔ ((call : Call) × (call.row ≡ waiting_row kiosk number from to car party)
+        × Contains (calls_in entries) call
         × (status call ≡ Done)) }
     ensures letter { (entries : List Entry) (kiosk number from to car party : ℕ)
         → StillNames entries (Allot kiosk number from to car party)
-        ↔ (IsOpenWith entries kiosk number from to car party ⊎ IsDone entries kiosk number from to car party) }
-    ensures typed_call { (terminal number floor party : ℕ) → IsTypedEvent (Ask terminal number (Calling floor party))
+        ↔ (IsOpenWith entries kiosk number from to car party
+        ⊎ IsDone entries kiosk number from to car party) }
+    ensures typed_call { (terminal number floor party : ℕ)
+        → IsTypedEvent (Ask terminal number (Calling floor party))
         ↔ ((terminal ≤ 62) × (number ≤ 16777215) × (floor ≤ 63) × (1 ≤ party) × (party ≤ 15)) }
     ensures typed_stop { (terminal number floor : ℕ) (dir : Dir)
         → IsTypedEvent (Ask terminal number (Stopping floor dir))
@@ -258,11 +317,13 @@ pub fn definitions_are_exact()
         → IsTypedEvent (Ask terminal number (Place floor dir))
         ↔ ((terminal ≤ 62) × (number ≤ 16777215) × (floor ≤ 63)) }
     ensures typed_others { (event : Event)
-        → ((terminal number : ℕ) (body : Body) → event ≢ Ask terminal number body) → IsTypedEvent event }
+        → ((terminal number : ℕ) (body : Body) → event ≢ Ask terminal number body)
+        → IsTypedEvent event }
     ensures of_terminal { (terminal number : ℕ) (body : Body)
         → IsOfTerminal (Ask terminal number body) ↔ (terminal < 63) }
     ensures of_terminal_others { (event : Event)
-        → ((terminal number : ℕ) (body : Body) → event ≢ Ask terminal number body) → IsOfTerminal event }
+        → ((terminal number : ℕ) (body : Body) → event ≢ Ask terminal number body)
+        → IsOfTerminal event }
     ensures going_on { (event : Event) → IsTrue (goes_on event)
         ↔ (((kept : Kept) → event ≢ Cut kept) × ((kept : Kept) → event ≢ Reopen kept)) }
 {}

@@ -1,5 +1,6 @@
 //! The machine in memory.
-ghost use Rattle.std.specs.Prelude.{◌≡◌, ◌++◌, ◌+◌, ◌-◌, ◌≤◌, List, [], length, take, drop, OnOk, OnErr, IfOk};
+ghost use Rattle.std.specs.Prelude.{◌≡◌, ◌++◌, ◌+◌, ◌-◌, ◌≤◌, List, [], length, take, drop, OnOk};
+ghost use Rattle.std.specs.Prelude.{OnErr, IfOk};
 ghost use Rattle.std.specs.List.{list_any};
 ghost use Rattle.std.specs.Option.{option_to_list};
 ghost use Rattle.std.specs.Prelude.{◌<◌, ◌||◌, vec_len, vec_capacity};
@@ -84,7 +85,9 @@ impl<'b> Model for World<'b> {
 
     ghost Value = { World };
 
-    ghost view = { λ w. view_of w.building.now w.accepted.items w.safe w.sealed w.flight w.phase w.queue.items w.power w.positions w.taken.items w.due.items w.asked.items w.answered.items w.heard.items w.given.items };
+    ghost view = { λ w. view_of w.building.now w.accepted.items w.safe w.sealed w.flight w.phase
+        w.queue.items w.power w.positions w.taken.items w.due.items w.asked.items w.answered.items
+        w.heard.items w.given.items };
 
     ghost invariant = { λ w. IsTight w.building.now w.register w.accepted.items };
 }
@@ -147,17 +150,20 @@ fn replay(building: &Building, half: u32, entries: &[Entry]) -> Register
 }
 
 impl<'b> World<'b> {
-    ghost use Rattle.std.specs.Prelude.{◌≡◌, ◌↔◌, ℕ, List, IsOk, IsSome, IsTrue, IfOk, OnErr, length, true, false};
+    ghost use Rattle.std.specs.Prelude.{◌≡◌, ◌↔◌, ℕ, List, IsOk, IsSome, IsTrue, IfOk, OnErr};
+    ghost use Rattle.std.specs.Prelude.{length, true, false};
     ghost use Rattle.lift_base.specs.declared.history.Entry.{Entry as EntryValue};
     ghost use Rattle.std.specs.Prelude.{take, ◌||◌};
     ghost use Rattle.std.specs.List.{list_any};
     ghost use Rattle.lift_world.specs.World.{start, may_keep, is_taken_of, outcome};
-    ghost use Rattle.lift_world.specs.Next.{taking, unanswered, may_take, may_pull, is_quiet, may_reopen, writes_of};
+    ghost use Rattle.lift_world.specs.Next.{taking, unanswered, may_take, may_pull, is_quiet};
+    ghost use Rattle.lift_world.specs.Next.{may_reopen, writes_of};
     ghost use Rattle.lift_world.specs.Replays.{Moves, MovesTo, MayWant};
     ghost use Rattle.lift_world.specs.declared.event.Event.{Event};
 
-    /// A fresh group over an empty journal, with so many sectors in each of its halves. A checkpoint makes room wherever
-    /// a half has none, so no event depends on that number. It takes no memory yet, so it never answers `Memory`.
+    /// A fresh group over an empty journal, with so many sectors in each of its halves. A
+    /// checkpoint makes room wherever a half has none, so no event depends on that number. It takes
+    /// no memory yet, so it never answers `Memory`.
     pub fn new(alloc: Global, building: &'b Building, half: u32) -> Result<World<'b>, Memory>
         ensures value { IfOk result (λ world. world ≡ start building.now) }
         ensures made { IsOk result }
@@ -236,7 +242,8 @@ impl<'b> World<'b> {
     }
 
     fn ask(&mut self, terminal: Terminal, number: Number, body: Body) -> Result<bool, Memory>
-        ensures ok { IfOk result (λ possible. Moves self.old (Event.Ask terminal number body) possible self.new) }
+        ensures ok { IfOk result (λ possible.
+            Moves self.old (Event.Ask terminal number body) possible self.new) }
         ensures err { OnErr result (self.new ≡ self.old) }
         ensures wants { OnErr result (MayWant self.old (Event.Ask terminal number body)) }
     {
@@ -258,8 +265,10 @@ impl<'b> World<'b> {
 
     /// A command of this terminal is due, in flight, queued or taken.
     fn is_on_its_way(&self, terminal: Terminal) -> bool
-        ensures { result ≡ (((list_any (is_taken_of terminal) self.now.due || list_any (is_taken_of terminal) self.now.flight.commands)
-            || list_any (λ b. list_any (is_taken_of terminal) b.commands) self.now.queue) || list_any (is_taken_of terminal) self.now.taken) }
+        ensures { result ≡ (((list_any (is_taken_of terminal) self.now.due || list_any
+            (is_taken_of terminal) self.now.flight.commands)
+            || list_any (λ b. list_any (is_taken_of terminal) b.commands) self.now.queue) ||
+            list_any (is_taken_of terminal) self.now.taken) }
     {
         let due = is_taken(&self.due, terminal);
         let flying = is_taken(self.flight.commands(), terminal);
@@ -285,7 +294,8 @@ impl<'b> World<'b> {
     }
 
     fn take(&mut self, terminal: Terminal, letter: Option<Letter>) -> Result<bool, Memory>
-        ensures ok { IfOk result (λ possible. Moves self.old (Event.Take terminal letter) possible self.new) }
+        ensures ok { IfOk result (λ possible.
+            Moves self.old (Event.Take terminal letter) possible self.new) }
         ensures err { OnErr result (self.new ≡ self.old) }
         ensures wants { OnErr result (MayWant self.old (Event.Take terminal letter)) }
     {
@@ -317,7 +327,8 @@ impl<'b> World<'b> {
     }
 
     fn take_command(&mut self, command: Command, letter: Option<Letter>) -> Result<bool, Memory>
-        ensures ok { IfOk result (λ possible. MovesTo (taking self.old letter command) self.old possible self.new) }
+        ensures ok { IfOk result (λ possible.
+            MovesTo (taking self.old letter command) self.old possible self.new) }
         ensures err { OnErr result (self.new ≡ self.old) }
         ensures wants { OnErr result (IsSome (taking self.old letter command)) }
     {
@@ -398,7 +409,8 @@ impl<'b> World<'b> {
         Ok(true)
     }
 
-    /// A checkpoint's call leaves all that the machine knows as it is: what is safe is safe in either half.
+    /// A checkpoint's call leaves all that the machine knows as it is: what is safe is safe in
+    /// either half.
     fn fold(&mut self) -> bool
         ensures { Moves self.old Event.Fold result self.new }
     {
@@ -489,7 +501,8 @@ impl<'b> World<'b> {
     }
 
     fn answer(&mut self, terminal: Terminal) -> Result<bool, Memory>
-        ensures ok { IfOk result (λ possible. Moves self.old (Event.Answer terminal) possible self.new) }
+        ensures ok { IfOk result (λ possible.
+            Moves self.old (Event.Answer terminal) possible self.new) }
         ensures err { OnErr result (self.new ≡ self.old) }
         ensures wants { OnErr result (MayWant self.old (Event.Answer terminal)) }
     {
@@ -514,7 +527,8 @@ impl<'b> World<'b> {
     }
 
     fn hear(&mut self, terminal: Terminal) -> Result<bool, Memory>
-        ensures ok { IfOk result (λ possible. Moves self.old (Event.Hear terminal) possible self.new) }
+        ensures ok { IfOk result (λ possible.
+            Moves self.old (Event.Hear terminal) possible self.new) }
         ensures err { OnErr result (self.new ≡ self.old) }
         ensures wants { OnErr result (MayWant self.old (Event.Hear terminal)) }
     {
@@ -588,9 +602,11 @@ impl<'b> World<'b> {
         }
     }
 
-    /// What was taken and not sealed, which there is only after a fault, is dropped and answered Unknown.
+    /// What was taken and not sealed, which there is only after a fault, is dropped and answered
+    /// Unknown.
     fn reopen(&mut self, kept: Kept) -> Result<bool, Memory>
-        ensures ok { IfOk result (λ possible. Moves self.old (Event.Reopen kept) possible self.new) }
+        ensures ok { IfOk result (λ possible.
+            Moves self.old (Event.Reopen kept) possible self.new) }
         ensures err { OnErr result (self.new ≡ self.old) }
         ensures wants { OnErr result (MayWant self.old (Event.Reopen kept)) }
     {
@@ -616,8 +632,9 @@ impl<'b> World<'b> {
         Ok(true)
     }
 
-    /// One event. False where it isn't possible, and then, as for want of memory, nothing changed. Memory is wanted
-    /// neither by the device's calls before the second sync nor by a cut, and by others only where they are possible.
+    /// One event. False where it isn't possible, and then, as for want of memory, nothing changed.
+    /// Memory is wanted neither by the device's calls before the second sync nor by a cut, and by
+    /// others only where they are possible.
     pub fn step(&mut self, event: &Event) -> Result<bool, Memory>
         ensures ok { IfOk result (λ possible. Moves self.old event.now possible self.new) }
         ensures err { OnErr result (self.new ≡ self.old) }

@@ -1,4 +1,5 @@
-//! The program `liftd`: it carries out scripts, makes journals on files, shows what they hold, and serves a lift group on a port.
+//! The program `liftd`: it carries out scripts, makes journals on files, shows what they hold, and
+//! serves a lift group on a port.
 #![tactic(auto)]
 
 use lift_base::text::Watched;

@@ -27,7 +27,8 @@ fn number_of(word: &str) -> Option<u32>
     }
 }
 
-/// The number up to `most` that a word spells in the way in which it is printed: decimal, without sign or leading zero.
+/// The number up to `most` that a word spells in the way in which it is printed: decimal, without
+/// sign or leading zero.
 pub fn number_up_to(word: &str, most: u32) -> Option<u32>
     ensures some { IfSome result (λ n. word.now ≡ decimal n) }
     ensures limit { IfSome result (λ n. n ≤ most) }

@@ -22,10 +22,12 @@ fn put_counted<W: Write>(
     bytes: &[u8],
 ) -> Result<(), WriteFault>
     ensures ok { OnOk result (Appends (W.contents writer.old) (W.contents writer.new) bytes.now) }
-    ensures front { IfErr result (λ fault. Appends (W.contents writer.old) (W.contents writer.new) (take fault.written bytes.now)) }
+    ensures front { IfErr result (λ fault.
+        Appends (W.contents writer.old) (W.contents writer.new) (take fault.written bytes.now)) }
     ensures within { IfErr result (λ fault. fault.written < length bytes.now) }
     ensures calls { OnOk result (CallsForAll (length bytes.now) calls.old.count calls.new.count) }
-    ensures calls_so_far { IfErr result (λ fault. CallsUpToFault fault.written calls.old.count calls.new.count) }
+    ensures calls_so_far { IfErr result (λ fault.
+        CallsUpToFault fault.written calls.old.count calls.new.count) }
 {
     let mut written = 0usize;
     while written < bytes.len() {
@@ -42,14 +44,15 @@ fn put_counted<W: Write>(
 /// Writes all of the bytes, or as many as the fault says.
 pub fn put_all<W: Write>(writer: &mut W, bytes: &[u8]) -> Result<(), WriteFault>
     ensures ok { OnOk result (Appends (W.contents writer.old) (W.contents writer.new) bytes.now) }
-    ensures front { IfErr result (λ fault. Appends (W.contents writer.old) (W.contents writer.new) (take fault.written bytes.now)) }
+    ensures front { IfErr result (λ fault.
+        Appends (W.contents writer.old) (W.contents writer.new) (take fault.written bytes.now)) }
     ensures within { IfErr result (λ fault. fault.written < length bytes.now) }
 {
     put_counted(writer, &mut ProofCount::new(), bytes)
 }
 
-/// A writer with the number of its calls, which only proofs read, and whether one of them failed or took nothing. The only
-/// way to the writer is `put`, so the count binds.
+/// A writer with the number of its calls, which only proofs read, and whether one of them failed or
+/// took nothing. The only way to the writer is `put`, so the count binds.
 #[derive(Drop)]
 pub struct Watched<W: Drop> {
     writer: W,
@@ -100,8 +103,11 @@ impl<W: Drop> Watched<W> {
 impl<W: Write + Drop> Watched<W> {
     /// Writes all of the bytes, or, where a call fails or takes nothing, as many as the fault says.
     pub fn put(&mut self, bytes: &[u8]) -> Result<(), WriteFault>
-        ensures ok { OnOk result (Takes bytes.now (sink_of W.contents self.old) (sink_of W.contents self.new)) }
-        ensures front { IfErr result (λ fault. TakesFront fault.written bytes.now (sink_of W.contents self.old) (sink_of W.contents self.new)) }
+        ensures ok { OnOk result
+            (Takes bytes.now (sink_of W.contents self.old) (sink_of W.contents self.new)) }
+        ensures front { IfErr result (λ fault.
+            TakesFront fault.written bytes.now (sink_of W.contents self.old)
+            (sink_of W.contents self.new)) }
     {
         let outcome = put_counted(&mut self.writer, &mut self.calls, bytes);
         if outcome.is_err() {

@@ -1,6 +1,7 @@
 //! Lines as words with one space between each two.
 
-ghost use Rattle.std.specs.Prelude.{◌≡◌, ◌≢◌, ◌<◌, ◌++◌, ◌∷◌, ℕ, List, All, map, length, slice_get, take, Some, IfSome, IfNone};
+ghost use Rattle.std.specs.Prelude.{◌≡◌, ◌≢◌, ◌<◌, ◌++◌, ◌∷◌, ℕ, List, All, map, length, slice_get};
+ghost use Rattle.std.specs.Prelude.{take, Some, IfSome, IfNone};
 ghost use Rattle.lift_base.specs.Text.{AreWords};
 
 use arrayvec::ArrayVec;
@@ -22,8 +23,8 @@ fn place_of(bytes: &[u8], byte: u8) -> Option<usize>
     None
 }
 
-/// The text before the first such byte and the text behind it, none where there is no such byte. The byte is a whole
-/// character: below 128.
+/// The text before the first such byte and the text behind it, none where there is no such byte.
+/// The byte is a whole character: below 128.
 pub fn split_at_byte(text: &str, byte: u8) -> Option<(&str, &str)>
     requires { byte < 128 }
     ensures cut { IfSome result (λ parts. text.now ≡ parts.0.now ++ byte ∷ parts.1.now) }
@@ -37,7 +38,8 @@ pub fn split_at_byte(text: &str, byte: u8) -> Option<(&str, &str)>
 /// The words of a line, none where there are more than six.
 pub fn words_of(line: &str) -> Option<ArrayVec<&str, MOST_WORDS>>
     ensures some { IfSome result (λ words. AreWords line.now (map (λ word. word.now) words.items)) }
-    ensures none { IfNone result ((words : List (List ℕ)) → AreWords line.now words → 6 < length words) }
+    ensures none { IfNone result ((words : List (List ℕ)) → AreWords line.now words
+        → 6 < length words) }
 {
     let mut words = ArrayVec::new();
     let mut rest = line;

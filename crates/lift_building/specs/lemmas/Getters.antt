@@ -1,9 +1,11 @@
 -- What a building's numbers keep to.
-use Rattle.std.proofs.Common.{◌≡◌, ℕ, ◌≤◌, ◌<◌, ◌↔◌, [], true, false, length, get_or, sym, ap, ◌∙◌, arith, inl, inr}
+use Rattle.std.proofs.Common.{◌≡◌, ℕ, ◌≤◌, ◌<◌, ◌↔◌, [], true, false, length, get_or, sym, ap, ◌∙◌}
+use Rattle.std.proofs.Common.{arith, inl, inr}
 use Rattle.std.proofs.lemmas.Bool.{cases_lt}
 use Rattle.std.proofs.lemmas.List.{get_or_past}
 use Rattle.lift_base.specs.History.{IsWithinLimits}
-use Rattle.lift_building.specs.Plan.{Plan, car_at, places_of, serves_floor, kiosk_floor_of, shape_of, IsCar, IsBuilding}
+use Rattle.lift_building.specs.Plan.{Plan, car_at, places_of, serves_floor, kiosk_floor_of}
+use Rattle.lift_building.specs.Plan.{shape_of, IsCar, IsBuilding}
 
 car_is : (plan : Plan) (car : ℕ) → IsBuilding plan → car < length plan.cars
     → IsCar plan.floors (car_at plan car)
@@ -17,7 +19,8 @@ car_is_none plan car out = get_or_past plan.cars car (record { places = 0; serve
 pub places_short : (plan : Plan) (car : ℕ) → IsBuilding plan → places_of plan car ≤ 32
 places_short plan car lawful = elim (cases_lt car (length plan.cars)) [
   | inl lt ↦ (car_is plan car lawful lt).few_places
-  | inr out ↦ let none : places_of plan car ≡ 0 = ap (λ c. c.places) (car_is_none plan car out) in omega arith
+  | inr out ↦ let none : places_of plan car ≡ 0 = ap (λ c. c.places) (car_is_none plan car out) in
+      omega arith
 ]
 
 -- the cars that take somebody are those of the building
@@ -38,10 +41,13 @@ serves_within plan car floor lawful serves = elim (cases_lt car (length plan.car
     | inl inside ↦ (lt, inside)
     | inr out ↦
         let count = (car_is plan car lawful lt).length in
-        absurd (let none : serves_floor plan car floor ≡ false = get_or_past (car_at plan car).served floor false (omega (arith, count)) in let no : true ≡ false = sym serves ∙ none in cc)
+        absurd (let none : serves_floor plan car floor
+        ≡ false = get_or_past (car_at plan car).served floor false (omega (arith, count)) in
+        let no : true ≡ false = sym serves ∙ none in cc)
   ]
   | inr out ↦
-      let none : serves_floor plan car floor ≡ false = ap (λ c. get_or c.served floor false) (car_is_none plan car out) in
+      let none : serves_floor plan car floor ≡ false =
+      ap (λ c. get_or c.served floor false) (car_is_none plan car out) in
       absurd (let no : true ≡ false = sym serves ∙ none in cc)
 ]
 

@@ -1,5 +1,6 @@
 -- The worlds between calls, and what terminals do first.
-use Rattle.std.proofs.Common.{ℕ, ◌≡◌, ◌≤◌, Bool, true, false, List, [], ◌∷◌, ◌++◌, length, Option, Some, None, refl, sym, ap, subst, ◌∙◌, arith}
+use Rattle.std.proofs.Common.{ℕ, ◌≡◌, ◌≤◌, Bool, true, false, List, [], ◌∷◌, ◌++◌, length, Option}
+use Rattle.std.proofs.Common.{Some, None, refl, sym, ap, subst, ◌∙◌, arith}
 use Rattle.std.specs.Prelude.{IsTrue, unwrap_or, option_and_then}
 use Rattle.std.specs.List.{AllByRecursion, flat_map}
 use Rattle.std.proofs.lemmas.Bool.{false≢true}
@@ -28,12 +29,14 @@ use Rattle.lift_clerk.specs.lemmas.Served.{AreApart}
 use Rattle.lift_clerk.specs.lemmas.Standing.{fresh, Splits, fresh_answered, all_found}
 
 -- a list of possible events, and one behind it
-by_next : (xs ys : List Event) (v : World) (o : Option World) → ((u : World) → goes xs u ≡ Some v → goes (xs ++ ys) u ≡ goes ys v)
+by_next : (xs ys : List Event) (v : World) (o : Option World)
+    → ((u : World) → goes xs u ≡ Some v → goes (xs ++ ys) u ≡ goes ys v)
     → option_and_then (goes xs) o ≡ Some v → option_and_then (goes (xs ++ ys)) o ≡ goes ys v
 by_next xs ys v None h e = cc
 by_next xs ys v (Some u) h e = h u e
 
-pub goes_behind : (xs ys : List Event) (w v : World) → goes xs w ≡ Some v → goes (xs ++ ys) w ≡ goes ys v
+pub goes_behind : (xs ys : List Event) (w v : World) → goes xs w ≡ Some v
+    → goes (xs ++ ys) w ≡ goes ys v
 goes_behind [] ys w v e = ap (λ (o : Option World). goes ys (unwrap_or o w)) e
 goes_behind (x ∷ xs) ys w v e = by_next xs ys v (next w x) (λ u h. goes_behind xs ys u v h) e
 
@@ -43,9 +46,11 @@ pub record IsResting (w : World) : Type 0 where
   pub on : is_off w.power ≡ false
   pub few : length w.queue ≤ 4
 
-nothing_left : (w : World) → w.due ≡ [] → w.flight.commands ≡ [] → w.queue ≡ [] → w.taken ≡ [] → unanswered w ≡ []
+nothing_left : (w : World) → w.due ≡ [] → w.flight.commands ≡ [] → w.queue ≡ [] → w.taken ≡ []
+    → unanswered w ≡ []
 nothing_left w d f q t =
-    ap (λ (xs : List Taken). xs ++ w.flight.commands ++ flat_map (λ (b : Batch). b.commands) w.queue ++ w.taken) d
+    ap (λ (xs : List Taken).
+    xs ++ w.flight.commands ++ flat_map (λ (b : Batch). b.commands) w.queue ++ w.taken) d
     ∙ ap (λ (xs : List Taken). xs ++ flat_map (λ (b : Batch). b.commands) w.queue ++ w.taken) f
     ∙ ap (λ (xs : List Batch). flat_map (λ (b : Batch). b.commands) xs ++ w.taken) q ∙ t
 
@@ -59,7 +64,8 @@ none_few w q = let l : length w.queue ≡ 0 = ap length q in omega arith
 
 pub rests : (w : World) → IsAtRest w → IsResting w
 rests w k = record {
-  nothing = nothing_left w k.nothing_due (ap (λ (b : Batch). b.commands) k.nothing_flies) k.nothing_queued k.nothing_taken;
+  nothing = nothing_left w k.nothing_due
+      (ap (λ (b : Batch). b.commands) k.nothing_flies) k.nothing_queued k.nothing_taken;
   on = is_on w.power k.running;
   few = none_few w k.nothing_queued;
 }
@@ -75,11 +81,14 @@ pub not_both : {A : Type 0} (b : Bool) → b ≡ false → b ≡ true → A
 not_both b isnt is = absurd (false≢true (sym isnt ∙ is))
 
 -- a run of the keeper is one of the machine
-pub run_in : (choice : Choice) → RunsAreAny choice → (w : World) (plan : Plan) (state : State) (cs : List Command) (rs : List Reply) (after : State) → w.building ≡ plan → state_of w ≡ state
+pub run_in : (choice : Choice) → RunsAreAny choice
+    → (w : World) (plan : Plan) (state : State) (cs : List Command) (rs : List Reply)
+    (after : State) → w.building ≡ plan → state_of w ≡ state
     → Run plan choice state cs rs after → Run w.building any_eligible (state_of w) cs rs after
 run_in choice any w plan state cs rs after b s r =
     any w.building (state_of w) cs rs after
-    (subst (λ (p : Plan). Run p choice (state_of w) cs rs after) (sym b) (subst (λ (x : State). Run plan choice x cs rs after) (sym s) r))
+    (subst (λ (p : Plan). Run p choice (state_of w) cs rs after) (sym b)
+    (subst (λ (x : State). Run plan choice x cs rs after) (sym s) r))
 
 -- the asks of these commands stand, and of no other
 pub record Asked (w : World) (cs : List Command) : Type 0 where
@@ -95,21 +104,27 @@ module _ (laws : Laws) (w : World) (reached : IsReached w) where
   hears = subst (λ (v : World). HearsInOrder v) reached.1 (laws.hears w.building reached.0)
 
   -- where all of them stand nothing is asked
-  asks_none : (splits : (t : ℕ) → Splits w t) → IsResting w → (cs : List Command) → LooksAgree w cs → AreApart cs → fresh w cs ≡ [] → Asked w cs
+  asks_none : (splits : (t : ℕ) → Splits w t) → IsResting w → (cs : List Command) → LooksAgree w cs
+      → AreApart cs → fresh w cs ≡ [] → Asked w cs
   asks_none splits k cs agree apart none =
       let here : World = asked_on w (fresh w cs) w.heard in
       record {
         events = [];
         heard = w.heard;
         theirs = tt;
-        possible = ap (λ (xs : List Command). Some (record w { asked = xs })) (sym (ap (λ (xs : List Command). w.asked ++ xs) none ∙ append-nil w.asked));
+        possible = ap (λ (xs : List Command).
+            Some (record w { asked = xs }))
+            (sym (ap (λ (xs : List Command). w.asked ++ xs) none ∙ append-nil w.asked));
         alone = λ none. (refl, refl);
-        found = all_found w splits k.nothing laws.looks k.on k.few cs w.heard cs agree apart (subst (λ (xs : List Command). AreFound here xs) (sym none) tt);
+        found = all_found w splits k.nothing laws.looks k.on k.few cs w.heard cs agree apart
+            (subst (λ (xs : List Command). AreFound here xs) (sym none) tt);
       }
 
-  asks_some : (splits : (t : ℕ) → Splits w t) → IsResting w → (cs : List Command) → LooksAgree w cs → AreApart cs → (c : Command) (rest : List Command) → fresh w cs ≡ c ∷ rest → Asked w cs
+  asks_some : (splits : (t : ℕ) → Splits w t) → IsResting w → (cs : List Command) → LooksAgree w cs
+      → AreApart cs → (c : Command) (rest : List Command) → fresh w cs ≡ c ∷ rest → Asked w cs
   asks_some splits k cs agree apart c rest some =
-      let s = laws.asks w (fresh w cs) k.on k.few hears (fresh_answered w splits k.nothing cs apart) in
+      let s = laws.asks w (fresh w cs) k.on k.few hears
+      (fresh_answered w splits k.nothing cs apart) in
       record {
         events = s.0;
         heard = s.1;
@@ -119,15 +134,20 @@ module _ (laws : Laws) (w : World) (reached : IsReached w) where
         found = all_found w splits k.nothing laws.looks k.on k.few cs s.1 cs agree apart s.4;
       }
 
-  by_fresh : (splits : (t : ℕ) → Splits w t) → IsResting w → (cs : List Command) → LooksAgree w cs → AreApart cs → (xs : List Command) → fresh w cs ≡ xs → Asked w cs
+  by_fresh : (splits : (t : ℕ) → Splits w t) → IsResting w → (cs : List Command) → LooksAgree w cs
+      → AreApart cs → (xs : List Command) → fresh w cs ≡ xs → Asked w cs
   by_fresh splits k cs agree apart [] e = asks_none splits k cs agree apart e
   by_fresh splits k cs agree apart (c ∷ rest) e = asks_some splits k cs agree apart c rest e
 
-  pub ask : (splits : (t : ℕ) → Splits w t) → IsResting w → (cs : List Command) → LooksAgree w cs → AreApart cs → Asked w cs
+  pub ask : (splits : (t : ℕ) → Splits w t) → IsResting w → (cs : List Command) → LooksAgree w cs
+      → AreApart cs → Asked w cs
   ask splits k cs agree apart = by_fresh splits k cs agree apart (fresh w cs) refl
 
-  pub reaches : (events : List Event) (end : World) → goes events w ≡ Some end → end.building ≡ w.building → IsReached end
+  pub reaches : (events : List Event) (end : World) → goes events w ≡ Some end
+      → end.building ≡ w.building → IsReached end
   reaches events end e b = (
     reached.0 ++ events,
-    ap (λ x. run (reached.0 ++ events) (start x)) b ∙ laws.joined (start w.building) reached.0 events ∙ ap (run events) reached.1 ∙ laws.possible w events end e,
+    ap (λ x. run (reached.0 ++ events) (start x)) b ∙ laws.joined
+        (start w.building) reached.0 events ∙ ap (run events) reached.1 ∙ laws.possible w events end
+        e,
   )

@@ -1,9 +1,12 @@
 -- What terminals ask and hear is what the machine's terminals do.
-use Rattle.std.proofs.Common.{◌≡◌, ◌≢◌, ℕ, suc, ◌+◌, ◌<◌, ◌≤◌, Bool, true, false, not, cond, eqb, List, [], ◌∷◌, ◌++◌, map, length, Some, None, refl, sym, ap, ◌∙◌, subst, arith, append_assoc}
+use Rattle.std.proofs.Common.{◌≡◌, ◌≢◌, ℕ, suc, ◌+◌, ◌<◌, ◌≤◌, Bool, true, false, not, cond, eqb}
+use Rattle.std.proofs.Common.{List, [], ◌∷◌, ◌++◌, map, length, Some, None, refl, sym, ap, ◌∙◌}
+use Rattle.std.proofs.Common.{subst, arith, append_assoc}
 use Rattle.std.specs.Prelude.{All, filter, count_by, slice_get, option_map, ◌&&◌, ◌==◌}
 use Rattle.std.proofs.lemmas.Bool.{ne_eqb, eq-eqb, eqb-true, false≢true}
 use Rattle.std.proofs.lemmas.List.{length-append, length-map, append_cancel_left, append-nil}
-use Rattle.std.proofs.lemmas.List.Elements.{filter-append, filter_passes, All-append, All-cons, All-nil}
+use Rattle.std.proofs.lemmas.List.Elements.{filter-append, filter_passes, All-append, All-cons}
+use Rattle.std.proofs.lemmas.List.Elements.{All-nil}
 use Rattle.std.proofs.lemmas.List.Sums.{length-filter}
 use mathlib.Core.List.{map-append}
 use Rattle.lift_base.specs.declared.command.Reply.{Reply}
@@ -23,7 +26,9 @@ use Rattle.lift_world.specs.Headline.{HearsInOrder, AllAskOneByOne}
 use Rattle.lift_world.specs.Next.{next, goes, may_ask, asking, hearing, next_answer}
 use Rattle.lift_clerk.specs.Clerk.{ClerkState}
 use Rattle.lift_clerk.specs.Machine.{ask_of, answer_words, IsReached, IsMachineOf}
-use Rattle.lift_clerk.specs.Group.{ShowsTerminal, IsGroup, Asks, Hears, HearsAnswers, AsksAreAsks, HearsAreHears, ToldAnswersAreHeard, IsRead, HeardNothing, Met, ToldAnswers, ReadsAreNoEvents, GroupLaws}
+use Rattle.lift_clerk.specs.Group.{ShowsTerminal, IsGroup, Asks, Hears, HearsAnswers, AsksAreAsks}
+use Rattle.lift_clerk.specs.Group.{HearsAreHears, ToldAnswersAreHeard, IsRead, HeardNothing, Met}
+use Rattle.lift_clerk.specs.Group.{ToldAnswers, ReadsAreNoEvents, GroupLaws}
 use Rattle.lift_clerk.specs.lemmas.Asked.{rests, rests_broken}
 use Rattle.lift_clerk.specs.lemmas.Reopened.{goes_once}
 use Rattle.lift_clerk.specs.lemmas.Words.{asks_both, asks_count, answers_both}
@@ -51,16 +56,19 @@ cons-head : (x y : ℕ) (xs ys : List ℕ) → x ∷ xs ≡ y ∷ ys → x ≡ y
 cons-head x y xs ys e = cc
 
 -- one of some has what all have
-pub last_has : {A : Type 0} (P : A → Type 0) (xs : List A) (a : A) (ys : List A) → All P (xs ++ a ∷ ys) → P a
+pub last_has : {A : Type 0} (P : A → Type 0) (xs : List A) (a : A) (ys : List A)
+    → All P (xs ++ a ∷ ys) → P a
 last_has P [] a ys h = h 0 a (omega arith)
 last_has P (x ∷ xs) a ys h = last_has P xs a ys (λ k d below. h (suc k) d (omega arith))
 
 -- the power is on between calls
-pub is_on : {D P : Type 0} (w : World) (clerk : ClerkState D P) → IsMachineOf w clerk → (b : Bool) → clerk.keeper.writer.is_broken ≡ b → is_off w.power ≡ false
+pub is_on : {D P : Type 0} (w : World) (clerk : ClerkState D P) → IsMachineOf w clerk → (b : Bool)
+    → clerk.keeper.writer.is_broken ≡ b → is_off w.power ≡ false
 is_on w clerk m false e = (rests w (m.whole e).at_rest).on
 is_on w clerk m true e = (rests_broken w (m.broken e).at_rest).on
 
-module _ {D P : Type 0} (chooses : P → Choice) (laws : GroupLaws D P chooses) (w : World) (reached : IsReached w) where
+module _ {D P : Type 0} (chooses : P
+    → Choice) (laws : GroupLaws D P chooses) (w : World) (reached : IsReached w) where
   pub hears : HearsInOrder w
   hears = subst HearsInOrder reached.1 (laws.hears w.building reached.0)
 
@@ -71,25 +79,33 @@ module _ {D P : Type 0} (chooses : P → Choice) (laws : GroupLaws D P chooses) 
 module _ (w : World) (t : ℕ) (view : TerminalView) (s : ShowsTerminal w t view) where
   pub many_asked : length view.asked ≡ count_by (asks t) w.asked
   many_asked =
-      ap length s.asked ∙ asks_count 1 (map ask_of (filter (asks t) w.asked)) ∙ length-map (filter (asks t) w.asked) ask_of ∙ length-filter (asks t) w.asked
+      ap length s.asked ∙ asks_count 1 (map ask_of (filter (asks t) w.asked)) ∙ length-map
+      (filter (asks t) w.asked) ask_of ∙ length-filter (asks t) w.asked
 
   pub many_heard : length view.heard ≡ count_by (is_answer_to t) w.heard
-  many_heard = ap length s.heard ∙ answers_count 1 (filter (is_answer_to t) w.heard) ∙ length-filter (is_answer_to t) w.heard
+  many_heard = ap length s.heard ∙ answers_count 1 (filter (is_answer_to t) w.heard) ∙ length-filter
+      (is_answer_to t) w.heard
 
 -- the words of another terminal, or of one whose words stay
-pub same_terminal : (w end : World) (t : ℕ) (old new : TerminalView) → filter (asks t) end.asked ≡ filter (asks t) w.asked → filter (is_answer_to t) end.heard ≡ filter (is_answer_to t) w.heard
-    → new.asked ≡ old.asked → new.heard ≡ old.heard → ShowsTerminal w t old → ShowsTerminal end t new
+pub same_terminal : (w end : World) (t : ℕ) (old new : TerminalView)
+    → filter (asks t) end.asked ≡ filter (asks t) w.asked
+    → filter (is_answer_to t) end.heard ≡ filter (is_answer_to t) w.heard
+    → new.asked ≡ old.asked → new.heard ≡ old.heard → ShowsTerminal w t old
+    → ShowsTerminal end t new
 same_terminal w end t old new a h na nh s = record {
   asked = na ∙ s.asked ∙ ap (λ (cs : List Command). ask_words 1 (map ask_of cs)) (sym a);
   heard = nh ∙ s.heard ∙ ap (answer_words 1) (sym h);
   in_range = subst (λ (cs : List Command). All IsAsk (map ask_of cs)) (sym a) s.in_range;
 }
 
-module _ {D P : Type 0} (chooses : P → Choice) (laws : GroupLaws D P chooses) (w : World) (clerk : ClerkState D P) (before after : ℕ → TerminalView) (t : ℕ) (g : IsGroup w clerk before) where
+module _ {D P : Type 0} (chooses : P
+    → Choice) (laws : GroupLaws D P chooses) (w : World) (clerk : ClerkState D P) (before after : ℕ
+    → TerminalView) (t : ℕ) (g : IsGroup w clerk before) where
   on : is_off w.power ≡ false
   on = is_on w clerk g.clerks clerk.keeper.writer.is_broken refl
 
-  order : (rest : List Answer) × (filter (is_answer_to t) w.heard ++ rest ≡ filter (is_answer_to t) w.answered)
+  order : (rest : List Answer)
+      × (filter (is_answer_to t) w.heard ++ rest ≡ filter (is_answer_to t) w.answered)
   order = hears chooses laws w g.clerks.reached t
 
   module _ (ask : Ask) (a : Asks before after t ask) where
@@ -113,7 +129,8 @@ module _ {D P : Type 0} (chooses : P → Choice) (laws : GroupLaws D P chooses) 
 
     may : may_ask w t ≡ true
     may =
-        ap (λ (b : Bool). not b && (count_by (asks t) w.asked == count_by (is_answer_to t) w.heard)) on
+        ap (λ (b : Bool). not b && (count_by (asks t) w.asked == count_by (is_answer_to t) w.heard))
+        on
         ∙ eq-eqb (count_by (asks t) w.asked) (count_by (is_answer_to t) w.heard) heard_all
 
     abbrev asked_then : World
@@ -127,16 +144,24 @@ module _ {D P : Type 0} (chooses : P → Choice) (laws : GroupLaws D P chooses) 
         let s = g.theirs t in
         let old : List Command = filter (asks t) w.asked in
         let now : filter (asks t) (w.asked ++ command ∷ []) ≡ old ++ command ∷ [] =
-        filter-append (asks t) w.asked (command ∷ []) ∙ ap (λ (cs : List Command). old ++ cs) (one_passes (asks t) command (eq-eqb t t refl)) in
-        let both : map ask_of (filter (asks t) (w.asked ++ command ∷ [])) ≡ map ask_of old ++ ask ∷ [] = ap (map ask_of) now ∙ map-append ask_of old (command ∷ []) in
-        let count : suc (length (before t).asked) ≡ 1 + length (map ask_of old) = omega (arith, ap length s.asked, asks_count 1 (map ask_of old)) in
+        filter-append (asks t) w.asked (command ∷ []) ∙ ap (λ (cs : List Command).
+        old ++ cs) (one_passes (asks t) command (eq-eqb t t refl)) in
+        let both : map ask_of (filter (asks t) (w.asked ++ command ∷ []))
+        ≡ map ask_of old ++ ask ∷ [] =
+        ap (map ask_of) now ∙ map-append ask_of old (command ∷ []) in
+        let count : suc (length (before t).asked) ≡ 1 + length (map ask_of old) =
+        omega (arith, ap length s.asked, asks_count 1 (map ask_of old)) in
         record {
           asked = ap (λ (v : TerminalView). v.asked) a.stored.here
-              ∙ ap (λ (words : List ℕ). words ++ ask_word (suc (length (before t).asked)) ask.number ask.body ∷ []) s.asked
-              ∙ ap (λ (n : ℕ). ask_words 1 (map ask_of old) ++ ask_word n ask.number ask.body ∷ []) count
+              ∙ ap (λ (words : List ℕ).
+              words ++ ask_word (suc (length (before t).asked)) ask.number ask.body ∷ []) s.asked
+              ∙ ap (λ (n : ℕ). ask_words 1 (map ask_of old) ++ ask_word n ask.number ask.body
+              ∷ []) count
               ∙ sym (asks_both 1 (map ask_of old) (ask ∷ [])) ∙ ap (ask_words 1) (sym both);
           heard = ap (λ (v : TerminalView). v.heard) a.stored.here ∙ s.heard;
-          in_range = subst (All IsAsk) (sym both) (All-append IsAsk (map ask_of old) (ask ∷ []) s.in_range (All-cons IsAsk ask [] a.in_range (All-nil IsAsk)));
+          in_range = subst (All IsAsk) (sym both)
+              (All-append IsAsk (map ask_of old) (ask ∷ []) s.in_range
+              (All-cons IsAsk ask [] a.in_range (All-nil IsAsk)));
         }
 
     other_asked : (u : ℕ) → u ≢ t → ShowsTerminal asked_then u (after u)
@@ -144,23 +169,34 @@ module _ {D P : Type 0} (chooses : P → Choice) (laws : GroupLaws D P chooses) 
         let isnt : eqb t u ≡ false = ne_eqb t u (λ e. apart (sym e)) in
         let e = a.stored.others u apart in
         let same : filter (asks u) (w.asked ++ command ∷ []) ≡ filter (asks u) w.asked =
-        filter-append (asks u) w.asked (command ∷ []) ∙ ap (λ (cs : List Command). filter (asks u) w.asked ++ cs) (none_passes (asks u) command isnt) ∙ append-nil (filter (asks u) w.asked) in
-        same_terminal w asked_then u (before u) (after u) same refl (ap (λ (v : TerminalView). v.asked) e) (ap (λ (v : TerminalView). v.heard) e) (g.theirs u)
+        filter-append (asks u) w.asked (command ∷ []) ∙ ap (λ (cs : List Command).
+        filter (asks u) w.asked ++ cs) (none_passes (asks u) command isnt) ∙ append-nil
+        (filter (asks u) w.asked) in
+        same_terminal w asked_then u (before u) (after u) same refl (ap (λ (v : TerminalView).
+        v.asked) e) (ap (λ (v : TerminalView). v.heard) e) (g.theirs u)
 
     each_asked : (u : ℕ) (b : Bool) → eqb u t ≡ b → ShowsTerminal asked_then u (after u)
-    each_asked u true e = subst (λ (n : ℕ). ShowsTerminal asked_then n (after n)) (sym (eqb-true u t e)) own_asked
+    each_asked u true e = subst (λ (n : ℕ).
+        ShowsTerminal asked_then n (after n)) (sym (eqb-true u t e)) own_asked
     each_asked u false e = other_asked u (λ q. absurd (false≢true (sym e ∙ eq-eqb u t q)))
 
-    pub asks_is_ask : (end : World) × (goes (Asking t ask.number ask.body ∷ []) w ≡ Some end) × IsGroup end clerk after × (safe_list end ≡ safe_list w) × (end.given ≡ w.given)
+    pub asks_is_ask : (end : World) × (goes (Asking t ask.number ask.body ∷ []) w ≡ Some end)
+        × IsGroup end clerk after × (safe_list end ≡ safe_list w) × (end.given ≡ w.given)
     asks_is_ask = (
       asked_then,
       goes_once w asked_then (Asking t ask.number ask.body) possible,
-      record { clerks = laws.terminals w asked_then clerk (Asking t ask.number ask.body) refl possible g.clerks; theirs = λ u. each_asked u (eqb u t) refl },
+      record {
+        clerks = laws.terminals w asked_then clerk
+            (Asking t ask.number ask.body) refl possible g.clerks;
+        theirs = λ u.
+            each_asked u (eqb u t) refl;
+      },
       refl,
       refl,
     )
 
-  module _ (word : ℕ) (reply : Reply) (h : Hears before after t word (Some reply)) (front : HearsAnswers clerk after t) where
+  module _ (word : ℕ) (reply : Reply) (h : Hears before after t word (Some reply))
+      (front : HearsAnswers clerk after t) where
     abbrev old : List Answer
     old = filter (is_answer_to t) w.heard
 
@@ -173,9 +209,12 @@ module _ {D P : Type 0} (chooses : P → Choice) (laws : GroupLaws D P chooses) 
     -- the answers that wait begin with this word
     waits : word ∷ front.0 ≡ answer_words (1 + length old) order.0
     waits =
-        append_cancel_left (answer_words 1 old) (word ∷ front.0) (answer_words (1 + length old) order.0)
-        (sym (append_assoc (answer_words 1 old) (word ∷ []) front.0) ∙ ap (λ (words : List ℕ). words ++ front.0) (sym now_heard) ∙ front.1
-        ∙ (g.clerks.words t).answered ∙ ap (answer_words 1) (sym order.1) ∙ answers_both 1 old order.0)
+        append_cancel_left (answer_words 1 old) (word ∷ front.0)
+        (answer_words (1 + length old) order.0)
+        (sym (append_assoc (answer_words 1 old) (word ∷ []) front.0) ∙ ap (λ (words : List ℕ).
+        words ++ front.0) (sym now_heard) ∙ front.1
+        ∙ (g.clerks.words t).answered ∙ ap (answer_words 1)
+        (sym order.1) ∙ answers_both 1 old order.0)
 
     module _ (answer : Answer) (rest : List Answer) (is : order.0 ≡ answer ∷ rest) where
       abbrev heard_then : World
@@ -185,62 +224,88 @@ module _ {D P : Type 0} (chooses : P → Choice) (laws : GroupLaws D P chooses) 
       answered = sym order.1 ∙ ap (λ (xs : List Answer). old ++ xs) is
 
       own_answer : is_answer_to t answer ≡ true
-      own_answer = last_has (λ (x : Answer). is_answer_to t x ≡ true) old answer rest (subst (All (λ (x : Answer). is_answer_to t x ≡ true)) answered (filter_passes (is_answer_to t) w.answered))
+      own_answer = last_has (λ (x : Answer).
+          is_answer_to t x ≡ true) old answer rest
+          (subst (All (λ (x : Answer). is_answer_to t x ≡ true)) answered
+          (filter_passes (is_answer_to t) w.answered))
 
       next_is : next_answer w t ≡ Some answer
       next_is =
           ap (λ (xs : List Answer). slice_get xs (count_by (is_answer_to t) w.heard)) answered
-          ∙ ap (λ (n : ℕ). slice_get (old ++ answer ∷ rest) n) (sym (length-filter (is_answer_to t) w.heard)) ∙ at_seam old rest answer
+          ∙ ap (λ (n : ℕ). slice_get (old ++ answer ∷ rest) n)
+          (sym (length-filter (is_answer_to t) w.heard)) ∙ at_seam old rest answer
 
       can_hear : next w (Hear t) ≡ Some heard_then
-      can_hear = ap (λ (b : Bool). cond (not b) (option_map (hearing w) (next_answer w t)) None) on ∙ ap (option_map (hearing w)) next_is
+      can_hear = ap (λ (b : Bool).
+          cond (not b) (option_map (hearing w) (next_answer w t)) None) on ∙ ap
+          (option_map (hearing w)) next_is
 
       word_is : word ≡ reply_word (1 + length old) answer.number answer.reply
-      word_is = cons-head word (reply_word (1 + length old) answer.number answer.reply) front.0 (answer_words (suc (1 + length old)) rest) (waits ∙ ap (answer_words (1 + length old)) is)
+      word_is = cons-head word (reply_word (1 + length old) answer.number answer.reply) front.0
+          (answer_words (suc (1 + length old)) rest) (waits ∙ ap (answer_words (1 + length old)) is)
 
       own_heard : ShowsTerminal heard_then t (after t)
       own_heard =
           let s = g.theirs t in
           let now : filter (is_answer_to t) (w.heard ++ answer ∷ []) ≡ old ++ answer ∷ [] =
-          filter-append (is_answer_to t) w.heard (answer ∷ []) ∙ ap (λ (xs : List Answer). old ++ xs) (one_passes (is_answer_to t) answer own_answer) in
+          filter-append (is_answer_to t) w.heard (answer ∷ []) ∙ ap (λ (xs : List Answer).
+          old ++ xs) (one_passes (is_answer_to t) answer own_answer) in
           record {
             asked = ap (λ (v : TerminalView). v.asked) h.looked.here ∙ s.asked;
-            heard = now_heard ∙ ap (λ (x : ℕ). answer_words 1 old ++ x ∷ []) word_is ∙ sym (answers_both 1 old (answer ∷ [])) ∙ ap (answer_words 1) (sym now);
+            heard = now_heard ∙ ap (λ (x : ℕ).
+                answer_words 1 old ++ x ∷ []) word_is ∙ sym (answers_both 1 old (answer ∷ [])) ∙ ap
+                (answer_words 1) (sym now);
             in_range = s.in_range;
           }
 
       other_heard : (u : ℕ) → u ≢ t → ShowsTerminal heard_then u (after u)
       other_heard u apart =
-          let isnt : is_answer_to u answer ≡ false = ne_eqb answer.terminal u (λ e. apart (sym e ∙ eqb-true answer.terminal t own_answer)) in
+          let isnt : is_answer_to u answer ≡ false =
+          ne_eqb answer.terminal u (λ e.
+          apart (sym e ∙ eqb-true answer.terminal t own_answer)) in
           let e = h.looked.others u apart in
-          let same : filter (is_answer_to u) (w.heard ++ answer ∷ []) ≡ filter (is_answer_to u) w.heard =
-          filter-append (is_answer_to u) w.heard (answer ∷ []) ∙ ap (λ (xs : List Answer). filter (is_answer_to u) w.heard ++ xs) (none_passes (is_answer_to u) answer isnt)
+          let same : filter (is_answer_to u) (w.heard ++ answer ∷ [])
+          ≡ filter (is_answer_to u) w.heard =
+          filter-append (is_answer_to u) w.heard (answer ∷ []) ∙ ap (λ (xs : List Answer).
+          filter (is_answer_to u) w.heard ++ xs) (none_passes (is_answer_to u) answer isnt)
           ∙ append-nil (filter (is_answer_to u) w.heard) in
-          same_terminal w heard_then u (before u) (after u) refl same (ap (λ (v : TerminalView). v.asked) e) (ap (λ (v : TerminalView). v.heard) e) (g.theirs u)
+          same_terminal w heard_then u (before u) (after u) refl same (ap (λ (v : TerminalView).
+          v.asked) e) (ap (λ (v : TerminalView). v.heard) e) (g.theirs u)
 
       each_heard : (u : ℕ) (b : Bool) → eqb u t ≡ b → ShowsTerminal heard_then u (after u)
-      each_heard u true e = subst (λ (n : ℕ). ShowsTerminal heard_then n (after n)) (sym (eqb-true u t e)) own_heard
+      each_heard u true e = subst (λ (n : ℕ).
+          ShowsTerminal heard_then n (after n)) (sym (eqb-true u t e)) own_heard
       each_heard u false e = other_heard u (λ q. absurd (false≢true (sym e ∙ eq-eqb u t q)))
 
-      hears_this : (end : World) × (goes (Hear t ∷ []) w ≡ Some end) × IsGroup end clerk after × (safe_list end ≡ safe_list w) × (end.given ≡ w.given)
+      hears_this : (end : World) × (goes (Hear t ∷ []) w ≡ Some end) × IsGroup end clerk after
+          × (safe_list end ≡ safe_list w) × (end.given ≡ w.given)
       hears_this = (
         heard_then,
         goes_once w heard_then (Hear t) can_hear,
-        record { clerks = laws.terminals w heard_then clerk (Hear t) refl can_hear g.clerks; theirs = λ u. each_heard u (eqb u t) refl },
+        record {
+          clerks = laws.terminals w heard_then clerk (Hear t) refl can_hear g.clerks;
+          theirs = λ u. each_heard u (eqb u t) refl;
+        },
         refl,
         refl,
       )
 
-    by_rest : (rest : List Answer) → order.0 ≡ rest → (end : World) × (goes (Hear t ∷ []) w ≡ Some end) × IsGroup end clerk after × (safe_list end ≡ safe_list w) × (end.given ≡ w.given)
-    by_rest [] e = let wrong : word ∷ front.0 ≡ [] = waits ∙ ap (answer_words (1 + length old)) e in cc
+    by_rest : (rest : List Answer) → order.0 ≡ rest
+        → (end : World) × (goes (Hear t ∷ []) w ≡ Some end) × IsGroup end clerk after
+        × (safe_list end ≡ safe_list w) × (end.given ≡ w.given)
+    by_rest [] e = let wrong : word ∷ front.0 ≡ [] = waits ∙ ap (answer_words (1 + length old)) e in
+        cc
     by_rest (answer ∷ rest) e = hears_this answer rest e
 
-    pub hears_is_hear : (end : World) × (goes (Hear t ∷ []) w ≡ Some end) × IsGroup end clerk after × (safe_list end ≡ safe_list w) × (end.given ≡ w.given)
+    pub hears_is_hear : (end : World) × (goes (Hear t ∷ []) w ≡ Some end) × IsGroup end clerk after
+        × (safe_list end ≡ safe_list w) × (end.given ≡ w.given)
     hears_is_hear = by_rest order.0 refl
 
 -- where only these lists matter
-reads_same : (before view : TerminalView) → IsRead before view → (view.asked ≡ before.asked) × (view.heard ≡ before.heard)
-reads_same before view (HeardNothing word h) = (refl, ap (λ (b : Bool). cond b (before.heard ++ word ∷ []) before.heard) h)
+reads_same : (before view : TerminalView) → IsRead before view
+    → (view.asked ≡ before.asked) × (view.heard ≡ before.heard)
+reads_same before view (HeardNothing word h) =
+    (refl, ap (λ (b : Bool). cond b (before.heard ++ word ∷ []) before.heard) h)
 reads_same before view (Met word) = (refl, refl)
 reads_same before view (ToldAnswers words) = (refl, refl)
 
@@ -248,36 +313,54 @@ pub reads_are_no_events : {D P : Type 0} → ReadsAreNoEvents D P
 reads_are_no_events w clerk before after t view g c r =
     let same = reads_same (before t) view r in
     let own : ShowsTerminal w t (after t) =
-    same_terminal w w t (before t) (after t) refl refl (ap (λ (v : TerminalView). v.asked) c.here ∙ same.0) (ap (λ (v : TerminalView). v.heard) c.here ∙ same.1) (g.theirs t) in
+    same_terminal w w t (before t) (after t) refl refl (ap (λ (v : TerminalView).
+    v.asked) c.here ∙ same.0) (ap (λ (v : TerminalView). v.heard) c.here ∙ same.1)
+    (g.theirs t) in
     record { clerks = g.clerks; theirs = λ u. each own u (eqb u t) refl }
   where
-    each : ShowsTerminal w t (after t) → (u : ℕ) (b : Bool) → eqb u t ≡ b → ShowsTerminal w u (after u)
+    each : ShowsTerminal w t (after t) → (u : ℕ) (b : Bool) → eqb u t ≡ b
+        → ShowsTerminal w u (after u)
     each own u true e = subst (λ (n : ℕ). ShowsTerminal w n (after n)) (sym (eqb-true u t e)) own
     each own u false e =
         let same = c.others u (λ q. absurd (false≢true (sym e ∙ eq-eqb u t q))) in
-        same_terminal w w u (before u) (after u) refl refl (ap (λ (v : TerminalView). v.asked) same) (ap (λ (v : TerminalView). v.heard) same) (g.theirs u)
+        same_terminal w w u (before u) (after u) refl refl (ap (λ (v : TerminalView). v.asked) same)
+        (ap (λ (v : TerminalView). v.heard) same) (g.theirs u)
 
 pub asks_are_asks : {D P : Type 0} (chooses : P → Choice) → GroupLaws D P chooses → AsksAreAsks D P
-asks_are_asks chooses laws w clerk before after t ask g a = let k = asks_is_ask chooses laws w clerk before after t g ask a in (k.0, k.1, k.2)
+asks_are_asks chooses laws w clerk before after t ask g a = let k =
+    asks_is_ask chooses laws w clerk before after t g ask a in (k.0, k.1, k.2)
 
-pub hears_are_hears : {D P : Type 0} (chooses : P → Choice) → GroupLaws D P chooses → HearsAreHears D P
-hears_are_hears chooses laws w clerk before after t word reply g h front = let k = hears_is_hear chooses laws w clerk before after t g word reply h front in (k.0, k.1, k.2)
+pub hears_are_hears : {D P : Type 0} (chooses : P → Choice) → GroupLaws D P chooses
+    → HearsAreHears D P
+hears_are_hears chooses laws w clerk before after t word reply g h front = let k =
+    hears_is_hear chooses laws w clerk before after t g word reply h front in (k.0, k.1, k.2)
 
 -- a list that begins another with one element at most behind a shorter one is all of that
 whole_front : {A : Type 0} (xs ys rest : List A) → xs ++ rest ≡ ys → length ys ≤ length xs → xs ≡ ys
 whole_front xs ys [] e few = sym (append-nil xs) ∙ e
-whole_front xs ys (x ∷ rest) e few = absurd (omega (arith, length-append xs (x ∷ rest), ap length e))
+whole_front xs ys (x ∷ rest) e few =
+    absurd (omega (arith, length-append xs (x ∷ rest), ap length e))
 
-hears_one : (before : TerminalView) (word : ℕ) (b : Bool) → is_awaited before word ≡ b → length (with_hearing before word).heard ≤ suc (length before.heard)
+hears_one : (before : TerminalView) (word : ℕ) (b : Bool) → is_awaited before word ≡ b
+    → length (with_hearing before word).heard ≤ suc (length before.heard)
 hears_one before word true e =
-    omega (arith, ap (λ (c : Bool). length (cond c (before.heard ++ word ∷ []) before.heard)) e, length-append before.heard (word ∷ []))
-hears_one before word false e = omega (arith, ap (λ (c : Bool). length (cond c (before.heard ++ word ∷ []) before.heard)) e)
+    omega (
+      arith,
+      ap (λ (c : Bool).
+          length (cond c (before.heard ++ word ∷ []) before.heard)) e,
+      length-append before.heard
+          (word ∷ []),
+    )
+hears_one before word false e =
+    omega (arith, ap (λ (c : Bool). length (cond c (before.heard ++ word ∷ []) before.heard)) e)
 
 pub told_answers_are_heard : {D P : Type 0} → ToldAnswersAreHeard D P
 told_answers_are_heard clerk before after t word result h told some front =
     let answered = (view_at clerk.seat t).answered in
-    let heard : (after t).heard ≡ (with_hearing (before t) word).heard = ap (λ (v : TerminalView). v.heard) h.looked.here in
+    let heard : (after t).heard ≡ (with_hearing (before t) word).heard =
+    ap (λ (v : TerminalView). v.heard) h.looked.here in
     let one = hears_one (before t) word (is_awaited (before t) word) refl in
     let is : (before t).told ≡ (after t).heard =
-    whole_front (before t).told (after t).heard front.0 front.1 (omega (arith, some, ap length heard, ap length told, one)) in
+    whole_front (before t).told (after t).heard front.0 front.1
+    (omega (arith, some, ap length heard, ap length told, one)) in
     ([], append-nil (after t).heard ∙ sym is ∙ told)

@@ -16,14 +16,18 @@ AreOthers terminal commands = AllByRecursion (λ (d : Command). d.terminal ≢ t
 
 pub no_asks : (t : ℕ) (cs : List Command) → AreOthers t cs → filter (asks t) cs ≡ []
 no_asks t [] h = refl
-no_asks t (c ∷ cs) h = ap (λ (b : Bool). cond b (c ∷ filter (asks t) cs) (filter (asks t) cs)) (ne_eqb c.terminal t h.0) ∙ no_asks t cs h.1
+no_asks t (c ∷ cs) h = ap (λ (b : Bool). cond b (c ∷ filter (asks t) cs) (filter (asks t) cs))
+    (ne_eqb c.terminal t h.0) ∙ no_asks t cs h.1
 
 abbrev pub answers_to : List Command → List Reply → List Answer
 answers_to cs rs = map answer_of (with_replies cs rs)
 
-pub no_answers : (t : ℕ) (cs : List Command) (rs : List Reply) → AreOthers t cs → filter (is_answer_to t) (answers_to cs rs) ≡ []
+pub no_answers : (t : ℕ) (cs : List Command) (rs : List Reply) → AreOthers t cs
+    → filter (is_answer_to t) (answers_to cs rs) ≡ []
 no_answers t [] rs h = refl
 no_answers t (c ∷ cs) [] h = refl
 no_answers t (c ∷ cs) (r ∷ rs) h =
-    ap (λ (b : Bool). cond b (record { terminal = c.terminal; number = c.number; reply = r } ∷ filter (is_answer_to t) (answers_to cs rs)) (filter (is_answer_to t) (answers_to cs rs))) (ne_eqb c.terminal t h.0)
+    ap (λ (b : Bool). cond b (record { terminal = c.terminal; number = c.number; reply = r }
+    ∷ filter (is_answer_to t) (answers_to cs rs)) (filter (is_answer_to t) (answers_to cs rs)))
+    (ne_eqb c.terminal t h.0)
     ∙ no_answers t cs rs h.1

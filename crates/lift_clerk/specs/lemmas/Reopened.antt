@@ -1,5 +1,6 @@
 -- Reopenings, openings, and what terminals do between calls.
-use Rattle.std.proofs.Common.{ℕ, suc, zero, ◌≡◌, ◌-◌, ◌⊎◌, inl, inr, Bool, true, false, List, [], ◌∷◌, ◌++◌, take, drop, Some, refl, sym, ap, subst, ◌∙◌, arith}
+use Rattle.std.proofs.Common.{ℕ, suc, zero, ◌≡◌, ◌-◌, ◌⊎◌, inl, inr, Bool, true, false, List, []}
+use Rattle.std.proofs.Common.{◌∷◌, ◌++◌, take, drop, Some, refl, sym, ap, subst, ◌∙◌, arith}
 use Rattle.std.specs.Prelude.{IsTrue, filter, option_and_then, count_by}
 use Rattle.std.proofs.lemmas.List.{append-nil}
 use Rattle.atomic_table.specs.Seated.{TableId}
@@ -19,34 +20,45 @@ use Rattle.lift_world.specs.declared.event.Kept.{Kept}
 use Rattle.lift_world.specs.declared.event.Kept.TheVariants.{Safe, WithBatch}
 use Rattle.lift_world.specs.declared.event.Power.TheVariants.{Broken}
 use Rattle.lift_world.specs.Decided.{when}
-use Rattle.lift_world.specs.World.{World, Batch, start, unplaced, safe_list, batch_of, outcome, may_keep, register_after, asks, is_answer_to}
+use Rattle.lift_world.specs.World.{World, Batch, start, unplaced, safe_list, batch_of, outcome}
+use Rattle.lift_world.specs.World.{may_keep, register_after, asks, is_answer_to}
 use Rattle.lift_world.specs.Next.{next, goes, reopened, cutting}
 use Rattle.lift_world.specs.Turns.{IsAtRest, IsBrokenAtRest}
 use Rattle.lift_clerk.specs.Clerk.{ClerkState}
-use Rattle.lift_clerk.specs.Machine.{IsMachineOf, ShowsWords, ShowsWhole, ShowsBroken, Follows, Reopens, ReopeningsAreReopenings, NothingIsNoEvent, FailedReopeningsAreFaults, BeginsAtStart, BeginsAfterCut, answer_words, kept_of}
+use Rattle.lift_clerk.specs.Machine.{IsMachineOf, ShowsWords, ShowsWhole, ShowsBroken, Follows}
+use Rattle.lift_clerk.specs.Machine.{Reopens, ReopeningsAreReopenings, NothingIsNoEvent}
+use Rattle.lift_clerk.specs.Machine.{FailedReopeningsAreFaults, BeginsAtStart, BeginsAfterCut}
+use Rattle.lift_clerk.specs.Machine.{answer_words, kept_of}
 use Rattle.lift_clerk.specs.Laws.{Laws}
 use Rattle.lift_clerk.specs.lemmas.Asked.{reaches, not_both}
 use Rattle.lift_clerk.specs.lemmas.Turned.{register_with, safe_all, state_is}
 
-pub same_words : (w end : World) (t : ℕ) (view : ClerkView) → end.asked ≡ w.asked → end.answered ≡ w.answered → ShowsWords w t view → ShowsWords end t view
+pub same_words : (w end : World) (t : ℕ) (view : ClerkView) → end.asked ≡ w.asked
+    → end.answered ≡ w.answered → ShowsWords w t view → ShowsWords end t view
 same_words w end t view a b k = record {
   first = k.first;
   waiting = k.waiting;
   asked = ap (filter (asks t)) a ∙ k.asked;
   taken = k.taken;
-  answered = k.answered ∙ ap (λ (xs : List Answer). answer_words 1 (filter (is_answer_to t) xs)) (sym b);
+  answered = k.answered ∙ ap (λ (xs : List Answer).
+      answer_words 1 (filter (is_answer_to t) xs)) (sym b);
   even = k.even ∙ ap (count_by (is_answer_to t)) (sym b);
 }
 
-seated_words : (w end : World) (t : ℕ) (old new : List ClerkPlace) → new ≡ old → end.asked ≡ w.asked → end.answered ≡ w.answered → ShowsWords w t (view_at old t) → ShowsWords end t (view_at new t)
-seated_words w end t old new e a b k = subst (λ (s : List ClerkPlace). ShowsWords end t (view_at s t)) (sym e) (same_words w end t (view_at old t) a b k)
+seated_words : (w end : World) (t : ℕ) (old new : List ClerkPlace) → new ≡ old → end.asked ≡ w.asked
+    → end.answered ≡ w.answered → ShowsWords w t (view_at old t) → ShowsWords end t (view_at new t)
+seated_words w end t old new e a b k =
+    subst (λ (s : List ClerkPlace).
+    ShowsWords end t (view_at s t)) (sym e) (same_words w end t (view_at old t) a b k)
 
 -- one event
-pub goes_once : (w end : World) (event : Event) → next w event ≡ Some end → goes (event ∷ []) w ≡ Some end
+pub goes_once : (w end : World) (event : Event) → next w event ≡ Some end
+    → goes (event ∷ []) w ≡ Some end
 goes_once w end event e = ap (option_and_then (goes [])) e
 
 -- of no batch nothing is kept
-pub nothing_kept : {A B : Type 0} (safe batch : List Entry) (o : A ⊎ B) → batch ≡ [] → kept_of safe batch o ≡ safe
+pub nothing_kept : {A B : Type 0} (safe batch : List Entry) (o : A ⊎ B) → batch ≡ []
+    → kept_of safe batch o ≡ safe
 nothing_kept safe batch (inl without) e = refl
 nothing_kept safe batch (inr whole) e = ap (λ (xs : List Entry). safe ++ xs) e ∙ append-nil safe
 
@@ -56,8 +68,10 @@ module _ (registers : RegistersJoin) where
   with_nothing xs = registers empty xs [] ∙ ap register_after (append-nil xs)
 
 -- an opening leaves the world of its register
-opened : {D P : Type 0} (end : World) (clerk : ClerkState D P) → IsAtRest end → end.positions ≡ unplaced → register_after end.accepted ≡ clerk.keeper.writer.register
-    → clerk.keeper.state ≡ starting clerk.keeper.writer.register → clerk.keeper.writer.doubt ≡ [] → ShowsWhole end clerk.keeper
+opened : {D P : Type 0} (end : World) (clerk : ClerkState D P) → IsAtRest end
+    → end.positions ≡ unplaced → register_after end.accepted ≡ clerk.keeper.writer.register
+    → clerk.keeper.state ≡ starting clerk.keeper.writer.register → clerk.keeper.writer.doubt ≡ []
+    → ShowsWhole end clerk.keeper
 opened end clerk k p r s d = record {
   at_rest = k;
   state = state_is end k (starting clerk.keeper.writer.register) r p refl ∙ sym s;
@@ -65,18 +79,26 @@ opened end clerk k p r s d = record {
   no_doubt = d;
 }
 
-module _ {D P : Type 0} (laws : Laws) (w : World) (before after : ClerkState D P) (r : Reopens before after) (m : IsMachineOf w before) where
+module _ {D P : Type 0} (laws : Laws) (w : World) (before after : ClerkState D P)
+    (r : Reopens before after) (m : IsMachineOf w before) where
   abbrev OneOf : Type 0
-  OneOf = (after.keeper.writer.register ≡ before.keeper.writer.register) ⊎ (after.keeper.writer.register ≡ register_of before.keeper.writer.register before.keeper.writer.doubt)
+  OneOf = (after.keeper.writer.register ≡ before.keeper.writer.register)
+      ⊎ (after.keeper.writer.register
+      ≡ register_of before.keeper.writer.register before.keeper.writer.doubt)
 
   abbrev safe : OneOf → List Entry
   safe o = kept_of (safe_list w) before.keeper.writer.doubt o
 
   abbrev Keeps : OneOf → Type 0
-  Keeps o = (kept : Kept) × IsTrue (may_keep w kept) × (after.keeper.writer.register ≡ register_after (outcome w kept)) × Follows w (Reopen kept ∷ []) [] (safe o) after
+  Keeps o = (kept : Kept) × IsTrue (may_keep w kept)
+      × (after.keeper.writer.register ≡ register_after (outcome w kept))
+      × Follows w (Reopen kept ∷ []) [] (safe o) after
 
-  leads_to : (o : OneOf) (kept : Kept) (end : World) → next w (Reopen kept) ≡ Some end → IsAtRest end → end.building ≡ w.building → end.asked ≡ w.asked → end.heard ≡ w.heard → end.answered ≡ w.answered → end.given ≡ w.given
-      → end.positions ≡ unplaced → register_after end.accepted ≡ after.keeper.writer.register → end.accepted ≡ safe o → Follows w (Reopen kept ∷ []) [] (safe o) after
+  leads_to : (o : OneOf) (kept : Kept) (end : World) → next w (Reopen kept) ≡ Some end
+      → IsAtRest end → end.building ≡ w.building → end.asked ≡ w.asked → end.heard ≡ w.heard
+      → end.answered ≡ w.answered → end.given ≡ w.given
+      → end.positions ≡ unplaced → register_after end.accepted ≡ after.keeper.writer.register
+      → end.accepted ≡ safe o → Follows w (Reopen kept ∷ []) [] (safe o) after
   leads_to o kept end e k b a h s g p reg same_safe = record {
     before = [];
     of_terminals = tt;
@@ -84,8 +106,10 @@ module _ {D P : Type 0} (laws : Laws) (w : World) (before after : ClerkState D P
     possible = goes_once w end (Reopen kept) e;
     given_is = g ∙ sym (append-nil w.given);
     safe_is = safe_all end k ∙ same_safe;
-    waits = λ none t. ap (λ (xs : List Answer). drop (count_by (is_answer_to t) xs) (filter (asks t) end.asked)) s
-        ∙ ap (λ (xs : List Command). drop (count_by (is_answer_to t) w.answered) (filter (asks t) xs)) a ∙ none t;
+    waits = λ none t. ap (λ (xs : List Answer).
+        drop (count_by (is_answer_to t) xs) (filter (asks t) end.asked)) s
+        ∙ ap (λ (xs : List Command).
+        drop (count_by (is_answer_to t) w.answered) (filter (asks t) xs)) a ∙ none t;
     alone = λ none. (refl, a, h);
     shows = record {
       building = b ∙ m.building ∙ sym r.same_plan;
@@ -96,36 +120,57 @@ module _ {D P : Type 0} (laws : Laws) (w : World) (before after : ClerkState D P
     };
   }
 
-  safe_again : before.keeper.writer.register ≡ register_after (safe_list w) → before.keeper.writer.doubt ≡ [] → OneOf → after.keeper.writer.register ≡ register_after (safe_list w)
+  safe_again : before.keeper.writer.register ≡ register_after (safe_list w)
+      → before.keeper.writer.doubt ≡ [] → OneOf
+      → after.keeper.writer.register ≡ register_after (safe_list w)
   safe_again s d (inl e) = e ∙ s
   safe_again s d (inr e) =
-      e ∙ ap (register_of before.keeper.writer.register) d ∙ ap (λ (x : RegisterState). register_of x []) s ∙ with_nothing laws.registers (safe_list w)
+      e ∙ ap (register_of before.keeper.writer.register) d ∙ ap (λ (x : RegisterState).
+      register_of x []) s ∙ with_nothing laws.registers (safe_list w)
 
   while_whole : before.keeper.writer.is_broken ≡ false → Keeps r.one_of
   while_whole e =
       let wh : ShowsWhole w before.keeper = m.whole e in
-      let reg : after.keeper.writer.register ≡ register_after (safe_list w) = safe_again (sym wh.safe) wh.no_doubt r.one_of in
+      let reg : after.keeper.writer.register ≡ register_after (safe_list w) =
+      safe_again (sym wh.safe) wh.no_doubt r.one_of in
       let end : World = record w { positions = unplaced } in (
         Safe,
         refl,
         reg,
-        leads_to r.one_of Safe end ((laws.running_reopenings w).opens wh.at_rest) ((laws.running_reopenings w).rests wh.at_rest) refl refl refl refl refl refl
-            (ap register_after (sym (safe_all w wh.at_rest)) ∙ sym reg) (sym (safe_all w wh.at_rest) ∙ sym (nothing_kept (safe_list w) before.keeper.writer.doubt r.one_of wh.no_doubt)),
+        leads_to r.one_of Safe end ((laws.running_reopenings w).opens wh.at_rest)
+            ((laws.running_reopenings w).rests wh.at_rest) refl refl refl refl refl refl
+            (ap register_after (sym (safe_all w wh.at_rest)) ∙ sym reg)
+            (sym (safe_all w wh.at_rest) ∙ sym
+            (nothing_kept (safe_list w) before.keeper.writer.doubt r.one_of wh.no_doubt)),
       )
 
-  keeping : (o : OneOf) (kept : Kept) → IsBrokenAtRest w → IsTrue (may_keep w kept) → after.keeper.writer.register ≡ register_after (outcome w kept) → outcome w kept ≡ safe o → Keeps o
+  keeping : (o : OneOf) (kept : Kept) → IsBrokenAtRest w → IsTrue (may_keep w kept)
+      → after.keeper.writer.register ≡ register_after (outcome w kept) → outcome w kept ≡ safe o
+      → Keeps o
   keeping o kept rest may reg same_safe =
-      let t = laws.reopenings w kept rest may in (kept, may, reg, leads_to o kept (reopened w kept) t.0 t.1 refl refl refl refl refl refl (sym reg) same_safe)
+      let t = laws.reopenings w kept rest may in (
+        kept,
+        may,
+        reg,
+        leads_to o kept (reopened w kept) t.0 t.1 refl refl refl refl refl refl
+            (sym reg) same_safe,
+      )
 
-  by_doubt : (doubt : List Entry) → before.keeper.writer.doubt ≡ doubt → (br : ShowsBroken w before.keeper)
-      → (e : after.keeper.writer.register ≡ register_of before.keeper.writer.register before.keeper.writer.doubt) → Keeps (inr e)
+  by_doubt : (doubt : List Entry) → before.keeper.writer.doubt ≡ doubt
+      → (br : ShowsBroken w before.keeper)
+      → (e : after.keeper.writer.register
+      ≡ register_of before.keeper.writer.register before.keeper.writer.doubt) → Keeps (inr e)
   by_doubt [] d br e =
       let o : OneOf = inr e in
-      keeping o Safe br.at_rest refl (safe_again (sym br.safe) d o) (sym (nothing_kept (safe_list w) before.keeper.writer.doubt o d))
+      keeping o Safe br.at_rest refl (safe_again (sym br.safe) d o)
+      (sym (nothing_kept (safe_list w) before.keeper.writer.doubt o d))
   by_doubt (x ∷ xs) d br e =
-      keeping (inr e) WithBatch br.at_rest (br.may_be_kept (λ none. let wrong : x ∷ xs ≡ [] = sym d ∙ none in cc))
-      (e ∙ sym (register_with laws.registers w before.keeper.writer.doubt before.keeper.writer.register br.safe)
-      ∙ ap (λ (ys : List Entry). register_after (safe_list w ++ ys)) (sym br.doubt)) (ap (λ (ys : List Entry). safe_list w ++ ys) br.doubt)
+      keeping (inr e) WithBatch br.at_rest
+      (br.may_be_kept (λ none. let wrong : x ∷ xs ≡ [] = sym d ∙ none in cc))
+      (e ∙ sym (register_with laws.registers w before.keeper.writer.doubt
+      before.keeper.writer.register br.safe)
+      ∙ ap (λ (ys : List Entry). register_after (safe_list w ++ ys)) (sym br.doubt))
+      (ap (λ (ys : List Entry). safe_list w ++ ys) br.doubt)
 
   by_register : ShowsBroken w before.keeper → (o : OneOf) → Keeps o
   by_register br (inl e) = keeping (inl e) Safe br.at_rest refl (e ∙ sym br.safe) refl
@@ -136,17 +181,30 @@ module _ {D P : Type 0} (laws : Laws) (w : World) (before after : ClerkState D P
   by_state true e = by_register (m.broken e) r.one_of
 
 pub reopenings_are_reopenings : {D P : Type 0} → Laws → ReopeningsAreReopenings D P
-reopenings_are_reopenings laws w before after r m = by_state laws w before after r m before.keeper.writer.is_broken refl
+reopenings_are_reopenings laws w before after r m =
+    by_state laws w before after r m before.keeper.writer.is_broken refl
 
 pub nothing_is_no_event : {D P : Type 0} → NothingIsNoEvent D P
 nothing_is_no_event w before after s same m = record {
   building = m.building ∙ sym s.same_plan;
   reached = m.reached;
   words = λ t. seated_words w w t before.seat after.seat s.same_seat refl refl (m.words t);
-  whole = λ e. let k = m.whole (sym same ∙ e) in record { at_rest = k.at_rest; state = k.state ∙ sym s.same_state; safe = k.safe ∙ sym s.same_register; no_doubt = s.same_doubt ∙ k.no_doubt };
+  whole = λ e. let k = m.whole (sym same ∙ e) in
+      record {
+        at_rest = k.at_rest;
+        state = k.state ∙ sym s.same_state;
+        safe = k.safe ∙ sym s.same_register;
+        no_doubt = s.same_doubt ∙ k.no_doubt;
+      };
   broken = λ e.
       let k = m.broken (sym same ∙ e) in
-      record { at_rest = k.at_rest; safe = k.safe ∙ sym s.same_register; doubt = k.doubt ∙ sym s.same_doubt; may_be_kept = λ some. k.may_be_kept (λ none. some (s.same_doubt ∙ none)) };
+      record {
+        at_rest = k.at_rest;
+        safe = k.safe ∙ sym s.same_register;
+        doubt = k.doubt ∙ sym s.same_doubt;
+        may_be_kept = λ some.
+            k.may_be_kept (λ none. some (s.same_doubt ∙ none));
+      };
 }
 
 pub failed_reopenings_are_faults : {D P : Type 0} → Laws → FailedReopeningsAreFaults D P
@@ -186,9 +244,13 @@ new_view [] t = refl
 new_view (x ∷ desk) zero = refl
 new_view (x ∷ desk) (suc t) = new_view desk t
 
-new_words : {D P : Type 0} (w : World) (clerk : ClerkState D P) (t : ℕ) → clerk.seat ≡ clerk_of clerk.desk → w.asked ≡ [] → w.answered ≡ [] → ShowsWords w t (view_at clerk.seat t)
+new_words : {D P : Type 0} (w : World) (clerk : ClerkState D P) (t : ℕ)
+    → clerk.seat ≡ clerk_of clerk.desk → w.asked ≡ [] → w.answered ≡ []
+    → ShowsWords w t (view_at clerk.seat t)
 new_words w clerk t e a b =
-    subst (λ (v : ClerkView). ShowsWords w t v) (sym (ap (λ (s : List ClerkPlace). view_at s t) e ∙ new_view clerk.desk t)) (record {
+    subst (λ (v : ClerkView).
+    ShowsWords w t v) (sym (ap (λ (s : List ClerkPlace).
+    view_at s t) e ∙ new_view clerk.desk t)) (record {
       first = [];
       waiting = [];
       asked = ap (filter (asks t)) a;
@@ -207,7 +269,8 @@ begins_at_start laws clerk k none = (
     building = refl;
     reached = ([], refl);
     words = λ t. new_words (start clerk.keeper.writer.plan) clerk t k.seat refl refl;
-    whole = λ whole. opened (start clerk.keeper.writer.plan) clerk (laws.starts clerk.keeper.writer.plan) refl (nothing_yet ∙ sym none) k.state k.no_doubt;
+    whole = λ whole. opened (start clerk.keeper.writer.plan) clerk
+        (laws.starts clerk.keeper.writer.plan) refl (nothing_yet ∙ sym none) k.state k.no_doubt;
     broken = λ broken. not_both clerk.keeper.writer.is_broken k.is_whole broken;
   },
   λ t. refl,
@@ -223,7 +286,8 @@ begins_after_cut laws w clerk kept reached building may k register =
     let cut : next w (Cut kept) ≡ Some off = ap (λ (b : Bool). when b off) may in
     let after : World = reopened off kept in
     let possible : goes (Cut kept ∷ Reopen kept ∷ []) w ≡ Some after =
-    ap (option_and_then (goes (Reopen kept ∷ []))) cut ∙ goes_once off after (Reopen kept) ((laws.after_cut w).opens kept off cut) in (
+    ap (option_and_then (goes (Reopen kept ∷ []))) cut ∙ goes_once off after (Reopen kept)
+    ((laws.after_cut w).opens kept off cut) in (
       after,
       possible,
       refl,
@@ -231,7 +295,8 @@ begins_after_cut laws w clerk kept reached building may k register =
         building = building;
         reached = reaches laws w reached (Cut kept ∷ Reopen kept ∷ []) after possible refl;
         words = λ t. new_words after clerk t k.seat refl refl;
-        whole = λ whole. opened after clerk (laws.cuts w kept off cut) refl (ap register_after (same_outcome w kept) ∙ sym register) k.state k.no_doubt;
+        whole = λ whole. opened after clerk (laws.cuts w kept off cut) refl
+            (ap register_after (same_outcome w kept) ∙ sym register) k.state k.no_doubt;
         broken = λ broken. not_both clerk.keeper.writer.is_broken k.is_whole broken;
       },
       safe_all after (laws.cuts w kept off cut) ∙ same_outcome w kept,

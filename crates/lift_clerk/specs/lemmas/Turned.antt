@@ -1,5 +1,6 @@
 -- What the worlds behind a turn show.
-use Rattle.std.proofs.Common.{ℕ, ◌≡◌, ◌≢◌, true, false, List, [], ◌∷◌, ◌++◌, length, take, drop, Option, Some, refl, sym, ap, subst, ◌∙◌, arith}
+use Rattle.std.proofs.Common.{ℕ, ◌≡◌, ◌≢◌, true, false, List, [], ◌∷◌, ◌++◌, length, take, drop}
+use Rattle.std.proofs.Common.{Option, Some, refl, sym, ap, subst, ◌∙◌, arith}
 use Rattle.std.specs.Prelude.{IsTrue}
 use Rattle.std.specs.List.{AllByRecursion}
 use Rattle.std.proofs.Math.Seq.{take-length, drop-length}
@@ -24,54 +25,70 @@ use Rattle.lift_world.specs.Policies.{RunsAreAny}
 use Rattle.lift_world.specs.Turns.{IsAtRest, with_replies, turned, turn_events}
 use Rattle.lift_clerk.specs.Clerk.{ClerkState}
 use Rattle.lift_clerk.specs.Visits.{Visit, Serves, commands_of, served}
-use Rattle.lift_clerk.specs.Machine.{IsMachineOf, ShowsWords, ShowsWhole, ShowsBroken, LooksAgree, WaitsNowhere, waiting_in, Follows, events_of_turn, TurnsAreTurns}
+use Rattle.lift_clerk.specs.Machine.{IsMachineOf, ShowsWords, ShowsWhole, ShowsBroken, LooksAgree}
+use Rattle.lift_clerk.specs.Machine.{WaitsNowhere, waiting_in, Follows, events_of_turn}
+use Rattle.lift_clerk.specs.Machine.{TurnsAreTurns}
 use Rattle.lift_clerk.specs.Laws.{Laws}
 use Rattle.lift_clerk.specs.lemmas.Served.{view_after, all_apart}
-use Rattle.lift_clerk.specs.lemmas.Standing.{fresh, fresh_none, Splits, Asks, waiting_is, asks_after}
+use Rattle.lift_clerk.specs.lemmas.Standing.{fresh, fresh_none, Splits, Asks, waiting_is}
+use Rattle.lift_clerk.specs.lemmas.Standing.{asks_after}
 use Rattle.lift_clerk.specs.lemmas.Words.{Ends, splits_of, words_after}
 use Rattle.lift_clerk.specs.lemmas.Asked.{Asked, ask, reaches, rests, goes_behind, run_in, not_both}
 
-module _ {D P : Type 0} (laws : Laws) (w : World) (before after : ClerkState D P) (m : IsMachineOf w before) where
+module _ {D P : Type 0} (laws : Laws) (w : World) (before after : ClerkState D P)
+    (m : IsMachineOf w before) where
   abbrev pub splits : (t : ℕ) → Splits w t
   splits t = splits_of w t (view_at before.seat t) (m.words t)
 
   -- what is known of the world at the end
-  pub record Leads (own : List Event) (commands : List Command) (rs : List Reply) (end : World) : Type 0 where
+  pub record Leads (own : List Event) (commands : List Command) (rs : List Reply)
+      (end : World) : Type 0 where
     pub first : List Event
     pub theirs : AllByRecursion (λ (e : Event). IsTrue (is_of_terminals e)) first
     pub possible : goes (first ++ own) w ≡ Some end
     pub ends : Ends w commands rs end
     pub alone : fresh w commands ≡ [] → (first ≡ []) × (end.heard ≡ w.heard)
 
-  module _ (visits : List Visit) (rs : List Reply) (serves : Serves before.seat after.seat visits rs) (agree : LooksAgree w (commands_of 0 visits))
+  module _ (visits : List Visit) (rs : List Reply)
+      (serves : Serves before.seat after.seat visits rs)
+      (agree : LooksAgree w (commands_of 0 visits))
       (same_plan : after.keeper.writer.plan ≡ before.keeper.writer.plan) where
     abbrev found : List Command
     found = commands_of 0 visits
 
-    module _ (own : List Event) (end : World) (k : Leads own found rs end) (safe : List Entry) (same_safe : safe_list end ≡ safe) where
+    module _ (own : List Event) (end : World) (k : Leads own found rs end) (safe : List Entry)
+        (same_safe : safe_list end ≡ safe) where
       abbrev more : (t : ℕ) → Asks w splits t found
       more t = asks_after w splits t found agree (all_apart 0 visits)
 
       abbrev stored : (t : ℕ) → ShowsWords end t (view_at (served before.seat visits rs) t)
       stored t =
-          words_after w end t found rs k.ends (view_at before.seat t) (view_at (served before.seat visits rs) t) (m.words t) (more t).waiting (more t).asked
+          words_after w end t found rs k.ends (view_at before.seat t)
+          (view_at (served before.seat visits rs) t) (m.words t) (more t).waiting (more t).asked
           (view_after before.seat visits 0 serves.finds rs t t (omega arith) serves.one_reply_each)
 
       words : (t : ℕ) → ShowsWords end t (view_at after.seat t)
-      words t = subst (λ (s : List ClerkPlace). ShowsWords end t (view_at s t)) (sym serves.stored) (stored t)
+      words t = subst (λ (s : List ClerkPlace). ShowsWords end t (view_at s t)) (sym serves.stored)
+          (stored t)
 
       waits : WaitsNowhere w → WaitsNowhere end
       waits none t =
           waiting_is end t (splits_of end t (view_at (served before.seat visits rs) t) (stored t))
           ∙ (more t).none (sym (waiting_is w t (splits t)) ∙ none t)
 
-      alone : AllByRecursion (λ (c : Taken). waiting_in w c.terminal ≢ []) (with_replies found rs) → (k.first ≡ []) × (end.asked ≡ w.asked) × (end.heard ≡ w.heard)
+      alone : AllByRecursion (λ (c : Taken). waiting_in w c.terminal ≢ []) (with_replies found rs)
+          → (k.first ≡ []) × (end.asked ≡ w.asked) × (end.heard ≡ w.heard)
       alone some =
           let none : fresh w found ≡ [] = fresh_none w found rs serves.one_reply_each some in
-          let still = k.alone none in
-          (still.0, k.ends.asked ∙ ap (λ (xs : List Command). w.asked ++ xs) none ∙ append-nil w.asked, still.1)
+          let still = k.alone none in (
+            still.0,
+            k.ends.asked ∙ ap (λ (xs : List Command).
+                w.asked ++ xs) none ∙ append-nil w.asked,
+            still.1,
+          )
 
-      pub follows : (after.keeper.writer.is_broken ≡ false → ShowsWhole end after.keeper) → (after.keeper.writer.is_broken ≡ true → ShowsBroken end after.keeper)
+      pub follows : (after.keeper.writer.is_broken ≡ false → ShowsWhole end after.keeper)
+          → (after.keeper.writer.is_broken ≡ true → ShowsBroken end after.keeper)
           → Follows w own (with_replies found rs) safe after
       follows whole broken = record {
         before = k.first;
@@ -93,7 +110,8 @@ module _ {D P : Type 0} (laws : Laws) (w : World) (before after : ClerkState D P
 
 -- the register of the accepted entries, and what decisions read, where all is safe
 module _ (registers : RegistersJoin) where
-  pub register_with : (w : World) (batch : List Entry) (register : RegisterState) → register_after (safe_list w) ≡ register
+  pub register_with : (w : World) (batch : List Entry) (register : RegisterState)
+      → register_after (safe_list w) ≡ register
       → register_after (safe_list w ++ batch) ≡ register_of register batch
   register_with w batch register e =
       sym (registers empty (safe_list w) batch) ∙ ap (λ (r : RegisterState). register_of r batch) e
@@ -101,15 +119,22 @@ module _ (registers : RegistersJoin) where
 pub safe_all : (w : World) → IsAtRest w → safe_list w ≡ w.accepted
 safe_all w k = ap (λ (n : ℕ). take n w.accepted) k.all_safe ∙ take-length w.accepted
 
-pub state_is : (w : World) → IsAtRest w → (state : State) → register_after w.accepted ≡ state.register → w.positions ≡ state.positions → [] ≡ state.batch → state_of w ≡ state
+pub state_is : (w : World) → IsAtRest w → (state : State)
+    → register_after w.accepted ≡ state.register → w.positions ≡ state.positions → [] ≡ state.batch
+    → state_of w ≡ state
 state_is w k state r p b =
     ap (λ (n : ℕ). state_at w.accepted n w.positions) k.all_sealed
-    ∙ ap (λ (xs : List Entry). record { register = register_after w.accepted; positions = w.positions; batch = xs }) (drop-length w.accepted ∙ b)
-    ∙ ap (λ (ps : List (Option Position)). record { register = register_after w.accepted; positions = ps; batch = state.batch }) p
-    ∙ ap (λ (x : RegisterState). record { register = x; positions = state.positions; batch = state.batch }) r
+    ∙ ap (λ (xs : List Entry).
+    record { register = register_after w.accepted; positions = w.positions; batch = xs })
+    (drop-length w.accepted ∙ b)
+    ∙ ap (λ (ps : List (Option Position)).
+    record { register = register_after w.accepted; positions = ps; batch = state.batch }) p
+    ∙ ap (λ (x : RegisterState).
+    record { register = x; positions = state.positions; batch = state.batch }) r
 
 -- what a turn that answers Ok leads to
-pub record EndsWell (w : World) (own : List Event) (cs : List Command) (rs : List Reply) (state : State) : Type 0 where
+pub record EndsWell (w : World) (own : List Event) (cs : List Command) (rs : List Reply)
+    (state : State) : Type 0 where
   pub before : List Event
   pub theirs : AllByRecursion (λ (e : Event). IsTrue (is_of_terminals e)) before
   pub end : World
@@ -120,7 +145,8 @@ pub record EndsWell (w : World) (own : List Event) (cs : List Command) (rs : Lis
   pub accepted : end.accepted ≡ w.accepted ++ state.batch
   pub positions : end.positions ≡ state.positions
 
-pub asked_rests : (w : World) (cs : List Command) (a : Asked w cs) → IsAtRest w → IsAtRest (asked_on w (fresh w cs) a.heard)
+pub asked_rests : (w : World) (cs : List Command) (a : Asked w cs) → IsAtRest w
+    → IsAtRest (asked_on w (fresh w cs) a.heard)
 asked_rests w cs a k = record {
   running = k.running;
   idle = k.idle;
@@ -133,20 +159,31 @@ asked_rests w cs a k = record {
 }
 
 module _ (laws : Laws) (w : World) (rest : IsAtRest w) where
-  ends_well : (cs : List Command) (rs : List Reply) (state : State) → Asked w cs → Run w.building any_eligible (state_of w) cs rs state
-      → (letters : List (Option ℕ)) × ((folds : ℕ) → EndsWell w (events_of_turn cs letters folds (length state.batch)) cs rs state)
+  ends_well : (cs : List Command) (rs : List Reply) (state : State) → Asked w cs
+      → Run w.building any_eligible (state_of w) cs rs state
+      → (letters : List (Option ℕ))
+      × ((folds : ℕ) → EndsWell w (events_of_turn cs letters folds (length state.batch)) cs rs
+      state)
   ends_well [] [] state a r =
-      let none : state.batch ≡ [] = ap (λ (s : State). s.batch) r ∙ ap (λ (n : ℕ). drop n w.accepted) rest.all_sealed ∙ drop-length w.accepted in (
+      let none : state.batch ≡ [] =
+      ap (λ (s : State). s.batch) r ∙ ap (λ (n : ℕ).
+      drop n w.accepted) rest.all_sealed ∙ drop-length w.accepted in (
         [],
         λ folds. record {
           before = [];
           theirs = tt;
           end = w;
           possible = refl;
-          ends = record { building = refl; asked = sym (append-nil w.asked); answered = sym (append-nil w.answered); given = sym (append-nil w.given) };
+          ends = record {
+            building = refl;
+            asked = sym (append-nil w.asked);
+            answered = sym (append-nil w.answered);
+            given = sym (append-nil w.given);
+          };
           alone = λ none. (refl, refl);
           rest = rest;
-          accepted = sym (append-nil w.accepted) ∙ ap (λ (xs : List Entry). w.accepted ++ xs) (sym none);
+          accepted = sym (append-nil w.accepted) ∙ ap (λ (xs : List Entry).
+              w.accepted ++ xs) (sym none);
           positions = ap (λ (s : State). s.positions) (sym r);
         },
       )
@@ -161,7 +198,8 @@ module _ (laws : Laws) (w : World) (rest : IsAtRest w) where
           before = a.events;
           theirs = a.theirs;
           end = turned w1 (c ∷ cs) (reply ∷ rs) state;
-          possible = goes_behind a.events (turn_events (c ∷ cs) t.0 folds (length state.batch)) w w1 a.possible ∙ t.1 folds;
+          possible = goes_behind a.events (turn_events (c ∷ cs) t.0 folds (length state.batch)) w w1
+              a.possible ∙ t.1 folds;
           ends = record { building = refl; asked = refl; answered = refl; given = refl };
           alone = a.alone;
           rest = laws.turns_rest w1 (c ∷ cs) (reply ∷ rs) state rest1;
@@ -170,28 +208,45 @@ module _ (laws : Laws) (w : World) (rest : IsAtRest w) where
         },
       )
 
-pub turns_are_turns : {D P : Type 0} → Laws → (choice : Choice) → RunsAreAny choice → TurnsAreTurns D P choice
+pub turns_are_turns : {D P : Type 0} → Laws → (choice : Choice) → RunsAreAny choice
+    → TurnsAreTurns D P choice
 turns_are_turns laws choice any w before after counts t m agree =
     let cs : List Command = commands_of 0 t.turn.visits in
     let state : State = t.turn.decided in
     let wh : ShowsWhole w before.keeper = m.whole t.was_whole in
-    let a : Asked w cs = ask laws w m.reached (splits laws w before after m) (rests w wh.at_rest) cs agree (all_apart 0 t.turn.visits) in
+    let a : Asked w cs = ask laws w m.reached (splits laws w before after m)
+    (rests w wh.at_rest) cs agree (all_apart 0 t.turn.visits) in
     let run : Run w.building any_eligible (state_of w) cs t.turn.replies state =
-    run_in choice any w before.keeper.writer.plan before.keeper.state cs t.turn.replies state m.building wh.state t.turn.run in
+    run_in choice any w before.keeper.writer.plan before.keeper.state cs t.turn.replies state
+    m.building wh.state t.turn.run in
     let e = ends_well laws w wh.at_rest cs t.turn.replies state a run in (
       e.0,
       λ folds.
-          let k : EndsWell w (events_of_turn cs e.0 folds (length state.batch)) cs t.turn.replies state = e.1 folds in
+          let k : EndsWell w (events_of_turn cs e.0 folds (length state.batch)) cs t.turn.replies
+          state = e.1 folds in
           let safe : safe_list w ≡ w.accepted = safe_all w wh.at_rest in
           let register : register_after k.end.accepted ≡ state.register =
-          ap register_after (k.accepted ∙ ap (λ (xs : List Entry). xs ++ state.batch) (sym safe)) ∙ register_with laws.registers w state.batch before.keeper.writer.register wh.safe ∙ sym t.turn.safe in
-          follows laws w before after m t.turn.visits t.turn.replies t.turn.serves agree t.same_plan (events_of_turn cs e.0 folds (length state.batch)) k.end
-          (record { first = k.before; theirs = k.theirs; possible = k.possible; ends = k.ends; alone = k.alone })
-          (safe_list w ++ state.batch) (safe_all k.end k.rest ∙ k.accepted ∙ ap (λ (xs : List Entry). xs ++ state.batch) (sym safe))
+          ap register_after (k.accepted ∙ ap (λ (xs : List Entry). xs ++ state.batch) (sym safe)) ∙
+          register_with laws.registers w state.batch before.keeper.writer.register wh.safe ∙ sym
+          t.turn.safe in
+          follows laws w before after m t.turn.visits t.turn.replies t.turn.serves agree t.same_plan
+          (events_of_turn cs e.0 folds (length state.batch)) k.end
+          (record {
+            first = k.before;
+            theirs = k.theirs;
+            possible = k.possible;
+            ends = k.ends;
+            alone = k.alone;
+          })
+          (safe_list w ++ state.batch)
+          (safe_all k.end k.rest ∙ k.accepted ∙ ap (λ (xs : List Entry).
+          xs ++ state.batch) (sym safe))
           (λ whole. record {
             at_rest = k.rest;
-            state = state_is k.end k.rest (record state { batch = [] }) register k.positions refl ∙ sym t.turn.after;
-            safe = ap register_after (safe_all k.end k.rest) ∙ register ∙ ap (λ (s : State). s.register) (sym t.turn.after) ∙ sym t.safe;
+            state = state_is k.end k.rest (record state { batch = [] }) register k.positions refl ∙
+                sym t.turn.after;
+            safe = ap register_after (safe_all k.end k.rest) ∙ register ∙ ap (λ (s : State).
+                s.register) (sym t.turn.after) ∙ sym t.safe;
             no_doubt = t.no_doubt;
           })
           (λ broken. not_both after.keeper.writer.is_broken t.is_whole broken),

@@ -1,5 +1,6 @@
 -- What the clerk's words are after a turn.
-use Rattle.std.proofs.Common.{ℕ, suc, ◌≡◌, ◌+◌, List, [], ◌∷◌, ◌++◌, length, map, refl, sym, ap, ◌∙◌, arith}
+use Rattle.std.proofs.Common.{ℕ, suc, ◌≡◌, ◌+◌, List, [], ◌∷◌, ◌++◌, length, map, refl, sym, ap}
+use Rattle.std.proofs.Common.{◌∙◌, arith}
 use Rattle.std.specs.Prelude.{filter, count_by}
 use Rattle.std.proofs.lemmas.List.{length-append, length-map}
 use Rattle.std.proofs.lemmas.List.Elements.{filter-append}
@@ -19,7 +20,8 @@ use Rattle.lift_clerk.specs.lemmas.Lists.{answers_to}
 use Rattle.lift_clerk.specs.lemmas.Served.{Grows}
 use Rattle.lift_clerk.specs.lemmas.Standing.{fresh, Splits}
 
-pub asks_both : (n : ℕ) (xs ys : List Ask) → ask_words n (xs ++ ys) ≡ ask_words n xs ++ ask_words (n + length xs) ys
+pub asks_both : (n : ℕ) (xs ys : List Ask)
+    → ask_words n (xs ++ ys) ≡ ask_words n xs ++ ask_words (n + length xs) ys
 asks_both n [] ys = ap (λ (k : ℕ). ask_words k ys) (omega arith)
 asks_both n (x ∷ xs) ys =
     ap (λ (words : List ℕ). ask_word n x.number x.body ∷ words)
@@ -29,11 +31,13 @@ pub asks_count : (n : ℕ) (xs : List Ask) → length (ask_words n xs) ≡ lengt
 asks_count n [] = refl
 asks_count n (x ∷ xs) = ap suc (asks_count (suc n) xs)
 
-pub answers_both : (n : ℕ) (xs ys : List Answer) → answer_words n (xs ++ ys) ≡ answer_words n xs ++ answer_words (n + length xs) ys
+pub answers_both : (n : ℕ) (xs ys : List Answer)
+    → answer_words n (xs ++ ys) ≡ answer_words n xs ++ answer_words (n + length xs) ys
 answers_both n [] ys = ap (λ (k : ℕ). answer_words k ys) (omega arith)
 answers_both n (x ∷ xs) ys =
     ap (λ (words : List ℕ). reply_word n x.number x.reply ∷ words)
-    (answers_both (suc n) xs ys ∙ ap (λ (k : ℕ). answer_words (suc n) xs ++ answer_words k ys) (omega arith))
+    (answers_both (suc n) xs ys ∙ ap (λ (k : ℕ).
+    answer_words (suc n) xs ++ answer_words k ys) (omega arith))
 
 -- what a turn leaves at the desk
 pub record Ends (w : World) (cs : List Command) (rs : List Reply) (end : World) : Type 0 where
@@ -43,7 +47,12 @@ pub record Ends (w : World) (cs : List Command) (rs : List Reply) (end : World) 
   pub given : end.given ≡ w.given ++ with_replies cs rs
 
 abbrev pub splits_of : (w : World) (t : ℕ) (view : ClerkView) → ShowsWords w t view → Splits w t
-splits_of w t view k = record { first = k.first; waiting = k.waiting; asked = k.asked; even = k.even }
+splits_of w t view k = record {
+  first = k.first;
+  waiting = k.waiting;
+  asked = k.asked;
+  even = k.even;
+}
 
 module _ (w end : World) (t : ℕ) (cs : List Command) (rs : List Reply) (e : Ends w cs rs end) where
   abbrev pub taken_here : List Command
@@ -52,20 +61,28 @@ module _ (w end : World) (t : ℕ) (cs : List Command) (rs : List Reply) (e : En
   abbrev pub answers_here : List Answer
   answers_here = filter (is_answer_to t) (answers_to cs rs)
 
-  pub answered_here : filter (is_answer_to t) end.answered ≡ filter (is_answer_to t) w.answered ++ answers_here
-  answered_here = ap (filter (is_answer_to t)) e.answered ∙ filter-append (is_answer_to t) w.answered (answers_to cs rs)
+  pub answered_here : filter (is_answer_to t) end.answered ≡ filter (is_answer_to t) w.answered
+      ++ answers_here
+  answered_here = ap (filter (is_answer_to t)) e.answered ∙ filter-append
+      (is_answer_to t) w.answered (answers_to cs rs)
 
-  abbrev pub words_after : (before after : ClerkView) (k : ShowsWords w t before) → (waiting : List Command) → filter (asks t) w.asked ++ filter (asks t) (fresh w cs) ≡ (k.first ++ filter (asks t) cs) ++ waiting
+  abbrev pub words_after : (before after : ClerkView) (k : ShowsWords w t before)
+      → (waiting : List Command)
+      → filter (asks t) w.asked ++ filter (asks t) (fresh w cs) ≡ (k.first ++ filter (asks t) cs)
+      ++ waiting
       → Grows before after taken_here answers_here → ShowsWords end t after
   words_after before after k waiting asked g =
       let firsts : List Ask = map ask_of k.first in
       let old : List Answer = filter (is_answer_to t) w.answered in
       let lf : length firsts ≡ length k.first = length-map k.first ask_of in
       let lt : length before.taken ≡ length firsts = ap length k.taken ∙ asks_count 1 firsts in
-      let lo : length old ≡ count_by (is_answer_to t) w.answered = length-filter (is_answer_to t) w.answered in
+      let lo : length old ≡ count_by (is_answer_to t) w.answered =
+      length-filter (is_answer_to t) w.answered in
       let even = k.even in
-      let now : length (filter (is_answer_to t) end.answered) ≡ count_by (is_answer_to t) end.answered = length-filter (is_answer_to t) end.answered in
-      let both : length (filter (is_answer_to t) end.answered) ≡ length (old ++ answers_here) = ap length answered_here in
+      let now : length (filter (is_answer_to t) end.answered)
+      ≡ count_by (is_answer_to t) end.answered = length-filter (is_answer_to t) end.answered in
+      let both : length (filter (is_answer_to t) end.answered) ≡ length (old ++ answers_here) =
+      ap length answered_here in
       let lb = length-append old answers_here in
       let la = length-append k.first taken_here in
       let same = g.same in
@@ -73,10 +90,14 @@ module _ (w end : World) (t : ℕ) (cs : List Command) (rs : List Reply) (e : En
         first = k.first ++ taken_here;
         waiting = waiting;
         asked = ap (filter (asks t)) e.asked ∙ filter-append (asks t) w.asked (fresh w cs) ∙ asked;
-        taken = g.taken ∙ ap (λ (xs : List ℕ). xs ++ ask_words (suc (length before.taken)) (map ask_of taken_here)) k.taken
-            ∙ ap (λ (n : ℕ). ask_words 1 firsts ++ ask_words n (map ask_of taken_here)) (omega arith)
-            ∙ sym (asks_both 1 firsts (map ask_of taken_here)) ∙ ap (ask_words 1) (sym (map-append ask_of k.first taken_here));
-        answered = g.answered ∙ ap (λ (xs : List ℕ). xs ++ answer_words (suc (length before.taken)) answers_here) k.answered
+        taken = g.taken ∙ ap (λ (xs : List ℕ).
+            xs ++ ask_words (suc (length before.taken)) (map ask_of taken_here)) k.taken
+            ∙ ap (λ (n : ℕ). ask_words 1 firsts ++ ask_words n (map ask_of taken_here))
+            (omega arith)
+            ∙ sym (asks_both 1 firsts (map ask_of taken_here)) ∙ ap (ask_words 1)
+            (sym (map-append ask_of k.first taken_here));
+        answered = g.answered ∙ ap (λ (xs : List ℕ).
+            xs ++ answer_words (suc (length before.taken)) answers_here) k.answered
             ∙ ap (λ (n : ℕ). answer_words 1 old ++ answer_words n answers_here) (omega arith)
             ∙ sym (answers_both 1 old answers_here) ∙ ap (answer_words 1) (sym answered_here);
         even = omega arith;

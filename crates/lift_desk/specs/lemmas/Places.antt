@@ -1,58 +1,82 @@
 -- The clerk's places after one of them has changed.
-use Rattle.std.proofs.Common.{◌≡◌, ◌≢◌, ℕ, zero, suc, ◌+◌, ◌<◌, ◌≤◌, true, List, [], ◌∷◌, ◌++◌, map, take, drop, length, set, get_or, refl, sym, ap, ◌∙◌, subst, arith, length-set, add-zero, zero-add, Some}
+use Rattle.std.proofs.Common.{◌≡◌, ◌≢◌, ℕ, zero, suc, ◌+◌, ◌<◌, ◌≤◌, true, List, [], ◌∷◌, ◌++◌, map}
+use Rattle.std.proofs.Common.{take, drop, length, set, get_or, refl, sym, ap, ◌∙◌, subst, arith}
+use Rattle.std.proofs.Common.{length-set, add-zero, zero-add, Some}
 use Rattle.std.specs.Prelude.{slice_get}
 use Rattle.std.specs.List.{refill}
 use Rattle.std.proofs.lemmas.List.{length-map, length-take, get_or-take, set-get_or, take_all}
 use Rattle.atomic_table.specs.Seated.{TableId}
-use Rattle.lift_desk.specs.Seats.{ClerkPlace, no_place, no_table, seats_from, clerk_of, ahead_from, view_at, clerk_with, placed_at, IsClerkOf, AreSeatsOf, OwesNothing}
+use Rattle.lift_desk.specs.Seats.{ClerkPlace, no_place, no_table, seats_from, clerk_of, ahead_from}
+use Rattle.lift_desk.specs.Seats.{view_at, clerk_with, placed_at, IsClerkOf, AreSeatsOf}
+use Rattle.lift_desk.specs.Seats.{OwesNothing}
 use Rattle.lift_desk.specs.declared.view.ClerkView.{ClerkView}
 use Rattle.lift_desk.specs.Rule.{no_asks}
 
-refill_all : {A : Type 0} (xs ws : List A) → length ws ≡ length xs → take (length ws) (ws ++ drop (length ws) xs) ≡ ws
+refill_all : {A : Type 0} (xs ws : List A) → length ws ≡ length xs
+    → take (length ws) (ws ++ drop (length ws) xs) ≡ ws
 refill_all xs [] e = refl
 refill_all [] (w ∷ ws) e = absurd (omega arith)
 refill_all (x ∷ xs) (w ∷ ws) e = ap (λ l. w ∷ l) (refill_all xs ws (omega arith))
 
-pub refill_set : {A : Type 0} (xs ys : List A) (i : ℕ) (a : A) → ys ≡ xs → refill (length xs) xs (set ys i a) ≡ set xs i a
+pub refill_set : {A : Type 0} (xs ys : List A) (i : ℕ) (a : A) → ys ≡ xs
+    → refill (length xs) xs (set ys i a) ≡ set xs i a
 refill_set xs ys i a e =
     let same : length (set xs i a) ≡ length xs = length-set xs i a in
     subst (λ zs. refill (length xs) xs (set zs i a) ≡ set xs i a) (sym e)
-    (subst (λ n. take n (set xs i a ++ drop (length (set xs i a)) xs) ≡ set xs i a) same (refill_all xs (set xs i a) same))
+    (subst (λ n. take n (set xs i a ++ drop (length (set xs i a)) xs) ≡ set xs i a) same
+    (refill_all xs (set xs i a) same))
 
 abbrev pub AllSeated : List ClerkPlace → Type 0
 AllSeated places = (k : ℕ) → k < length places → (get_or places k no_place).seated ≡ true
 
-seated_set : (places : List ClerkPlace) (i : ℕ) (p : ClerkPlace) → p.seated ≡ true → AllSeated places → AllSeated (set places i p)
+seated_set : (places : List ClerkPlace) (i : ℕ) (p : ClerkPlace) → p.seated ≡ true
+    → AllSeated places → AllSeated (set places i p)
 seated_set [] i p is all k h = absurd (omega arith)
 seated_set (q ∷ places) zero p is all zero h = is
 seated_set (q ∷ places) zero p is all (suc k) h = all (suc k) h
 seated_set (q ∷ places) (suc i) p is all zero h = all zero (omega arith)
-seated_set (q ∷ places) (suc i) p is all (suc k) h = seated_set places i p is (λ j below. all (suc j) (omega arith)) k (omega arith)
+seated_set (q ∷ places) (suc i) p is all (suc k) h =
+    seated_set places i p is (λ j below. all (suc j) (omega arith)) k (omega arith)
 
-pub seated_refill : (places now : List ClerkPlace) (i : ℕ) (p : ClerkPlace) → now ≡ places → p.seated ≡ true → AllSeated places → AllSeated (refill (length places) places (set now i p))
-seated_refill places now i p e is all = subst AllSeated (sym (refill_set places now i p e)) (seated_set places i p is all)
+pub seated_refill : (places now : List ClerkPlace) (i : ℕ) (p : ClerkPlace) → now ≡ places
+    → p.seated ≡ true → AllSeated places → AllSeated (refill (length places) places (set now i p))
+seated_refill places now i p e is all =
+    subst AllSeated (sym (refill_set places now i p e)) (seated_set places i p is all)
 
-map_at : {X Y : Type 0} (f : X → Y) (xs : List X) (i : ℕ) (d : Y) (x : X) → i < length xs → get_or (map f xs) i d ≡ f (get_or xs i x)
+map_at : {X Y : Type 0} (f : X → Y) (xs : List X) (i : ℕ) (d : Y) (x : X) → i < length xs
+    → get_or (map f xs) i d ≡ f (get_or xs i x)
 map_at f [] i d x h = absurd (omega arith)
 map_at f (y ∷ xs) zero d x h = refl
 map_at f (y ∷ xs) (suc i) d x h = map_at f xs i d x (omega arith)
 
 -- the clerk's place and the table of one terminal
-pub table_at : {X : Type 0} (f : X → TableId) (places now : List ClerkPlace) (tables : List X) (i : ℕ) (d : ClerkPlace) (t : X)
-    → now ≡ places → map (λ (p : ClerkPlace). p.table) places ≡ map f tables → i < length tables → t ≡ get_or tables i t
+pub table_at : {X : Type 0} (f : X
+    → TableId) (places now : List ClerkPlace) (tables : List X) (i : ℕ) (d : ClerkPlace) (t : X)
+    → now ≡ places → map (λ (p : ClerkPlace). p.table) places ≡ map f tables → i < length tables
+    → t ≡ get_or tables i t
     → ((k : ℕ) → k < length tables → (get_or (map f tables) k no_table).words ≡ 2)
     → ((get_or now i d).table ≡ f t) × ((f t).words ≡ 2)
 table_at f places now tables i d t e tied h is words =
-    let same : length places ≡ length tables = sym (length-map places (λ (p : ClerkPlace). p.table)) ∙ ap length tied ∙ length-map tables f in
-    let there : get_or (map f tables) i no_table ≡ f t = map_at f tables i no_table t h ∙ ap f (sym is) in
-    let here : get_or (map (λ (p : ClerkPlace). p.table) places) i no_table ≡ (get_or places i d).table = map_at (λ (p : ClerkPlace). p.table) places i no_table d (omega arith) in (
+    let same : length places ≡ length tables =
+    sym (length-map places (λ (p : ClerkPlace). p.table)) ∙ ap length tied ∙ length-map tables
+    f in
+    let there : get_or (map f tables) i no_table ≡ f t =
+    map_at f tables i no_table t h ∙ ap f (sym is) in
+    let here : get_or (map (λ (p : ClerkPlace). p.table) places) i no_table
+    ≡ (get_or places i d).table =
+    map_at (λ (p : ClerkPlace). p.table) places i no_table d (omega arith) in (
       ap (λ ps. (get_or ps i d).table) e ∙ sym here ∙ ap (λ l. get_or l i no_table) tied ∙ there,
       ap (λ z. z.words) (sym there) ∙ words i h,
     )
 
-pub seats_from-push : (k : ℕ) (zs : List TableId) (z : TableId) (n : ℕ) → k + length zs ≡ n → seats_from k (zs ++ z ∷ []) ≡ seats_from k zs ++ (record { table = z; terminal = n; view = no_asks }) ∷ []
-seats_from-push k [] z n e = let is : k ≡ n = omega arith in λ i. (record { table = z; terminal = is i; view = no_asks }) ∷ []
-seats_from-push k (y ∷ zs) z n e = ap (λ l. (record { table = y; terminal = k; view = no_asks }) ∷ l) (seats_from-push (suc k) zs z n (omega arith))
+pub seats_from-push : (k : ℕ) (zs : List TableId) (z : TableId) (n : ℕ) → k + length zs ≡ n
+    → seats_from k (zs ++ z ∷ [])
+    ≡ seats_from k zs ++ (record { table = z; terminal = n; view = no_asks }) ∷ []
+seats_from-push k [] z n e = let is : k ≡ n = omega arith in λ i.
+    (record { table = z; terminal = is i; view = no_asks }) ∷ []
+seats_from-push k (y ∷ zs) z n e =
+    ap (λ l. (record { table = y; terminal = k; view = no_asks }) ∷ l)
+    (seats_from-push (suc k) zs z n (omega arith))
 
 pub clerk_seated : (desk : List TableId) → AllSeated (clerk_of desk)
 clerk_seated [] k h = absurd (omega arith)
@@ -63,25 +87,34 @@ clerk_seated (z ∷ zs) (suc k) h = clerk_seated zs k (omega arith)
 abbrev pub AllOfTwo : List TableId → Type 0
 AllOfTwo desk = (k : ℕ) → k < length desk → (get_or desk k no_table).words ≡ 2
 
-pub two_more : (desk : List TableId) (z : TableId) → AllOfTwo desk → z.words ≡ 2 → AllOfTwo (desk ++ z ∷ [])
+pub two_more : (desk : List TableId) (z : TableId) → AllOfTwo desk → z.words ≡ 2
+    → AllOfTwo (desk ++ z ∷ [])
 two_more [] z all is zero h = is
 two_more [] z all is (suc k) h = absurd (omega arith)
 two_more (y ∷ desk) z all is zero h = all zero (omega arith)
-two_more (y ∷ desk) z all is (suc k) h = two_more desk z (λ j below. all (suc j) (omega arith)) is k (omega arith)
+two_more (y ∷ desk) z all is (suc k) h =
+    two_more desk z (λ j below. all (suc j) (omega arith)) is k (omega arith)
 
 -- the changed view, and the others
-pub view_at-here : (clerk : List ClerkPlace) (t : ℕ) (v : ClerkView) → t < length clerk → view_at (clerk_with clerk t v) t ≡ v
-view_at-here clerk t v h = ap (λ (p : ClerkPlace). p.view) (here clerk t (placed_at (get_or clerk t no_place).table v) h)
+pub view_at-here : (clerk : List ClerkPlace) (t : ℕ) (v : ClerkView) → t < length clerk
+    → view_at (clerk_with clerk t v) t ≡ v
+view_at-here clerk t v h =
+    ap (λ (p : ClerkPlace). p.view) (here clerk t (placed_at (get_or clerk t no_place).table v) h)
   where
-    here : (l : List ClerkPlace) (i : ℕ) (p : ClerkPlace) → i < length l → get_or (set l i p) i no_place ≡ p
+    here : (l : List ClerkPlace) (i : ℕ) (p : ClerkPlace) → i < length l
+        → get_or (set l i p) i no_place ≡ p
     here [] i p h = absurd (omega arith)
     here (x ∷ l) zero p h = refl
     here (x ∷ l) (suc i) p h = here l i p (omega arith)
 
-pub view_at-else : (clerk : List ClerkPlace) (t u : ℕ) (v : ClerkView) → u ≢ t → view_at (clerk_with clerk t v) u ≡ view_at clerk u
-view_at-else clerk t u v apart = ap (λ (p : ClerkPlace). p.view) (other clerk t u (placed_at (get_or clerk t no_place).table v) apart)
+pub view_at-else : (clerk : List ClerkPlace) (t u : ℕ) (v : ClerkView) → u ≢ t
+    → view_at (clerk_with clerk t v) u ≡ view_at clerk u
+view_at-else clerk t u v apart =
+    ap (λ (p : ClerkPlace). p.view)
+    (other clerk t u (placed_at (get_or clerk t no_place).table v) apart)
   where
-    other : (l : List ClerkPlace) (i j : ℕ) (p : ClerkPlace) → j ≢ i → get_or (set l i p) j no_place ≡ get_or l j no_place
+    other : (l : List ClerkPlace) (i j : ℕ) (p : ClerkPlace) → j ≢ i
+        → get_or (set l i p) j no_place ≡ get_or l j no_place
     other [] i j p n = refl
     other (x ∷ l) zero zero p n = absurd (n refl)
     other (x ∷ l) zero (suc j) p n = refl
@@ -89,29 +122,40 @@ view_at-else clerk t u v apart = ap (λ (p : ClerkPlace). p.view) (other clerk t
     other (x ∷ l) (suc i) (suc j) p n = other l i j p (λ e. n (ap suc e))
 
 -- the clerk stays at its tables
-pub IsClerkOf-with : (desk : List TableId) (clerk : List ClerkPlace) (t : ℕ) (v : ClerkView) → IsClerkOf desk clerk → IsClerkOf desk (clerk_with clerk t v)
+pub IsClerkOf-with : (desk : List TableId) (clerk : List ClerkPlace) (t : ℕ) (v : ClerkView)
+    → IsClerkOf desk clerk → IsClerkOf desk (clerk_with clerk t v)
 IsClerkOf-with desk clerk t v is = tables_same clerk t v ∙ is
   where
-    tables_same : (l : List ClerkPlace) (i : ℕ) (v : ClerkView) → map (λ (p : ClerkPlace). p.table) (set l i (placed_at (get_or l i no_place).table v)) ≡ map (λ (p : ClerkPlace). p.table) l
+    tables_same : (l : List ClerkPlace) (i : ℕ) (v : ClerkView)
+        → map (λ (p : ClerkPlace). p.table) (set l i (placed_at (get_or l i no_place).table v))
+        ≡ map (λ (p : ClerkPlace). p.table) l
     tables_same [] i v = refl
     tables_same (x ∷ l) zero v = refl
     tables_same (x ∷ l) (suc i) v = ap (λ ts. x.table ∷ ts) (tables_same l i v)
 
-tables_set : (l : List ClerkPlace) (i : ℕ) (p q : ClerkPlace) → q ≡ get_or l i q → p.table ≡ q.table → map (λ (p : ClerkPlace). p.table) (set l i p) ≡ map (λ (p : ClerkPlace). p.table) l
+tables_set : (l : List ClerkPlace) (i : ℕ) (p q : ClerkPlace) → q ≡ get_or l i q → p.table ≡ q.table
+    → map (λ (p : ClerkPlace). p.table) (set l i p) ≡ map (λ (p : ClerkPlace). p.table) l
 tables_set [] i p q is same = refl
-tables_set (x ∷ l) zero p q is same = λ k. (same ∙ ap (λ (p : ClerkPlace). p.table) is) k ∷ map (λ (p : ClerkPlace). p.table) l
+tables_set (x ∷ l) zero p q is same = λ k.
+    (same ∙ ap (λ (p : ClerkPlace). p.table) is) k ∷ map (λ (p : ClerkPlace). p.table) l
 tables_set (x ∷ l) (suc i) p q is same = ap (λ ts. x.table ∷ ts) (tables_set l i p q is same)
 
 -- a place that keeps its table
-pub stays_refill : (desk : List TableId) (places now : List ClerkPlace) (i : ℕ) (p q : ClerkPlace) → now ≡ places → q ≡ get_or now i q → p.table ≡ q.table
+pub stays_refill : (desk : List TableId) (places now : List ClerkPlace) (i : ℕ) (p q : ClerkPlace)
+    → now ≡ places → q ≡ get_or now i q → p.table ≡ q.table
     → IsClerkOf desk places → IsClerkOf desk (refill (length places) places (set now i p))
 stays_refill desk places now i p q e is same clerk =
-    ap (map (λ (p : ClerkPlace). p.table)) (refill_set places now i p e) ∙ tables_set places i p q (is ∙ ap (λ l. get_or l i q) e) same ∙ clerk
+    ap (map (λ (p : ClerkPlace). p.table)) (refill_set places now i p e) ∙ tables_set places i p q
+    (is ∙ ap (λ l. get_or l i q) e) same ∙ clerk
 
-seats_at_from : (k : ℕ) (all desk : List TableId) → ((i : ℕ) → slice_get all (k + i) ≡ slice_get desk i) → AreSeatsOf all (seats_from k desk)
+seats_at_from : (k : ℕ) (all desk : List TableId)
+    → ((i : ℕ) → slice_get all (k + i) ≡ slice_get desk i) → AreSeatsOf all (seats_from k desk)
 seats_at_from k all [] same i d h = absurd (omega arith)
-seats_at_from k all (z ∷ desk) same zero d h = subst (λ n. slice_get all n ≡ Some z) (add-zero k) (same 0)
-seats_at_from k all (z ∷ desk) same (suc i) d h = seats_at_from (suc k) all desk (λ j. let e : suc k + j ≡ k + suc j = omega arith in ap (slice_get all) e ∙ same (suc j)) i d (omega arith)
+seats_at_from k all (z ∷ desk) same zero d h =
+    subst (λ n. slice_get all n ≡ Some z) (add-zero k) (same 0)
+seats_at_from k all (z ∷ desk) same (suc i) d h =
+    seats_at_from (suc k) all desk (λ j. let e : suc k + j ≡ k + suc j = omega arith in
+    ap (slice_get all) e ∙ same (suc j)) i d (omega arith)
 
 pub seats_at : (desk : List TableId) → AreSeatsOf desk (seats_from 0 desk)
 seats_at desk = seats_at_from 0 desk desk (λ i. ap (slice_get desk) (zero-add i))
@@ -132,30 +176,43 @@ ahead_seated (p ∷ clerk) zero h = refl
 ahead_seated (p ∷ clerk) (suc k) h = ahead_seated clerk k (omega arith)
 
 -- the seats ahead of all the clerk's places are at the same tables
-pub ahead_at : (desk : List TableId) (places ahead : List ClerkPlace) (n : ℕ) → ahead ≡ ahead_from (take n places) → length places ≤ n → IsClerkOf desk places → IsClerkOf desk ahead
-ahead_at desk places ahead n e whole is = ap (map (λ (p : ClerkPlace). p.table)) (e ∙ ap ahead_from (take_all n places whole)) ∙ tables_ahead places ∙ is
+pub ahead_at : (desk : List TableId) (places ahead : List ClerkPlace) (n : ℕ)
+    → ahead ≡ ahead_from (take n places) → length places ≤ n → IsClerkOf desk places
+    → IsClerkOf desk ahead
+ahead_at desk places ahead n e whole is =
+    ap (map (λ (p : ClerkPlace). p.table))
+    (e ∙ ap ahead_from (take_all n places whole)) ∙ tables_ahead places ∙ is
   where
-    tables_ahead : (l : List ClerkPlace) → map (λ (p : ClerkPlace). p.table) (ahead_from l) ≡ map (λ (p : ClerkPlace). p.table) l
+    tables_ahead : (l : List ClerkPlace)
+        → map (λ (p : ClerkPlace). p.table) (ahead_from l) ≡ map (λ (p : ClerkPlace). p.table) l
     tables_ahead [] = refl
     tables_ahead (p ∷ l) = ap (λ ts. p.table ∷ ts) (tables_ahead l)
 
 -- the last of some places, which stand at the first tables
-pub last_table : (desk : List TableId) (seats : List ClerkPlace) (s : ClerkPlace) (n : ℕ) → map (λ (p : ClerkPlace). p.table) seats ≡ take (length seats) desk → Some s ≡ slice_get seats n → n < length seats → length seats ≤ length desk
+pub last_table : (desk : List TableId) (seats : List ClerkPlace) (s : ClerkPlace) (n : ℕ)
+    → map (λ (p : ClerkPlace). p.table) seats ≡ take (length seats) desk
+    → Some s ≡ slice_get seats n → n < length seats → length seats ≤ length desk
     → s.table ≡ get_or desk n no_table
 last_table desk [] s n e is h fits = absurd (omega arith)
 last_table [] (p ∷ seats) s n e is h fits = absurd (omega arith)
-last_table (z ∷ desk) (p ∷ seats) s zero e is h fits = let head : p.table ≡ z = cc in let same : s ≡ p = cc in ap (λ (q : ClerkPlace). q.table) same ∙ head
+last_table (z ∷ desk) (p ∷ seats) s zero e is h fits = let head : p.table ≡ z = cc in
+    let same : s ≡ p = cc in ap (λ (q : ClerkPlace). q.table) same ∙ head
 last_table (z ∷ desk) (p ∷ seats) s (suc n) e is h fits =
     let rest : map (λ (p : ClerkPlace). p.table) seats ≡ take (length seats) desk = cc in
     last_table desk seats s n rest is (omega arith) (omega arith)
 
-pub last_seated : (seats : List ClerkPlace) (s : ClerkPlace) (n : ℕ) → AllSeated seats → Some s ≡ slice_get seats n → n < length seats → s.seated ≡ true
+pub last_seated : (seats : List ClerkPlace) (s : ClerkPlace) (n : ℕ) → AllSeated seats
+    → Some s ≡ slice_get seats n → n < length seats → s.seated ≡ true
 last_seated [] s n all is h = absurd (omega arith)
-last_seated (p ∷ seats) s zero all is h = let same : s ≡ p = cc in ap (λ (q : ClerkPlace). q.seated) same ∙ all zero h
-last_seated (p ∷ seats) s (suc n) all is h = last_seated seats s n (λ k below. all (suc k) (omega arith)) is (omega arith)
+last_seated (p ∷ seats) s zero all is h = let same : s ≡ p = cc in
+    ap (λ (q : ClerkPlace). q.seated) same ∙ all zero h
+last_seated (p ∷ seats) s (suc n) all is h =
+    last_seated seats s n (λ k below. all (suc k) (omega arith)) is (omega arith)
 
 -- without the last of them
-pub tables_fewer : (desk : List TableId) (seats : List ClerkPlace) (n : ℕ) → n ≤ length seats → map (λ (p : ClerkPlace). p.table) seats ≡ take (length seats) desk → map (λ (p : ClerkPlace). p.table) (take n seats) ≡ take (length (take n seats)) desk
+pub tables_fewer : (desk : List TableId) (seats : List ClerkPlace) (n : ℕ) → n ≤ length seats
+    → map (λ (p : ClerkPlace). p.table) seats ≡ take (length seats) desk
+    → map (λ (p : ClerkPlace). p.table) (take n seats) ≡ take (length (take n seats)) desk
 tables_fewer desk seats zero h e = refl
 tables_fewer desk [] (suc n) h e = absurd (omega arith)
 tables_fewer [] (p ∷ seats) (suc n) h e = absurd (cc)
@@ -166,12 +223,20 @@ tables_fewer (z ∷ desk) (p ∷ seats) (suc n) h e =
     λ i. head i ∷ r i
 
 pub seated_fewer : (seats : List ClerkPlace) (n : ℕ) → AllSeated seats → AllSeated (take n seats)
-seated_fewer seats n all k h = ap (λ (p : ClerkPlace). p.seated) (get_or-take n seats k no_place (omega (arith, length-take n seats))) ∙ all k (omega (arith, length-take n seats))
+seated_fewer seats n all k h =
+    ap (λ (p : ClerkPlace). p.seated)
+    (get_or-take n seats k no_place (omega (arith, length-take n seats))) ∙ all k
+    (omega (arith, length-take n seats))
 
-pub table_at_desk : {X : Type 0} (f : X → TableId) (desk : List TableId) (tables : List X) (i : ℕ) (t : X) → map f tables ≡ desk → i < length tables → t ≡ get_or tables i t → get_or desk i no_table ≡ f t
-table_at_desk f desk tables i t e h is = ap (λ l. get_or l i no_table) (sym e) ∙ map_at f tables i no_table t h ∙ ap f (sym is)
+pub table_at_desk : {X : Type 0} (f : X
+    → TableId) (desk : List TableId) (tables : List X) (i : ℕ) (t : X) → map f tables ≡ desk
+    → i < length tables → t ≡ get_or tables i t → get_or desk i no_table ≡ f t
+table_at_desk f desk tables i t e h is =
+    ap (λ l. get_or l i no_table) (sym e) ∙ map_at f tables i no_table t h ∙ ap f (sym is)
 
 -- a place that is put back as it was
-pub refill_same : (places now : List ClerkPlace) (i : ℕ) (p q : ClerkPlace) → now ≡ places → q ≡ get_or now i q → p ≡ q → refill (length places) places (set now i p) ≡ places
+pub refill_same : (places now : List ClerkPlace) (i : ℕ) (p q : ClerkPlace) → now ≡ places
+    → q ≡ get_or now i q → p ≡ q → refill (length places) places (set now i p) ≡ places
 refill_same places now i p q e is same =
-    refill_set places now i p e ∙ ap (λ z. set places i z) (same ∙ is ∙ ap (λ l. get_or l i q) e) ∙ set-get_or places i q
+    refill_set places now i p e ∙ ap (λ z.
+    set places i z) (same ∙ is ∙ ap (λ l. get_or l i q) e) ∙ set-get_or places i q

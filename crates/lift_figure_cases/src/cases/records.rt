@@ -1,5 +1,5 @@
-//! Records as words: `allot K0 1 0 5 A x2`, `stop A 1 0 up`, `row K0 1 0 5 A aboard x2`, `last K0 1 0 5 A x2`,
-//! `last A 1 0 up` and `done 3`.
+//! Records as words: `allot K0 1 0 5 A x2`, `stop A 1 0 up`, `row K0 1 0 5 A aboard x2`, `last K0 1
+//! 0 5 A x2`, `last A 1 0 up` and `done 3`.
 use crate::cases::showing::{dir_word, push_letter, push_party, push_row, push_terminal};
 use crate::cases::trouble::Trouble;
 use crate::cases::words::{

@@ -8,7 +8,8 @@ pub(crate) trait Subject {
     /// Forgets the case before.
     fn begin(&mut self) -> Result<(), Trouble>;
 
-    /// Does what the words of a line say, and writes what they come to; nothing where they only do something.
+    /// Does what the words of a line say, and writes what they come to; nothing where they only do
+    /// something.
     fn answer(&mut self, words: &[&str], came: &mut String) -> Result<(), Trouble>;
 }
 
@@ -66,7 +67,8 @@ impl Report {
         Ok(())
     }
 
-    /// A line that does something, or one that asks something, with ` = ` and the answer that is wanted.
+    /// A line that does something, or one that asks something, with ` = ` and the answer that is
+    /// wanted.
     fn try_line<S: Subject>(
         &mut self,
         alloc: Global,

@@ -60,7 +60,8 @@ pub(crate) fn push_party(text: &mut String, party: Party) -> Result<(), AllocErr
     write!(text, " x{persons}")
 }
 
-/// An open call, as `K0 1 0 5 A waiting x2`: its kiosk, number, floors, car and status, and its party.
+/// An open call, as `K0 1 0 5 A waiting x2`: its kiosk, number, floors, car and status, and its
+/// party.
 pub(crate) fn push_row(text: &mut String, row: &Row) -> Result<(), AllocError> {
     push_terminal(text, row.kiosk)?;
     let (number, from, to) = (row.number.get(), row.from.get(), row.to.get());

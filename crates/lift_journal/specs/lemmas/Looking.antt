@@ -1,34 +1,51 @@
 -- Calls that write nothing, one after another.
-use Rattle.std.proofs.Common.{◌≡◌, inl, inr, ⊎_elim, refl, sym, ◌∙◌, arith, Result, Ok, Err, OnOk, OnErr}
+use Rattle.std.proofs.Common.{◌≡◌, inl, inr, ⊎_elim, refl, sym, ◌∙◌, arith, Result, Ok, Err, OnOk}
+use Rattle.std.proofs.Common.{OnErr}
 use Rattle.std.specs.Prelude.{IfErr, true, false}
 use Rattle.std.specs.Result.{is_err}
-use Rattle.lift_disk.specs.Disk.{DiskState, HasCause, IsSynced, KeepsImage, KeepsSynced, RunsOn, LeavesNoOther}
+use Rattle.lift_disk.specs.Disk.{DiskState, HasCause, IsSynced, KeepsImage, KeepsSynced, RunsOn}
+use Rattle.lift_disk.specs.Disk.{LeavesNoOther}
 use Rattle.lift_disk.specs.lemmas.Moments.{runs_none, runs_then, touches_none, touches_nothing_then}
 use Rattle.lift_journal.specs.declared.fault.JournalFault.{JournalFault}
-use Rattle.lift_journal.specs.declared.fault.JournalFault.TheVariants.{Disk, NotFormatted, Damaged, Full, Broken}
-use Rattle.lift_journal.specs.Steps.{IsSyncedAt, SavesAsRead, ReadsOnly, ReadsWell, HasFailed, Looks, Examines, HasItsCause}
+use Rattle.lift_journal.specs.declared.fault.JournalFault.TheVariants.{Disk, NotFormatted, Damaged}
+use Rattle.lift_journal.specs.declared.fault.JournalFault.TheVariants.{Full, Broken}
+use Rattle.lift_journal.specs.Steps.{IsSyncedAt, SavesAsRead, ReadsOnly, ReadsWell, HasFailed}
+use Rattle.lift_journal.specs.Steps.{Looks, Examines, HasItsCause}
 use Rattle.lift_journal.specs.Told.{StopsAsTold, FailsBy}
 use Rattle.lift_journal.specs.lemmas.Telling.{none_made, passes_then, fails_then}
 
-pub keeps_then : (old mid new : DiskState) → RunsOn old mid → KeepsImage old mid → KeepsImage mid new → KeepsImage old new
-keeps_then old mid new runs first second honest inert = second (runs.honest.1 honest) (runs.inert.1 inert) ∙ first honest inert
+pub keeps_then : (old mid new : DiskState) → RunsOn old mid → KeepsImage old mid
+    → KeepsImage mid new → KeepsImage old new
+keeps_then old mid new runs first second honest inert =
+    second (runs.honest.1 honest) (runs.inert.1 inert) ∙ first honest inert
 
-pub saves_then : (old mid new : DiskState) → RunsOn old mid → KeepsImage mid new → SavesAsRead old mid → SavesAsRead mid new → SavesAsRead old new
+pub saves_then : (old mid new : DiskState) → RunsOn old mid → KeepsImage mid new
+    → SavesAsRead old mid → SavesAsRead mid new → SavesAsRead old new
 saves_then old mid new runs image first second honest inert =
     let honest_mid = runs.honest.1 honest in
     let inert_mid = runs.inert.1 inert in
-    ⊎_elim (λ same. ⊎_elim (λ was. inl (same ∙ was)) (λ read. inr (same ∙ read ∙ sym (image honest_mid inert_mid))) (first honest inert))
+    ⊎_elim (λ same. ⊎_elim (λ was. inl (same ∙ was)) (λ read.
+    inr (same ∙ read ∙ sym (image honest_mid inert_mid))) (first honest inert))
     (λ read. inr read) (second honest_mid inert_mid)
 
 -- a sync, also a failed one
-pub saves_sync : {T E : Type 0} (r : Result T E) (old new : DiskState) → OnOk r (old.is_honest → new.synced ≡ new.image) → OnErr r (KeepsSynced old new) → SavesAsRead old new
+pub saves_sync : {T E : Type 0} (r : Result T E) (old new : DiskState)
+    → OnOk r (old.is_honest → new.synced ≡ new.image) → OnErr r (KeepsSynced old new)
+    → SavesAsRead old new
 saves_sync (Ok x) old new saved kept honest inert = inr (saved honest)
 saves_sync (Err e) old new saved kept honest inert = inl (kept honest)
 
 pub reads_none : (disk : DiskState) → LeavesNoOther disk → ReadsOnly disk disk
-reads_none disk only_now = record { runs = runs_none disk; writes = refl; image = λ _ _. refl; saved = λ _ _. inl refl; touched = touches_none disk.is_loose disk (λ _ i is. is) only_now }
+reads_none disk only_now = record {
+  runs = runs_none disk;
+  writes = refl;
+  image = λ _ _. refl;
+  saved = λ _ _. inl refl;
+  touched = touches_none disk.is_loose disk (λ _ i is. is) only_now;
+}
 
-pub reads_then : (old mid new : DiskState) → ReadsOnly old mid → ReadsOnly mid new → ReadsOnly old new
+pub reads_then : (old mid new : DiskState) → ReadsOnly old mid → ReadsOnly mid new
+    → ReadsOnly old new
 reads_then old mid new first second = record {
   runs = runs_then old mid new first.runs second.runs;
   writes = second.writes ∙ first.writes;
@@ -38,9 +55,15 @@ reads_then old mid new first second = record {
 }
 
 pub well_none : (disk : DiskState) → ReadsWell disk disk
-well_none disk = record { failures = refl; told = none_made disk; kept = λ honest synced. record { synced = synced; same = refl } }
+well_none disk = record {
+  failures = refl;
+  told = none_made disk;
+  kept = λ honest synced.
+      record { synced = synced; same = refl };
+}
 
-pub well_then : (old mid new : DiskState) → ReadsOnly old mid → ReadsWell old mid → ReadsWell mid new → ReadsWell old new
+pub well_then : (old mid new : DiskState) → ReadsOnly old mid → ReadsWell old mid
+    → ReadsWell mid new → ReadsWell old new
 well_then old mid new only first second = record {
   failures = second.failures ∙ first.failures;
   told = passes_then old mid new only.runs first.told second.told;
@@ -50,7 +73,8 @@ well_then old mid new only first second = record {
       record { synced = after.synced; same = after.same ∙ before.same };
 }
 
-pub failed_then : (old mid new : DiskState) → ReadsOnly old mid → ReadsWell old mid → HasFailed mid new → HasFailed old new
+pub failed_then : (old mid new : DiskState) → ReadsOnly old mid → ReadsWell old mid
+    → HasFailed mid new → HasFailed old new
 failed_then old mid new only well second = record {
   failures = omega (arith, second.failures, well.failures);
   told = fails_then old mid new only.runs well.told second.told;
@@ -66,19 +90,30 @@ err_weaker (Ok x) P Q f p = tt
 err_weaker (Err e) P Q f p = f p
 
 -- one call, from what it says
-pub looks_by : {T E : Type 0} (r : Result T E) (old new : DiskState) → ReadsOnly old new → HasCause r old new → StopsAsTold r old new
+pub looks_by : {T E : Type 0} (r : Result T E) (old new : DiskState) → ReadsOnly old new
+    → HasCause r old new → StopsAsTold r old new
     → OnOk r (old.is_honest → IsSynced old → IsSyncedAt old.image new) → Looks r old new
-looks_by (Ok x) old new only cause told kept = record { only = only; ok = record { failures = cause.ok; told = told.ok; kept = kept }; err = tt }
-looks_by (Err e) old new only cause told kept = record { only = only; ok = tt; err = record { failures = cause.err; told = told.err } }
+looks_by (Ok x) old new only cause told kept =
+    record {
+      only = only;
+      ok = record { failures = cause.ok; told = told.ok; kept = kept };
+      err = tt;
+    }
+looks_by (Err e) old new only cause told kept =
+    record { only = only; ok = tt; err = record { failures = cause.err; told = told.err } }
 
-pub looks_then : {T E : Type 0} (r : Result T E) (old mid new : DiskState) → ReadsOnly old mid → ReadsWell old mid → Looks r mid new → Looks r old new
+pub looks_then : {T E : Type 0} (r : Result T E) (old mid new : DiskState) → ReadsOnly old mid
+    → ReadsWell old mid → Looks r mid new → Looks r old new
 looks_then r old mid new only well looks = record {
   only = reads_then old mid new only looks.only;
-  ok = ok_weaker r (ReadsWell mid new) (ReadsWell old new) (λ w. well_then old mid new only well w) looks.ok;
-  err = err_weaker r (HasFailed mid new) (HasFailed old new) (λ failed. failed_then old mid new only well failed) looks.err;
+  ok = ok_weaker r (ReadsWell mid new) (ReadsWell old new) (λ w.
+      well_then old mid new only well w) looks.ok;
+  err = err_weaker r (HasFailed mid new) (HasFailed old new) (λ failed.
+      failed_then old mid new only well failed) looks.err;
 }
 
-pub cause_then : (fault : JournalFault) (old mid new : DiskState) → ReadsOnly old mid → ReadsWell old mid → HasItsCause fault mid new → HasItsCause fault old new
+pub cause_then : (fault : JournalFault) (old mid new : DiskState) → ReadsOnly old mid
+    → ReadsWell old mid → HasItsCause fault mid new → HasItsCause fault old new
 cause_then Disk old mid new only well cause = failed_then old mid new only well cause
 cause_then NotFormatted old mid new only well cause = well_then old mid new only well cause
 cause_then (Damaged sector) old mid new only well cause = well_then old mid new only well cause
@@ -86,23 +121,37 @@ cause_then Full old mid new only well cause = well_then old mid new only well ca
 cause_then Broken old mid new only well cause = well_then old mid new only well cause
 
 -- what was told has happened
-pub cause_told : (fault : JournalFault) (old new : DiskState) → HasItsCause fault old new → FailsBy fault old new
+pub cause_told : (fault : JournalFault) (old new : DiskState) → HasItsCause fault old new
+    → FailsBy fault old new
 cause_told Disk old new cause = cause.told
 cause_told NotFormatted old new cause = cause.told
 cause_told (Damaged sector) old new cause = cause.told
 cause_told Full old new cause = cause.told
 cause_told Broken old new cause = cause.told
 
-pub examines_then : {T : Type 0} (r : Result T JournalFault) (old mid new : DiskState) → ReadsOnly old mid → ReadsWell old mid → Examines r mid new → Examines r old new
-examines_then (Ok x) old mid new only well next = record { only = reads_then old mid new only next.only; ok = well_then old mid new only well next.ok; err = tt }
-examines_then (Err fault) old mid new only well next = record { only = reads_then old mid new only next.only; ok = tt; err = cause_then fault old mid new only well next.err }
+pub examines_then : {T : Type 0} (r : Result T JournalFault) (old mid new : DiskState)
+    → ReadsOnly old mid → ReadsWell old mid → Examines r mid new → Examines r old new
+examines_then (Ok x) old mid new only well next =
+    record {
+      only = reads_then old mid new only next.only;
+      ok = well_then old mid new only well next.ok;
+      err = tt;
+    }
+examines_then (Err fault) old mid new only well next =
+    record {
+      only = reads_then old mid new only next.only;
+      ok = tt;
+      err = cause_then fault old mid new only well next.err;
+    }
 
 -- a fault's clause, weakened
-pub if_err_weaker : {T : Type 0} (r : Result T JournalFault) (P Q : JournalFault → Type 0) → ((fault : JournalFault) → r ≡ Err fault → P fault → Q fault) → IfErr r P → IfErr r Q
+pub if_err_weaker : {T : Type 0} (r : Result T JournalFault) (P Q : JournalFault → Type 0)
+    → ((fault : JournalFault) → r ≡ Err fault → P fault → Q fault) → IfErr r P → IfErr r Q
 if_err_weaker (Ok x) P Q f p = tt
 if_err_weaker (Err fault) P Q f p = f fault refl p
 
-pub if_err_both : {T : Type 0} (r : Result T JournalFault) (P Q : JournalFault → Type 0) → IfErr r P → IfErr r Q → IfErr r (λ fault. P fault × Q fault)
+pub if_err_both : {T : Type 0} (r : Result T JournalFault) (P Q : JournalFault → Type 0) → IfErr r P
+    → IfErr r Q → IfErr r (λ fault. P fault × Q fault)
 if_err_both (Ok x) P Q p q = tt
 if_err_both (Err fault) P Q p q = (p, q)
 
@@ -119,10 +168,12 @@ pub err_any : {T E : Type 0} (r : Result T E) (P : Type 0) → P → OnErr r P
 err_any (Ok x) P p = tt
 err_any (Err e) P p = p
 
-pub both_on_err : {T E : Type 0} (r : Result T E) (P Q : Type 0) → OnErr r P → OnErr r Q → OnErr r (P × Q)
+pub both_on_err : {T E : Type 0} (r : Result T E) (P Q : Type 0) → OnErr r P → OnErr r Q
+    → OnErr r (P × Q)
 both_on_err (Ok x) P Q p q = tt
 both_on_err (Err e) P Q p q = (p, q)
 
-pub both_on_ok : {T E : Type 0} (r : Result T E) (P Q : Type 0) → OnOk r P → OnOk r Q → OnOk r (P × Q)
+pub both_on_ok : {T E : Type 0} (r : Result T E) (P Q : Type 0) → OnOk r P → OnOk r Q
+    → OnOk r (P × Q)
 both_on_ok (Ok x) P Q p q = (p, q)
 both_on_ok (Err e) P Q p q = tt

@@ -1,19 +1,26 @@
 -- Which calls of a run fail, run after run.
-use Rattle.std.proofs.Common.{◌≡◌, ◌⊎◌, ◌<◌, ◌+◌, inl, inr, ⊎_elim, ℕ, true, refl, sym, ◌∙◌, subst, arith, Result, Ok, Err}
+use Rattle.std.proofs.Common.{◌≡◌, ◌⊎◌, ◌<◌, ◌+◌, inl, inr, ⊎_elim, ℕ, true, refl, sym, ◌∙◌, subst}
+use Rattle.std.proofs.Common.{arith, Result, Ok, Err}
 use Rattle.std.specs.Prelude.{IsErrAnd}
 use Rattle.std.proofs.lemmas.Result.{err_from_is_err_and}
 use Rattle.std.proofs.lemmas.Bool.{cases_lt}
 use Rattle.lift_disk.specs.Disk.{DiskState, GoesOn, RunsOn, FailsAsTold, FailsAsToldOrShort}
 use Rattle.lift_journal.specs.declared.fault.JournalFault.{JournalFault}
-use Rattle.lift_journal.specs.declared.fault.JournalFault.TheVariants.{Disk, NotFormatted, Damaged, Full, Broken}
+use Rattle.lift_journal.specs.declared.fault.JournalFault.TheVariants.{Disk, NotFormatted, Damaged}
+use Rattle.lift_journal.specs.declared.fault.JournalFault.TheVariants.{Full, Broken}
 use Rattle.lift_journal.specs.Told.{NoneFails, LastFails, StopsAsTold, FailsBy}
 
 -- no call was made
 pub none_made : (disk : DiskState) → NoneFails disk disk
-none_made disk = record { told = λ _ call more few. absurd (omega (arith, more, few)); short = refl }
+none_made disk = record {
+  told = λ _ call more few. absurd (omega (arith, more, few));
+  short = refl;
+}
 
 -- one call
-pub one_passes : (old new : DiskState) → GoesOn old new → (old.is_inert → ¬ old.fails_at (old.calls + 1)) → new.is_short ≡ old.is_short → NoneFails old new
+pub one_passes : (old new : DiskState) → GoesOn old new
+    → (old.is_inert → ¬ old.fails_at (old.calls + 1)) → new.is_short ≡ old.is_short
+    → NoneFails old new
 one_passes old new goes_on told short = record {
   told = λ inert call more few.
       let same : old.calls + 1 ≡ call = omega (arith, goes_on.calls, more, few) in
@@ -22,32 +29,37 @@ one_passes old new goes_on told short = record {
 }
 
 pub one_fails : (old new : DiskState) → GoesOn old new
-    → (old.is_inert → old.fails_at (old.calls + 1) × (new.is_short ≡ old.is_short) ⊎ ¬ old.fails_at (old.calls + 1) × (new.is_short ≡ true))
+    → (old.is_inert → old.fails_at (old.calls + 1) × (new.is_short ≡ old.is_short)
+    ⊎ ¬ old.fails_at (old.calls + 1) × (new.is_short ≡ true))
     → (old.is_short ≡ true → new.is_short ≡ true) → LastFails old new
 one_fails old new goes_on last short = record {
   some = omega (arith, goes_on.calls);
   before = λ _ call more few. absurd (omega (arith, goes_on.calls, more, few));
-  last = λ inert. subst (λ n. old.fails_at n × (new.is_short ≡ old.is_short) ⊎ ¬ old.fails_at n × (new.is_short ≡ true)) (sym goes_on.calls) (last inert);
+  last = λ inert. subst (λ n. old.fails_at n × (new.is_short ≡ old.is_short)
+      ⊎ ¬ old.fails_at n × (new.is_short ≡ true)) (sym goes_on.calls) (last inert);
   short = short;
 }
 
 -- a run after a run in which none failed
 module _ (old mid new : DiskState) (runs : RunsOn old mid) (first : NoneFails old mid) where
-  not_told : (call : ℕ) → old.is_inert → old.calls < call → (mid.is_inert → mid.calls < call → ¬ mid.fails_at call) → ¬ old.fails_at call
+  not_told : (call : ℕ) → old.is_inert → old.calls < call
+      → (mid.is_inert → mid.calls < call → ¬ mid.fails_at call) → ¬ old.fails_at call
   not_told call inert more later fails =
       ⊎_elim (λ behind. later (runs.inert.1 inert) behind ((runs.told call behind).1 fails))
       (λ early. first.told inert call more early fails) (cases_lt mid.calls call)
 
   pub passes_then : NoneFails mid new → NoneFails old new
   passes_then second = record {
-    told = λ inert call more few. not_told call inert more (λ inert_mid behind. second.told inert_mid call behind few);
+    told = λ inert call more few.
+        not_told call inert more (λ inert_mid behind. second.told inert_mid call behind few);
     short = second.short ∙ first.short;
   }
 
   pub fails_then : LastFails mid new → LastFails old new
   fails_then second = record {
     some = omega (arith, runs.calls, second.some);
-    before = λ inert call more few. not_told call inert more (λ inert_mid behind. second.before inert_mid call behind few);
+    before = λ inert call more few.
+        not_told call inert more (λ inert_mid behind. second.before inert_mid call behind few);
     last = λ inert. ⊎_elim
         (λ told. inl ((runs.told new.calls second.some).0 told.0, told.1 ∙ first.short))
         (λ wants. inr ((λ fails. wants.0 ((runs.told new.calls second.some).1 fails)), wants.1))
@@ -67,17 +79,28 @@ module _ (old mid new : DiskState) (runs : RunsOn old mid) (first : NoneFails ol
   fault_then Broken second = passes_then second
 
 -- a write or a sync
-pub call_stops : {T E : Type 0} (r : Result T E) (old new : DiskState) → GoesOn old new → FailsAsToldOrShort r old new → StopsAsTold r old new
-call_stops (Ok x) old new goes_on told = record { ok = one_passes old new goes_on told.ok told.same; err = tt }
-call_stops (Err e) old new goes_on told = record { ok = tt; err = one_fails old new goes_on told.err told.short }
+pub call_stops : {T E : Type 0} (r : Result T E) (old new : DiskState) → GoesOn old new
+    → FailsAsToldOrShort r old new → StopsAsTold r old new
+call_stops (Ok x) old new goes_on told =
+    record { ok = one_passes old new goes_on told.ok told.same; err = tt }
+call_stops (Err e) old new goes_on told =
+    record { ok = tt; err = one_fails old new goes_on told.err told.short }
 
 -- a read
-pub read_stops : {T E : Type 0} (r : Result T E) (old new : DiskState) → GoesOn old new → FailsAsTold r old new → StopsAsTold r old new
-read_stops (Ok x) old new goes_on told = record { ok = one_passes old new goes_on told.ok told.short; err = tt }
-read_stops (Err e) old new goes_on told = record { ok = tt; err = one_fails old new goes_on (λ inert. inl (told.err inert, told.short)) (λ was. told.short ∙ was) }
+pub read_stops : {T E : Type 0} (r : Result T E) (old new : DiskState) → GoesOn old new
+    → FailsAsTold r old new → StopsAsTold r old new
+read_stops (Ok x) old new goes_on told =
+    record { ok = one_passes old new goes_on told.ok told.short; err = tt }
+read_stops (Err e) old new goes_on told =
+    record {
+      ok = tt;
+      err = one_fails old new goes_on (λ inert.
+          inl (told.err inert, told.short)) (λ was. told.short ∙ was);
+    }
 
 -- a call that failed, whose fault is answered
-pub err_stops : {T E : Type 0} (Q : E → Type 0) (r : Result T E) (old new : DiskState) → IsErrAnd r Q → LastFails old new → StopsAsTold r old new
+pub err_stops : {T E : Type 0} (Q : E → Type 0) (r : Result T E) (old new : DiskState)
+    → IsErrAnd r Q → LastFails old new → StopsAsTold r old new
 err_stops Q r old new is fails =
     let fault = err_from_is_err_and r is in
     record { ok = rw fault.1 tt; err = rw fault.1 fails }

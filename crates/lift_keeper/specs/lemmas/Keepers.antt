@@ -15,7 +15,8 @@ use Rattle.lift_policy.specs.Step.{State}
 use Rattle.lift_keeper.specs.Keeper.{IsKeeper}
 
 -- nothing is in the batch
-pub settled_keeper : (plan : Plan) (state : State) (other : Plan) (safe : RegisterState) (is_broken : Bool) → other ≡ plan → state.batch ≡ [] → register_of safe [] ≡ safe
+pub settled_keeper : (plan : Plan) (state : State) (other : Plan) (safe : RegisterState)
+    (is_broken : Bool) → other ≡ plan → state.batch ≡ [] → register_of safe [] ≡ safe
     → (is_broken ≡ false → state.register ≡ safe) → IsKeeper plan state other safe is_broken
 settled_keeper plan state other safe is_broken of_building none same shows = record {
   of_building = of_building;
@@ -24,16 +25,25 @@ settled_keeper plan state other safe is_broken of_building none same shows = rec
 }
 
 -- a register with entries is one of no more
-pub nothing_behind : (register : RegisterState) (batch : List Entry) → register_of (register_of register batch) [] ≡ register_of register batch
-nothing_behind register batch = register_of-append register batch [] ∙ ap (register_of register) (append-nil batch)
+pub nothing_behind : (register : RegisterState) (batch : List Entry)
+    → register_of (register_of register batch) [] ≡ register_of register batch
+nothing_behind register batch =
+    register_of-append register batch [] ∙ ap (register_of register) (append-nil batch)
 
-pub nothing_more : (register same : RegisterState) → same ≡ register → IsWellFormed same → register_of register [] ≡ register
-nothing_more register same is lawful = subst (λ (r : RegisterState). register_of r [] ≡ r) is (register_of-nothing same lawful)
+pub nothing_more : (register same : RegisterState) → same ≡ register → IsWellFormed same
+    → register_of register [] ≡ register
+nothing_more register same is lawful =
+    subst (λ (r : RegisterState). register_of r [] ≡ r) is (register_of-nothing same lawful)
 
 -- a decision
-pub decided_keeper : (plan : Plan) (state next : State) (other after : Plan) (safe : RegisterState) (is_broken : Bool) (terminal number : ℕ) (body : Body) → IsKeeper plan state other safe is_broken
-    → register_of safe [] ≡ safe → after ≡ other → JoinsAtMostOne other state terminal number body next → IsKeeper plan next after safe is_broken
-decided_keeper plan state next other after safe is_broken terminal number body keeper same is joins =
+pub decided_keeper : (plan : Plan) (state next : State) (other after : Plan) (safe : RegisterState)
+    (is_broken : Bool) (terminal number : ℕ) (body : Body)
+    → IsKeeper plan state other safe is_broken
+    → register_of safe [] ≡ safe → after ≡ other
+    → JoinsAtMostOne other state terminal number body next
+    → IsKeeper plan next after safe is_broken
+decided_keeper plan state next other after safe is_broken terminal number body keeper same is
+    joins =
     ⊎_elim
     (λ none. record {
       of_building = is ∙ keeper.of_building;
@@ -46,11 +56,16 @@ decided_keeper plan state next other after safe is_broken terminal number body k
     record {
       of_building = is ∙ keeper.of_building;
       fits = λ whole.
-          (let here : Fits plan (register_of safe state.batch) entry = subst (λ (p : Plan). Fits p (register_of safe state.batch) entry) keeper.of_building
+          (let here : Fits plan (register_of safe state.batch) entry = subst (λ (p : Plan).
+          Fits p (register_of safe state.batch) entry) keeper.of_building
           (subst (λ (r : RegisterState). Fits other r entry) (keeper.shows whole) join.fits) in
-          subst (FitFrom plan safe) (sym join.batch) (FitFrom-append plan safe state.batch (entry ∷ []) same (keeper.fits whole) (here, tt)));
+          subst (FitFrom plan safe) (sym join.batch)
+          (FitFrom-append plan safe state.batch (entry ∷ []) same (keeper.fits whole)
+          (here, tt)));
       shows = λ whole.
-          join.register ∙ ap (λ (r : RegisterState). register_of r (entry ∷ [])) (keeper.shows whole) ∙ register_of-append safe state.batch (entry ∷ [])
+          join.register ∙ ap (λ (r : RegisterState).
+          register_of r (entry ∷ [])) (keeper.shows whole) ∙ register_of-append safe state.batch
+          (entry ∷ [])
           ∙ ap (register_of safe) (sym join.batch);
     })
     joins

@@ -1,5 +1,6 @@
 -- A line that grows by a byte.
-use Rattle.std.proofs.Common.{◌≡◌, ◌≢◌, ℕ, ◌<◌, ◌≤◌, Bool, true, false, List, [], ◌∷◌, ◌++◌, length, take, refl, sym, ap, ◌∙◌, arith}
+use Rattle.std.proofs.Common.{◌≡◌, ◌≢◌, ℕ, ◌<◌, ◌≤◌, Bool, true, false, List, [], ◌∷◌, ◌++◌, length}
+use Rattle.std.proofs.Common.{take, refl, sym, ap, ◌∙◌, arith}
 use Rattle.std.proofs.lemmas.List.{length_push, length-take}
 use Rattle.std.specs.Str.Lines.{strip_carriage_return}
 use Rattle.std.specs.Prelude.{slice_index, ◌-◌, ◌==◌, cond}
@@ -8,7 +9,8 @@ use Rattle.std.proofs.lemmas.Bool.Decides.{nat_tests}
 use Rattle.std.proofs.KnownBytes.{Consumes-trans, Consumes-nil}
 use Rattle.lift_kiosk.specs.Lines.{Source, Gives, GivesLine, GivesPart, HasNoFeed, Keeps65}
 
-pub gives_more : (bytes : List ℕ) (byte : ℕ) (before mid after : Source) → Gives bytes before mid → Gives (byte ∷ []) mid after → Gives (bytes ++ byte ∷ []) before after
+pub gives_more : (bytes : List ℕ) (byte : ℕ) (before mid after : Source) → Gives bytes before mid
+    → Gives (byte ∷ []) mid after → Gives (bytes ++ byte ∷ []) before after
 gives_more bytes byte before mid after so_far one = record {
   calls = omega (arith, so_far.calls, one.calls, length_push bytes byte);
   failed = one.failed ∙ so_far.failed;
@@ -16,17 +18,20 @@ gives_more bytes byte before mid after so_far one = record {
   left = Consumes-trans before.left mid.left after.left bytes (byte ∷ []) so_far.left one.left;
 }
 
-pub no_feed_more : (bytes : List ℕ) (byte : ℕ) → HasNoFeed bytes → byte ≢ 10 → HasNoFeed (bytes ++ byte ∷ [])
+pub no_feed_more : (bytes : List ℕ) (byte : ℕ) → HasNoFeed bytes → byte ≢ 10
+    → HasNoFeed (bytes ++ byte ∷ [])
 no_feed_more [] byte none here = (here, tt)
 no_feed_more (b ∷ bytes) byte none here = (none.0, no_feed_more bytes byte none.1 here)
 
-pub part_more : (part : List ℕ) (byte : ℕ) (before mid after : Source) → GivesPart part before mid → Gives (byte ∷ []) mid after → byte ≢ 10 → GivesPart (part ++ byte ∷ []) before after
+pub part_more : (part : List ℕ) (byte : ℕ) (before mid after : Source) → GivesPart part before mid
+    → Gives (byte ∷ []) mid after → byte ≢ 10 → GivesPart (part ++ byte ∷ []) before after
 part_more part byte before mid after so_far one here = record {
   whole = no_feed_more part byte so_far.whole here;
   bytes = gives_more part byte before mid after so_far.bytes one;
 }
 
-pub part_ends : (part : List ℕ) (byte : ℕ) (before mid after : Source) → GivesPart part before mid → Gives (byte ∷ []) mid after → byte ≡ 10 → GivesLine part before after
+pub part_ends : (part : List ℕ) (byte : ℕ) (before mid after : Source) → GivesPart part before mid
+    → Gives (byte ∷ []) mid after → byte ≡ 10 → GivesLine part before after
 part_ends part byte before mid after so_far one feed = record {
   whole = so_far.whole;
   bytes = let more = gives_more part byte before mid after so_far.bytes one in rw feed at more;
@@ -35,25 +40,35 @@ part_ends part byte before mid after so_far one feed = record {
 pub nothing_came : (source : Source) → GivesPart [] source source
 nothing_came source = record {
   whole = tt;
-  bytes = record { calls = omega arith; failed = refl; ended = refl; left = Consumes-nil source.left };
+  bytes = record {
+    calls = omega arith;
+    failed = refl;
+    ended = refl;
+    left = Consumes-nil source.left;
+  };
 }
 
-pub keeps_no_more : (line kept : List ℕ) (byte : ℕ) (longer : Bool) → length kept ≡ 65 → Keeps65 line kept longer → Keeps65 (line ++ byte ∷ []) kept true
+pub keeps_no_more : (line kept : List ℕ) (byte : ℕ) (longer : Bool) → length kept ≡ 65
+    → Keeps65 line kept longer → Keeps65 (line ++ byte ∷ []) kept true
 keeps_no_more line kept byte longer full so_far =
-    let long : 65 ≤ length line = (let at = ap length so_far.front in omega (arith, at, full, length-take 65 line)) in
+    let long : 65 ≤ length line =
+    (let at = ap length so_far.front in omega (arith, at, full, length-take 65 line)) in
     record {
       front = so_far.front ∙ sym (take-append-le 65 line (byte ∷ []) long);
       more = grind (arith, nat_tests, length_push line byte, long);
     }
 
-pub keeps_one_more : (line kept new : List ℕ) (byte : ℕ) (longer : Bool) → length kept < 65 → new ≡ kept ++ byte ∷ [] → Keeps65 line kept longer → Keeps65 (line ++ byte ∷ []) new longer
+pub keeps_one_more : (line kept new : List ℕ) (byte : ℕ) (longer : Bool) → length kept < 65
+    → new ≡ kept ++ byte ∷ [] → Keeps65 line kept longer → Keeps65 (line ++ byte ∷ []) new longer
 keeps_one_more line kept new byte longer room grown so_far =
-    let short : length line < 65 = (let at = ap length so_far.front in omega (arith, at, room, length-take 65 line)) in
+    let short : length line < 65 =
+    (let at = ap length so_far.front in omega (arith, at, room, length-take 65 line)) in
     let some : length line ≤ 65 = omega (arith, short) in
     let more : length (line ++ byte ∷ []) ≤ 65 = omega (arith, short, length_push line byte) in
     let whole : kept ≡ line = so_far.front ∙ take_all 65 line some in
     record {
-      front = grown ∙ ap (λ (k : List ℕ). k ++ byte ∷ []) whole ∙ sym (take_all 65 (line ++ byte ∷ []) more);
+      front = grown ∙ ap (λ (k : List ℕ).
+          k ++ byte ∷ []) whole ∙ sym (take_all 65 (line ++ byte ∷ []) more);
       more = so_far.more ∙ grind (arith, nat_tests, length_push line byte, short);
     }
 
@@ -64,10 +79,12 @@ kept_whole line kept keeps =
     keeps.front ∙ take_all 65 line few
 
 -- a longer line has more than 64 bytes, without its carriage return too
-pub longer_than_64 : (line kept : List ℕ) → Keeps65 line kept true → 64 < length (strip_carriage_return line)
+pub longer_than_64 : (line kept : List ℕ) → Keeps65 line kept true
+    → 64 < length (strip_carriage_return line)
 longer_than_64 line kept keeps =
     let long : 65 < length line = (let more = keeps.more in grind (arith, nat_tests)) in
-    elim (slice_index line (length line - 1) == 13) as (λ b. 64 < length (cond b (take (length line - 1) line) line)) [
+    elim (slice_index line (length line - 1) == 13) as (λ b.
+    64 < length (cond b (take (length line - 1) line) line)) [
       | true ↦ omega (arith, length-take (length line - 1) line, long)
       | false ↦ omega (arith, long)
     ]

@@ -14,8 +14,12 @@ spaced_is_ascii : (words : List (List ℕ)) → AreAscii words → IsAscii (spac
 spaced_is_ascii [] each = IsAscii-nil
 spaced_is_ascii (word ∷ []) each = each.0
 spaced_is_ascii (word ∷ other ∷ words) each =
-    IsAscii-append word (32 ∷ spaced (other ∷ words)) each.0 (ascii_with 32 (spaced (other ∷ words)) (omega arith) (spaced_is_ascii (other ∷ words) each.1))
+    IsAscii-append word (32 ∷ spaced (other ∷ words)) each.0
+    (ascii_with 32 (spaced (other ∷ words)) (omega arith)
+    (spaced_is_ascii (other ∷ words) each.1))
 
 -- a line of ASCII words is a text
-pub words_make_text : (line : List ℕ) (words : List (List ℕ)) → AreWords line words → AreAscii words → IsUtf8 line
-words_make_text line words are each = IsUtf8-from_ascii line (subst IsAscii (sym are.joined) (spaced_is_ascii words each))
+pub words_make_text : (line : List ℕ) (words : List (List ℕ)) → AreWords line words → AreAscii words
+    → IsUtf8 line
+words_make_text line words are each =
+    IsUtf8-from_ascii line (subst IsAscii (sym are.joined) (spaced_is_ascii words each))

@@ -1,48 +1,66 @@
 -- Lists and sums over the cars, the terminals and the kiosks.
-use Rattle.std.proofs.Common.{◌≡◌, ◌≢◌, ℕ, zero, suc, ◌+◌, ◌<◌, ◌≤◌, ◌*◌, List, [], ◌∷◌, length, map, sum_by, get_or, refl, sym, ◌∙◌, ap, arith, inl, inr}
+use Rattle.std.proofs.Common.{◌≡◌, ◌≢◌, ℕ, zero, suc, ◌+◌, ◌<◌, ◌≤◌, ◌*◌, List, [], ◌∷◌, length}
+use Rattle.std.proofs.Common.{map, sum_by, get_or, refl, sym, ◌∙◌, ap, arith, inl, inr}
 use Rattle.std.specs.List.{range_with_len}
 use Rattle.std.proofs.Math.ListN.{set}
 use Rattle.std.proofs.lemmas.List.{ext_get_or, length-set, get_or-set_other}
 use Rattle.std.proofs.lemmas.Grind.{get_or-set_at}
-use Rattle.std.proofs.lemmas.List.FromFn.{sum_by-map-range_with_len_more, get_or-map-range_with_len, length-map-range_with_len}
+use Rattle.std.proofs.lemmas.List.FromFn.{sum_by-map-range_with_len_more, get_or-map-range_with_len}
+use Rattle.std.proofs.lemmas.List.FromFn.{length-map-range_with_len}
 use Rattle.std.proofs.lemmas.List.Sums.{sum_by-cons}
 use Rattle.std.proofs.Math.Nat.{eq-or-lt_of_le}
 use Rattle.std.proofs.lemmas.Bool.{cases_eq}
 use Rattle.lift_register.specs.Register.{cars, terminals, kiosk_terminals}
 
 -- a list whose places all have what f gives there
-pub list_on_range : {X : Type 0} (f : ℕ → X) (xs : List X) (n : ℕ) (d : X) → length xs ≡ n → ((k : ℕ) → k < n → get_or xs k d ≡ f k) → xs ≡ map f (range_with_len 0 n)
+pub list_on_range : {X : Type 0} (f : ℕ → X) (xs : List X) (n : ℕ) (d : X) → length xs ≡ n
+    → ((k : ℕ) → k < n → get_or xs k d ≡ f k) → xs ≡ map f (range_with_len 0 n)
 list_on_range f xs n d long same =
     ext_get_or d xs (map f (range_with_len 0 n)) (long ∙ sym (length-map-range_with_len f 0 n))
     (λ k within. grind (arith, get_or-map-range_with_len, same k))
 
 -- a list whose places all have what f gives there, but for one that is written
-pub set_on_range : {X : Type 0} (f : ℕ → X) (xs : List X) (n i : ℕ) (d : X) → length xs ≡ n → i < n → ((k : ℕ) → k < n → k ≢ i → f k ≡ get_or xs k d) → set xs i (f i) ≡ map f (range_with_len 0 n)
+pub set_on_range : {X : Type 0} (f : ℕ → X) (xs : List X) (n i : ℕ) (d : X) → length xs ≡ n → i < n
+    → ((k : ℕ) → k < n → k ≢ i → f k ≡ get_or xs k d) → set xs i (f i) ≡ map f (range_with_len 0 n)
 set_on_range f xs n i d long below others =
-    ext_get_or d (set xs i (f i)) (map f (range_with_len 0 n)) (length-set xs i (f i) ∙ long ∙ sym (length-map-range_with_len f 0 n))
-    (λ k within. grind (arith, get_or-set_at, get_or-set_other, get_or-map-range_with_len, length-set, others k))
+    ext_get_or d (set xs i (f i)) (map f (range_with_len 0 n))
+    (length-set xs i (f i) ∙ long ∙ sym (length-map-range_with_len f 0 n))
+    (λ k within. grind (
+      arith,
+      get_or-set_at,
+      get_or-set_other,
+      get_or-map-range_with_len,
+      length-set,
+      others k,
+    ))
 
-pub list_on_cars : {X : Type 0} (f : ℕ → X) (xs : List X) (d : X) → length xs ≡ 16 → ((k : ℕ) → k < 16 → get_or xs k d ≡ f k) → xs ≡ map f cars
+pub list_on_cars : {X : Type 0} (f : ℕ → X) (xs : List X) (d : X) → length xs ≡ 16
+    → ((k : ℕ) → k < 16 → get_or xs k d ≡ f k) → xs ≡ map f cars
 unfolding cars
 list_on_cars f xs d long same = list_on_range f xs 16 d long same
 
-pub list_on_terminals : {X : Type 0} (f : ℕ → X) (xs : List X) (d : X) → length xs ≡ 63 → ((k : ℕ) → k < 63 → get_or xs k d ≡ f k) → xs ≡ map f terminals
+pub list_on_terminals : {X : Type 0} (f : ℕ → X) (xs : List X) (d : X) → length xs ≡ 63
+    → ((k : ℕ) → k < 63 → get_or xs k d ≡ f k) → xs ≡ map f terminals
 unfolding terminals
 list_on_terminals f xs d long same = list_on_range f xs 63 d long same
 
-pub set_on_cars : {X : Type 0} (f : ℕ → X) (xs : List X) (i : ℕ) (d : X) → length xs ≡ 16 → i < 16 → ((k : ℕ) → k < 16 → k ≢ i → f k ≡ get_or xs k d) → set xs i (f i) ≡ map f cars
+pub set_on_cars : {X : Type 0} (f : ℕ → X) (xs : List X) (i : ℕ) (d : X) → length xs ≡ 16 → i < 16
+    → ((k : ℕ) → k < 16 → k ≢ i → f k ≡ get_or xs k d) → set xs i (f i) ≡ map f cars
 unfolding cars
 set_on_cars f xs i d long below others = set_on_range f xs 16 i d long below others
 
-pub set_on_terminals : {X : Type 0} (f : ℕ → X) (xs : List X) (i : ℕ) (d : X) → length xs ≡ 63 → i < 63 → ((k : ℕ) → k < 63 → k ≢ i → f k ≡ get_or xs k d) → set xs i (f i) ≡ map f terminals
+pub set_on_terminals : {X : Type 0} (f : ℕ → X) (xs : List X) (i : ℕ) (d : X) → length xs ≡ 63
+    → i < 63 → ((k : ℕ) → k < 63 → k ≢ i → f k ≡ get_or xs k d) → set xs i (f i) ≡ map f terminals
 unfolding terminals
 set_on_terminals f xs i d long below others = set_on_range f xs 63 i d long below others
 
-pub get_or-on_cars : {X : Type 0} (f : ℕ → X) (i : ℕ) (d : X) → i < 16 → get_or (map f cars) i d ≡ f i
+pub get_or-on_cars : {X : Type 0} (f : ℕ → X) (i : ℕ) (d : X) → i < 16
+    → get_or (map f cars) i d ≡ f i
 unfolding cars
 get_or-on_cars f i d below = get_or-map-range_with_len f 0 16 i i d below (omega arith)
 
-pub get_or-on_terminals : {X : Type 0} (f : ℕ → X) (i : ℕ) (d : X) → i < 63 → get_or (map f terminals) i d ≡ f i
+pub get_or-on_terminals : {X : Type 0} (f : ℕ → X) (i : ℕ) (d : X) → i < 63
+    → get_or (map f terminals) i d ≡ f i
 unfolding terminals
 get_or-on_terminals f i d below = get_or-map-range_with_len f 0 63 i i d below (omega arith)
 
@@ -54,49 +72,79 @@ pub length-on_terminals : {X : Type 0} (f : ℕ → X) → length (map f termina
 unfolding terminals
 length-on_terminals f = length-map-range_with_len f 0 63
 
-pub same_sum : (f g : ℕ → ℕ) (a n : ℕ) → ((k : ℕ) → a ≤ k → k < a + n → g k ≡ f k) → sum_by g (range_with_len a n) ≡ sum_by f (range_with_len a n)
+pub same_sum : (f g : ℕ → ℕ) (a n : ℕ) → ((k : ℕ) → a ≤ k → k < a + n → g k ≡ f k)
+    → sum_by g (range_with_len a n) ≡ sum_by f (range_with_len a n)
 same_sum f g a zero same = refl
 same_sum f g a (suc n) same =
     rw (sum_by-cons f a (range_with_len (a + 1) n), sum_by-cons g a (range_with_len (a + 1) n))
-    (omega (arith, same a (omega arith) (omega arith), same_sum f g (a + 1) n (λ k above below. same k (omega arith) (omega arith))))
+    (omega (
+      arith,
+      same a (omega arith) (omega arith),
+      same_sum f g (a + 1) n (λ k above below.
+          same k (omega arith) (omega arith)),
+    ))
 
 -- two sums that differ at one number alone
-pub more_at_one : (f g : ℕ → ℕ) (a n i x : ℕ) → ((k : ℕ) → k ≢ i → g k ≡ f k) → a ≤ i → i < a + n → g i ≡ f i + x → sum_by g (range_with_len a n) ≡ sum_by f (range_with_len a n) + x
+pub more_at_one : (f g : ℕ → ℕ) (a n i x : ℕ) → ((k : ℕ) → k ≢ i → g k ≡ f k) → a ≤ i → i < a + n
+    → g i ≡ f i + x → sum_by g (range_with_len a n) ≡ sum_by f (range_with_len a n) + x
 more_at_one f g a zero i x others low high here = absurd (omega arith)
 more_at_one f g a (suc n) i x others low high here = elim (eq-or-lt_of_le low) [
-  | inl first ↦ rw (sum_by-cons f a (range_with_len (a + 1) n), sum_by-cons g a (range_with_len (a + 1) n), first)
+  | inl first ↦ rw (
+    sum_by-cons f a (range_with_len (a + 1) n),
+    sum_by-cons g a
+        (range_with_len (a + 1) n),
+    first,
+  )
       (omega (arith, here, same_sum f g (i + 1) n (λ k above below. others k (omega arith))))
-  | inr later ↦ rw (sum_by-cons f a (range_with_len (a + 1) n), sum_by-cons g a (range_with_len (a + 1) n), others a (omega arith))
+  | inr later ↦ rw (
+    sum_by-cons f a (range_with_len (a + 1) n),
+    sum_by-cons g a
+        (range_with_len (a + 1) n),
+    others a (omega arith),
+  )
       (omega (arith, more_at_one f g (a + 1) n i x others (omega arith) (omega arith) here))
 ]
 
 pub sum_of_nothing : (a n : ℕ) → sum_by (λ (k : ℕ). 0) (range_with_len a n) ≡ 0
 sum_of_nothing a zero = refl
-sum_of_nothing a (suc n) = rw (sum_by-cons (λ (k : ℕ). 0) a (range_with_len (a + 1) n)) (omega (arith, sum_of_nothing (a + 1) n))
+sum_of_nothing a (suc n) =
+    rw (sum_by-cons (λ (k : ℕ). 0) a (range_with_len (a + 1) n))
+    (omega (arith, sum_of_nothing (a + 1) n))
 
-pub same_sum_over_cars : (f g : ℕ → ℕ) → ((k : ℕ) → k < 16 → g k ≡ f k) → sum_by g cars ≡ sum_by f cars
+pub same_sum_over_cars : (f g : ℕ → ℕ) → ((k : ℕ) → k < 16 → g k ≡ f k)
+    → sum_by g cars ≡ sum_by f cars
 unfolding cars
 same_sum_over_cars f g same = same_sum f g 0 16 (λ k above below. same k below)
 
-pub more_at_one_car : (f g : ℕ → ℕ) (i x : ℕ) → ((k : ℕ) → k ≢ i → g k ≡ f k) → i < 16 → g i ≡ f i + x → sum_by g cars ≡ sum_by f cars + x
+pub more_at_one_car : (f g : ℕ → ℕ) (i x : ℕ) → ((k : ℕ) → k ≢ i → g k ≡ f k) → i < 16
+    → g i ≡ f i + x → sum_by g cars ≡ sum_by f cars + x
 unfolding cars
 more_at_one_car f g i x others below here = more_at_one f g 0 16 i x others (omega arith) below here
 
-pub only_at_one_car : (f : ℕ → ℕ) (i : ℕ) → ((k : ℕ) → k ≢ i → f k ≡ 0) → i < 16 → sum_by f cars ≡ f i
+pub only_at_one_car : (f : ℕ → ℕ) (i : ℕ) → ((k : ℕ) → k ≢ i → f k ≡ 0) → i < 16
+    → sum_by f cars ≡ f i
 unfolding cars
 only_at_one_car f i others below =
-    omega (arith, sum_of_nothing 0 16, more_at_one (λ (k : ℕ). 0) f 0 16 i (f i) others (omega arith) below (omega arith))
+    omega (
+      arith,
+      sum_of_nothing 0 16,
+      more_at_one (λ (k : ℕ).
+          0) f 0 16 i (f i) others (omega arith) below (omega arith),
+    )
 
 pub nothing_over_cars : (f : ℕ → ℕ) → ((k : ℕ) → f k ≡ 0) → sum_by f cars ≡ 0
 unfolding cars
 nothing_over_cars f none =
     same_sum (λ (k : ℕ). 0) f 0 16 (λ k above below. none k) ∙ sum_of_nothing 0 16
 
-pub more_at_one_kiosk : (f g : ℕ → ℕ) (i x : ℕ) → ((k : ℕ) → k ≢ i → g k ≡ f k) → 16 ≤ i → i < 63 → g i ≡ f i + x → sum_by g kiosk_terminals ≡ sum_by f kiosk_terminals + x
+pub more_at_one_kiosk : (f g : ℕ → ℕ) (i x : ℕ) → ((k : ℕ) → k ≢ i → g k ≡ f k) → 16 ≤ i → i < 63
+    → g i ≡ f i + x → sum_by g kiosk_terminals ≡ sum_by f kiosk_terminals + x
 unfolding kiosk_terminals
-more_at_one_kiosk f g i x others above below here = more_at_one f g 16 47 i x others above below here
+more_at_one_kiosk f g i x others above below here =
+    more_at_one f g 16 47 i x others above below here
 
-pub same_sum_over_kiosks : (f g : ℕ → ℕ) → ((k : ℕ) → 16 ≤ k → k < 63 → g k ≡ f k) → sum_by g kiosk_terminals ≡ sum_by f kiosk_terminals
+pub same_sum_over_kiosks : (f g : ℕ → ℕ) → ((k : ℕ) → 16 ≤ k → k < 63 → g k ≡ f k)
+    → sum_by g kiosk_terminals ≡ sum_by f kiosk_terminals
 unfolding kiosk_terminals
 same_sum_over_kiosks f g same = same_sum f g 16 47 same
 
@@ -109,17 +157,20 @@ pub at_most_sum : (f : ℕ → ℕ) (a n i : ℕ) → a ≤ i → i < a + n → 
 at_most_sum f a zero i low high = absurd (omega arith)
 at_most_sum f a (suc n) i low high = elim (eq-or-lt_of_le low) [
   | inl first ↦ rw (sum_by-cons f a (range_with_len (a + 1) n), first) (omega arith)
-  | inr later ↦ rw (sum_by-cons f a (range_with_len (a + 1) n)) (omega (arith, at_most_sum f (a + 1) n i (omega arith) (omega arith)))
+  | inr later ↦ rw (sum_by-cons f a (range_with_len (a + 1) n))
+      (omega (arith, at_most_sum f (a + 1) n i (omega arith) (omega arith)))
 ]
 
 pub at_most_over_cars : (f : ℕ → ℕ) (i : ℕ) → i < 16 → f i ≤ sum_by f cars
 unfolding cars
 at_most_over_cars f i below = at_most_sum f 0 16 i (omega arith) below
 
-pub sum_below : (f : ℕ → ℕ) (m a n : ℕ) → ((k : ℕ) → f k ≤ m) → sum_by f (range_with_len a n) ≤ n * m
+pub sum_below : (f : ℕ → ℕ) (m a n : ℕ) → ((k : ℕ) → f k ≤ m)
+    → sum_by f (range_with_len a n) ≤ n * m
 sum_below f m a zero each = omega arith
 sum_below f m a (suc n) each =
-    rw (sum_by-cons f a (range_with_len (a + 1) n)) (omega (arith, each a, sum_below f m (a + 1) n each))
+    rw (sum_by-cons f a (range_with_len (a + 1) n))
+    (omega (arith, each a, sum_below f m (a + 1) n each))
 
 pub kiosks_below : (f : ℕ → ℕ) → ((k : ℕ) → f k ≤ 16777215) → sum_by f kiosk_terminals ≤ 788529105
 unfolding kiosk_terminals
@@ -131,14 +182,16 @@ sum_of_map f (x ∷ xs) =
     rw (sum_by-cons (λ (y : ℕ). y) (f x) (map f xs), sum_by-cons f x xs, sum_of_map f xs) refl
 
 -- a sum over one number more
-pub sum_by-range_more : (f : ℕ → ℕ) (a n : ℕ) → sum_by f (range_with_len a (n + 1)) ≡ sum_by f (range_with_len a n) + f (a + n)
+pub sum_by-range_more : (f : ℕ → ℕ) (a n : ℕ)
+    → sum_by f (range_with_len a (n + 1)) ≡ sum_by f (range_with_len a n) + f (a + n)
 sum_by-range_more f a n =
     sym (sum_of_map f (range_with_len a (n + 1)))
     ∙ sum_by-map-range_with_len_more (λ x. x) f a n (a + n) refl
     ∙ ap (λ total. total + f (a + n)) (sum_of_map f (range_with_len a n))
 
 -- what is true of each element of a list is so after a write of one
-pub after_set : {X : Type 0} (P : ℕ → X → Type 0) (xs : List X) (i : ℕ) (x d : X) → i < length xs → P i x → ((k : ℕ) → P k (get_or xs k d)) → (k : ℕ) → P k (get_or (set xs i x) k d)
+pub after_set : {X : Type 0} (P : ℕ → X → Type 0) (xs : List X) (i : ℕ) (x d : X) → i < length xs
+    → P i x → ((k : ℕ) → P k (get_or xs k d)) → (k : ℕ) → P k (get_or (set xs i x) k d)
 after_set P xs i x d below here others k = elim (cases_eq k i) [
   | inl same ↦ rw (same, get_or-set_at xs i i x d refl below) here
   | inr other ↦ rw (get_or-set_other xs i k x d other) (others k)

@@ -1,12 +1,19 @@
--- What a decision leaves: the register as it was or with one entry more, which has what the reply tells of.
-use Rattle.std.proofs.Common.{get_or, ℕ, ◌≡◌, ◌≢◌, ◌+◌, ◌-◌, ◌<◌, ◌≤◌, Bool, true, false, not, ◌&&◌, ◌||◌, cond, eqb, ltb, leb, List, [], ◌∷◌, ◌++◌, length, drop, Option, Some, None, All, refl, sym, ap, subst, ◌∙◌, inl, inr, arith}
+-- What a decision leaves: the register as it was or with one entry more, which has what the reply
+-- tells of.
+use Rattle.std.proofs.Common.{get_or, ℕ, ◌≡◌, ◌≢◌, ◌+◌, ◌-◌, ◌<◌, ◌≤◌, Bool, true, false, not, ◌&&◌}
+use Rattle.std.proofs.Common.{◌||◌, cond, eqb, ltb, leb, List, [], ◌∷◌, ◌++◌, length, drop, Option}
+use Rattle.std.proofs.Common.{Some, None, All, refl, sym, ap, subst, ◌∙◌, inl, inr, arith}
 use Rattle.std.specs.Prelude.{Contains, is_none, is_some, option_and_then, option_map, IsTrue}
 use Rattle.std.specs.List.{list_any}
 use Rattle.std.specs.Option.{option_map_or}
-use Rattle.std.proofs.lemmas.Bool.{false≢true, both_ways, not-false, or_parts, and_parts, and_from, ltb-true, ltb-false, leb-true, eqb-true, eqb-false, le-leb, eq-eqb, cases_lt}
+use Rattle.std.proofs.lemmas.Bool.{false≢true, both_ways, not-false, or_parts, and_parts, and_from}
+use Rattle.std.proofs.lemmas.Bool.{ltb-true, ltb-false, leb-true, eqb-true, eqb-false, le-leb}
+use Rattle.std.proofs.lemmas.Bool.{eq-eqb, cases_lt}
 use Rattle.std.proofs.lemmas.List.Folds.{list_any_at}
 use Rattle.std.proofs.lemmas.List.{append-nil, get_or_past}
-use Rattle.std.proofs.lemmas.List.Elements.{Contains-push, Contains-append_left, Contains-append_right, All-nil, All-cons, All-contains, filter_passes}
+use Rattle.std.proofs.lemmas.List.Elements.{Contains-push, Contains-append_left}
+use Rattle.std.proofs.lemmas.List.Elements.{Contains-append_right, All-nil, All-cons, All-contains}
+use Rattle.std.proofs.lemmas.List.Elements.{filter_passes}
 use Rattle.lift_base.specs.History.{terminal_of}
 use Rattle.lift_base.specs.declared.travel.Dir.{Dir}
 use Rattle.lift_base.specs.declared.travel.Dir.TheVariants.{Up, Down}
@@ -17,19 +24,25 @@ use Rattle.lift_base.specs.declared.history.Last.{Last}
 use Rattle.lift_base.specs.declared.command.Body.{Body}
 use Rattle.lift_base.specs.declared.command.Body.TheVariants.{Call, Stop, Place}
 use Rattle.lift_base.specs.declared.command.Reason.{Reason}
-use Rattle.lift_base.specs.declared.command.Reason.TheVariants.{NoSuchFloor, SameFloor, NoCar, OldNumber, GapNumber, OtherBody, WrongKind, NotServed}
-use Rattle.lift_base.specs.declared.command.Reply.TheVariants.{Car, Stopped, Placed, Refused, Unknown}
+use Rattle.lift_base.specs.declared.command.Reason.TheVariants.{NoSuchFloor, SameFloor, NoCar}
+use Rattle.lift_base.specs.declared.command.Reason.TheVariants.{OldNumber, GapNumber, OtherBody}
+use Rattle.lift_base.specs.declared.command.Reason.TheVariants.{WrongKind, NotServed}
+use Rattle.lift_base.specs.declared.command.Reply.TheVariants.{Car, Stopped, Placed, Refused}
+use Rattle.lift_base.specs.declared.command.Reply.TheVariants.{Unknown}
 use Rattle.lift_base.specs.Travel.{same_dir}
 use Rattle.lift_building.specs.Plan.{Plan, IsBuilding, CarPlan, car_at, places_of, serves_floor}
-use Rattle.lift_register.specs.Register.{last_of, kept_of, rows_of, cars, register_of, last_number, empty}
+use Rattle.lift_register.specs.Register.{last_of, kept_of, rows_of, cars, register_of, last_number}
+use Rattle.lift_register.specs.Register.{empty}
 use Rattle.lift_register.specs.Fits.{Fits, persons_of}
 use Rattle.lift_register.specs.lemmas.HistoryLemmas.{register_of-append}
 use Rattle.lift_cost.specs.declared.call.NewCall.{NewCall}
 use Rattle.lift_policy.specs.Terminals.{kiosk_floor, has_kiosk, has_car}
 use Rattle.lift_policy.specs.View.{ViewState, position_of}
 use Rattle.lift_policy.specs.Eligible.{is_eligible, can_take, eligible_cars}
-use Rattle.lift_policy.specs.Step.{State, has_cause, first_cause, is_new, is_same, is_kept, accepting, standing, next_from, cars_for, call_at, view_of}
-use Rattle.lift_world.specs.Decided.{Decision, when, letter_in, kept_letter, is_among, allotted, repeated, proceeding, decided, decided_after}
+use Rattle.lift_policy.specs.Step.{State, has_cause, first_cause, is_new, is_same, is_kept}
+use Rattle.lift_policy.specs.Step.{accepting, standing, next_from, cars_for, call_at, view_of}
+use Rattle.lift_world.specs.Decided.{Decision, when, letter_in, kept_letter, is_among, allotted}
+use Rattle.lift_world.specs.Decided.{repeated, proceeding, decided, decided_after}
 use Rattle.lift_world.specs.World.{told_by, state_at, register_after}
 use Rattle.lift_world.specs.Replays.{FitAfter}
 use Rattle.lift_world.specs.lemmas.Entries.{kept_entry}
@@ -38,7 +51,8 @@ pub true_of : (b : Bool) → IsTrue b → b ≡ true
 true_of true h = refl
 true_of false h = h
 
--- a possible entry: a call from its kiosk's floor to another one, both below 64, with one of the cars
+-- a possible entry: a call from its kiosk's floor to another one, both below 64, with one of the
+-- cars
 pub record IsPossible (building : Plan) (kiosk number from to car : ℕ) : Type 0 where
   pub of_kiosk : from ≡ kiosk_floor building kiosk
   pub from_below : from < 64
@@ -47,15 +61,18 @@ pub record IsPossible (building : Plan) (kiosk number from to car : ℕ) : Type 
   pub car_below : car < 16
 
 abbrev pub IsAllotted : Plan → Entry → Type 0
-IsAllotted building (Allot kiosk number from to car party) = IsPossible building kiosk number from to car
+IsAllotted building (Allot kiosk number from to car party) =
+    IsPossible building kiosk number from to car
 IsAllotted building (Stopping car number floor dir) = Unit {0}
 
-none_both : {X : Type 0} (b : Bool) (x : X) (rest : Option X) → cond b (Some x) rest ≡ None → (b ≡ false) × (rest ≡ None)
+none_both : {X : Type 0} (b : Bool) (x : X) (rest : Option X) → cond b (Some x) rest ≡ None
+    → (b ≡ false) × (rest ≡ None)
 none_both true x rest h = cc
 none_both false x rest h = (refl, h)
 
 -- what is known where there is no cause of refusal
-pub record NoCause (building : Plan) (state : State) (terminal number : ℕ) (body : Body) : Type 0 where
+pub record NoCause (building : Plan) (state : State) (terminal number : ℕ)
+    (body : Body) : Type 0 where
   pub kind : has_cause building state terminal number body WrongKind ≡ false
   pub floor : has_cause building state terminal number body NoSuchFloor ≡ false
   pub served : has_cause building state terminal number body NotServed ≡ false
@@ -65,7 +82,9 @@ pub record NoCause (building : Plan) (state : State) (terminal number : ℕ) (bo
   pub gap : has_cause building state terminal number body GapNumber ≡ false
   pub car : has_cause building state terminal number body NoCar ≡ false
 
-pub no_cause : (building : Plan) (state : State) (terminal number : ℕ) (body : Body) → first_cause building state terminal number body ≡ None → NoCause building state terminal number body
+pub no_cause : (building : Plan) (state : State) (terminal number : ℕ) (body : Body)
+    → first_cause building state terminal number body ≡ None
+    → NoCause building state terminal number body
 no_cause building state terminal number body h =
     let a = none_both (has_cause building state terminal number body WrongKind) _ _ h in
     let b = none_both (has_cause building state terminal number body NoSuchFloor) _ _ a.1 in
@@ -75,10 +94,20 @@ no_cause building state terminal number body h =
     let f = none_both (has_cause building state terminal number body OldNumber) _ _ e.1 in
     let g = none_both (has_cause building state terminal number body GapNumber) _ _ f.1 in
     let i = none_both (has_cause building state terminal number body NoCar) _ _ g.1 in
-    record { kind = a.0; floor = b.0; served = c.0; same = d.0; other = e.0; old = f.0; gap = g.0; car = i.0 }
+    record {
+      kind = a.0;
+      floor = b.0;
+      served = c.0;
+      same = d.0;
+      other = e.0;
+      old = f.0;
+      gap = g.0;
+      car = i.0;
+    }
 
 -- a number that is neither old nor beyond the next, nor the next, is the last one
-pub is_last : (n last : ℕ) → (eqb n 0 || ltb n last) ≡ false → ltb (last + 1) n ≡ false → eqb n (last + 1) ≡ false → (n ≡ last) × (1 ≤ n)
+pub is_last : (n last : ℕ) → (eqb n 0 || ltb n last) ≡ false → ltb (last + 1) n ≡ false
+    → eqb n (last + 1) ≡ false → (n ≡ last) × (1 ≤ n)
 is_last n last old gap new =
     let o = or_parts (eqb n 0) (ltb n last) old in
     let a : n ≡ 0 → ⊥ = eqb-false n 0 o.0 in
@@ -87,10 +116,13 @@ is_last n last old gap new =
     let d : n ≡ last + 1 → ⊥ = eqb-false n (last + 1) new in
     (omega arith, omega arith)
 
-pub kept_at : (n last : ℕ) (k : Bool) → (leb 1 n && eqb n last && not k) ≡ false → n ≡ last → 1 ≤ n → k ≡ true
+pub kept_at : (n last : ℕ) (k : Bool) → (leb 1 n && eqb n last && not k) ≡ false → n ≡ last → 1 ≤ n
+    → k ≡ true
 kept_at n last true h e p = refl
 kept_at n last false h e p =
-    absurd (both_ways (leb 1 n && eqb n last && true) h (and_from (leb 1 n && eqb n last) true (and_from (leb 1 n) (eqb n last) (le-leb 1 n p) (eq-eqb n last e)) refl))
+    absurd (both_ways (leb 1 n && eqb n last && true) h
+    (and_from (leb 1 n && eqb n last) true
+    (and_from (leb 1 n) (eqb n last) (le-leb 1 n p) (eq-eqb n last e)) refl))
 
 same_dir-true : (d e : Dir) → same_dir d e ≡ true → d ≡ e
 same_dir-true Up Up h = refl
@@ -98,43 +130,58 @@ same_dir-true Up Down h = cc
 same_dir-true Down Up h = cc
 same_dir-true Down Down h = refl
 
-pub kept_some : (o : Option Last) (body : Body) → option_map_or (λ (l : Last). is_same body l.content) o false ≡ true → (l : Last) × (o ≡ Some l) × (is_same body l.content ≡ true)
+pub kept_some : (o : Option Last) (body : Body)
+    → option_map_or (λ (l : Last). is_same body l.content) o false ≡ true
+    → (l : Last) × (o ≡ Some l) × (is_same body l.content ≡ true)
 kept_some None body h = cc
 kept_some (Some l) body h = (l, refl, h)
 
 -- the kept letter is that of an entry
-call_held : (building : Plan) (entries : List Entry) (terminal number to party car : ℕ) (l : Last) (e : Entry) → Contains entries e → terminal_of e ≡ terminal → kept_of e ≡ l
-    → number ≡ l.number → is_same (Call to party) l.content ≡ true → letter_in l.content ≡ Some car → IsAllotted building e → Contains entries (Allot terminal number (kiosk_floor building terminal) to car party)
-call_held building entries terminal number to party car l (Allot k n f t c p) held at is num same letter good =
+call_held : (building : Plan) (entries : List Entry) (terminal number to party car : ℕ) (l : Last)
+    (e : Entry) → Contains entries e → terminal_of e ≡ terminal → kept_of e ≡ l
+    → number ≡ l.number → is_same (Call to party) l.content ≡ true → letter_in l.content ≡ Some car
+    → IsAllotted building e → Contains entries
+    (Allot terminal number (kiosk_floor building terminal) to car party)
+call_held building entries terminal number to party car l
+    (Allot k n f t c p) held at is num same letter good =
     let n_is : n ≡ l.number = ap (λ (x : Last). x.number) is in
-    let both = and_parts (eqb t to) (eqb p party) (ap (λ (x : Last). is_same (Call to party) x.content) is ∙ same) in
+    let both = and_parts (eqb t to) (eqb p party)
+    (ap (λ (x : Last). is_same (Call to party) x.content) is ∙ same) in
     let t_is : t ≡ to = eqb-true t to both.0 in
     let p_is : p ≡ party = eqb-true p party both.1 in
     let c_is : Some c ≡ Some car = ap (λ (x : Last). letter_in x.content) is ∙ letter in
-    let f_is : f ≡ kiosk_floor building terminal = good.of_kiosk ∙ ap (λ x. kiosk_floor building x) at in
-    let whole : Allot k n f t c p ≡ Allot terminal number (kiosk_floor building terminal) to car party = cc in
+    let f_is : f ≡ kiosk_floor building terminal =
+    good.of_kiosk ∙ ap (λ x. kiosk_floor building x) at in
+    let whole : Allot k n f t c p
+    ≡ Allot terminal number (kiosk_floor building terminal) to car party = cc in
     subst (λ x. Contains entries x) whole held
-call_held building entries terminal number to party car l (Stopping k n f d) held at is num same letter good =
+call_held building entries terminal number to party car l
+    (Stopping k n f d) held at is num same letter good =
     let none : None ≡ Some car = ap (λ (x : Last). letter_in x.content) is ∙ letter in cc
 
-stop_held : (entries : List Entry) (terminal number floor : ℕ) (dir : Dir) (l : Last) (e : Entry) → Contains entries e → terminal_of e ≡ terminal → kept_of e ≡ l
-    → number ≡ l.number → is_same (Stop floor dir) l.content ≡ true → Contains entries (Stopping terminal number floor dir)
+stop_held : (entries : List Entry) (terminal number floor : ℕ) (dir : Dir) (l : Last) (e : Entry)
+    → Contains entries e → terminal_of e ≡ terminal → kept_of e ≡ l
+    → number ≡ l.number → is_same (Stop floor dir) l.content ≡ true
+    → Contains entries (Stopping terminal number floor dir)
 stop_held entries terminal number floor dir l (Allot k n f t c p) held at is num same =
     absurd (false≢true (ap (λ (x : Last). is_same (Stop floor dir) x.content) is ∙ same))
 stop_held entries terminal number floor dir l (Stopping k n f d) held at is num same =
-    let both = and_parts (eqb f floor) (same_dir d dir) (ap (λ (x : Last). is_same (Stop floor dir) x.content) is ∙ same) in
+    let both = and_parts (eqb f floor) (same_dir d dir)
+    (ap (λ (x : Last). is_same (Stop floor dir) x.content) is ∙ same) in
     let n_is : n ≡ l.number = ap (λ (x : Last). x.number) is in
     let f_is : f ≡ floor = eqb-true f floor both.0 in
     let d_is : d ≡ dir = same_dir-true d dir both.1 in
     let whole : Stopping k n f d ≡ Stopping terminal number floor dir = cc in
     subst (λ x. Contains entries x) whole held
 
-told-refused : (building : Plan) (terminal number : ℕ) (body : Body) (reason : Reason) → told_by building terminal number body (Refused reason) ≡ []
+told-refused : (building : Plan) (terminal number : ℕ) (body : Body) (reason : Reason)
+    → told_by building terminal number body (Refused reason) ≡ []
 told-refused building terminal number (Call to party) reason = refl
 told-refused building terminal number (Stop floor dir) reason = refl
 told-refused building terminal number (Place floor dir) reason = refl
 
-pub told-unknown : (building : Plan) (terminal number : ℕ) (body : Body) → told_by building terminal number body Unknown ≡ []
+pub told-unknown : (building : Plan) (terminal number : ℕ) (body : Body)
+    → told_by building terminal number body Unknown ≡ []
 told-unknown building terminal number (Call to party) = refl
 told-unknown building terminal number (Stop floor dir) = refl
 told-unknown building terminal number (Place floor dir) = refl
@@ -143,14 +190,18 @@ one_held : (entries : List Entry) (e : Entry) → Contains entries e → All (Co
 one_held entries e h = All-cons (Contains entries) e [] h (All-nil (Contains entries))
 
 none_held : (entries told : List Entry) → told ≡ [] → All (Contains entries) told
-none_held entries told h = subst (λ (x : List Entry). All (Contains entries) x) (sym h) (All-nil (Contains entries))
+none_held entries told h =
+    subst (λ (x : List Entry). All (Contains entries) x) (sym h) (All-nil (Contains entries))
 
 pub some_is : {X : Type 0} (x y : X) → Some x ≡ Some y → x ≡ y
 some_is x y h = cc
 
 -- the letters of a list are its elements
-among_at : (car x : ℕ) (xs : List ℕ) (b : Bool) → eqb x car ≡ b → (b || is_among car xs) ≡ true → (is_among car xs ≡ true → Contains xs car) → Contains (x ∷ xs) car
-among_at car x xs true q g later = subst (λ (y : ℕ). Contains (x ∷ xs) y) (eqb-true x car q) (Contains-append_left (x ∷ []) xs x (Contains-push [] x))
+among_at : (car x : ℕ) (xs : List ℕ) (b : Bool) → eqb x car ≡ b → (b || is_among car xs) ≡ true
+    → (is_among car xs ≡ true → Contains xs car) → Contains (x ∷ xs) car
+among_at car x xs true q g later =
+    subst (λ (y : ℕ). Contains (x ∷ xs) y) (eqb-true x car q)
+    (Contains-append_left (x ∷ []) xs x (Contains-push [] x))
 among_at car x xs false q g later = Contains-append_right (x ∷ []) xs car (later g)
 
 pub among_held : (car : ℕ) (xs : List ℕ) → is_among car xs ≡ true → Contains xs car
@@ -158,77 +209,115 @@ among_held car [] h = cc
 among_held car (x ∷ xs) h = among_at car x xs (eqb x car) refl h (λ g. among_held car xs g)
 
 pub held_among : (car : ℕ) (xs : List ℕ) → Contains xs car → is_among car xs ≡ true
-held_among car xs h = list_any_at (λ (c : ℕ). eqb c car) xs h.0 car h.1 (ap (λ (c : ℕ). eqb c car) h.2 ∙ eq-eqb car car refl)
+held_among car xs h = list_any_at (λ (c : ℕ).
+    eqb c car) xs h.0 car h.1 (ap (λ (c : ℕ). eqb c car) h.2 ∙ eq-eqb car car refl)
 
-eligible_held : (building : Plan) (view : ViewState) (call : NewCall) (car : ℕ) → Contains (eligible_cars building view call) car → is_eligible building view call car ≡ true
+eligible_held : (building : Plan) (view : ViewState) (call : NewCall) (car : ℕ)
+    → Contains (eligible_cars building view call) car → is_eligible building view call car ≡ true
 unfolding eligible_cars
-eligible_held building view call car h = All-contains (λ c. is_eligible building view call c ≡ true) (Rattle.std.specs.Prelude.filter (is_eligible building view call) cars) car (filter_passes (is_eligible building view call) cars) h
+eligible_held building view call car h =
+    All-contains (λ c. is_eligible building view call c ≡ true)
+    (Rattle.std.specs.Prelude.filter (is_eligible building view call) cars) car
+    (filter_passes (is_eligible building view call) cars) h
 
 -- a served floor is one of the building's, and its car too
 none_served : (floor : ℕ) → get_or [] floor false ≡ false
 none_served floor = get_or_past [] floor false (omega arith)
 
-served_car : (building : Plan) (car floor : ℕ) → serves_floor building car floor ≡ true → car < length building.cars
+served_car : (building : Plan) (car floor : ℕ) → serves_floor building car floor ≡ true
+    → car < length building.cars
 served_car building car floor h = elim (cases_lt car (length building.cars)) [
   | inl below ↦ below
-  | inr above ↦ absurd (false≢true (sym (ap (λ (c : CarPlan). get_or c.served floor false) (get_or_past building.cars car (record { places = 0; served = [] }) above) ∙ none_served floor) ∙ h))
+  | inr above ↦ absurd (false≢true
+      (sym (ap (λ (c : CarPlan).
+      get_or c.served floor false)
+      (get_or_past building.cars car (record { places = 0; served = [] }) above) ∙ none_served
+      floor) ∙ h))
 ]
 
-pub served_floor : (building : Plan) (car floor : ℕ) → IsBuilding building → serves_floor building car floor ≡ true → floor < building.floors
+pub served_floor : (building : Plan) (car floor : ℕ) → IsBuilding building
+    → serves_floor building car floor ≡ true → floor < building.floors
 served_floor building car floor sound h =
-    let is_car = sound.limits.cars car (record { places = 0; served = [] }) (served_car building car floor h) in
+    let is_car = sound.limits.cars car (record { places = 0; served = [] })
+    (served_car building car floor h) in
     elim (cases_lt floor (length (car_at building car).served)) [
       | inl below ↦ (let e = is_car.length in omega arith)
-      | inr above ↦ absurd (false≢true (sym (get_or_past (car_at building car).served floor false above) ∙ h))
+      | inr above ↦ absurd (false≢true
+          (sym (get_or_past (car_at building car).served floor false above) ∙ h))
     ]
 
--- what a decision leaves: the register with what was added, which fits it, and which has what the reply tells of
-pub record DecidesWell (building : Plan) (accepted : List Entry) (sealed terminal number : ℕ) (body : Body) (decision : Decision) : Type 0 where
+-- what a decision leaves: the register with what was added, which fits it, and which has what the
+-- reply tells of
+pub record DecidesWell (building : Plan) (accepted : List Entry) (sealed terminal number : ℕ)
+    (body : Body) (decision : Decision) : Type 0 where
   pub added : List Entry
   pub register : decision.next.register ≡ register_after (accepted ++ added)
   pub batch : decision.next.batch ≡ drop sealed accepted ++ added
   pub few : length added ≤ 1
   pub fits : FitAfter building accepted added
-  pub told : All (IsAllotted building) accepted → All (Contains (accepted ++ added)) (told_by building terminal number body decision.reply)
+  pub told : All (IsAllotted building) accepted
+      → All (Contains (accepted ++ added)) (told_by building terminal number body decision.reply)
 
 -- each entry that fits is possible
-pub fits_allotted : (building : Plan) (before : List Entry) (e : Entry) → IsBuilding building → Fits building (register_after before) e → IsAllotted building e
+pub fits_allotted : (building : Plan) (before : List Entry) (e : Entry) → IsBuilding building
+    → Fits building (register_after before) e → IsAllotted building e
 fits_allotted building before (Allot kiosk number from to car party) sound fits =
     let possible = fits.0 in
     let few = sound.limits.few_floors in
     let few_cars = sound.limits.few_cars in
-    let from_in = served_floor building car from sound (true_of (serves_floor building car from) possible.served_from) in
-    let to_in = served_floor building car to sound (true_of (serves_floor building car to) possible.served_to) in
+    let from_in = served_floor building car from sound
+    (true_of (serves_floor building car from) possible.served_from) in
+    let to_in = served_floor building car to sound
+    (true_of (serves_floor building car to) possible.served_to) in
     let in_cars = possible.by_car in
-    record { of_kiosk = possible.from_kiosk; from_below = omega arith; to_below = omega arith; apart = possible.apart; car_below = omega arith }
+    record {
+      of_kiosk = possible.from_kiosk;
+      from_below = omega arith;
+      to_below = omega arith;
+      apart = possible.apart;
+      car_below = omega arith;
+    }
 fits_allotted building before (Stopping car number floor dir) sound fits = tt
 
-kiosk_below : (building : Plan) (terminal : ℕ) → IsBuilding building → has_kiosk building terminal ≡ true → terminal < 63
+kiosk_below : (building : Plan) (terminal : ℕ) → IsBuilding building
+    → has_kiosk building terminal ≡ true → terminal < 63
 kiosk_below building terminal sound h =
     let parts = and_parts (leb 16 terminal) (ltb (terminal - 16) (length building.kiosks)) h in
     let at = ltb-true (terminal - 16) (length building.kiosks) parts.1 in
     let few = sound.limits.few_kiosks in
     omega arith
 
-car_below : (building : Plan) (terminal : ℕ) → IsBuilding building → has_car building terminal ≡ true → terminal < 63
+car_below : (building : Plan) (terminal : ℕ) → IsBuilding building
+    → has_car building terminal ≡ true → terminal < 63
 car_below building terminal sound h =
     let at = ltb-true terminal (length building.cars) h in
     let few = sound.limits.few_cars in
     omega arith
 
 -- the new entry fits
-pub call_fits : (building : Plan) (here : State) (terminal number : ℕ) (to party car : ℕ) → NoCause building here terminal number (Call to party) → is_new here terminal number ≡ true → is_among car (cars_for building here terminal to party) ≡ true
-    → Fits building here.register (Allot terminal number (kiosk_floor building terminal) to car party)
+pub call_fits : (building : Plan) (here : State) (terminal number : ℕ) (to party car : ℕ)
+    → NoCause building here terminal number (Call to party) → is_new here terminal number ≡ true
+    → is_among car (cars_for building here terminal to party) ≡ true
+    → Fits building here.register
+    (Allot terminal number (kiosk_floor building terminal) to car party)
 call_fits building here terminal number to party car clear new among =
     let call : NewCall = call_at building terminal to party in
     let view : ViewState = view_of here in
-    let eligible = eligible_held building view call car (among_held car (eligible_cars building view call) among) in
-    let able = and_parts (is_some (position_of here.positions car)) (can_take building here.register call car) eligible in
-    let a = and_parts (serves_floor building car call.from && serves_floor building car to) (leb (persons_of (rows_of here.register car) + party) (places_of building car)) able.1 in
+    let eligible = eligible_held building view call car
+    (among_held car (eligible_cars building view call) among) in
+    let able = and_parts (is_some (position_of here.positions car))
+    (can_take building here.register call car) eligible in
+    let a = and_parts (serves_floor building car call.from && serves_floor building car to)
+    (leb (persons_of (rows_of here.register car) + party) (places_of building car)) able.1 in
     let c = and_parts (serves_floor building car call.from) (serves_floor building car to) a.0 in
-    let kind = and_parts (leb 16 terminal) (ltb (terminal - 16) (length building.kiosks)) (not-false (has_kiosk building terminal) clear.kind) in (
+    let kind = and_parts (leb 16 terminal) (ltb (terminal - 16) (length building.kiosks))
+    (not-false (has_kiosk building terminal) clear.kind) in (
       record {
-        of_kiosk = (leb-true 16 terminal kind.0, ltb-true (terminal - 16) (length building.kiosks) kind.1);
+        of_kiosk = (
+          leb-true 16 terminal kind.0,
+          ltb-true (terminal - 16)
+              (length building.kiosks) kind.1,
+        );
         from_kiosk = refl;
         apart = eqb-false (kiosk_floor building terminal) to clear.same;
         by_car = served_car building car to c.1;
@@ -239,28 +328,42 @@ call_fits building here terminal number to party car clear new among =
       leb-true _ _ a.1,
     )
 
-pub stop_fits : (building : Plan) (here : State) (terminal number : ℕ) (floor : ℕ) (dir : Dir) → NoCause building here terminal number (Stop floor dir) → is_new here terminal number ≡ true → Fits building here.register (Stopping terminal number floor dir)
+pub stop_fits : (building : Plan) (here : State) (terminal number : ℕ) (floor : ℕ) (dir : Dir)
+    → NoCause building here terminal number (Stop floor dir) → is_new here terminal number ≡ true
+    → Fits building here.register (Stopping terminal number floor dir)
 stop_fits building here terminal number floor dir clear new =
-    let served = not-false (serves_floor building terminal floor) clear.served in
-    (record { by_car = served_car building terminal floor served; served = served }, eqb-true number (last_number here.register terminal + 1) new)
+    let served = not-false (serves_floor building terminal floor) clear.served in (
+      record {
+        by_car = served_car building terminal floor served;
+        served = served;
+      },
+      eqb-true number (last_number here.register terminal + 1) new,
+    )
 
-module _ (building : Plan) (sound : IsBuilding building) (accepted : List Entry) (sealed : ℕ) (positions : List (Option Position)) (terminal number : ℕ) where
+module _ (building : Plan) (sound : IsBuilding building) (accepted : List Entry) (sealed : ℕ)
+    (positions : List (Option Position)) (terminal number : ℕ) where
   abbrev here : State
   here = state_at accepted sealed positions
 
   -- a decision whose register and told entries are these
-  grown : (body : Body) (entry : Entry) (d : Decision) → Fits building here.register entry → d.next.register ≡ register_of here.register (entry ∷ []) → d.next.batch ≡ here.batch ++ entry ∷ []
-      → told_by building terminal number body d.reply ≡ entry ∷ [] → DecidesWell building accepted sealed terminal number body d
+  grown : (body : Body) (entry : Entry) (d : Decision) → Fits building here.register entry
+      → d.next.register ≡ register_of here.register (entry ∷ [])
+      → d.next.batch ≡ here.batch ++ entry ∷ []
+      → told_by building terminal number body d.reply ≡ entry ∷ []
+      → DecidesWell building accepted sealed terminal number body d
   grown body entry d fits register batch told = record {
     added = entry ∷ [];
     register = register ∙ register_of-append empty accepted (entry ∷ []);
     batch = batch;
     few = omega arith;
     fits = (fits, tt);
-    told = λ all. subst (λ (x : List Entry). All (Contains (accepted ++ entry ∷ [])) x) (sym told) (one_held (accepted ++ entry ∷ []) entry (Contains-push accepted entry));
+    told = λ all. subst (λ (x : List Entry). All (Contains (accepted ++ entry ∷ [])) x) (sym told)
+        (one_held (accepted ++ entry ∷ []) entry (Contains-push accepted entry));
   }
 
-  stays : (body : Body) (d : Decision) → d.next.register ≡ here.register → d.next.batch ≡ here.batch → (All (IsAllotted building) accepted → All (Contains accepted) (told_by building terminal number body d.reply))
+  stays : (body : Body) (d : Decision) → d.next.register ≡ here.register → d.next.batch ≡ here.batch
+      → (All (IsAllotted building) accepted
+      → All (Contains accepted) (told_by building terminal number body d.reply))
       → DecidesWell building accepted sealed terminal number body d
   stays body d register batch told = record {
     added = [];
@@ -268,74 +371,141 @@ module _ (building : Plan) (sound : IsBuilding building) (accepted : List Entry)
     batch = batch ∙ sym (append-nil (drop sealed accepted));
     few = omega arith;
     fits = tt;
-    told = λ all. subst (λ (r : List Entry). All (Contains r) (told_by building terminal number body d.reply)) (sym (append-nil accepted)) (told all);
+    told = λ all. subst (λ (r : List Entry).
+        All (Contains r) (told_by building terminal number body d.reply))
+        (sym (append-nil accepted)) (told all);
   }
 
-  new_call : (to party car : ℕ) (d : Decision) (b : Bool) → NoCause building here terminal number (Call to party) → is_new here terminal number ≡ true
-      → is_among car (cars_for building here terminal to party) ≡ b → when b (record { reply = Car car; next = accepting here (Allot terminal number (kiosk_floor building terminal) to car party) }) ≡ Some d
+  new_call : (to party car : ℕ) (d : Decision) (b : Bool)
+      → NoCause building here terminal number (Call to party) → is_new here terminal number ≡ true
+      → is_among car (cars_for building here terminal to party) ≡ b
+      → when b (record {
+        reply = Car car;
+        next = accepting here (Allot terminal number (kiosk_floor building terminal) to car party);
+      }) ≡ Some d
       → DecidesWell building accepted sealed terminal number (Call to party) d
   new_call to party car d true clear new el h =
       subst (DecidesWell building accepted sealed terminal number (Call to party)) (some_is _ d h)
-      (grown (Call to party) (Allot terminal number (kiosk_floor building terminal) to car party) (record { reply = Car car; next = accepting here (Allot terminal number (kiosk_floor building terminal) to car party) }) (call_fits building here terminal number to party car clear new el) refl refl refl)
+      (grown (Call to party) (Allot terminal number (kiosk_floor building terminal) to car party)
+      (record {
+        reply = Car car;
+        next = accepting here (Allot terminal number (kiosk_floor building terminal) to car party);
+      }) (call_fits building here terminal number to party car clear new el) refl refl refl)
   new_call to party car d false clear new el h = cc
 
-  letter_known : (to party : ℕ) (letter : Option ℕ) (d : Decision) → NoCause building here terminal number (Call to party) → is_new here terminal number ≡ true
-      → option_and_then (allotted building here terminal number to party) letter ≡ Some d → DecidesWell building accepted sealed terminal number (Call to party) d
+  letter_known : (to party : ℕ) (letter : Option ℕ) (d : Decision)
+      → NoCause building here terminal number (Call to party) → is_new here terminal number ≡ true
+      → option_and_then (allotted building here terminal number to party) letter ≡ Some d
+      → DecidesWell building accepted sealed terminal number (Call to party) d
   letter_known to party None d clear new h = cc
-  letter_known to party (Some car) d clear new h = new_call to party car d (is_among car (cars_for building here terminal to party)) clear new refl h
+  letter_known to party (Some car) d clear new h =
+      new_call to party car d (is_among car (cars_for building here terminal to party)) clear new
+      refl h
 
-  kept_call : (to party : ℕ) (d : Decision) (o : Option Last) → NoCause building here terminal number (Call to party) → is_new here terminal number ≡ false → last_of here.register terminal ≡ o
-      → option_map (λ car. record { reply = Car car; next = here }) (kept_letter o) ≡ Some d → DecidesWell building accepted sealed terminal number (Call to party) d
+  kept_call : (to party : ℕ) (d : Decision) (o : Option Last)
+      → NoCause building here terminal number (Call to party) → is_new here terminal number ≡ false
+      → last_of here.register terminal ≡ o
+      → option_map (λ car. record { reply = Car car; next = here }) (kept_letter o) ≡ Some d
+      → DecidesWell building accepted sealed terminal number (Call to party) d
   kept_call to party d None clear new at h = cc
   kept_call to party d (Some l) clear new at h = by_letter (letter_in l.content) refl h
     where
-      by_letter : (o : Option ℕ) → letter_in l.content ≡ o → option_map (λ car. record { reply = Car car; next = here }) o ≡ Some d → DecidesWell building accepted sealed terminal number (Call to party) d
+      by_letter : (o : Option ℕ) → letter_in l.content ≡ o
+          → option_map (λ car. record { reply = Car car; next = here }) o ≡ Some d
+          → DecidesWell building accepted sealed terminal number (Call to party) d
       by_letter None q h = cc
       by_letter (Some car) q h =
-          let same_number = is_last number (last_number here.register terminal) clear.old clear.gap new in
-          let last_is : last_number here.register terminal ≡ l.number = ap (λ (x : Option Last). option_map_or (λ (y : Last). y.number) x 0) at in
-          let kept : is_kept here.register terminal (Call to party) ≡ true = kept_at number (last_number here.register terminal) _ clear.other same_number.0 same_number.1 in
-          let same : is_same (Call to party) l.content ≡ true = sym (ap (λ (x : Option Last). option_map_or (λ (y : Last). is_same (Call to party) y.content) x false) at) ∙ kept in
-          let k = kept_entry accepted terminal l (kiosk_below building terminal sound (not-false (has_kiosk building terminal) clear.kind)) at in
-          subst (DecidesWell building accepted sealed terminal number (Call to party)) (some_is _ d h)
+          let same_number = is_last number (last_number here.register terminal) clear.old clear.gap
+          new in
+          let last_is : last_number here.register terminal ≡ l.number =
+          ap (λ (x : Option Last). option_map_or (λ (y : Last). y.number) x 0) at in
+          let kept : is_kept here.register terminal (Call to party) ≡ true =
+          kept_at number (last_number here.register terminal) _ clear.other same_number.0
+          same_number.1 in
+          let same : is_same (Call to party) l.content ≡ true =
+          sym (ap (λ (x : Option Last).
+          option_map_or (λ (y : Last). is_same (Call to party) y.content) x false) at) ∙ kept in
+          let k = kept_entry accepted terminal l
+          (kiosk_below building terminal sound
+          (not-false (has_kiosk building terminal) clear.kind)) at in
+          subst (DecidesWell building accepted sealed terminal number (Call to party))
+          (some_is _ d h)
           (stays (Call to party) (record { reply = Car car; next = here }) refl refl
-          (λ all. one_held accepted _ (call_held building accepted terminal number to party car l k.entry k.held k.terminal_is k.kept_is (same_number.0 ∙ last_is) same q (All-contains (IsAllotted building) accepted k.entry all k.held))))
+          (λ all. one_held accepted _
+          (call_held building accepted terminal number to party car l k.entry k.held k.terminal_is
+          k.kept_is (same_number.0 ∙ last_is) same q
+          (All-contains (IsAllotted building) accepted k.entry all k.held))))
 
-  call_well : (to party : ℕ) (letter : Option ℕ) (d : Decision) (b : Bool) → NoCause building here terminal number (Call to party) → is_new here terminal number ≡ b
-      → cond b (option_and_then (allotted building here terminal number to party) letter) (cond (is_none letter) (repeated here terminal) None) ≡ Some d
+  call_well : (to party : ℕ) (letter : Option ℕ) (d : Decision) (b : Bool)
+      → NoCause building here terminal number (Call to party) → is_new here terminal number ≡ b
+      → cond b (option_and_then (allotted building here terminal number to party) letter)
+      (cond (is_none letter) (repeated here terminal) None) ≡ Some d
       → DecidesWell building accepted sealed terminal number (Call to party) d
   call_well to party letter d true clear new h = letter_known to party letter d clear new h
-  call_well to party None d false clear new h = kept_call to party d (last_of here.register terminal) clear new refl h
+  call_well to party None d false clear new h =
+      kept_call to party d (last_of here.register terminal) clear new refl h
   call_well to party (Some car) d false clear new h = cc
 
-  stop_at : (floor : ℕ) (dir : Dir) (b : Bool) → NoCause building here terminal number (Stop floor dir) → is_new here terminal number ≡ b
+  stop_at : (floor : ℕ) (dir : Dir) (b : Bool)
+      → NoCause building here terminal number (Stop floor dir) → is_new here terminal number ≡ b
       → DecidesWell building accepted sealed terminal number (Stop floor dir) (record {
-        reply = Stopped (next_from (standing (cond b (accepting here (Stopping terminal number floor dir)) here) terminal floor dir) terminal floor dir);
-        next = standing (cond b (accepting here (Stopping terminal number floor dir)) here) terminal floor dir;
+        reply = Stopped (next_from
+            (standing (cond b (accepting here (Stopping terminal number floor dir)) here) terminal
+            floor dir) terminal floor dir);
+        next = standing (cond b (accepting here (Stopping terminal number floor dir)) here) terminal
+            floor dir;
       })
-  stop_at floor dir true clear new = grown (Stop floor dir) (Stopping terminal number floor dir) _ (stop_fits building here terminal number floor dir clear new) refl refl refl
+  stop_at floor dir true clear new =
+      grown (Stop floor dir) (Stopping terminal number floor dir) _
+      (stop_fits building here terminal number floor dir clear new) refl refl refl
   stop_at floor dir false clear new = stays (Stop floor dir) _ refl refl (λ all.
-      let same_number = is_last number (last_number here.register terminal) clear.old clear.gap new in
-      let kept : is_kept here.register terminal (Stop floor dir) ≡ true = kept_at number (last_number here.register terminal) _ clear.other same_number.0 same_number.1 in
+      let same_number = is_last number (last_number here.register terminal) clear.old clear.gap
+      new in
+      let kept : is_kept here.register terminal (Stop floor dir) ≡ true =
+      kept_at number (last_number here.register terminal) _ clear.other same_number.0
+      same_number.1 in
       let l = kept_some (last_of here.register terminal) (Stop floor dir) kept in
-      let k = kept_entry accepted terminal l.0 (car_below building terminal sound (not-false (has_car building terminal) clear.kind)) l.1 in
-      let last_is : last_number here.register terminal ≡ l.0.number = ap (λ (x : Option Last). option_map_or (λ (y : Last). y.number) x 0) l.1 in
-      one_held accepted _ (stop_held accepted terminal number floor dir l.0 k.entry k.held k.terminal_is k.kept_is (same_number.0 ∙ last_is) l.2))
+      let k = kept_entry accepted terminal l.0
+      (car_below building terminal sound (not-false (has_car building terminal) clear.kind))
+      l.1 in
+      let last_is : last_number here.register terminal ≡ l.0.number =
+      ap (λ (x : Option Last). option_map_or (λ (y : Last). y.number) x 0) l.1 in
+      one_held accepted _ (stop_held accepted terminal number floor dir l.0 k.entry k.held
+      k.terminal_is k.kept_is (same_number.0 ∙ last_is) l.2))
 
-  proceeds_well : (body : Body) (letter : Option ℕ) (d : Decision) → NoCause building here terminal number body → proceeding building here terminal number body letter ≡ Some d → DecidesWell building accepted sealed terminal number body d
-  proceeds_well (Call to party) letter d clear h = call_well to party letter d (is_new here terminal number) clear refl h
-  proceeds_well (Stop floor dir) None d clear h = subst (DecidesWell building accepted sealed terminal number (Stop floor dir)) (some_is _ d h) (stop_at floor dir (is_new here terminal number) clear refl)
+  proceeds_well : (body : Body) (letter : Option ℕ) (d : Decision)
+      → NoCause building here terminal number body
+      → proceeding building here terminal number body letter ≡ Some d
+      → DecidesWell building accepted sealed terminal number body d
+  proceeds_well (Call to party) letter d clear h =
+      call_well to party letter d (is_new here terminal number) clear refl h
+  proceeds_well (Stop floor dir) None d clear h =
+      subst (DecidesWell building accepted sealed terminal number (Stop floor dir)) (some_is _ d h)
+      (stop_at floor dir (is_new here terminal number) clear refl)
   proceeds_well (Stop floor dir) (Some car) d clear h = cc
-  proceeds_well (Place floor dir) None d clear h = subst (DecidesWell building accepted sealed terminal number (Place floor dir)) (some_is _ d h)
-      (stays (Place floor dir) (record { reply = Placed (next_from (standing here terminal floor dir) terminal floor dir); next = standing here terminal floor dir }) refl refl (λ all. All-nil (Contains accepted)))
+  proceeds_well (Place floor dir) None d clear h =
+      subst (DecidesWell building accepted sealed terminal number (Place floor dir)) (some_is _ d h)
+      (stays (Place floor dir)
+      (record {
+        reply = Placed (next_from (standing here terminal floor dir) terminal floor dir);
+        next = standing here terminal floor dir;
+      }) refl refl (λ all. All-nil (Contains accepted)))
   proceeds_well (Place floor dir) (Some car) d clear h = cc
 
-  decides_after : (body : Body) (letter : Option ℕ) (d : Decision) (o : Option Reason) → first_cause building here terminal number body ≡ o → decided_after o building here terminal number body letter ≡ Some d
+  decides_after : (body : Body) (letter : Option ℕ) (d : Decision) (o : Option Reason)
+      → first_cause building here terminal number body ≡ o
+      → decided_after o building here terminal number body letter ≡ Some d
       → DecidesWell building accepted sealed terminal number body d
-  decides_after body letter d None q h = proceeds_well body letter d (no_cause building here terminal number body q) h
-  decides_after body None d (Some reason) q h = subst (DecidesWell building accepted sealed terminal number body) (some_is _ d h)
-      (stays body (record { reply = Refused reason; next = here }) refl refl (λ all. none_held accepted _ (told-refused building terminal number body reason)))
+  decides_after body letter d None q h =
+      proceeds_well body letter d (no_cause building here terminal number body q) h
+  decides_after body None d (Some reason) q h =
+      subst (DecidesWell building accepted sealed terminal number body) (some_is _ d h)
+      (stays body (record { reply = Refused reason; next = here }) refl refl (λ all.
+      none_held accepted _ (told-refused building terminal number body reason)))
   decides_after body (Some car) d (Some reason) q h = cc
 
-  pub decides_well : (body : Body) (letter : Option ℕ) (d : Decision) → decided building here terminal number body letter ≡ Some d → DecidesWell building accepted sealed terminal number body d
-  decides_well body letter d h = decides_after body letter d (first_cause building here terminal number body) refl h
+  pub decides_well : (body : Body) (letter : Option ℕ) (d : Decision)
+      → decided building here terminal number body letter ≡ Some d
+      → DecidesWell building accepted sealed terminal number body d
+  decides_well body letter d h =
+      decides_after body letter d (first_cause building here terminal number body) refl h

@@ -8,15 +8,18 @@ use Rattle.lift_world.specs.Beside.{GoesAreRuns, RunsJoin}
 use Rattle.lift_world.specs.lemmas.Steps.{then_from}
 
 -- one event that is possible
-pub one : (e : Event) (events : List Event) (w x : World) → next w e ≡ Some x → goes (e ∷ events) w ≡ goes events x
+pub one : (e : Event) (events : List Event) (w x : World) → next w e ≡ Some x
+    → goes (e ∷ events) w ≡ goes events x
 one e events w x h = ap (option_and_then (goes events)) h
 
-then_twice : (xs ys : List Event) (o : Option World) → ((w : World) → goes (xs ++ ys) w ≡ option_and_then (goes ys) (goes xs w))
+then_twice : (xs ys : List Event) (o : Option World)
+    → ((w : World) → goes (xs ++ ys) w ≡ option_and_then (goes ys) (goes xs w))
     → option_and_then (goes (xs ++ ys)) o ≡ option_and_then (goes ys) (option_and_then (goes xs) o)
 then_twice xs ys None h = refl
 then_twice xs ys (Some w) h = h w
 
-pub goes-append : (xs ys : List Event) (w : World) → goes (xs ++ ys) w ≡ option_and_then (goes ys) (goes xs w)
+pub goes-append : (xs ys : List Event) (w : World)
+    → goes (xs ++ ys) w ≡ option_and_then (goes ys) (goes xs w)
 goes-append [] ys w = refl
 goes-append (e ∷ xs) ys w = then_twice xs ys (next w e) (goes-append xs ys)
 
