@@ -42,7 +42,7 @@ impl Work {
 }
 
 /// What a command is answered; Unknown of a broken keeper.
-fn ask<D: Failing + Drop>(
+pub(crate) fn ask<D: Failing + Drop>(
     keeper: &mut Keeper<D>,
     terminal: Terminal,
     told: u32,
@@ -78,7 +78,7 @@ fn ready<'b, D: Failing + Drop>(
 }
 
 /// Opens what the device has, after another power cut or without one, with no call that fails.
-fn opened<'b, D: Failing + Drop>(
+pub(crate) fn opened<'b, D: Failing + Drop>(
     device: D,
     cut: Option<Outcome>,
     building: &'b Building,

@@ -1,4 +1,4 @@
-//! A desk at which car A and kiosk 0 ask.
+//! A desk at which car A and three kiosks ask.
 ghost use Rattle.std.specs.Prelude.{◌≡◌, ◌<◌, ◌+◌, vec_len, IfOk};
 ghost use Rattle.lift_desk.specs.Seats.{IsSeatOf, IsClerkOf, AreSeatsOf, OwesNothing};
 
@@ -13,14 +13,14 @@ use lift_policy::Etd;
 use std::alloc::{AllocError, Global};
 use std::test::Fail;
 
-/// A desk whose highest terminal is kiosk 0.
+/// A desk whose highest terminal is kiosk 2.
 pub(crate) fn open(alloc: Global) -> Result<DeskParts, AllocError>
-    ensures count { IfOk result (λ parts. vec_len parts.seats ≡ 17) }
+    ensures count { IfOk result (λ parts. vec_len parts.seats ≡ 19) }
     ensures seats { IfOk result (λ parts. AreSeatsOf parts.desk parts.seats.items) }
     ensures clerk { IfOk result (λ parts. IsClerkOf parts.desk parts.clerk) }
     ensures owes { IfOk result (λ parts. OwesNothing parts.clerk) }
 {
-    match Desk::open(alloc, 17) {
+    match Desk::open(alloc, 19) {
         Ok(parts) => Ok(parts),
         Err(Memory) => Err(AllocError),
     }
@@ -37,29 +37,49 @@ fn last_seat(_desk: &Desk, seats: &mut Vec<Seat>) -> Seat
     seats.pop().unwrap()
 }
 
+/// A kiosk by its place: 0, 1 and 2.
+#[derive(Clone, Copy, PartialEq, Eq)]
+pub(crate) enum Kiosk {
+    First,
+    Second,
+    Third,
+}
+
 /// The seats of the terminals that ask.
 #[derive(Drop)]
 pub struct Terminals<'d> {
     desk: &'d Desk,
     car: Seat,
-    kiosk: Seat,
+    first: Seat,
+    second: Seat,
+    third: Seat,
     ghost car_at: { IsSeatOf desk.now car },
-    ghost kiosk_at: { IsSeatOf desk.now kiosk },
+    ghost first_at: { IsSeatOf desk.now first },
+    ghost second_at: { IsSeatOf desk.now second },
+    ghost third_at: { IsSeatOf desk.now third },
 }
 
 impl<'d> Terminals<'d> {
-    /// Car A's seat and kiosk 0's, of a desk of 17: those of the other cars don't ask.
+    /// Car A's seat and those of three kiosks, of a desk of 19: the other cars don't ask.
     pub(crate) fn of(desk: &'d Desk, seats: Vec<Seat>) -> Self
         requires seats { AreSeatsOf desk.now seats.items }
-        requires count { vec_len seats ≡ 17 }
+        requires count { vec_len seats ≡ 19 }
     {
         let mut seats = seats;
-        let kiosk = last_seat(desk, &mut seats);
+        let third = last_seat(desk, &mut seats);
+        let second = last_seat(desk, &mut seats);
+        let first = last_seat(desk, &mut seats);
         for _ in 0..15u8 {
             let _silent = last_seat(desk, &mut seats);
         }
         let car = last_seat(desk, &mut seats);
-        Terminals { desk, car, kiosk }
+        Terminals {
+            desk,
+            car,
+            first,
+            second,
+            third,
+        }
     }
 
     /// Car A asks, and the clerk turns: what it hears.
@@ -69,34 +89,55 @@ impl<'d> Terminals<'d> {
         told: u32,
         body: Body,
     ) -> Option<Reply> {
+        self.car_tells(told, body);
+        let _turned = clerk.turn();
+        self.car_hears()
+    }
+
+    /// Car A asks.
+    pub(crate) fn car_tells(&mut self, told: u32, body: Body) {
         let desk = self.desk;
         let _stored = desk.ask(&mut self.car, number(told), body);
-        let _turned = clerk.turn();
+    }
+
+    /// What car A hears at one look.
+    pub(crate) fn car_hears(&mut self) -> Option<Reply> {
+        let desk = self.desk;
         desk.hear(&mut self.car)
     }
 
-    /// Kiosk 0 asks, and the clerk turns: what it hears.
+    /// A kiosk asks, and the clerk turns: what it hears.
     pub(crate) fn kiosk_asks<D: Disk + Drop>(
         &mut self,
         clerk: &mut Clerk<D, Etd>,
+        kiosk: Kiosk,
         told: u32,
         to: u8,
     ) -> Option<Reply> {
-        self.kiosk_tells(told, to);
+        self.kiosk_tells(kiosk, told, to);
         let _turned = clerk.turn();
-        self.kiosk_hears()
+        self.kiosk_hears(kiosk)
     }
 
-    /// Kiosk 0 asks.
-    pub(crate) fn kiosk_tells(&mut self, told: u32, to: u8) {
+    /// A kiosk asks.
+    pub(crate) fn kiosk_tells(&mut self, kiosk: Kiosk, told: u32, to: u8) {
         let desk = self.desk;
-        let _stored = desk.ask(&mut self.kiosk, number(told), call(to));
+        let (told, body) = (number(told), call(to));
+        let _stored = match kiosk {
+            Kiosk::First => desk.ask(&mut self.first, told, body),
+            Kiosk::Second => desk.ask(&mut self.second, told, body),
+            Kiosk::Third => desk.ask(&mut self.third, told, body),
+        };
     }
 
-    /// What kiosk 0 hears at one look.
-    pub(crate) fn kiosk_hears(&mut self) -> Option<Reply> {
+    /// What a kiosk hears at one look.
+    pub(crate) fn kiosk_hears(&mut self, kiosk: Kiosk) -> Option<Reply> {
         let desk = self.desk;
-        desk.hear(&mut self.kiosk)
+        match kiosk {
+            Kiosk::First => desk.hear(&mut self.first),
+            Kiosk::Second => desk.hear(&mut self.second),
+            Kiosk::Third => desk.hear(&mut self.third),
+        }
     }
 }
 

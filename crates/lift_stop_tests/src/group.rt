@@ -1,4 +1,4 @@
-//! The group whose work is stopped: ten floors, two kiosks, one car.
+//! The group whose work is stopped: ten floors, three kiosks, one car.
 use lift_base::{Body, Dir, Floor, Letter, Number, Party, Terminal};
 use lift_building::Building;
 use lift_disk::MemDisk;
@@ -7,11 +7,11 @@ use lift_keeper::KeeperFault;
 use std::alloc::Global;
 use std::test::Fail;
 
-/// Ten floors, kiosks on floors 0 and 5, one car for 8 persons.
+/// Ten floors, kiosks on floors 0, 5 and 7, one car for 8 persons.
 const BUILDING: &str = "\
 floors = 10
 door_ms = 6000
-kiosks = [0, 5]
+kiosks = [0, 5, 7]
 flight = [
 [0,3000,4000,5000,6000,7000,8000,9000,10000,11000],
 [3000,0,3000,4000,5000,6000,7000,8000,9000,10000],

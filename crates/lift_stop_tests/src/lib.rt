@@ -2,8 +2,9 @@
 //! device that fails once and by one that fails from then on; behind it the power is cut in five
 //! ways or not at all, and the recovery is stopped at each of its own calls too, and begun again.
 //! What was told is there each time. These are 5,432 stops of each device, and as many of each kind
-//! of work. (Appends, checkpoints and openings of a journal are stopped so in
-//! `lift_journal_tests`.)
+//! of work. So is each call of three batches that wait in a line, and of a commit that moves a
+//! journal of version 1 to version 2; there the recovery is not stopped. (Appends, checkpoints and
+//! openings of a journal are stopped so in `lift_journal_tests`.)
 #![tactic(auto)]
 
 #[cfg(test)]
@@ -17,6 +18,10 @@ mod group;
 #[cfg(test)]
 mod parts;
 #[cfg(test)]
+mod queued;
+#[cfg(test)]
 mod tally;
 #[cfg(test)]
 mod turns;
+#[cfg(test)]
+mod versions;

@@ -2,14 +2,14 @@
 //! the batch, and the recoveries behind them: by reopening at the same desk, or behind a power cut
 //! at a new one.
 use crate::commits::{APPENDED, CHECKPOINTED, Work};
-use crate::desks::{Terminals, clerk_of, open};
+use crate::desks::{Kiosk, Terminals, clerk_of, open};
 use crate::failing::{CUTS, Failing, Failures, NEVER};
 use crate::group::{BROKEN, DISK, building, floor, formatted, place, stop};
 use crate::parts::turn_parts;
 use crate::tally::Tally;
 use lift_base::{Dir, Letter, Reason, Reply, Stop};
 use lift_building::Building;
-use lift_clerk::Clerk;
+use lift_clerk::{Clerk, Counts};
 use lift_desk::DeskParts;
 use lift_disk::{FlakyDisk, FuseDisk, Outcome};
 use lift_keeper::{Keeper, KeeperFault};
@@ -37,7 +37,17 @@ impl Case<'_> {
         self.failures.is_in(self.work.calls)
     }
 
-    /// What the kiosk hears of the turn.
+    /// What the turn comes to.
+    fn turns(&self) -> Result<Counts, KeeperFault> {
+        if self.fails() { Err(DISK) } else { Ok(ONE) }
+    }
+
+    /// What the clerk's next turn comes to.
+    fn rests(&self) -> Result<Counts, KeeperFault> {
+        if self.fails() { Err(BROKEN) } else { Ok(NONE) }
+    }
+
+    /// What kiosk 1 hears of the turn.
     fn answer(&self) -> Option<Reply> {
         if self.fails() {
             Some(Reply::Unknown)
@@ -60,14 +70,25 @@ impl Case<'_> {
     }
 }
 
+/// What a turn took and accepted.
+pub(crate) const ONE: Counts = Counts {
+    taken: 1,
+    accepted: 1,
+};
+
+const NONE: Counts = Counts {
+    taken: 0,
+    accepted: 0,
+};
+
 /// Car A's letter.
-fn letter() -> Option<Reply> {
+pub(crate) fn letter() -> Option<Reply> {
     Some(Reply::Car(Letter::default()))
 }
 
 /// So many stops of car A, and kiosk 0's first call, each in a batch of its own: the letter was
 /// heard.
-fn begin<D: Failing + Drop>(
+pub(crate) fn begin<D: Failing + Drop>(
     tally: &mut Tally,
     group: &mut Terminals,
     clerk: &mut Clerk<D, Etd>,
@@ -79,35 +100,45 @@ fn begin<D: Failing + Drop>(
     }
     let heard = group.car_asks(clerk, 0, place());
     tally.want(heard == Some(Reply::Placed(None)));
-    tally.want(group.kiosk_asks(clerk, 1, 5) == letter());
+    tally.want(group.kiosk_asks(clerk, Kiosk::First, 1, 5) == letter());
 }
 
-/// The letters that were heard are told again, without a car that has told where it is; and the
-/// second call gets its own.
+/// Where car A stops next: where kiosk 0's passenger waits.
+pub(crate) fn next_stop() -> Option<Stop> {
+    Some(Stop {
+        floor: floor(0),
+        dir: Dir::Up,
+    })
+}
+
+/// What a call is answered while no car has told where it is.
+pub(crate) fn again(is_in: bool) -> Option<Reply> {
+    if is_in {
+        letter()
+    } else {
+        Some(Reply::Refused(Reason::NoCar))
+    }
+}
+
+/// The letter that kiosk 0 heard is told again, without a car that has told where it is, and kiosk
+/// 1's where its call is in; else it gets its letter once the car has.
 fn go_on<D: Failing + Drop>(
     tally: &mut Tally,
     group: &mut Terminals,
     clerk: &mut Clerk<D, Etd>,
     is_in: bool,
 ) {
-    let (first, second) = if is_in {
-        (Some(Reply::Refused(Reason::OldNumber)), letter())
-    } else {
-        (letter(), Some(Reply::Refused(Reason::NoCar)))
-    };
-    let next = Stop {
-        floor: floor(0),
-        dir: Dir::Up,
-    };
-    tally.want(group.kiosk_asks(clerk, 1, 5) == first);
-    tally.want(group.kiosk_asks(clerk, 2, 8) == second);
+    let open_count = clerk.keeper().register().open_count();
+    tally.want(open_count == 1u32.wrapping_add(u32::from(is_in)));
+    tally.want(group.kiosk_asks(clerk, Kiosk::First, 1, 5) == letter());
+    tally.want(group.kiosk_asks(clerk, Kiosk::Second, 1, 8) == again(is_in));
     let heard = group.car_asks(clerk, 0, place());
-    tally.want(heard == Some(Reply::Placed(Some(next))));
-    tally.want(group.kiosk_asks(clerk, 2, 8) == letter());
+    tally.want(heard == Some(Reply::Placed(next_stop())));
+    tally.want(group.kiosk_asks(clerk, Kiosk::Second, 1, 8) == letter());
 }
 
 /// A power cut, if there is one; no call fails then.
-fn cut<D: Failing + Drop>(device: D, outcome: Option<Outcome>) -> D {
+pub(crate) fn cut<D: Failing + Drop>(device: D, outcome: Option<Outcome>) -> D {
     let Some(outcome) = outcome else {
         let mut device = device;
         device.arm(NEVER);
@@ -181,18 +212,19 @@ fn go_on_here<D: Failing + Drop>(
     go_on(tally, group, clerk, case.is_in());
 }
 
-/// The turn of both parts, if they make it.
+/// The clerk behind its turn, or behind that of both its parts, and what it comes to.
 fn turned<'a, R: Wait, D: Failing + Drop>(
     rt: &R,
     alloc: Global,
     clerk: Clerk<'a, 'a, D, Etd>,
     by_parts: bool,
-) -> Result<Clerk<'a, 'a, D, Etd>, Fail> {
+) -> Result<(Clerk<'a, 'a, D, Etd>, Result<Counts, KeeperFault>), Fail> {
     if by_parts {
-        turn_parts(rt, alloc, clerk)
-    } else {
-        Ok(clerk)
+        return turn_parts(rt, alloc, clerk);
     }
+    let mut clerk = clerk;
+    let answer = clerk.turn();
+    Ok((clerk, answer))
 }
 
 /// One of the calls fails, the recovery's too, and then none.
@@ -209,11 +241,11 @@ fn stop_at<R: Wait, D: Failing + Drop>(
     let mut ready = clerk_of(&desk, clerk, disk, &building)?;
     begin(tally, &mut group, &mut ready, case.work.stops);
     ready.arm(D::armed_for(case.failures.work));
-    group.kiosk_tells(2, 8);
-    let mut clerk = turned(rt, alloc, ready, case.by_parts)?;
-    let broken = clerk.turn() == Err(BROKEN);
-    tally.want(group.kiosk_hears() == case.answer());
-    tally.want(broken == (case.fails() && case.by_parts));
+    group.kiosk_tells(Kiosk::Second, 1, 8);
+    let (mut clerk, answer) = turned(rt, alloc, ready, case.by_parts)?;
+    tally.want(answer == case.turns());
+    tally.want(clerk.turn() == case.rests());
+    tally.want(group.kiosk_hears(Kiosk::Second) == case.answer());
     if case.failures.cut.is_none() && case.failures.cut_again.is_none() {
         go_on_here(tally, &mut group, &mut clerk, case);
         return Ok(());
@@ -285,7 +317,7 @@ fn turns_stop(rt: HostRuntime) -> Result<(), Fail> {
     let once = stop_all::<_, FlakyDisk>(&rt, rt.alloc(), false)?;
     let for_good = stop_all::<_, FuseDisk>(&rt, rt.alloc(), false)?;
     assert_eq!(rt; once.wrong.saturating_add(for_good.wrong), 0);
-    assert_eq!(rt; once.looked_at.saturating_add(for_good.looked_at), 391_364);
+    assert_eq!(rt; once.looked_at.saturating_add(for_good.looked_at), 413_092);
     Ok(())
 }
 
@@ -294,6 +326,6 @@ fn turns_of_both_parts_stop(rt: HostRuntime) -> Result<(), Fail> {
     let once = stop_all::<_, FlakyDisk>(&rt, rt.alloc(), true)?;
     let for_good = stop_all::<_, FuseDisk>(&rt, rt.alloc(), true)?;
     assert_eq!(rt; once.wrong.saturating_add(for_good.wrong), 0);
-    assert_eq!(rt; once.looked_at.saturating_add(for_good.looked_at), 391_364);
+    assert_eq!(rt; once.looked_at.saturating_add(for_good.looked_at), 413_092);
     Ok(())
 }

@@ -6,5 +6,7 @@ abbrev pub invariant-loop : goal.invariant-loop
 invariant-loop l = record {
   seats : AreSeatsOf l.desk l.seats.items;
   left : vec_len l.seats + l.counter ≡ 16;
-  kiosk : IsSeatOf l.desk l.kiosk;
+  first : IsSeatOf l.desk l.first;
+  second : IsSeatOf l.desk l.second;
+  third : IsSeatOf l.desk l.third;
 }
