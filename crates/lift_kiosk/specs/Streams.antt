@@ -21,8 +21,7 @@ pub data LastRead : Type 0 where
 
 -- what a session's surroundings gave it, in the order in which each of them gave it
 pub record Streams : Type 0 where
-  pub brought : Option (Option Reply)  -- the port, for the ask of an earlier session, where one was
-      pending
+  pub brought : Option (Option Reply)  -- the port, for an earlier session's ask, where one waited
   pub bytes : List ℕ  -- all bytes of the reader
   pub read : LastRead
   pub given : List (Option (Option Reply))  -- the port, for the session's own asks
