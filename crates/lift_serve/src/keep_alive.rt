@@ -11,11 +11,9 @@ const SILENCE_S: i32 = 10;
 /// How long it waits before it asks again, s.
 const AGAIN_S: i32 = 5;
 
-/// So many times unanswered end the connection.
-const TIMES: i32 = 3;
-
-/// How long the other side may leave what was sent to it unacknowledged, ms.
-const UNACKNOWLEDGED_MS: i32 = 30_000;
+/// How long the other side may leave a question or what was sent to it unacknowledged, ms: behind
+/// two questions more the connection ends.
+const UNACKNOWLEDGED_MS: i32 = 25_000;
 
 /// How long one write may wait for a reader that doesn't read, s.
 const WRITE_S: u64 = 30;
@@ -37,7 +35,6 @@ pub(crate) fn watch(stream: &TcpStream) {
         net::setsockopt(fd, socket, net::SO_KEEPALIVE, &value_of(1), 4);
         net::setsockopt(fd, tcp, net::TCP_KEEPIDLE, &value_of(SILENCE_S), 4);
         net::setsockopt(fd, tcp, net::TCP_KEEPINTVL, &value_of(AGAIN_S), 4);
-        net::setsockopt(fd, tcp, net::TCP_KEEPCNT, &value_of(TIMES), 4);
         net::setsockopt(
             fd,
             tcp,
