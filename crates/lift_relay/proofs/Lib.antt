@@ -17,9 +17,12 @@ pub mod TiedTake
 pub mod TiedFlush
 pub mod TiedTerminals
 pub mod TiedCrash
+pub mod Steps
+pub mod Courses
+pub mod CourseLeads
 pub mod TiedHistory
+pub mod CourseEnds
 pub mod TiedTurns
-pub mod Amid
 pub mod RunPast
 pub mod RunTurns
 pub mod RunJoins

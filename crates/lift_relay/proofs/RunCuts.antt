@@ -23,7 +23,8 @@ use Rattle.lift_relay.specs.Allocator.{AllocatorState}
 use Rattle.lift_relay.specs.Flusher.{FlusherState}
 use Rattle.lift_relay.specs.Laws.{RelayLaws}
 use Rattle.lift_relay.specs.Tie.{RunsWhole, RunsBroken, IsRelayOf, ReceivesSent}
-use Rattle.lift_relay.specs.History.{Words, RelayHistory, IsRunOfParts}
+use Rattle.lift_relay.specs.Words.{Words}
+use Rattle.lift_relay.specs.History.{RelayHistory, IsRunOfParts}
 use Rattle.lift_relay.specs.Runs.{CutsGoOn, CutsInTurnsGoOn, CutsInFailuresGoOn}
 use Rattle.lift_relay.proofs.TiedCrash.{register_with, there, batch_is, register_is, gate_reached}
 use Rattle.lift_relay.proofs.TiedHistory.{run_of}

@@ -22,7 +22,8 @@ use Rattle.lift_relay.specs.Flusher.{FlusherState, IsFlusher}
 use Rattle.lift_relay.specs.Pair.{IsTelling}
 use Rattle.lift_relay.specs.Relay.{AreParts, IsRejoined}
 use Rattle.lift_relay.specs.Laws.{RelayLaws}
-use Rattle.lift_relay.specs.History.{Words, words_in, RelayHistory, ClerkSplit, PartsTold}
+use Rattle.lift_relay.specs.Words.{Words, words_in}
+use Rattle.lift_relay.specs.History.{RelayHistory, ClerkSplit, PartsTold}
 use Rattle.lift_relay.specs.Pair.{AllocatorTurns, FlusherTurns}
 use Rattle.lift_relay.specs.Runs.{AllTaken, HasPast, RunsAreHistories, SplitsHavePasts, JoinedGoOn, ClerkAdvances}
 use Rattle.lift_relay.proofs.Tied.{view_ahead}

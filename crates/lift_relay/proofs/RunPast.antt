@@ -32,7 +32,8 @@ use Rattle.lift_relay.specs.Allocator.{AllocatorState, IsScanTurn}
 use Rattle.lift_relay.specs.Flusher.{FlusherState, AnswersOne, AnswersAll, Answered}
 use Rattle.lift_relay.specs.Laws.{RelayLaws}
 use Rattle.lift_relay.specs.Tie.{on_way, IsRelayOf, Reads, AsksNext, AllAskNext, HasRoom}
-use Rattle.lift_relay.specs.History.{Words, words_in, with_ask, with_hearing, RelayHistory, TerminalAsked, TerminalHeard, AllocatedNext, IsRunOfParts}
+use Rattle.lift_relay.specs.Words.{Words, words_in, with_ask, with_hearing}
+use Rattle.lift_relay.specs.History.{RelayHistory, TerminalAsked, TerminalHeard, AllocatedNext, IsRunOfParts}
 use Rattle.lift_relay.specs.Runs.{AllTaken, HasPast, TakesNext}
 use Rattle.lift_relay.proofs.Tied.{hears, none_queued, queue_none}
 use Rattle.lift_relay.proofs.TiedScan.{last_has, left}

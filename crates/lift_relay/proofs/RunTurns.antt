@@ -29,7 +29,8 @@ use Rattle.lift_relay.specs.Flusher.{FlusherState, IsEmptyTurn, IsBatchTurn, Ans
 use Rattle.lift_relay.specs.Pair.{AllocatorTurns, NoMore, OneMore, HandSent, IsSending, FlusherTurns, NoFlush, OneFlush, IsFlush}
 use Rattle.lift_relay.specs.Laws.{RelayLaws}
 use Rattle.lift_relay.specs.Tie.{held_as, command_of, entries_of, ReceivesSent, Flushes, FlushFails, FlushesBroken}
-use Rattle.lift_relay.specs.History.{Words, with_answers, RelayHistory, FoundFull, SentHand, TookNothing, FoundEmpty, Flushed, FlushFailed, FlushedWhileBroken}
+use Rattle.lift_relay.specs.Words.{Words, with_answers}
+use Rattle.lift_relay.specs.History.{RelayHistory, FoundFull, SentHand, TookNothing, FoundEmpty, Flushed, FlushFailed, FlushedWhileBroken}
 use Rattle.lift_relay.specs.Runs.{AllTaken, HasPast, Adds, Advances, RunsAreHistories, ScansGoOn, FlushesGoOn}
 use Rattle.lift_relay.proofs.Paired.{same_allocator}
 use Rattle.lift_relay.proofs.TiedScan.{same_behind, nothing_seen}

@@ -335,7 +335,7 @@ module _ {D P : Type 0} (laws : RelayLaws) (w : World) (a : AllocatorState P) (f
       subst (λ (n : ℕ). goes (flusher_events all_found fq.q folds n) w ≡ Some end) (count_is laws w a f g batch t.turn.receives sent m k)
       (laws.flushes w all_found fq.q fq.qs folds k.between (order laws w m.reached) fq.at)
 
-  commands_are : answered_of all_found fq.q.commands ≡ map held_as batch.commands
+  pub commands_are : answered_of all_found fq.q.commands ≡ map held_as batch.commands
   commands_are = all_answered fq.q.commands ∙ (decided laws w a f g batch t.turn.receives sent m k).0
 
   safe_now : safe_list end ≡ safe_list w ++ batch.entries
@@ -399,7 +399,7 @@ module _ {D P : Type 0} (laws : RelayLaws) (w : World) (a : AllocatorState P) (f
       subst (λ (n : ℕ). goes (failing_flush all_found ffq.q folds GateWritten n) w ≡ Some fend) count
       (laws.failures w all_found ffq.q ffq.qs folds GateWritten kw.between (order laws w m.reached) ffq.at (omega arith) tt)
 
-  fcommands_are : answered_of all_found ffq.q.commands ≡ map held_as batch.commands
+  pub fcommands_are : answered_of all_found ffq.q.commands ≡ map held_as batch.commands
   fcommands_are = all_answered ffq.q.commands ∙ (decided laws w a f g batch t.turn.receives sent m kw).0
 
   pub fails_flush : (folds : ℕ) → LeadsOn w (failing_flush all_found ffq.q folds GateWritten (length batch.entries)) (map unknown_to (map held_as batch.commands)) (safe_list w) a g
@@ -442,7 +442,7 @@ module _ {D P : Type 0} (laws : RelayLaws) (w : World) (a : AllocatorState P) (f
   bpossible : goes (broken_flush all_found bq.q) w ≡ Some bend
   bpossible = laws.broken w all_found bq.q bq.qs kb.between (order laws w m.reached) bq.at
 
-  bcommands_are : map unknown_to (answered_of all_found bq.q.commands) ≡ map unknown_to (map held_as batch.commands)
+  pub bcommands_are : map unknown_to (answered_of all_found bq.q.commands) ≡ map unknown_to (map held_as batch.commands)
   bcommands_are = ap (map unknown_to) (all_answered bq.q.commands) ∙ unknown_same bq.q.commands batch.commands bq.same
 
   still_broken : g.writer.is_broken ≡ true

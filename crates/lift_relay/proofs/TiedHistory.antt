@@ -1,5 +1,5 @@
 -- Whatever has happened to two parts, the machine has a world for it.
-use Rattle.std.proofs.Common.{ℕ, ◌≡◌, ◌≢◌, ◌⊎◌, List, [], ◌∷◌, ◌++◌, length, map, Some, refl, sym, ap, subst, ◌∙◌}
+use Rattle.std.proofs.Common.{ℕ, ◌≡◌, ◌≢◌, ◌⊎◌, List, [], ◌∷◌, ◌++◌, length, map, Option, Some, refl, sym, ap, subst, ◌∙◌}
 use Rattle.std.specs.Prelude.{All, Contains, filter, count_by}
 use Rattle.std.proofs.lemmas.List.{append-nil}
 use Rattle.lift_base.specs.declared.history.Entry.{Entry}
@@ -16,6 +16,7 @@ use Rattle.lift_world.specs.World.{World, Batch, asks, is_answer_to, safe_list, 
 use Rattle.lift_world.specs.Next.{next, answer_of, unknown_to, asking, hearing}
 use Rattle.lift_world.specs.Headline.{StillNames}
 use Rattle.lift_world.specs.Policies.{RunsAreAny}
+use Rattle.lift_world.specs.lemmas.Decisions.{some_is}
 use Rattle.lift_clerk.specs.declared.counts.Counts.{Counts}
 use Rattle.lift_clerk.specs.Clerk.{ClerkState}
 use Rattle.lift_clerk.specs.Turn.{IsEither}
@@ -29,14 +30,15 @@ use Rattle.lift_relay.specs.Flusher.{FlusherState}
 use Rattle.lift_relay.specs.Relay.{IsRejoined}
 use Rattle.lift_relay.specs.Laws.{RelayLaws}
 use Rattle.lift_relay.specs.Tie.{held_as, IsRelayOf, LeadsOn, AllTakesAsked, Reads, AllAskNext, HasRoom, ReceivesSent, Flushes, FlushFails, FlushesBroken}
-use Rattle.lift_relay.specs.Amid.{Amid, HadRoom, Flushings, events_with}
-use Rattle.lift_relay.specs.History.{Words, words_in, with_ask, with_hearing, with_answers, RelayHistory, ClerkSplit, TerminalAsked, TerminalHeard, FoundFull, SentHand, TookNothing, Allocated, AllocatedNext, PartsTold, JoinedAndSplit, FoundEmpty, Flushed, FlushFailed, FlushedWhileBroken, FlushedAmid}
+use Rattle.lift_relay.specs.Course.{Course}
+use Rattle.lift_relay.proofs.CourseLeads.{courses_lead_on}
+use Rattle.lift_relay.specs.Words.{Words, words_in, with_ask, with_hearing, with_answers}
+use Rattle.lift_relay.specs.History.{RelayHistory, ClerkSplit, TerminalAsked, TerminalHeard, FoundFull, SentHand, TookNothing, Allocated, AllocatedNext, PartsTold, JoinedAndSplit, FoundEmpty, Flushed, FlushFailed, FlushedWhileBroken, WentOn}
 use Rattle.lift_relay.specs.History.{IsRunOfParts, RelayHistoriesAreRuns, RejoiningsGoOn, RelayCrashesShowGiven, RelayCrashesInTurnsShowGiven, RelayCrashesInFailuresShowGiven}
 use Rattle.lift_relay.proofs.Tied.{splits_are_no_events, rejoinings, full_turns, empty_turns, sendings, tellings}
 use Rattle.lift_relay.proofs.TiedScan.{is_queued, nothing_taken}
 use Rattle.lift_relay.proofs.TiedTake.{scans_are_allocations, nexts_are_allocations}
 use Rattle.lift_relay.proofs.TiedFlush.{flushes_are_flushes, failed_flushes, broken_flushes_are_broken}
-use Rattle.lift_relay.proofs.Amid.{flushings_lead, turns_amid_scans}
 use Rattle.lift_relay.proofs.TiedTerminals.{terminals_keep_parts}
 use Rattle.lift_relay.proofs.TiedCrash.{crashes_of_parts, crashes_in_flushes, crashes_in_failures}
 
@@ -143,19 +145,22 @@ module _ {D P : Type 0} (laws : RelayLaws) where
       let l = broken_flushes_are_broken laws k.world a f g batch t sent k.shows in
       led_on a a f g v safe given (map unknown_to (map held_as batch.commands)) (λ (xs : List Entry). xs) _ k l.1
 
-  -- turns of the flusher amid a scan
-  flushed_amid_then : (choice : Choice) → RunsAreAny choice → (a b : AllocatorState P) (f g : FlusherState D) (v : Words) (safe more : List Entry) (given told : List Held) (counts : Counts) (events : List (Batch → List Event))
-      → IsRunOfParts a f v safe given → (t : IsScanTurn choice a b counts) → commands_of 0 t.visits ≢ [] → AllTakesAsked v.asked b.seat → HasRoom b g → Flushings a f g told more events
-      → ((batches : List Batch) → (amid : Amid (events_with events batches) (commands_of 0 t.visits)) × HadRoom a f amid.looks)
-      → IsRunOfParts b g (with_answers v told) (safe ++ more) (given ++ told)
-  flushed_amid_then choice any a b f g v safe more given told counts events k t some takes room turns amid =
-      let lead = flushings_lead laws a k.world f g told more events turns k.shows in
-      let placed = amid lead.batches in
-      let l = turns_amid_scans laws choice any k.world a b f g counts (events_with events lead.batches) told (safe_list k.world ++ more) t some
-      (subst (λ (x : Words). AllTakesAsked x.asked b.seat) (sym k.words_are) takes) room lead.his lead.still lead.leads k.shows placed.0 placed.1 in
-      led_on a b f g v safe given told (λ (xs : List Entry). xs ++ more) _ k l.1
-
   module _ (chooses : P → Choice) (any : (policy : P) → RunsAreAny (chooses policy)) where
+    went_on : (a b : AllocatorState P) (f g : FlusherState D) (v u : Words) (safe more : List Entry) (given told : List Held) (pieces : List (List (Option ℕ) → List Event)) → IsRunOfParts a f v safe given
+        → Course chooses a f v b g [] u more told pieces → IsRunOfParts b g u (safe ++ more) (given ++ told)
+    went_on a b f g v u safe more given told pieces k course =
+        let c = courses_lead_on laws chooses any k.world a b f g [] u more told pieces k.shows (subst (λ (x : Words). Course chooses a f x b g [] u more told pieces) (sym k.words_are) course) in
+        let l = c.leads in
+        let same : c.now ≡ l.end = some_is c.now l.end l.possible in
+        record {
+          world = l.end;
+          building = subst IsBuilding (sym (l.same_building ∙ c.same_building)) k.building;
+          shows = l.shows;
+          words_are = ap words_in (sym same) ∙ c.words_are;
+          safe_is = l.safe_is ∙ ap (λ (xs : List Entry). xs ++ more) k.safe_is;
+          given_is = ap (λ (x : World). x.given) (sym same) ∙ c.given_is ∙ ap (λ (xs : List Held). xs ++ told) k.given_is;
+        }
+
     pub run_of : (a : AllocatorState P) (f : FlusherState D) (v : Words) (safe : List Entry) (given : List Held) → RelayHistory chooses a f v safe given → IsRunOfParts a f v safe given
     run_of a f v safe given (ClerkSplit {clerk = clerk} w sound m p is) =
         record { world = w; building = sound; shows = splits_are_no_events laws w clerk a f p is m; words_are = refl; safe_is = refl; given_is = refl }
@@ -175,8 +180,8 @@ module _ {D P : Type 0} (laws : RelayLaws) where
     run_of a g v safe given (Flushed {f = f} {v = u} {safe = old} {given = before} {batch = batch} {counts = counts} h t sent) = flushed_then a f g u old before batch counts (run_of a f u old before h) t sent
     run_of a g v safe given (FlushFailed {f = f} {v = u} {given = before} {batch = batch} h t sent) = failed_then a f g u safe before batch (run_of a f u safe before h) t sent
     run_of a g v safe given (FlushedWhileBroken {f = f} {v = u} {given = before} {batch = batch} h t sent) = broken_then a f g u safe before batch (run_of a f u safe before h) t sent
-    run_of b g v safe given (FlushedAmid {a = a} {f = f} {v = u} {safe = old} {more = more} {given = before} {told = told} {counts = counts} {events = events} h t some takes room turns amid) =
-        flushed_amid_then (chooses a.policy) (any a.policy) a b f g u old more before told counts events (run_of a f u old before h) t some takes room turns amid
+    run_of b g u safe given (WentOn {a = a} {f = f} {v = v} {safe = old} {more = more} {given = before} {told = told} {pieces = pieces} h course) =
+        went_on a b f g v u old more before told pieces (run_of a f v old before h) course
 
     pub histories_are_runs : RelayHistoriesAreRuns D P chooses
     histories_are_runs a f v safe given h = run_of a f v safe given h

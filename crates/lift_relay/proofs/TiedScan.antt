@@ -267,17 +267,17 @@ same_behind [] (y ∷ ys) us vs l e = absurd (omega arith)
 same_behind (x ∷ xs) [] us vs l e = absurd (omega arith)
 same_behind (x ∷ xs) (y ∷ ys) us vs l e = same_behind xs ys us vs (omega arith) (cc)
 
-served_first : (place : ClerkPlace) (places : List ClerkPlace) (word : ℕ) (found : Option Ask) (visits : List Visit)
+pub served_first : (place : ClerkPlace) (places : List ClerkPlace) (word : ℕ) (found : Option Ask) (visits : List Visit)
     → (view_at (served (place ∷ places) (record { word = word; found = found } ∷ visits) []) 0).taken ≡ (with_taking place.view word).taken
 served_first place places word None visits = refl
 served_first place places word (Some ask) visits = refl
 
-served_behind : (place : ClerkPlace) (places : List ClerkPlace) (word : ℕ) (found : Option Ask) (visits : List Visit) (k : ℕ)
+pub served_behind : (place : ClerkPlace) (places : List ClerkPlace) (word : ℕ) (found : Option Ask) (visits : List Visit) (k : ℕ)
     → view_at (served (place ∷ places) (record { word = word; found = found } ∷ visits) []) (suc k) ≡ view_at (served places visits []) k
 served_behind place places word None visits k = refl
 served_behind place places word (Some ask) visits k = refl
 
-asked_same : (w : World) (t : ℕ) (u v : ClerkView) → u.taken ≡ v.taken → TakesAsked w.asked t u → TakesAsked w.asked t v
+pub asked_same : (w : World) (t : ℕ) (u v : ClerkView) → u.taken ≡ v.taken → TakesAsked w.asked t u → TakesAsked w.asked t v
 asked_same w t u v e k = record { ahead = subst (λ (xs : List ℕ). IsAhead (ask_words 1 (map ask_of (filter (asks t) w.asked))) xs) e k.ahead; in_range = k.in_range }
 
 module _ (laws : RelayLaws) (w : World) (reached : IsReached w) (only : OnlyQueued w) (ahead later : ℕ → ClerkView) (s : (t : ℕ) → ShowsBoth w t (ahead t) (later t)) where
@@ -319,7 +319,7 @@ module _ (laws : RelayLaws) (w : World) (reached : IsReached w) (only : OnlyQueu
       ((here.0, rest.0), all_both (command_at first u.found) (commands_of (suc first) visits) here.1 rest.1)
 
   -- so do those that were asked next
-  stands_next : (c : Command) → AsksNext w.asked (ahead c.terminal) c → Stands w c.terminal (s c.terminal).waiting c
+  pub stands_next : (c : Command) → AsksNext w.asked (ahead c.terminal) c → Stands w c.terminal (s c.terminal).waiting c
   stands_next c k =
       let x = s c.terminal in
       let front : List Command = x.first ++ on_way w c.terminal in

@@ -124,8 +124,14 @@ allocates laws w [] rs state some k are r = absurd (some refl)
 allocates laws w (c ∷ cs) [] state some k are r = absurd r
 allocates laws w (c ∷ cs) (reply ∷ rs) state some k are r = laws.allocations w c cs reply rs state k are r
 
+-- where the line has room for the scan's batch it had room before
+few_before : {D P : Type 0} (choice : Choice) (w : World) (a b : AllocatorState P) (f : FlusherState D) (counts : Counts) (t : IsScanTurn choice a b counts) → HasRoom b f → IsRelayOf w a f → length w.queue ≤ 4
+few_before choice w a b f counts t room m =
+    let long = queued_long (length f.seat) m.waiting w.queue m.queue in
+    omega (arith, ap length m.line, length-append f.end.received m.waiting, ap length t.sent.1, length-append (a.end.sent ++ a.hand) t.sent.0)
+
 module _ {D P : Type 0} (laws : RelayLaws) (choice : Choice) (any : RunsAreAny choice) (w : World) (a b : AllocatorState P) (f : FlusherState D) (counts : Counts) (t : IsScanTurn choice a b counts)
-    (some : commands_of 0 t.visits ≢ []) (room : HasRoom b f) (m : IsRelayOf w a f)
+    (some : commands_of 0 t.visits ≢ []) (few : length w.queue ≤ 4) (m : IsRelayOf w a f)
     (looks : Reads a.seat t.visits × AllStand laws w m.reached (is_queued w a f m) (λ (n : ℕ). view_at a.seat n) (λ (n : ℕ). view_at f.seat n) m.words (commands_of 0 t.visits)) where
   abbrev cs : List Command
   cs = commands_of 0 t.visits
@@ -135,12 +141,6 @@ module _ {D P : Type 0} (laws : RelayLaws) (choice : Choice) (any : RunsAreAny c
 
   abbrev later : ℕ → ClerkView
   later n = view_at f.seat n
-
-  few : length w.queue ≤ 4
-  few =
-      let long = queued_long (length f.seat) m.waiting w.queue m.queue in
-      let much = room in
-      omega (arith, ap length m.line, length-append f.end.received m.waiting, ap length t.sent.1, length-append (a.end.sent ++ a.hand) t.sent.0)
 
   are_found : AreFound w cs
   are_found = found laws w m.reached (is_queued w a f m) ahead later m.words cs few looks.1 (all_apart 0 t.visits)
@@ -292,27 +292,9 @@ looks_asked laws choice w a b f counts t m asked =
 
 pub scans_are_allocations : {D P : Type 0} → RelayLaws → (choice : Choice) → RunsAreAny choice → ScansAreAllocations D P choice
 scans_are_allocations laws choice any w a b f counts t some asked room m =
-    allocation laws choice any w a b f counts t some room m (looks_asked laws choice w a b f counts t m asked)
-
-module _ {D P : Type 0} (laws : RelayLaws) (choice : Choice) (any : RunsAreAny choice) (w : World) (a b : AllocatorState P) (f : FlusherState D) (counts : Counts) (t : IsScanTurn choice a b counts)
-    (some : commands_of 0 t.visits ≢ []) (room : HasRoom b f) (m : IsRelayOf w a f) (asked : AllTakesAsked w.asked b.seat) where
-  -- the world behind the scan, whoever was among it
-  pub stands_behind : f.writer.is_broken ≡ false
-      → (safe_list (allocated w (commands_of 0 t.visits) (replies_in t.batch.commands) t.decided) ≡ safe_list w) × IsRelayOf (allocated w (commands_of 0 t.visits) (replies_in t.batch.commands) t.decided) b f
-  stands_behind e = (
-    safe_stays laws w m.reached t.decided.batch,
-    shown_here laws choice any w a b f counts t some room m (looks_asked laws choice w a b f counts t m asked) e,
-  )
-
-  -- so after a fault, whatever is decided there
-  pub stands_broken : (rs : List Reply) (state : State) → map command_of (with_replies (commands_of 0 t.visits) rs) ≡ commands_of 0 t.visits → IsReached (allocated w (commands_of 0 t.visits) rs state)
-      → f.writer.is_broken ≡ true → (safe_list (allocated w (commands_of 0 t.visits) rs state) ≡ safe_list w) × IsRelayOf (allocated w (commands_of 0 t.visits) rs state) b f
-  stands_broken rs state same reached e = (
-    safe_stays laws w m.reached state.batch,
-    shown_broken laws choice any w a b f counts t some room m (looks_asked laws choice w a b f counts t m asked) rs state same reached e,
-  )
+    allocation laws choice any w a b f counts t some (few_before choice w a b f counts t room m) m (looks_asked laws choice w a b f counts t m asked)
 
 pub nexts_are_allocations : {D P : Type 0} → RelayLaws → (choice : Choice) → RunsAreAny choice → NextsAreAllocations D P choice
 nexts_are_allocations laws choice any w a b f counts t some reads asked room m =
-    allocation laws choice any w a b f counts t some room m
+    allocation laws choice any w a b f counts t some (few_before choice w a b f counts t room m) m
     (reads, all_next laws w m.reached (is_queued w a f m) (λ (n : ℕ). view_at a.seat n) (λ (n : ℕ). view_at f.seat n) m.words a.seat (λ n. refl) (commands_of 0 t.visits) asked)

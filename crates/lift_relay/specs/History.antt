@@ -1,6 +1,6 @@
 -- What can have happened while the two parts run, and what every crash then shows.
-use Rattle.std.specs.Prelude.{ℕ, ◌≡◌, ◌≢◌, List, [], ◌∷◌, ◌++◌, length, map, filter, count_by}
-use Rattle.std.specs.Prelude.{Result}
+use Rattle.std.specs.Prelude.{ℕ, ◌≡◌, ◌≢◌, List, [], ◌∷◌, ◌++◌, map, filter, count_by}
+use Rattle.std.specs.Prelude.{Option, Result}
 use Rattle.lift_base.specs.declared.history.Entry.{Entry}
 use Rattle.lift_building.specs.Plan.{IsBuilding}
 use Rattle.lift_disk.specs.Disk.{Image}
@@ -11,8 +11,8 @@ use Rattle.lift_policy.specs.declared.command.Command.{Command}
 use Rattle.lift_world.specs.declared.event.Answer.{Answer}
 use Rattle.lift_world.specs.declared.event.Event.{Event}
 use Rattle.lift_world.specs.declared.event.Taken.{Taken as Held}
-use Rattle.lift_world.specs.World.{World, Batch, asks, is_answer_to, safe_list}
-use Rattle.lift_world.specs.Next.{answer_of, unknown_to}
+use Rattle.lift_world.specs.World.{World, asks, is_answer_to, safe_list}
+use Rattle.lift_world.specs.Next.{unknown_to}
 use Rattle.lift_clerk.specs.declared.counts.Counts.{Counts}
 use Rattle.lift_clerk.specs.Clerk.{ClerkState}
 use Rattle.lift_clerk.specs.Turn.{IsEither}
@@ -27,25 +27,8 @@ use Rattle.lift_relay.specs.Pair.{IsSending, IsTelling}
 use Rattle.lift_relay.specs.Relay.{AreParts, IsRejoined}
 use Rattle.lift_relay.specs.Tie.{held_as, IsRelayOf, AllTakesAsked, Reads, AllAskNext, HasRoom}
 use Rattle.lift_relay.specs.Tie.{ReceivesSent, Flushes, FlushFails, FlushesBroken}
-use Rattle.lift_relay.specs.Amid.{Amid, HadRoom, Flushings, events_with}
-
--- what terminals asked and heard, and what was answered them
-pub record Words : Type 0 where
-  pub asked : List Command
-  pub answered : List Answer
-  pub heard : List Answer
-
-abbrev pub words_in : World → Words
-words_in w = record { asked = w.asked; answered = w.answered; heard = w.heard }
-
-abbrev pub with_ask : Words → Command → Words
-with_ask v c = record v { asked = v.asked ++ c ∷ [] }
-
-abbrev pub with_hearing : Words → Answer → Words
-with_hearing v answer = record v { heard = v.heard ++ answer ∷ [] }
-
-abbrev pub with_answers : Words → List Held → Words
-with_answers v given = record v { answered = v.answered ++ map answer_of given }
+use Rattle.lift_relay.specs.Course.{Step, given_in, Course}
+use Rattle.lift_relay.specs.Words.{Words, words_in, with_ask, with_hearing, with_answers}
 
 -- What can have happened by now: the two parts as they are, their terminals' words, the entries
 -- that are safe, and each command that was ever answered, with its answer.
@@ -123,18 +106,13 @@ pub data RelayHistory {D P : Type 0} (chooses : P → Choice) : AllocatorState P
       → FlushesBroken f g batch → ReceivesSent a g
       → RelayHistory chooses a g (with_answers v (map unknown_to (map held_as batch.commands))) safe
       (given ++ map unknown_to (map held_as batch.commands))
-  -- Its turns stand amid a scan, one or several, which takes what was asked before: the flusher's
-  -- events stand so among the looks, whichever batches the machine has for these turns. Where the
-  -- line was full, they begin before the first look.
-  FlushedAmid : {a b : AllocatorState P} {f g : FlusherState D} {v : Words} {safe more : List Entry}
-      {given told : List Held} {counts : Counts} {events : List (Batch → List Event)}
+  -- Turns of both fall together as they may, those of the flusher over as many scans as they take,
+  -- and terminals ask and hear in between, until the turns that were begun have ended.
+  WentOn : {a b : AllocatorState P} {f g : FlusherState D} {v u : Words} {safe more : List Entry}
+      {given told : List Held} {pieces : List (List (Option ℕ) → List Event)}
       → RelayHistory chooses a f v safe given
-      → (t : IsScanTurn (chooses a.policy) a b counts) → commands_of 0 t.visits ≢ []
-      → AllTakesAsked v.asked b.seat → HasRoom b g → Flushings a f g told more events
-      → ((batches : List Batch)
-      → (amid : Amid (events_with events batches) (commands_of 0 t.visits))
-      × HadRoom a f amid.looks)
-      → RelayHistory chooses b g (with_answers v told) (safe ++ more) (given ++ told)
+      → Course chooses a f v b g [] u more told pieces
+      → RelayHistory chooses b g u (safe ++ more) (given ++ told)
 
 -- Some run of the machine leads to a world of these parts, with just these words, these entries
 -- safe and these commands answered.
@@ -187,3 +165,54 @@ RelayCrashesInFailuresShowGiven D P chooses =
     → RelayHistory chooses a f v safe given → FlushFails f g batch → ReceivesSent a g
     → (either : IsEither f.writer.plan f.writer.register g.end.register left)
     → ShowsGiven f.writer.plan (kept_of safe batch.entries either) given left
+
+-- Wherever the turns of both have come to, those that the flusher has begun may end. So all that is
+-- shown of a history is shown amid its turns too, of what was given until then and of what they
+-- have yet to give.
+abbrev pub CoursesEnd : (D P : Type 0) → (P → Choice) → Type 0
+CoursesEnd D P chooses =
+    (a b : AllocatorState P) (f g : FlusherState D) (v u : Words) (steps : List Step)
+    (safe more : List Entry) (given told : List Held)
+    (pieces : List (List (Option ℕ) → List Event)) → RelayHistory chooses a f v safe given
+    → Course chooses a f v b g steps u more told pieces
+    → (x : Words) × RelayHistory chooses b g x (safe ++ more) (given ++ (told ++ given_in steps))
+
+-- What a crash may leave where the turns have come to this, whatever scans the flusher's last turn
+-- is amid: of what is safe behind that turn,
+abbrev pub RelayCrashesAmidShowGiven : (D P : Type 0) → (P → Choice) → Type 0
+RelayCrashesAmidShowGiven D P chooses =
+    (a b : AllocatorState P) (f g : FlusherState D) (v u : Words) (steps : List Step)
+    (safe more : List Entry) (given told : List Held)
+    (pieces : List (List (Option ℕ) → List Event)) (left : Image)
+    → RelayHistory chooses a f v safe given
+    → Course chooses a f v b g steps u more told pieces
+    → (doubt : IsInDoubt g.writer.plan g.writer.register g.writer.doubt left)
+    → ShowsGiven g.writer.plan (kept_of (safe ++ more) g.writer.doubt doubt)
+    (given ++ (told ++ given_in steps)) left
+
+-- and at any moment of a turn that begins there, of what was safe before it or of that with its
+-- batch. It shows all that was given until then.
+abbrev pub RelayCrashesInTurnsAmidShowGiven : (D P : Type 0) → (P → Choice) → Type 0
+RelayCrashesInTurnsAmidShowGiven D P chooses =
+    (a b : AllocatorState P) (f g h : FlusherState D) (v u : Words) (steps : List Step)
+    (safe more : List Entry) (given told : List Held)
+    (pieces : List (List (Option ℕ) → List Event)) (batch : BatchState) (counts : FlushCounts)
+    (left : Image) → RelayHistory chooses a f v safe given
+    → Course chooses a f v b g steps u more told pieces
+    → Flushes g h batch counts → ReceivesSent b h
+    → (either : IsEither g.writer.plan g.writer.register h.end.register left)
+    → ShowsGiven g.writer.plan (kept_of (safe ++ more) batch.entries either)
+    (given ++ (told ++ given_in steps)) left
+
+-- So it is of one that the device would fail.
+abbrev pub RelayCrashesInFailuresAmidShowGiven : (D P : Type 0) → (P → Choice) → Type 0
+RelayCrashesInFailuresAmidShowGiven D P chooses =
+    (a b : AllocatorState P) (f g h : FlusherState D) (v u : Words) (steps : List Step)
+    (safe more : List Entry) (given told : List Held)
+    (pieces : List (List (Option ℕ) → List Event)) (batch : BatchState) (left : Image)
+    → RelayHistory chooses a f v safe given
+    → Course chooses a f v b g steps u more told pieces
+    → FlushFails g h batch → ReceivesSent b h
+    → (either : IsEither g.writer.plan g.writer.register h.end.register left)
+    → ShowsGiven g.writer.plan (kept_of (safe ++ more) batch.entries either)
+    (given ++ (told ++ given_in steps)) left

@@ -7,11 +7,13 @@ use Rattle.lift_policy.specs.declared.command.Command.{Command}
 use Rattle.lift_world.specs.declared.event.Event.{Event}
 use Rattle.lift_world.specs.World.{World, start}
 use Rattle.lift_world.specs.Next.{run}
-use Rattle.lift_world.specs.Among.{LooksFindAsks, AsksStandOn, SealsAloneQueue, AllocationsGoAmong}
-use Rattle.lift_world.specs.Beside.{GoesAreRuns, RunsJoin}
+use Rattle.lift_world.specs.Among.{LooksFindAsks, AsksStandAtOnce, AsksStandOn, SealsAloneQueue}
+use Rattle.lift_world.specs.Among.{AllocationsGoAmong}
+use Rattle.lift_world.specs.Beside.{GoesAreRuns, RunsJoin, TerminalsPass}
 use Rattle.lift_world.specs.Headline.{HearsInOrder, QueuesFew, AllAskOneByOne, RecoversAcknowledged}
 use Rattle.lift_world.specs.Headline.{RecoversLetters}
 use Rattle.lift_world.specs.Possible.{AsksOnceHeard, HearsTheNext, PullsInTurn, CallsInOrder}
+use Rattle.lift_world.specs.Possible.{OnlyReopensAfterCut}
 use Rattle.lift_world.specs.Relay.{IsQueueInOrder, AllocationsAreEvents, FlushesAreEvents}
 use Rattle.lift_world.specs.Relay.{FailedFlushesAreEvents, BrokenFlushesAreEvents, PartsMeet}
 use Rattle.lift_world.specs.Stays.{StaysBetweenScans, StaysBetweenFlushes, StaysBrokenBetween}
@@ -24,6 +26,7 @@ pub record RelayLaws : Type 0 where
   pub broken : (w : World) → BrokenFlushesAreEvents w
   pub parts : (w : World) → PartsMeet w
   pub looks : (w : World) (terminal : ℕ) (command : Command) → LooksFindAsks w terminal command
+  pub stands_at_once : (w : World) → AsksStandAtOnce w
   pub stands_on : (w : World) → AsksStandOn w
   pub queued_by_seals : (w : World) → SealsAloneQueue w
   pub scans_among : (w : World) → AllocationsGoAmong w
@@ -37,6 +40,8 @@ pub record RelayLaws : Type 0 where
       → AllAskOneByOne (run events (start building))
   pub possible : (w : World) → GoesAreRuns w
   pub joined : (w : World) → RunsJoin w
+  pub beside : (w : World) → TerminalsPass w
+  pub only_reopens : (w : World) → OnlyReopensAfterCut w
   pub asks : (w : World) → AsksOnceHeard w
   pub hears_next : (w : World) → HearsTheNext w
   pub pulls : (w : World) → PullsInTurn w

@@ -11,6 +11,7 @@ pub mod Relay
 pub mod Pair
 pub mod Laws
 pub mod Tie
-pub mod Amid
+pub mod Words
+pub mod Course
 pub mod History
 pub mod Runs

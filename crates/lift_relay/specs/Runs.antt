@@ -29,7 +29,8 @@ use Rattle.lift_relay.specs.Relay.{AreParts, IsRejoined}
 use Rattle.lift_relay.specs.Pair.{AllocatorTurns, FlusherTurns, IsFlush}
 use Rattle.lift_relay.specs.Tie.{held_as, command_of, entries_of, Reads, HasRoom, ReceivesSent}
 use Rattle.lift_relay.specs.Tie.{Flushes, FlushFails}
-use Rattle.lift_relay.specs.History.{Words, RelayHistory}
+use Rattle.lift_relay.specs.Words.{Words}
+use Rattle.lift_relay.specs.History.{RelayHistory}
 
 -- each ask of a terminal was taken
 abbrev pub AllTaken : List Command → List ClerkPlace → Type 0

@@ -13,8 +13,7 @@ ghost use Rattle.lift_relay.specs.Tie.{NothingTakenIsNoEvent, TerminalsKeepParts
 ghost use Rattle.lift_relay.specs.Tie.{QueuedHaveRoom, ScansAreAllocations, NextsAreAllocations};
 ghost use Rattle.lift_relay.specs.Tie.{FlushesAreFlushes, FailedFlushesAreFailures};
 ghost use Rattle.lift_relay.specs.Tie.{BrokenFlushesAreBroken};
-ghost use Rattle.lift_relay.specs.Amid.{TurnsAmidScans, TurnsJoin, FlushesAmidScans};
-ghost use Rattle.lift_relay.specs.Amid.{FailuresAmidScans, BrokenFlushesAmidScans};
+ghost use Rattle.lift_relay.specs.Course.{TurnsJoin, CoursesLeadOn};
 ghost use Rattle.lift_relay.specs.Tie.{CrashesOfPartsShow, CrashesInFlushesShow};
 ghost use Rattle.lift_relay.specs.Tie.{CrashesInFailuresShow};
 ghost use Rattle.lift_relay.specs.Runs.{RunsAreHistories, ScansGoOn, FlushesGoOn, TurnsLead};
@@ -22,7 +21,10 @@ ghost use Rattle.lift_relay.specs.Runs.{ReceivedGrows, TurnsStand, TurnsRest, Sp
 ghost use Rattle.lift_relay.specs.Runs.{JoinedGoOn, CutsGoOn, CutsInTurnsGoOn, CutsInFailuresGoOn};
 ghost use Rattle.lift_relay.specs.History.{RelayHistoriesAreRuns, RejoiningsGoOn};
 ghost use Rattle.lift_relay.specs.History.{RelayCrashesShowGiven, RelayCrashesInTurnsShowGiven};
-ghost use Rattle.lift_relay.specs.History.{RelayCrashesInFailuresShowGiven};
+ghost use Rattle.lift_relay.specs.History.{RelayCrashesInFailuresShowGiven, CoursesEnd};
+ghost use Rattle.lift_relay.specs.History.{RelayCrashesAmidShowGiven};
+ghost use Rattle.lift_relay.specs.History.{RelayCrashesInTurnsAmidShowGiven};
+ghost use Rattle.lift_relay.specs.History.{RelayCrashesInFailuresAmidShowGiven};
 
 use crate::flusher::{FlushCounts, Flusher};
 use lift_clerk::{crashes_are_the_machines, histories_are_runs};
@@ -57,9 +59,10 @@ fn relay_laws()
 /// desk's rule what was taken was asked, and by the line's what was received was sent: a scan is
 /// the machine's, and its batch joins the queue; a flusher's turn makes the first batch of the
 /// queue safe and answers its commands, or the device fails it, or it answers Unknown after a
-/// fault; and so it is wherever a flusher's turn, or several, stand amid a scan that took
-/// something. Whatever has happened so, each image that a crash may leave, also at any moment of a
-/// flusher's turn, reads as the register of the safe entries or of these with the batch, holds
+/// fault. And so it is however the turns of both fall together: a flusher's turn goes on over as
+/// many scans as it takes, and begins and ends anywhere among their looks, and terminals ask and
+/// hear in between. Whatever has happened so, each image that a crash may leave, also at any moment
+/// of a flusher's turn, reads as the register of the safe entries or of these with the batch, holds
 /// every entry that was acknowledged, and still names the car of each letter.
 pub fn relays_are_the_machines<D: Disk, P: Policy>()
     ensures split { SplitsAreNoEvents D P }
@@ -76,11 +79,8 @@ pub fn relays_are_the_machines<D: Disk, P: Policy>()
     ensures flushes { FlushesAreFlushes D P }
     ensures failures { FailedFlushesAreFailures D P }
     ensures broken { BrokenFlushesAreBroken D P }
-    ensures turns_amid { (policy : P) → TurnsAmidScans D P (P.chooses policy) }
     ensures turns_join { TurnsJoin D P }
-    ensures amid { (policy : P) → FlushesAmidScans D P (P.chooses policy) }
-    ensures amid_failed { (policy : P) → FailuresAmidScans D P (P.chooses policy) }
-    ensures amid_broken { (policy : P) → BrokenFlushesAmidScans D P (P.chooses policy) }
+    ensures courses { CoursesLeadOn D P P.chooses }
     ensures crashes { CrashesOfPartsShow D P }
     ensures within { CrashesInFlushesShow D P }
     ensures within_failed { CrashesInFailuresShow D P }
@@ -89,6 +89,10 @@ pub fn relays_are_the_machines<D: Disk, P: Policy>()
     ensures shown { RelayCrashesShowGiven D P P.chooses }
     ensures shown_within { RelayCrashesInTurnsShowGiven D P P.chooses }
     ensures shown_within_failed { RelayCrashesInFailuresShowGiven D P P.chooses }
+    ensures ended { CoursesEnd D P P.chooses }
+    ensures shown_amid { RelayCrashesAmidShowGiven D P P.chooses }
+    ensures shown_amid_turns { RelayCrashesInTurnsAmidShowGiven D P P.chooses }
+    ensures shown_amid_failures { RelayCrashesInFailuresAmidShowGiven D P P.chooses }
 {
     policies_are_covered::<P>();
     relay_laws();

@@ -1,6 +1,7 @@
 use Rattle.lift_relay.proofs.Tied.{splits_are_no_events, rejoinings, full_turns, empty_turns, sendings, tellings}
 use Rattle.lift_relay.proofs.TiedScan.{have_room, nothing_taken}
-use Rattle.lift_relay.proofs.Amid.{turns_amid_scans, turns_join, flushes_amid_scans, failures_amid_scans, broken_amid_scans}
+use Rattle.lift_relay.proofs.CourseLeads.{turns_join, courses_lead_on}
+use Rattle.lift_relay.proofs.CourseEnds.{courses_end, crashes_amid, crashes_in_turns_amid, crashes_in_failures_amid}
 use Rattle.lift_relay.proofs.TiedTerminals.{terminals_keep_parts}
 use Rattle.lift_relay.proofs.TiedTake.{scans_are_allocations, nexts_are_allocations}
 use Rattle.lift_relay.proofs.TiedFlush.{flushes_are_flushes, failed_flushes, broken_flushes_are_broken}
@@ -50,20 +51,11 @@ returns-clause-failures g c = failed_flushes c.relay_laws.ensures
 pub returns-clause-broken : goal.returns-clause-broken
 returns-clause-broken g c = broken_flushes_are_broken c.relay_laws.ensures
 
-pub returns-clause-turns_amid : goal.returns-clause-turns_amid
-returns-clause-turns_amid g c policy = turns_amid_scans c.relay_laws.ensures (g.P.Policy.chooses policy) (c.policies_are_covered.ensures.runs policy)
-
 pub returns-clause-turns_join : goal.returns-clause-turns_join
 returns-clause-turns_join g c = turns_join
 
-pub returns-clause-amid : goal.returns-clause-amid
-returns-clause-amid g c policy = flushes_amid_scans c.relay_laws.ensures (g.P.Policy.chooses policy) (c.policies_are_covered.ensures.runs policy)
-
-pub returns-clause-amid_failed : goal.returns-clause-amid_failed
-returns-clause-amid_failed g c policy = failures_amid_scans c.relay_laws.ensures (g.P.Policy.chooses policy) (c.policies_are_covered.ensures.runs policy)
-
-pub returns-clause-amid_broken : goal.returns-clause-amid_broken
-returns-clause-amid_broken g c policy = broken_amid_scans c.relay_laws.ensures (g.P.Policy.chooses policy) (c.policies_are_covered.ensures.runs policy)
+pub returns-clause-courses : goal.returns-clause-courses
+returns-clause-courses g c = courses_lead_on c.relay_laws.ensures g.P.Policy.chooses c.policies_are_covered.ensures.runs
 
 pub returns-clause-crashes : goal.returns-clause-crashes
 returns-clause-crashes g c = crashes_of_parts c.relay_laws.ensures
@@ -88,3 +80,15 @@ returns-clause-shown_within g c = crashes_in_turns c.relay_laws.ensures g.P.Poli
 
 pub returns-clause-shown_within_failed : goal.returns-clause-shown_within_failed
 returns-clause-shown_within_failed g c = crashes_in_failing_turns c.relay_laws.ensures g.P.Policy.chooses c.policies_are_covered.ensures.runs
+
+pub returns-clause-ended : goal.returns-clause-ended
+returns-clause-ended g c = courses_end g.P.Policy.chooses
+
+pub returns-clause-shown_amid : goal.returns-clause-shown_amid
+returns-clause-shown_amid g c = crashes_amid c.relay_laws.ensures g.P.Policy.chooses c.policies_are_covered.ensures.runs
+
+pub returns-clause-shown_amid_turns : goal.returns-clause-shown_amid_turns
+returns-clause-shown_amid_turns g c = crashes_in_turns_amid c.relay_laws.ensures g.P.Policy.chooses c.policies_are_covered.ensures.runs
+
+pub returns-clause-shown_amid_failures : goal.returns-clause-shown_amid_failures
+returns-clause-shown_amid_failures g c = crashes_in_failures_amid c.relay_laws.ensures g.P.Policy.chooses c.policies_are_covered.ensures.runs
