@@ -92,7 +92,7 @@ pub fn told_asks_are_found<D: Disk, P: Policy>()
     ensures known { TellsMakeKnown D P }
 {}
 
-// One turn, with what its contract gives of the machine's turns.
+/// One turn, with what its contract gives of the machine's turns.
 pub fn turn_once<D: Disk, P: Policy + Drop>(
     clerk: &mut Clerk<'_, '_, D, P>,
 ) -> Result<Counts, KeeperFault>
@@ -116,7 +116,7 @@ pub fn turn_once<D: Disk, P: Policy + Drop>(
     clerk.turn()
 }
 
-// One reopening likewise.
+/// One reopening likewise.
 pub fn reopen_once<D: Disk, P: Policy + Drop>(
     clerk: &mut Clerk<'_, '_, D, P>,
 ) -> Result<(), KeeperFault>

@@ -15,6 +15,8 @@ use crate::{Disk, DiskFault, Outcome};
 use lift_base::{Memory, ProofCount};
 use std::alloc::Global;
 
+/// A disk in memory, no call of which fails by itself: a read gives what was written last. It keeps
+/// what was synced apart, so that a crash can be tried; proofs read which calls were made.
 #[derive(Drop)]
 pub struct MemDisk {
     history: ProofHistory,

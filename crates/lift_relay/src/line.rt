@@ -38,6 +38,7 @@ pub struct EndView {
     pub turns_behind: LinkedList<u64>,
 }
 
+/// What holds of the line between the two parts: batches come in the order in which they were sent.
 pub struct InOrder;
 
 impl Protocol<Batch, EndView> for InOrder {

@@ -63,6 +63,7 @@ pub struct Lines<'a> {
 }
 
 impl<'a> Lines<'a> {
+    /// All lines of this text.
     pub fn new(text: &'a str) -> Self
         ensures text { result.rest.now ≡ text.now }
         ensures count { result.count ≡ 0 }

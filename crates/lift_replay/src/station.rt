@@ -28,6 +28,7 @@ use std::alloc::Global;
 /// The sectors in each half of a script's disk.
 const HALF: u32 = 64;
 
+/// What a script plays on: a building with its terminals and the clerk, over a disk in memory.
 #[derive(Drop)]
 pub struct Station<'d, 'b> {
     pub building: &'b Building,

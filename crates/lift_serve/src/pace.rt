@@ -21,6 +21,7 @@ pub struct Bells {
 }
 
 impl Bells {
+    /// None is rung.
     pub fn new() -> Bells {
         Bells {
             asks: Parker::new(),

@@ -58,8 +58,10 @@ pub enum Phase {
     GateWritten,
 }
 
+/// Whether the clerk can work.
 #[derive(Clone, Copy, PartialEq, Eq)]
 pub enum Power {
+    /// It can.
     Running,
     /// A device call failed since the last opening.
     Broken,
@@ -88,18 +90,21 @@ impl Power {
     ghost use Rattle.std.specs.Prelude.{◌≡◌};
     ghost use Rattle.lift_world.specs.World.{is_running, is_broken, is_off};
 
+    /// Whether the clerk can work.
     pub fn is_running(&self) -> bool
         ensures { result ≡ is_running self.now }
     {
         matches!(self, Power::Running)
     }
 
+    /// Whether a device call failed since the last opening.
     pub fn is_broken(&self) -> bool
         ensures { result ≡ is_broken self.now }
     {
         matches!(self, Power::Broken)
     }
 
+    /// Whether the power was cut, and no recovery has ended since.
     pub fn is_off(&self) -> bool
         ensures { result ≡ is_off self.now }
     {
@@ -111,18 +116,21 @@ impl Phase {
     ghost use Rattle.std.specs.Prelude.{◌≡◌};
     ghost use Rattle.lift_world.specs.World.{is_idle, is_synced, is_gate_written};
 
+    /// Whether no batch is in flight.
     pub fn is_idle(&self) -> bool
         ensures { result ≡ is_idle self.now }
     {
         matches!(self, Phase::Idle)
     }
 
+    /// Whether the batch's body and the gate behind it are synced.
     pub fn is_synced(&self) -> bool
         ensures { result ≡ is_synced self.now }
     {
         matches!(self, Phase::Synced)
     }
 
+    /// Whether the batch's gate is written.
     pub fn is_gate_written(&self) -> bool
         ensures { result ≡ is_gate_written self.now }
     {

@@ -10,24 +10,28 @@ use crate::event::{Answer, Taken};
 use lift_base::{Memory, Terminal};
 use lift_policy::Command;
 
+/// How many of these the terminal asked.
 pub fn count_asks(asked: &[Command], terminal: Terminal) -> usize
     ensures { result ≡ count_by (asks terminal) asked.now }
 {
     asked.iter().filter(|c| c.terminal == terminal).count()
 }
 
+/// How many of these are for the terminal.
 pub fn count_answers(answers: &[Answer], terminal: Terminal) -> usize
     ensures { result ≡ count_by (is_answer_to terminal) answers.now }
 {
     answers.iter().filter(|a| a.terminal == terminal).count()
 }
 
+/// Whether a command of the terminal is among these.
 pub fn is_taken(taken: &[Taken], terminal: Terminal) -> bool
     ensures { result ≡ list_any (is_taken_of terminal) taken.now }
 {
     taken.iter().any(|c| c.terminal == terminal)
 }
 
+/// The last of these that the terminal asked.
 pub fn last_ask(asked: &[Command], terminal: Terminal) -> Option<Command>
     ensures { result ≡ find (asks terminal) (reverse asked.now) }
 {
@@ -40,6 +44,7 @@ pub fn last_ask(asked: &[Command], terminal: Terminal) -> Option<Command>
     last
 }
 
+/// The first of these that is of the terminal.
 pub fn taken_of(taken: &[Taken], terminal: Terminal) -> Option<Taken>
     ensures { result ≡ find (is_taken_of terminal) taken.now }
 {
@@ -67,6 +72,7 @@ pub fn answer_after(answers: &[Answer], terminal: Terminal, heard: usize) -> Opt
     None
 }
 
+/// Those of the terminal go, the others stay in order.
 pub fn drop_taken(taken: &mut Vec<Taken>, terminal: Terminal)
     ensures { taken.new.items ≡ others terminal taken.old.items }
 {

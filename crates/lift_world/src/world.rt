@@ -214,6 +214,7 @@ impl<'b> World<'b> {
         self.phase
     }
 
+    /// Whether the clerk can work.
     pub fn power(&self) -> Power
         ensures { result ≡ self.now.power }
     {
