@@ -1,6 +1,6 @@
 pub mod StopList
 pub mod Parts
 pub mod Insertion
-pub mod Tally
+pub mod Marks
 pub mod Schedule
 pub mod lemmas

@@ -1,11 +1,10 @@
 -- What a schedule stands for.
-use Rattle.std.specs.Prelude.{◌≤◌, ℕ, List, All, length}
+use Rattle.std.specs.Prelude.{◌≡◌, ◌≤◌, ◌*◌, List, All, length}
 use Rattle.lift_base.specs.declared.travel.Halt.{Halt}
 use Rattle.lift_base.specs.declared.travel.Position.{Position}
 use Rattle.lift_base.specs.declared.travel.Stop.{Stop}
 use Rattle.lift_base.specs.declared.history.Row.{Row}
-use Rattle.lift_stops.specs.StopList.{HasFloors}
-use Rattle.lift_stops.specs.Tally.{IsTally, legs_at}
+use Rattle.lift_stops.specs.StopList.{HasFloors, stop_list}
 
 -- where a car is, and its open calls
 pub record ScheduleState : Type 0 where
@@ -16,10 +15,10 @@ pub record ScheduleState : Type 0 where
 abbrev pub position_after : Stop → Position
 position_after stop = record { floor = stop.floor; dir = stop.dir }
 
--- The halts are those of the calls' legs, in order, and beside each is the number of its legs. Each
--- leg is a floor that a building may have.
-pub record IsPlanned (position : Position) (rows : List Row) (halts : List Halt)
-    (counts : List ℕ) : Type 0 where
-  pub tally : IsTally position.dir (legs_at position rows) halts counts
+-- The halts are the stop list of the calls, at most two for each. Each leg is a floor that a
+-- building may have.
+pub record IsPlanned (position : Position) (rows : List Row) (halts : List Halt) : Type 0 where
+  pub listed : halts ≡ stop_list rows position
+  pub short : length halts ≤ 2 * length rows
   pub few : length rows ≤ 33
   pub floors : All HasFloors rows

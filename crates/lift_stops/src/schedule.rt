@@ -6,11 +6,10 @@ ghost use Rattle.lift_base.specs.declared.history.Row.{Row as RowValue};
 ghost use Rattle.lift_base.specs.History.{row_after};
 ghost use Rattle.lift_stops.specs.Parts.{AllDiffer};
 ghost use Rattle.lift_stops.specs.StopList.{StopsInOrder, stop_list, next_stop};
-ghost use Rattle.lift_stops.specs.Tally.{IsTally, legs_at};
 ghost use Rattle.lift_stops.specs.Schedule.{position_after};
 
+use crate::marks::write_halts;
 use crate::stops::{insert_row, stop_of};
-use crate::tally::{Tally, add_row, move_on, pass_stop, tally_of};
 use arrayvec::ArrayVec;
 use lift_base::{Halt, Position, Row, Stop};
 use std::marker::Model;
@@ -39,49 +38,13 @@ fn rows_after(rows: &[Row], stop: &Stop) -> ArrayVec<Row, 33>
     left
 }
 
-/// The tally after a stop. A car that turns passes its calls in another order, so that its tally is
-/// made anew.
-fn tally_served(tally: &mut Tally, here: &Position, rows: &[Row], stop: &Stop, left: &[Row])
-    requires few { length rows.now ≤ 33 }
-    requires left { left.now ≡ flat_map (row_after stop.now) rows.now }
-    requires tally { IsTally here.now.dir
-        (legs_at here.now rows.now) tally.old.halts.items tally.old.counts.items }
-    ensures { IsTally stop.now.dir (legs_at (position_after stop.now) left.now)
-        tally.new.halts.items tally.new.counts.items }
-{
-    let there = Position {
-        floor: stop.floor,
-        dir: stop.dir,
-    };
-    if stop.dir == here.dir {
-        pass_stop(tally, here, &there, rows, stop);
-    } else {
-        *tally = tally_of(&there, left);
-    }
-}
-
-/// The tally at another position.
-fn tally_moved(tally: &mut Tally, here: &Position, there: &Position, rows: &[Row])
-    requires few { length rows.now ≤ 33 }
-    requires tally { IsTally here.now.dir
-        (legs_at here.now rows.now) tally.old.halts.items tally.old.counts.items }
-    ensures { IsTally there.now.dir (legs_at there.now rows.now) tally.new.halts.items
-        tally.new.counts.items }
-{
-    if there.dir == here.dir {
-        move_on(tally, here, there, rows);
-    } else {
-        *tally = tally_of(there, rows);
-    }
-}
-
 /// Where a car is, its open calls, and the halts that it still has to make for them. After any
 /// changes these are the halts of the stop list that is made from nothing.
 #[derive(Drop)]
 pub struct Schedule {
     position: Position,
     rows: ArrayVec<Row, 33>,
-    tally: Tally,
+    halts: ArrayVec<Halt, 66>,
 }
 
 impl Model for Schedule {
@@ -91,8 +54,7 @@ impl Model for Schedule {
 
     ghost view = { λ s. record { position = s.position; rows = s.rows.items } };
 
-    ghost invariant = { λ s.
-        IsPlanned s.position s.rows.items s.tally.halts.items s.tally.counts.items };
+    ghost invariant = { λ s. IsPlanned s.position s.rows.items s.halts.items };
 }
 
 impl Schedule {
@@ -103,7 +65,7 @@ impl Schedule {
         Schedule {
             position,
             rows: ArrayVec::new(),
-            tally: Tally::new(),
+            halts: ArrayVec::new(),
         }
     }
 
@@ -112,7 +74,7 @@ impl Schedule {
         requires { length self.old.rows ≤ 32 }
         ensures { self.new ≡ record self.old { rows = self.old.rows ++ row ∷ [] } }
     {
-        add_row(&mut self.tally, &self.position, &row);
+        insert_row(&mut self.halts, &self.position, &row);
         self.rows.push(row);
     }
 
@@ -142,11 +104,11 @@ impl Schedule {
         } }
     {
         let left = rows_after(&self.rows, stop);
-        tally_served(&mut self.tally, &self.position, &self.rows, stop, &left);
         self.position = Position {
             floor: stop.floor,
             dir: stop.dir,
         };
+        write_halts(&mut self.halts, &left, &self.position);
         self.rows = left;
     }
 
@@ -155,7 +117,7 @@ impl Schedule {
         ensures { self.new ≡ record self.old { position = position } }
     {
         let position = &position;
-        tally_moved(&mut self.tally, &self.position, position, &self.rows);
+        write_halts(&mut self.halts, &self.rows, position);
         self.position = *position;
     }
 
@@ -171,7 +133,7 @@ impl Schedule {
         ensures in_order { (row : RowValue) → Contains self.now.rows row → row.from ≢ row.to
             → StopsInOrder self.now.rows row }
     {
-        self.tally.halts()
+        self.halts.as_slice()
     }
 
     /// The halts with one call more.
@@ -179,7 +141,7 @@ impl Schedule {
         requires { length self.now.rows ≤ 32 }
         ensures { result.items ≡ stop_list (self.now.rows ++ row.now ∷ []) self.now.position }
     {
-        let mut halts = copy_of(&self.tally.halts);
+        let mut halts = copy_of(&self.halts);
         insert_row(&mut halts, &self.position, row);
         halts
     }

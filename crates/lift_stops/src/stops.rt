@@ -9,6 +9,7 @@ ghost use Rattle.lift_stops.specs.Parts.{AllDiffer};
 ghost use Rattle.lift_stops.specs.StopList.{HasFloors, StopsInOrder, is_ahead, pass_of, dir_in};
 ghost use Rattle.lift_stops.specs.StopList.{stop_list, stop_of, next_stop};
 
+use crate::marks::write_halts;
 use arrayvec::ArrayVec;
 use lift_base::{Dir, Floor, Halt, Pass, Position, Row, Stop};
 
@@ -134,9 +135,7 @@ pub fn stop_list(rows: &[Row], position: Position) -> ArrayVec<Halt, 66>
         → StopsInOrder rows.now row }
 {
     let mut halts = ArrayVec::new();
-    for row in rows {
-        insert_row(&mut halts, &position, row);
-    }
+    write_halts(&mut halts, rows, &position);
     halts
 }
 

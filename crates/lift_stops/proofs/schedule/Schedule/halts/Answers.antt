@@ -5,21 +5,16 @@ use Rattle.lift_stops.specs.Parts.{AllDiffer}
 use Rattle.lift_stops.specs.Schedule.{ScheduleState}
 use Rattle.lift_stops.specs.lemmas.Listed.{stops_differ}
 use Rattle.lift_stops.specs.lemmas.Halts.{stop_list-own}
-use Rattle.lift_stops.proofs.Passing.{tally-stops}
 use Rattle.lift_stops.proofs.schedule.Schedule.halts.Goals as goal
 
 pub returns-clause-halts : goal.returns-clause-halts
 returns-clause-halts c =
-    let fields = c.self.inside in
-    c.halts.ensures.halts
-    ∙ tally-stops fields.position fields.rows.items fields.tally.halts.items fields.tally.counts.items c.self.invariant.tally
-    ∙ ap (λ (s : ScheduleState). stop_list s.rows s.position) c.self.view_is
+    c.as_slice.ensures.value ∙ c.self.invariant.listed ∙ ap (λ (s : ScheduleState). stop_list s.rows s.position) c.self.view_is
 
 pub returns-clause-differ : goal.returns-clause-differ
 returns-clause-differ c =
     let fields = c.self.inside in
-    let listed = c.halts.ensures.halts ∙ tally-stops fields.position fields.rows.items fields.tally.halts.items fields.tally.counts.items c.self.invariant.tally in
-    subst AllDiffer (sym listed) (stops_differ fields.rows.items fields.position)
+    subst AllDiffer (sym (c.as_slice.ensures.value ∙ c.self.invariant.listed)) (stops_differ fields.rows.items fields.position)
 
 pub returns-clause-in_order : goal.returns-clause-in_order
 returns-clause-in_order c row member apart position =

@@ -1,22 +1,24 @@
-use Rattle.std.proofs.Common.{◌≡◌, ◌≤◌, arith, ap, ◌∙◌, List, length}
-use Rattle.std.specs.List.{All, flat_map}
+use Rattle.std.proofs.Common.{arith, ap, ◌∙◌, List, length}
+use Rattle.std.specs.List.{flat_map}
 use Rattle.lift_base.specs.declared.history.Row.{Row}
 use Rattle.lift_base.specs.History.{row_after}
-use Rattle.lift_stops.specs.StopList.{HasFloors}
-use Rattle.lift_stops.specs.Tally.{IsTally, legs_at}
+use Rattle.lift_stops.specs.StopList.{stop_list}
 use Rattle.lift_stops.specs.Schedule.{position_after}
-use Rattle.lift_stops.proofs.Passing.{floors-after, length-after}
+use Rattle.lift_stops.proofs.Passing.{length-after}
 use Rattle.lift_stops.proofs.schedule.Schedule.serve_rows.Goals as goal
 
 pub invariant_of-self : goal.invariant_of-self
 invariant_of-self c =
     let stop = c.args.stop.now in
     let rows : List Row = c.self.inside.rows.items in
-    let left : c.rows_after-left.result.items ≡ flat_map (row_after stop) rows =
-    c.rows_after-left.ensures ∙ ap (λ (rs : List Row). flat_map (row_after stop) rs) c.deref.ensures.0 in
-    let before = c.self.invariant.few in
+    let left = ap (λ (rs : List Row). length rs) (c.rows_after-left.ensures ∙ ap (λ (rs : List Row). flat_map (row_after stop) rs) c.deref.ensures.0) in
+    let same = c.deref-2.ensures.0 in
+    let few = c.self.invariant.few in
+    let lent = ap (λ (rs : List Row). length rs) same in
+    let count = c.write_halts.ensures.count in
     record {
-      tally = rw c.deref-3.ensures.0 at c.tally_served.ensures;
-      few = rw left (let short = length-after stop rows in omega (arith, short, before));
-      floors = rw left (floors-after stop rows c.self.invariant.floors);
+      listed = c.write_halts.ensures.halts ∙ ap (λ (rs : List Row). stop_list rs (position_after stop)) same;
+      short = omega (arith, count, lent);
+      few = omega (arith, left, few, length-after stop rows);
+      floors = rw same at c.write_halts.ensures.floors;
     }

@@ -1,0 +1,165 @@
+-- Bits of a set, and the halts that they stand for.
+use Rattle.std.proofs.Common.{◌≡◌, ◌≢◌, ℕ, zero, suc, ◌+◌, ◌*◌, ◌^◌, ◌%◌, ◌<◌, ◌≤◌, ◌==◌, ◌||◌, Bool, true, false, cond, List, [], ◌∷◌, ◌++◌, map, filter, length, refl, sym, ap, subst, ◌∙◌, arith, inl, inr}
+use Rattle.std.specs.Int.{bit_at, bit_not, trailing_zeros, w64}
+use Rattle.std.specs.Int.RustNames.{bit_or}
+use lib.Bits.{bit_and}
+use Rattle.std.specs.List.{range_with_len}
+use Rattle.std.proofs.Math.Nat.{eq-or-lt_of_le}
+use Rattle.std.proofs.lemmas.Bool.{cases_eq, eq-eqb, ne_eqb}
+use Rattle.std.proofs.lemmas.Nat.Bits.{bit_at-zero, bit_at-trailing_zeros, bit_at_set_same, bit_at_set_other, bit_at_clear_same, bit_at_clear_other}
+use Rattle.std.proofs.lemmas.List.Elements.{filter_agree, filter-append}
+use Rattle.lift_base.specs.declared.travel.Dir.{Dir}
+use Rattle.lift_base.specs.declared.travel.Dir.TheVariants.{Up, Down}
+use Rattle.lift_base.specs.declared.travel.Pass.{Pass}
+use Rattle.lift_base.specs.declared.travel.Pass.TheVariants.{First, Second, Third}
+use Rattle.lift_base.specs.declared.travel.Position.{Position}
+use Rattle.lift_base.specs.declared.travel.Halt.{Halt}
+use Rattle.lift_base.specs.declared.history.Row.{Row}
+use Rattle.lift_stops.specs.declared.marks.Marks.{Marks}
+use Rattle.lift_stops.specs.Insertion.{floor_rank}
+use Rattle.lift_stops.specs.StopList.{HasFloors, legs_of, pass_of, dir_in, is_needed, floors_along, halts_in, stop_list}
+use Rattle.lift_stops.specs.Marks.{has_bit, places, marked, halt_on, halts_marked, all_marked, set_in, HasHalts}
+use Rattle.lift_stops.specs.lemmas.Insertion.{IsIn, filter-agree}
+use Rattle.lift_stops.specs.lemmas.Halts.{halt_at, or_false, stop_list-push, length-put_legs}
+
+-- ---- the lowest bit of a set
+
+-- above a place, tests that agree but there keep the same
+keeps_above : (p q : ℕ → Bool) (k a n : ℕ) → k < a → ((i : ℕ) → i < a + n → i ≢ k → q i ≡ p i) → filter p (range_with_len a n) ≡ filter q (range_with_len a n)
+keeps_above p q k a zero above agree = refl
+keeps_above p q k a (suc n) above agree =
+    rw (agree a (omega arith) (λ same. omega (arith, same, above)), keeps_above p q k (a + 1) n (omega (arith, above)) (λ i below. agree i (omega (arith, below)))) refl
+
+-- the first place that passes a test, and those that pass it behind
+first_kept : (p q : ℕ → Bool) (k a n : ℕ) → a ≤ k → k < a + n → p k ≡ true → q k ≡ false → ((i : ℕ) → i < k → p i ≡ false) → ((i : ℕ) → i < a + n → i ≢ k → q i ≡ p i)
+    → filter p (range_with_len a n) ≡ k ∷ filter q (range_with_len a n)
+first_kept p q k a zero low high kept passed none agree = absurd (omega (arith, low, high))
+first_kept p q k a (suc n) low high kept passed none agree = elim (eq-or-lt_of_le low) [
+  | inl here ↦ rw (here, kept, passed) (ap (λ (rest : List ℕ). k ∷ rest) (keeps_above p q k (k + 1) n (omega arith) (λ i below. agree i (omega (arith, below, here)))))
+  | inr later ↦
+      let skips : p a ≡ false = none a later in
+      let skips_too : q a ≡ false = agree a (omega arith) (λ same. omega (arith, same, later)) ∙ skips in
+      rw (skips, skips_too) (first_kept p q k (a + 1) n (omega (arith, later)) (omega (arith, high)) kept passed none (λ i below. agree i (omega (arith, below))))
+]
+
+first_among : (xs : List ℕ) (n : ℕ) → xs ≡ range_with_len 0 n → (p q : ℕ → Bool) (k : ℕ) → k < n → p k ≡ true → q k ≡ false → ((i : ℕ) → i < k → p i ≡ false) → ((i : ℕ) → i < n → i ≢ k → q i ≡ p i)
+    → filter p xs ≡ k ∷ filter q xs
+first_among xs n is p q k within kept passed none agree =
+    rw is (first_kept p q k 0 n (omega arith) (omega (arith, within)) kept passed none (λ i below. agree i (omega (arith, below))))
+
+places-are : places ≡ range_with_len 0 64
+unfolding places
+places-are = refl
+
+set_bit : (b : ℕ) → b ≡ 1 → (b == 1) ≡ true
+set_bit b is = rw is refl
+
+unset_bit : (b : ℕ) → b ≡ 0 → (b == 1) ≡ false
+unset_bit b is = rw is refl
+
+-- a set without its lowest bit
+abbrev pub cleared : ℕ → ℕ
+cleared set = bit_and set (bit_not w64 (1 * 2 ^ trailing_zeros w64 set % 2 ^ 64))
+
+pub marked-lowest : (set : ℕ) → 0 < set → set < 2 ^ 64 → marked set ≡ trailing_zeros w64 set ∷ marked (cleared set)
+marked-lowest set some fits =
+    let lowest = bit_at-trailing_zeros w64 set some fits in
+    let k : ℕ = trailing_zeros w64 set in
+    first_among places 64 places-are (has_bit set) (has_bit (cleared set)) k lowest.0
+    (set_bit (bit_at set k) lowest.1)
+    (unset_bit (bit_at (cleared set) k) (bit_at_clear_same w64 set k lowest.0))
+    (λ i below. unset_bit (bit_at set i) (lowest.2 i below))
+    (λ i below other. ap (λ b. b == 1) (bit_at_clear_other w64 set k lowest.0 i below other))
+
+keeps_none : (xs : List ℕ) → filter (λ _. false) xs ≡ []
+keeps_none [] = refl
+keeps_none (x ∷ xs) = keeps_none xs
+
+pub marked-none : marked 0 ≡ []
+marked-none = filter_agree (has_bit 0) (λ _. false) (λ i. unset_bit (bit_at 0 i) (bit_at-zero i)) places ∙ keeps_none places
+
+-- ---- a floor joins a set
+
+same_place : (dir : Dir) (floor place : ℕ) → floor < 64 → place < 64 → floor_rank dir floor ≡ place → floor ≡ floor_rank dir place
+same_place Up floor place below_floor below_place same = same
+same_place Down floor place below_floor below_place same = omega (arith, below_floor, below_place, same)
+
+other_place : (dir : Dir) (floor place : ℕ) → floor < 64 → place < 64 → floor ≡ floor_rank dir place → floor_rank dir floor ≡ place
+other_place Up floor place below_floor below_place same = same
+other_place Down floor place below_floor below_place same = omega (arith, below_floor, below_place, same)
+
+or_true : (b : Bool) → true ≡ (b || true)
+or_true true = refl
+or_true false = refl
+
+-- the bit of a floor that joins, and those that stay
+pub bit_joins : (set : ℕ) (dir : Dir) (floor place k : ℕ) → floor < 64 → place < 64 → k ≡ floor_rank dir floor → k < 64
+    → has_bit (bit_or set (1 * 2 ^ k % 2 ^ 64)) place ≡ (has_bit set place || floor == floor_rank dir place)
+bit_joins set dir floor place k below_floor below_place is below = elim (cases_eq k place) [
+  | inl here ↦
+      let same : floor ≡ floor_rank dir place = same_place dir floor place below_floor below_place (sym is ∙ here) in
+      let bit : has_bit (bit_or set (1 * 2 ^ k % 2 ^ 64)) place ≡ true = ap (λ (i : ℕ). has_bit (bit_or set (1 * 2 ^ k % 2 ^ 64)) i) (sym here) ∙ set_bit (bit_at (bit_or set (1 * 2 ^ k % 2 ^ 64)) k) (bit_at_set_same w64 set k below) in
+      bit ∙ or_true (has_bit set place) ∙ ap (λ b. has_bit set place || b) (sym (eq-eqb floor (floor_rank dir place) same))
+  | inr other ↦
+      let differs : (floor == floor_rank dir place) ≡ false = ne_eqb floor (floor_rank dir place) (λ same. other (is ∙ other_place dir floor place below_floor below_place same)) in
+      let bit : has_bit (bit_or set (1 * 2 ^ k % 2 ^ 64)) place ≡ has_bit set place = ap (λ b. b == 1) (bit_at_set_other w64 set k below place (λ same. other (sym same))) in
+      bit ∙ or_false (has_bit set place) ∙ ap (λ b. has_bit set place || b) (sym differs)
+]
+
+-- ---- the halts that are marked
+
+filter_map : {X Y : Type 0} (p : Y → Bool) (f : X → Y) (xs : List X) → filter p (map f xs) ≡ map f (filter (λ x. p (f x)) xs)
+filter_map p f [] = refl
+filter_map {X} {Y} p f (x ∷ xs) =
+    rw (filter_map p f xs) (elim (p (f x)) as (λ b. cond b (f x ∷ map f (filter (λ x. p (f x)) xs)) (map f (filter (λ x. p (f x)) xs)) ≡ map f (cond b (x ∷ filter (λ x. p (f x)) xs) (filter (λ x. p (f x)) xs))) [ true ↦ refl | false ↦ refl ])
+
+map_twice : {X Y Z : Type 0} (g : Y → Z) (f : X → Y) (xs : List X) → map g (map f xs) ≡ map (λ x. g (f x)) xs
+map_twice g f [] = refl
+map_twice g f (x ∷ xs) = rw (map_twice g f xs) refl
+
+along : (dir : Dir) → floors_along dir ≡ map (floor_rank dir) places
+unfolding places
+along Up = refl
+along Down = refl
+
+place-below : (k a n : ℕ) → IsIn k (range_with_len a n) → k < a + n
+place-below k a zero member = absurd member
+place-below k a (suc n) (inl same) = omega (arith, same)
+place-below k a (suc n) (inr later) = omega (arith, place-below k (a + 1) n later)
+
+places-below : (k : ℕ) → IsIn k places → k < 64
+places-below k member = omega (arith, place-below k 0 64 (subst (λ (xs : List ℕ). IsIn k xs) places-are member))
+
+pass_marked : (rows : List Row) (position : Position) (marks : Marks) (pass : Pass) → HasHalts rows position marks
+    → halts_marked pass (dir_in position.dir pass) (set_in marks pass) ≡ filter (is_needed rows position) (halts_in position.dir pass)
+pass_marked rows position marks pass has =
+    let dir : Dir = dir_in position.dir pass in
+    let needed : ℕ → Bool = λ place. is_needed rows position (halt_on pass dir place) in
+    let agree : filter (has_bit (set_in marks pass)) places ≡ filter needed places = filter-agree (has_bit (set_in marks pass)) needed places (λ place member. has.needed pass place (places-below place member)) in
+    let all : halts_in position.dir pass ≡ map (halt_on pass dir) places = ap (map (halt_at pass)) (along dir) ∙ map_twice (halt_at pass) (floor_rank dir) places in
+    ap (map (halt_on pass dir)) agree ∙ sym (filter_map (is_needed rows position) (halt_on pass dir) places) ∙ ap (filter (is_needed rows position)) (sym all)
+
+-- where the halts are marked that some call needs, they are the stop list
+pub marked-stops : (rows : List Row) (position : Position) (marks : Marks) → HasHalts rows position marks → all_marked marks position.dir ≡ stop_list rows position
+unfolding stop_list
+marked-stops rows position marks has =
+    let needed : Halt → Bool = is_needed rows position in
+    let one = halts_in position.dir First in
+    let two = halts_in position.dir Second in
+    let three = halts_in position.dir Third in
+    rw (pass_marked rows position marks First has, pass_marked rows position marks Second has, pass_marked rows position marks Third has, ← filter-append needed one two) (sym (filter-append needed (one ++ two) three))
+
+-- ---- how many halts
+
+few_legs : (row : Row) → length (legs_of row) ≤ 2
+few_legs row = either row.aboard row.from row.to
+  where
+    either : (aboard : Bool) (from to : ℕ) → length (cond aboard (to ∷ []) (from ∷ to ∷ [])) ≤ 2
+    either true from to = omega arith
+    either false from to = omega arith
+
+-- a call adds at most two halts
+pub length-push : (rows : List Row) (row : Row) (position : Position) → HasFloors row → length (stop_list (rows ++ row ∷ []) position) ≤ length (stop_list rows position) + 2
+length-push rows row position floors =
+    let same = ap (λ (halts : List Halt). length halts) (stop_list-push rows row position floors) in
+    omega (arith, same, length-put_legs position.dir (pass_of position row) (legs_of row) (stop_list rows position), few_legs row)

@@ -1,0 +1,52 @@
+-- The halts of a car as bits, a number for each pass.
+use Rattle.std.specs.Prelude.{◌≡◌, ℕ, ◌<◌, ◌==◌, Bool, List, ◌++◌, map, filter}
+use Rattle.std.specs.Int.{bit_at}
+use Rattle.std.specs.List.{range_with_len}
+use Rattle.lift_base.specs.Travel.{reverse_of}
+use Rattle.lift_base.specs.declared.travel.Dir.{Dir}
+use Rattle.lift_base.specs.declared.travel.Pass.{Pass}
+use Rattle.lift_base.specs.declared.travel.Pass.TheVariants.{First, Second, Third}
+use Rattle.lift_base.specs.declared.travel.Position.{Position}
+use Rattle.lift_base.specs.declared.travel.Halt.{Halt}
+use Rattle.lift_base.specs.declared.history.Row.{Row}
+use Rattle.lift_stops.specs.declared.marks.Marks.{Marks}
+use Rattle.lift_stops.specs.Insertion.{floor_rank}
+use Rattle.lift_stops.specs.StopList.{dir_in, is_needed}
+
+-- the bit at a place is set
+abbrev pub has_bit : ℕ → ℕ → Bool
+has_bit set place = bit_at set place == 1
+
+-- the places of a pass: how many floors a car that travels all of them reaches before
+unfoldable pub places : List ℕ
+places = range_with_len 0 64
+
+-- the places whose bits are set, in order
+abbrev pub marked : ℕ → List ℕ
+marked set = filter (has_bit set) places
+
+-- the halt at a place of a pass in this direction
+abbrev pub halt_on : Pass → Dir → ℕ → Halt
+halt_on pass dir place = record { pass = pass; floor = floor_rank dir place }
+
+-- the halts at these places
+abbrev pub halts_marked : Pass → Dir → ℕ → List Halt
+halts_marked pass dir set = map (halt_on pass dir) (marked set)
+
+-- the halts of all three passes of a car in this direction
+abbrev pub all_marked : Marks → Dir → List Halt
+all_marked marks dir =
+    halts_marked First dir marks.first
+    ++ halts_marked Second (reverse_of dir) marks.second ++ halts_marked Third dir marks.third
+
+-- the set of a pass
+abbrev pub set_in : Marks → Pass → ℕ
+set_in marks First = marks.first
+set_in marks Second = marks.second
+set_in marks Third = marks.third
+
+-- Those halts are marked that some call needs.
+pub record HasHalts (rows : List Row) (position : Position) (marks : Marks) : Type 0 where
+  pub needed : (pass : Pass) (place : ℕ) → place < 64
+      → has_bit (set_in marks pass) place
+      ≡ is_needed rows position (halt_on pass (dir_in position.dir pass) place)

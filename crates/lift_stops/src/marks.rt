@@ -1,0 +1,160 @@
+//! A car's halts made from its open calls, by sets of bits.
+
+ghost use Rattle.std.specs.Prelude.{◌≡◌, ℕ, ◌+◌, ◌*◌, ◌<◌, ◌≤◌, ◌==◌, ◌||◌, List, [], ◌∷◌, ◌++◌, All};
+ghost use Rattle.std.specs.Prelude.{length};
+ghost use Rattle.std.specs.List.{list_any};
+ghost use Rattle.lift_base.specs.History.{dir_of};
+ghost use Rattle.lift_base.specs.declared.travel.Position.{Position as PositionValue};
+ghost use Rattle.lift_base.specs.declared.history.Row.{Row as RowValue};
+ghost use Rattle.lift_stops.specs.Insertion.{floor_rank};
+ghost use Rattle.lift_stops.specs.StopList.{HasFloors, legs_of, stop_list};
+ghost use Rattle.lift_stops.specs.Marks.{HasHalts, has_bit, marked, halt_on, halts_marked};
+ghost use Rattle.lift_stops.specs.Marks.{all_marked};
+
+use crate::stops::pass_of;
+use arrayvec::ArrayVec;
+use lift_base::{Dir, Floor, Halt, Pass, Position, Row};
+
+/// The halts of a car, a set for each pass. Bit n of a set stands for the floor before which a car
+/// that travels all floors in the pass's direction reaches n others.
+#[derive(Clone, Copy)]
+struct Marks {
+    first: u64,
+    second: u64,
+    third: u64,
+}
+
+/// How many floors a car that travels all of them in this direction reaches before this one.
+fn place_of(dir: Dir, floor: Floor) -> u32
+    ensures place { result ≡ floor_rank dir floor }
+    ensures below { result < 64 }
+    ensures floor { floor < 64 }
+{
+    let number = u32::from(floor.get());
+    match dir {
+        Dir::Up => number,
+        Dir::Down => 63 - number,
+    }
+}
+
+/// The halt at a place of a pass in this direction.
+fn halt_on(pass: Pass, dir: Dir, place: u32) -> Halt
+    requires { place < 64 }
+    ensures { result ≡ halt_on pass dir place }
+{
+    let number = match dir {
+        Dir::Up => place as u8,
+        Dir::Down => 63 - place as u8,
+    };
+    let floor = Floor::new(number).unwrap_or_default();
+    Halt { pass, floor }
+}
+
+/// A set of a pass in this direction, with a floor.
+fn mark(set: u64, dir: Dir, floor: Floor) -> u64
+    ensures bits { (place : ℕ) → place < 64
+        → has_bit result place ≡ (has_bit set place || floor == floor_rank dir place) }
+    ensures floor { floor < 64 }
+{
+    set | 1 << place_of(dir, floor)
+}
+
+/// A set of the pass in which a car makes this call, with the floors that the call needs.
+fn mark_legs(set: u64, row: &Row) -> u64
+    ensures bits { (place : ℕ) → place < 64 → has_bit result place ≡ (has_bit set place
+        || list_any (λ leg. leg == floor_rank (dir_of row.now.from row.now.to) place)
+        (legs_of row.now)) }
+    ensures floors { HasFloors row.now }
+{
+    let dir = row.dir();
+    let left = mark(set, dir, row.to);
+    if row.aboard {
+        left
+    } else {
+        mark(left, dir, row.from)
+    }
+}
+
+/// Appends the halts of a pass in this direction, in the order of travel.
+fn push_pass(halts: &mut ArrayVec<Halt, 66>, pass: Pass, dir: Dir, set: u64)
+    requires { length halts.old.items + length (marked set) ≤ 66 }
+    ensures { halts.new.items ≡ halts.old.items ++ halts_marked pass dir set }
+{
+    let mut left = set;
+    while left != 0 {
+        let place = left.trailing_zeros();
+        halts.push(halt_on(pass, dir, place));
+        left &= !(1 << place);
+    }
+}
+
+impl Marks {
+    /// No halts.
+    fn new() -> Self
+        ensures { (position : PositionValue) → HasHalts [] position result }
+    {
+        Marks {
+            first: 0,
+            second: 0,
+            third: 0,
+        }
+    }
+
+    /// These and the halts of a call of a car at this position.
+    fn with(self, position: &Position, row: &Row) -> Self
+        ensures marks { (rows : List RowValue) → HasHalts rows position.now self
+            → HasHalts (rows ++ row.now ∷ []) position.now result }
+        ensures floors { HasFloors row.now }
+    {
+        match pass_of(row, *position) {
+            Pass::First => Marks {
+                first: mark_legs(self.first, row),
+                ..self
+            },
+            Pass::Second => Marks {
+                second: mark_legs(self.second, row),
+                ..self
+            },
+            Pass::Third => Marks {
+                third: mark_legs(self.third, row),
+                ..self
+            },
+        }
+    }
+
+    /// Writes the halts of a car in this direction, in the order in which it makes them.
+    fn write(&self, halts: &mut ArrayVec<Halt, 66>, dir: Dir)
+        requires { length (all_marked self.now dir) ≤ 66 }
+        ensures { halts.new.items ≡ all_marked self.now dir }
+    {
+        halts.clear();
+        push_pass(halts, Pass::First, dir, self.first);
+        push_pass(halts, Pass::Second, dir.reverse(), self.second);
+        push_pass(halts, Pass::Third, dir, self.third);
+    }
+}
+
+/// The halts that a car at this position needs for these calls.
+fn marks_of(rows: &[Row], position: &Position) -> Marks
+    ensures marks { HasHalts rows.now position.now result }
+    ensures count { length (stop_list rows.now position.now) ≤ 2 * length rows.now }
+    ensures floors { All HasFloors rows.now }
+{
+    let mut marks = Marks::new();
+    for row in rows {
+        marks = marks.with(position, row);
+    }
+    marks
+}
+
+/// Writes the halts that a car at this position still has to make for these calls, in the order in
+/// which it makes them.
+pub fn write_halts(halts: &mut ArrayVec<Halt, 66>, rows: &[Row], position: &Position)
+    requires { length rows.now ≤ 33 }
+    ensures halts { halts.new.items ≡ stop_list rows.now position.now }
+    ensures count { length halts.new.items ≤ 2 * length rows.now }
+    ensures floors { All HasFloors rows.now }
+{
+    let marks = marks_of(rows, position);
+    marks.write(halts, position.dir);
+}
