@@ -12,11 +12,6 @@ abbrev pub party_byte : Version → ℕ → ℕ
 party_byte One party = 0
 party_byte Two party = party
 
--- the party that a byte stands for
-abbrev pub party_of : Version → ℕ → ℕ
-party_of One byte = 1
-party_of Two byte = byte
-
 -- a party that the version can say
 abbrev pub IsSayableParty : Version → ℕ → Type 0
 IsSayableParty One party = party ≡ 1

@@ -1,11 +1,14 @@
 //! Records and their bytes.
-ghost use Rattle.std.specs.Prelude.{◌≡◌, ◌<◌, ◌≤◌, ◌↔◌, ℕ, IsTrue, IsSome, IfSome, Some};
+ghost use Rattle.std.specs.Prelude.{◌≡◌, ◌≢◌, ◌<◌, ◌≤◌, ◌↔◌, ℕ, false};
+ghost use Rattle.std.specs.Prelude.{IsTrue, IsSome, IfSome, IfNone, Some};
 ghost use Rattle.lift_base.specs.declared.history.Content.{Content as ContentValue};
 ghost use Rattle.lift_base.specs.declared.history.Record.{Record as RecordValue};
+ghost use Rattle.lift_base.specs.declared.history.Row.{Row as RowValue};
+ghost use Rattle.lift_base.specs.declared.travel.Dir.{Dir as DirValue};
 ghost use Rattle.lift_base.specs.Records.{IsLawfulCall, IsTypedCall, IsTypedContent, IsTyped};
 ghost use Rattle.lift_base.specs.Records.{IsLawful};
-ghost use Rattle.lift_record.specs.Version.{party_byte, party_of, IsSayableParty};
-ghost use Rattle.lift_record.specs.Record.{IsSayable, record_bytes, dir_byte};
+ghost use Rattle.lift_record.specs.Version.{party_byte, IsSayableParty};
+ghost use Rattle.lift_record.specs.Record.{record_bytes, dir_byte, status_byte};
 ghost use Rattle.lift_record.specs.Record.{call_bytes as call_bytes_of};
 ghost use Rattle.lift_record.specs.Record.{stop_bytes as stop_bytes_of};
 ghost use Rattle.lift_record.specs.Record.{last_bytes as last_bytes_of, spelling_of, IsSpellingOf};
@@ -64,6 +67,18 @@ fn dir_from_byte(byte: u8) -> Option<Dir>
     }
 }
 
+/// Whether this byte of a call says that its passengers are aboard.
+fn aboard_from_byte(byte: u8) -> Option<bool>
+    ensures valid { IsSome result ↔ (byte < 2) }
+    ensures value { IfSome result (λ aboard. status_byte aboard ≡ byte) }
+{
+    match byte {
+        0 => Some(false),
+        1 => Some(true),
+        _ => None,
+    }
+}
+
 fn party_to_byte(version: Version, party: Party) -> u8
     ensures byte { result ≡ party_byte version party }
     ensures typed { (1 ≤ party) × (party ≤ 15) }
@@ -75,14 +90,16 @@ fn party_to_byte(version: Version, party: Party) -> u8
     }
 }
 
-/// The party that this byte stands for; in the first version one person, whatever the byte is.
+/// The party that this byte spells; the first version spells one person by zero.
 fn party_from_byte(version: Version, byte: u8) -> Option<Party>
-    ensures valid { IsSome result ↔ ((1 ≤ party_of version byte) × (party_of version byte ≤ 15)) }
-    ensures value { IfSome result (λ party. party ≡ party_of version byte) }
-    ensures sayable { IfSome result (λ party. IsSayableParty version party) }
+    ensures some { IfSome result (λ party. (1 ≤ party) × (party ≤ 15)
+        × IsSayableParty version party × (party_byte version party ≡ byte)) }
+    ensures none { IfNone result ((party : ℕ) → 1 ≤ party → party ≤ 15
+        → IsSayableParty version party → party_byte version party ≢ byte) }
 {
     match version {
-        Version::One => Some(Party::default()),
+        Version::One if byte == 0 => Some(Party::default()),
+        Version::One => None,
         Version::Two => Party::new(byte),
     }
 }
@@ -184,46 +201,55 @@ pub fn encode(record: &Record) -> [u8; 16]
     spell(Version::Two, record)
 }
 
-/// A call with these parts, if each is in its range.
-fn read_call(
-    kiosk: Terminal,
-    number: u32,
-    from: u8,
-    to: u8,
-    car: u8,
-    party: Party,
-    aboard: bool,
-) -> Option<Row>
-    ensures valid { IsSome result ↔ (number ≤ 16777215 × from ≤ 63 × to ≤ 63 × car ≤ 15) }
-    ensures row { IfSome result
-        (λ row. row
-        ≡ record {
-          kiosk = kiosk;
-          number = number;
-          from = from;
-          to = to;
-          car = car;
-          party = party;
-          aboard = aboard;
-        }) }
+/// The call that these parts of a record spell, if they spell one.
+fn read_call(version: Version, kiosk: u8, content: [u8; 5], number: u32) -> Option<Row>
+    ensures some { IfSome result
+        (λ row. IsSpellingOf version (record_bytes 4 kiosk content number) (RecordValue.Row row)) }
+    ensures none { IfNone result ((row : RowValue)
+        → ¬ IsSpellingOf version (record_bytes 4 kiosk content number) (RecordValue.Row row)) }
 {
-    Some(Row {
-        kiosk,
+    let [from, to, car, party, status] = content;
+    let row = Row {
+        kiosk: Terminal::new(kiosk)?,
         number: Number::new(number)?,
         from: Floor::new(from)?,
         to: Floor::new(to)?,
         car: Letter::new(car)?,
-        party,
-        aboard,
-    })
+        party: party_from_byte(version, party)?,
+        aboard: aboard_from_byte(status)?,
+    };
+    if is_lawful_call(row.kiosk, row.number, row.from, row.to) {
+        Some(row)
+    } else {
+        None
+    }
 }
 
-/// The number, floor and direction of a stop, if each is in its range.
-fn read_stop(number: u32, floor: u8, dir: u8) -> Option<(Number, Floor, Dir)>
-    ensures valid { IsSome result ↔ (number ≤ 16777215 × floor ≤ 63 × dir < 2) }
-    ensures stop { IfSome result (λ stop. stop.0 ≡ number × stop.1 ≡ floor
-        × dir_byte stop.2 ≡ dir) }
+/// The same, if its passengers wait.
+fn read_waiting(version: Version, kiosk: u8, content: [u8; 5], number: u32) -> Option<Row>
+    ensures some { IfSome result (λ row. (row.aboard ≡ false)
+        × IsSpellingOf version (record_bytes 4 kiosk content number) (RecordValue.Row row)) }
+    ensures none { IfNone result ((row : RowValue) → row.aboard ≡ false
+        → ¬ IsSpellingOf version (record_bytes 4 kiosk content number) (RecordValue.Row row)) }
 {
+    let row = read_call(version, kiosk, content, number)?;
+    if row.aboard { None } else { Some(row) }
+}
+
+/// The number, floor and direction of the stop that these parts of a record spell, if they spell
+/// one.
+fn read_stop(content: [u8; 5], number: u32) -> Option<(Number, Floor, Dir)>
+    ensures some { IfSome result (λ stop. (1 ≤ stop.0) × (stop.0 ≤ 16777215) × (stop.1 ≤ 63)
+        × (stop.0 ≡ number) × (content ≡ stop_bytes_of stop.1 stop.2)) }
+    ensures none { IfNone result ((floor : ℕ) → (dir : DirValue) → 1 ≤ number
+        → number ≤ 16777215 → floor ≤ 63 → content ≢ stop_bytes_of floor dir) }
+{
+    let [floor, dir, 0, 0, 0] = content else {
+        return None;
+    };
+    if number == 0 {
+        return None;
+    }
     Some((
         Number::new(number)?,
         Floor::new(floor)?,
@@ -266,66 +292,66 @@ fn last_call_of(row: &Row) -> Record
     }
 }
 
-/// The record that these bytes spell, if they spell one. Other bytes may give one too.
-fn read(version: Version, bytes: &[u8; 16]) -> Option<Record>
-    ensures spelled { (content : Record) → IsSpellingOf version bytes.now content
-        → result ≡ Some content }
-    ensures sayable { IfSome result (λ content. IsSayable version content) }
+/// The last command of a terminal that these parts of a record spell, if they spell one.
+fn read_last(version: Version, terminal: Terminal, content: [u8; 5], number: u32) -> Option<Record>
+    ensures some { IfSome result
+        (λ value. IsSpellingOf version (record_bytes 5 terminal content number) value) }
+    ensures none { IfNone result ((value : RecordValue)
+        → ¬ IsSpellingOf version (record_bytes 5 terminal content number) value) }
 {
-    let [
-        kind,
+    if terminal.is_kiosk() {
+        let row = read_waiting(version, terminal.get(), content, number)?;
+        return Some(last_call_of(&row));
+    }
+    let (number, floor, dir) = read_stop(content, number)?;
+    let content = Content::Stopped { floor, dir };
+    Some(Record::Last {
         terminal,
-        first,
-        second,
-        third,
-        party,
-        status,
-        _,
-        a,
-        b,
-        c,
-        d,
-        ..
-    ] = *bytes;
-    let number = u32::from_be_bytes([a, b, c, d]);
-    let terminal = Terminal::new(terminal)?;
-    let party = party_from_byte(version, party);
+        last: Last { number, content },
+    })
+}
+
+/// The count of done calls that these parts of a record spell, if they spell one.
+fn read_done(version: Version, terminal: u8, content: [u8; 5], count: u32) -> Option<Record>
+    ensures some { IfSome result
+        (λ value. IsSpellingOf version (record_bytes 6 terminal content count) value) }
+    ensures none { IfNone result ((value : RecordValue)
+        → ¬ IsSpellingOf version (record_bytes 6 terminal content count) value) }
+{
+    let [0, 0, 0, 0, 0] = content else {
+        return None;
+    };
+    if terminal == 0 && count <= MOST_DONE {
+        Some(Record::Done { count })
+    } else {
+        None
+    }
+}
+
+/// The record that these parts spell, if they spell one.
+fn read(version: Version, kind: u8, terminal: u8, content: [u8; 5], number: u32) -> Option<Record>
+    ensures some { IfSome result
+        (λ value. IsSpellingOf version (record_bytes kind terminal content number) value) }
+    ensures none { IfNone result ((value : RecordValue)
+        → ¬ IsSpellingOf version (record_bytes kind terminal content number) value) }
+{
     match kind {
         1 => {
-            let row = read_call(terminal, number, first, second, third, party?, false)?;
+            let row = read_waiting(version, terminal, content, number)?;
             Some(allot_of(&row))
         }
         2 => {
-            let (number, floor, dir) = read_stop(number, first, second)?;
+            let (number, floor, dir) = read_stop(content, number)?;
             Some(Record::Stop {
-                car: terminal.car()?,
+                car: Letter::new(terminal)?,
                 number,
                 floor,
                 dir,
             })
         }
-        4 => Some(Record::Row(read_call(
-            terminal,
-            number,
-            first,
-            second,
-            third,
-            party?,
-            status == 1,
-        )?)),
-        5 if terminal.is_kiosk() => {
-            let row = read_call(terminal, number, first, second, third, party?, false)?;
-            Some(last_call_of(&row))
-        }
-        5 => {
-            let (number, floor, dir) = read_stop(number, first, second)?;
-            let content = Content::Stopped { floor, dir };
-            Some(Record::Last {
-                terminal,
-                last: Last { number, content },
-            })
-        }
-        6 => Some(Record::Done { count: number }),
+        4 => Some(Record::Row(read_call(version, terminal, content, number)?)),
+        5 => read_last(version, Terminal::new(terminal)?, content, number),
+        6 => read_done(version, terminal, content, number),
         _ => None,
     }
 }
@@ -336,10 +362,28 @@ pub fn decode(version: Version, bytes: &[u8; 16]) -> Option<Record>
     ensures { (content : Record)
         → (result ≡ Some content ↔ IsSpellingOf version bytes.now content) }
 {
-    let content = read(version, bytes)?;
-    if is_lawful(&content) && spell(version, &content) == *bytes {
-        Some(content)
-    } else {
-        None
-    }
+    let [
+        kind,
+        terminal,
+        first,
+        second,
+        third,
+        party,
+        status,
+        0,
+        a,
+        b,
+        c,
+        d,
+        0,
+        0,
+        0,
+        0,
+    ] = *bytes
+    else {
+        return None;
+    };
+    let content = [first, second, third, party, status];
+    let number = u32::from_be_bytes([a, b, c, d]);
+    read(version, kind, terminal, content, number)
 }

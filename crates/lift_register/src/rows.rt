@@ -1,6 +1,6 @@
 //! The open calls of each car.
 ghost use Rattle.std.specs.Prelude.{◌≡◌, ◌↔◌, IsTrue, ◌+◌, ◌<◌, ◌≤◌, [], ◌∷◌, ◌++◌, length};
-ghost use Rattle.std.specs.Prelude.{slice_index_or, slice_set};
+ghost use Rattle.std.specs.Prelude.{slice_index_or, slice_set, take};
 ghost use Rattle.std.specs.List.{flat_map};
 ghost use Rattle.lift_base.specs.History.{row_after};
 ghost use Rattle.lift_register.specs.Rows.{row_lists};
@@ -8,26 +8,32 @@ ghost use Rattle.lift_register.specs.Rows.{row_lists};
 use arrayvec::ArrayVec;
 use lift_base::{Last, Letter, Row, Stop};
 
+/// Takes a stop of a car into the car's rows, moves those that are open still to the front in their
+/// order, and answers how many these are.
+fn keep_open(rows: &mut [Row], stop: &Stop) -> usize
+    ensures rows { take result rows.new ≡ flat_map (row_after stop.now) rows.old }
+    ensures kept { result ≤ length rows.old }
+{
+    let mut kept = 0;
+    for index in 0..rows.len() {
+        if let Some(row) = rows[index].after(*stop) {
+            rows[kept] = row;
+            kept += 1;
+        }
+    }
+    kept
+}
+
 /// Takes a stop of a car into the car's rows, and answers how many calls it ends.
 fn serve(rows: &mut ArrayVec<Row, 32>, stop: Stop) -> u32
     ensures rows { rows.new.items ≡ flat_map (row_after stop) rows.old.items }
     ensures ended { result + length rows.new.items ≡ length rows.old.items }
     ensures limit { length rows.old.items ≤ 32 }
 {
-    if rows.is_empty() {
-        return 0;
-    }
-    let stop = &stop;
-    let mut open = ArrayVec::new();
-    let mut ended = 0;
-    for row in rows.iter() {
-        match row.after(*stop) {
-            Some(row) => open.push(row),
-            None => ended += 1,
-        }
-    }
-    *rows = open;
-    ended
+    let count = rows.len();
+    let kept = keep_open(rows.as_mut_slice(), &stop);
+    rows.truncate(kept);
+    (count - kept) as u32
 }
 
 /// Adds an open call to the rows of its car.
