@@ -7,7 +7,7 @@ use crate::fault::Fault;
 use arrayvec::ArrayVec;
 use lift_base::{Dir, Floor, Letter, Number, Record, Shape, push_some};
 use lift_disk::{Disk, FileDisk};
-use lift_journal::Journal;
+use lift_journal::{Journal, Visitor};
 use std::fs::{File, Files};
 
 /// A stop of car A.
@@ -83,22 +83,33 @@ pub(crate) fn open<F: Files<File = File>>(rt: &F, image: &str) -> Result<u32, Fa
     Ok(journal.shape().half)
 }
 
-/// Opens a journal and reads its batches: how many, and how many records.
-pub(crate) fn walk<F: Files<File = File>>(rt: &F, image: &str) -> Result<(u32, u64), Fault> {
-    let mut journal = journal_at(rt, image)?;
-    let mut cursor = journal.first();
-    let mut batches = 0u32;
-    let mut records = 0u64;
-    for _batch in 0..1_000_000 {
-        match journal.next(&mut cursor)? {
-            Some(batch) => {
-                batches = batches.saturating_add(1);
-                records = records.saturating_add(batch.len() as u64);
-            }
-            None => break,
-        }
+/// How many batches an opening has shown, and how many records.
+#[derive(Drop)]
+struct Count {
+    batches: u32,
+    records: u64,
+}
+
+impl Visitor for Count {
+    ghost takes = { λ old records new. Unit {0} };
+
+    fn visit(&mut self, records: &ArrayVec<Record, 63>) {
+        self.batches = self.batches.saturating_add(1);
+        self.records = self.records.saturating_add(records.len() as u64);
     }
-    Ok((batches, records))
+}
+
+/// Opens a journal and counts its batches and their records as they are read.
+pub(crate) fn walk<F: Files<File = File>>(rt: &F, image: &str) -> Result<(u32, u64), Fault> {
+    let disk = FileDisk::open(rt, image)?;
+    let mut count = Count {
+        batches: 0,
+        records: 0,
+    };
+    match Journal::open_with(disk, &mut count) {
+        Ok(_journal) => Ok((count.batches, count.records)),
+        Err((_disk, fault)) => Err(Fault::from(fault)),
+    }
 }
 
 /// Appends so many batches of one record; how many had room.

@@ -1,16 +1,16 @@
 //! The clerk: its seats at the desk, its keeper, and its turns.
 
-ghost use Rattle.std.specs.Prelude.{◌≡◌, ◌<◌, ◌⊎◌, ◌↔◌, [], ◌∷◌, length, true, false, Ok, Err};
+ghost use Rattle.std.specs.Prelude.{◌≡◌, ◌<◌, ◌++◌, ◌⊎◌, ◌↔◌, [], length, true, false, Ok, Err};
 ghost use Rattle.std.specs.Prelude.{IfOk, IfErr, OnOk, OnErr};
 ghost use Rattle.lift_disk.specs.Disk.{LeavesNow, LeavesOnly, RunsOn};
-ghost use Rattle.lift_disk.specs.Trace.Access.{Sync};
 ghost use Rattle.lift_register.specs.Register.{register_of};
 ghost use Rattle.lift_desk.specs.Rule.{IsInOrder};
 ghost use Rattle.lift_desk.specs.Seats.{IsClerkOf, IsSeatOf, OwesNothing, seat_with, view_at};
 ghost use Rattle.lift_desk.specs.Steps.{with_told_answers, lists_of};
+ghost use Rattle.lift_journal.specs.Calls.{opening_of};
 ghost use Rattle.lift_journal.specs.Steps.{Makes};
 ghost use Rattle.lift_journal.specs.Told.{NoneFails};
-ghost use Rattle.lift_keeper.specs.Calls.{ReadsBehind, SyncsBeforeReading};
+ghost use Rattle.lift_keeper.specs.Calls.{StopsOpening};
 ghost use Rattle.lift_keeper.specs.Decider.{starting};
 ghost use Rattle.lift_keeper.specs.Images.{IsImageOf, IsInDoubt};
 ghost use Rattle.lift_keeper.specs.Reopening.{Reopens, RefusesReopening, FailsBy};
@@ -268,12 +268,13 @@ impl<'d, 'b, D: Disk, P: Policy + Drop> Clerk<'d, 'b, D, P> {
             × (self.new.keeper.writer.is_second ≡ self.old.keeper.writer.is_second)
             × (self.new.keeper.writer.used ≡ self.old.keeper.writer.used)) }
         ensures plan { self.new.keeper.writer.plan ≡ self.old.keeper.writer.plan }
-        // One sync before all reads.
-        ensures calls { OnOk result
-            (ReadsBehind (Sync ∷ []) (D.state self.old.keeper.writer.device)
-            (D.state self.new.keeper.writer.device)) }
+        // The opening of its journal, and no other call; where it is refused, as far as that came.
+        ensures calls { OnOk result ((D.state self.new.keeper.writer.device).trace
+            ≡ (D.state self.old.keeper.writer.device).trace ++ opening_of
+            self.new.keeper.writer.half self.new.keeper.writer.is_second
+            self.new.keeper.writer.used) }
         ensures calls_before { IfErr result (λ fault.
-            SyncsBeforeReading fault (D.state self.old.keeper.writer.device)
+            StopsOpening fault (D.state self.old.keeper.writer.device)
             (D.state self.new.keeper.writer.device)) }
     {
         self.keeper.reopen()

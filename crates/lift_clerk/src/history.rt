@@ -1,13 +1,13 @@
 //! What every history of a group leads to, and what every crash then shows.
 
-ghost use Rattle.std.specs.Prelude.{◌≡◌, ◌⊎◌, true, false, List, [], ◌∷◌, Err, IfOk, IfErr, OnOk};
+ghost use Rattle.std.specs.Prelude.{◌≡◌, ◌++◌, ◌⊎◌, true, false, List, [], Err, IfOk, IfErr, OnOk};
 ghost use Rattle.std.specs.Prelude.{OnErr};
 ghost use Rattle.lift_base.specs.declared.history.Entry.{Entry};
 ghost use Rattle.lift_disk.specs.Disk.{MayLeave, LeavesNow};
-ghost use Rattle.lift_disk.specs.Trace.Access.{Sync};
 ghost use Rattle.lift_register.specs.Register.{empty};
 ghost use Rattle.lift_desk.specs.Seats.{IsClerkOf, OwesNothing, clerk_of};
-ghost use Rattle.lift_keeper.specs.Calls.{ReadsBehind, SyncsBeforeReading};
+ghost use Rattle.lift_journal.specs.Calls.{opening_of};
+ghost use Rattle.lift_keeper.specs.Calls.{StopsOpening};
 ghost use Rattle.lift_keeper.specs.Decider.{starting};
 ghost use Rattle.lift_keeper.specs.Reopening.{Reopens as Recovers, RefusesReopening};
 ghost use Rattle.lift_world.specs.declared.event.Taken.{Taken};
@@ -91,11 +91,12 @@ pub fn begin_over<'d, 'b, D: Disk, P: Policy + Drop>(
         → MayLeave (D.state disk) (D.state clerk.keeper.writer.device).image) }
     ensures refused { IfErr result (λ err.
         RefusesReopening building.now (D.state disk) (D.state err.0) err.1) }
-    // One sync before all reads.
-    ensures calls { IfOk result (λ clerk.
-        ReadsBehind (Sync ∷ []) (D.state disk) (D.state clerk.keeper.writer.device)) }
+    // The opening of its journal, and no other call; where it is refused, as far as that came.
+    ensures calls { IfOk result (λ clerk. (D.state clerk.keeper.writer.device).trace
+        ≡ (D.state disk).trace ++ opening_of clerk.keeper.writer.half
+        clerk.keeper.writer.is_second clerk.keeper.writer.used) }
     ensures calls_before { IfErr result (λ err.
-        SyncsBeforeReading err.1 (D.state disk) (D.state err.0)) }
+        StopsOpening err.1 (D.state disk) (D.state err.0)) }
 {
     let keeper = Keeper::open(disk, building)?;
     let _shown = keeper.register();

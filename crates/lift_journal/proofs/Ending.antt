@@ -56,7 +56,7 @@ stamp_behind Full old mid new was size behind = absurd behind
 stamp_behind Broken old mid new was size behind = absurd behind
 
 -- Nothing was in doubt, so what is read is as it was.
-image_stays : (old new : DiskState) → ReadsOnly old new → old.is_honest → IsSynced old → old.image ≡ new.image
+pub image_stays : (old new : DiskState) → ReadsOnly old new → old.is_honest → IsSynced old → old.image ≡ new.image
 image_stays old new only honest synced = sym (all_same old.is_loose old.image new.image synced.none_loose (only.touched.within honest))
 
 half_before : (fault : JournalFault) (old mid new : DiskState) → mid.trace ≡ old.trace ++ Sync ∷ Read 1 ∷ [] → mid.size ≡ old.size → ReadsOnly mid new

@@ -4,6 +4,7 @@ pub mod Texts
 pub mod Appends
 pub mod Halves
 pub mod Unique
+pub mod Visiting
 pub mod Walks
 pub mod Seeing
 pub mod Refusing

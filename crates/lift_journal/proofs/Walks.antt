@@ -1,6 +1,7 @@
 -- The way along a chain.
 use Rattle.std.proofs.Common.{◌≡◌, ◌<◌, ◌≤◌, ◌+◌, ◌-◌, inl, inr, ℕ, suc, List, [], ◌∷◌, ◌++◌, None, length, take, drop, sym, ◌∙◌, ap, subst, arith, add-zero, length-append}
 use Rattle.std.proofs.lemmas.List.{take-take, drop-take, drop-drop, append-nil}
+use Rattle.lift_base.specs.declared.history.Record.{Record}
 use Rattle.lift_disk.specs.Disk.{DiskState, Image, IsSynced, LeavesNoOther}
 use Rattle.lift_journal.specs.Steps.{ReadsOnly, ReadsWell}
 use Rattle.lift_record.specs.declared.version.Version.TheVariants.{One}
@@ -18,10 +19,10 @@ use Rattle.lift_journal.specs.lemmas.Looking.{reads_none, well_none}
 use Rattle.lift_journal.specs.lemmas.Chains.{tail_is, from_gate, used_more}
 use Rattle.lift_journal.specs.lemmas.Orders.{front_push, front_rises, front_order, version_push, last_push}
 use Rattle.lift_journal.proofs.Unique.{body_unique}
+use Rattle.lift_journal.proofs.Visiting.{IsShown, none_shown}
 
 -- the batches before a front
-pub record IsAtFront (image : Image) (start end : ℕ) (front : Front) : Type 0 where
-  pub batches : List Batch
+pub record IsAtFront (image : Image) (start end : ℕ) (front : Front) (batches : List Batch) : Type 0 where
   pub reached : Reaches image start end front.gate batches
   pub counts : front.number ≡ 1 + length batches
   pub version_is : front.version ≡ version_behind One batches
@@ -78,46 +79,47 @@ module _ (image : Image) (start end gate : ℕ) (batches : List Batch) (reached 
       (chain_then batches [] 1 (take (end - start) (drop start image)) reached.front (subst (IsChain [] (1 + length batches)) (sym from_here) closed))
 
 -- how far a walk has come
-pub record Walking (old now : DiskState) (start end : ℕ) (front : Front) : Type 0 where
+pub record Walking {V : Type 0} (takes : V → List Record → V → Type 0) (was is : V) (old now : DiskState) (start end : ℕ) (front : Front) : Type 0 where
   pub low : start ≤ front.gate
   pub below : front.gate < end
   pub some : 1 ≤ front.number
   pub few : front.number ≤ front.gate
   pub only : ReadsOnly old now
   pub well : ReadsWell old now
-  pub at : old.is_honest → IsSynced old → IsAtFront old.image start end front
+  pub batches : List Batch
+  pub shown : IsShown takes was is start front batches
+  pub at : old.is_honest → IsSynced old → IsAtFront old.image start end front batches
   pub trace : now.trace ≡ old.trace ++ reads_from start (front.gate - start)
 
 -- the first front
-pub starts : (image : Image) (start end : ℕ) (front : Front) → front.gate ≡ start → front.number ≡ 1 → front.version ≡ One → front.last ≡ None → IsAtFront image start end front
+pub starts : (image : Image) (start end : ℕ) (front : Front) → front.gate ≡ start → front.number ≡ 1 → front.version ≡ One → front.last ≡ None → IsAtFront image start end front []
 starts image start end front gate number version last = record {
-  batches = [];
   reached = subst (λ g. Reaches image start end g []) (sym gate) (reaches_start image start end);
   counts = number;
   version_is = version;
   last_is = last;
 }
 
-module _ (image : Image) (start end : ℕ) (front : Front) (at : IsAtFront image start end front) (below : front.gate < end) (whole : end ≤ length image) where
+module _ (image : Image) (start end : ℕ) (front : Front) (batches : List Batch) (at : IsAtFront image start end front batches) (below : front.gate < end) (whole : end ≤ length image) where
   -- the next front
-  pub goes_on : (stored : Stored) → IsOpen (sector_at image front.gate) → IsBatchAt image front.gate end front.number (batch_of stored) → Passes front stored
-      → IsAtFront image start end (passed front stored)
-  goes_on stored is_open there passes =
+  pub goes_on : (next : Front) (stored : Stored) → IsOpen (sector_at image front.gate) → IsBatchAt image front.gate end front.number (batch_of stored) → Passes front stored
+      → next ≡ passed front stored → IsAtFront image start end next (batches ++ batch_of stored ∷ [])
+  goes_on next stored is_open there passes is =
       let batch = batch_of stored in
-      let sound = front_push at.batches batch at.reached.sound (subst (λ v. version_number v ≤ version_number stored.version) at.version_is passes.rises)
+      let sound = front_push batches batch at.reached.sound (subst (λ v. version_number v ≤ version_number stored.version) at.version_is passes.rises)
       (subst (λ l. IsInOrderBehind l stored.records.items) at.last_is passes.ordered) in
-      record {
-        batches = at.batches ++ batch ∷ [];
-        reached = reaches_more image start end front.gate at.batches at.reached below whole batch is_open (subst (λ n. IsBatchAt image front.gate end n batch) at.counts there) sound;
-        counts = omega (arith, at.counts, length-append at.batches (batch ∷ []));
-        version_is = sym (version_push One at.batches batch);
-        last_is = ap (λ l. last_behind l stored.records.items) at.last_is ∙ sym (last_push at.batches batch);
-      }
+      let now : IsAtFront image start end (passed front stored) (batches ++ batch ∷ []) = record {
+        reached = reaches_more image start end front.gate batches at.reached below whole batch is_open (subst (λ n. IsBatchAt image front.gate end n batch) at.counts there) sound;
+        counts = omega (arith, at.counts, length-append batches (batch ∷ []));
+        version_is = sym (version_push One batches batch);
+        last_is = ap (λ l. last_behind l stored.records.items) at.last_is ∙ sym (last_push batches batch);
+      } in
+      subst (λ (f : Front). IsAtFront image start end f (batches ++ batch ∷ [])) (sym is) now
 
   pub ends : IsClosed (sector_at image front.gate) → MayEnd front.last → EndsAt image start end front.gate front.number
   ends closed may = record {
-    batches = at.batches;
-    chain = reaches_end image start end front.gate at.batches at.reached below whole closed;
+    batches = batches;
+    chain = reaches_end image start end front.gate batches at.reached below whole closed;
     sound = record {
       versions = at.reached.sound.versions;
       ordered = at.reached.sound.ordered;
@@ -130,7 +132,7 @@ module _ (image : Image) (start end : ℕ) (front : Front) (at : IsAtFront image
   -- the chain ends within a checkpoint
   pub ends_early : IsClosed (sector_at image front.gate) → ¬ MayEnd front.last → IsDamagedAt image start end front.gate
   ends_early closed not = record {
-    batches = at.batches;
+    batches = batches;
     below = below;
     reached = at.reached;
     broken = inr (closed, λ complete. not (subst MayEnd (sym at.last_is) complete));
@@ -139,7 +141,7 @@ module _ (image : Image) (start end : ℕ) (front : Front) (at : IsAtFront image
   -- no batch stands here
   pub none_here : IsOpen (sector_at image front.gate) → ((batch : Batch) → ¬ IsBatchAt image front.gate end front.number batch) → IsDamagedAt image start end front.gate
   none_here is_open none = record {
-    batches = at.batches;
+    batches = batches;
     below = below;
     reached = at.reached;
     broken = inl (is_open, λ batch there sound. none batch (subst (λ n. IsBatchAt image front.gate end n batch) (sym at.counts) there));
@@ -148,18 +150,18 @@ module _ (image : Image) (start end : ℕ) (front : Front) (at : IsAtFront image
   -- the batch here may not stand behind those before it
   pub may_not : (stored : Stored) → IsOpen (sector_at image front.gate) → IsBatchAt image front.gate end front.number (batch_of stored) → ¬ Passes front stored → IsDamagedAt image start end front.gate
   may_not stored is_open there not = record {
-    batches = at.batches;
+    batches = batches;
     below = below;
     reached = at.reached;
     broken = inl (
       is_open,
       λ other is sound.
           let here = subst (λ n. IsBatchAt image front.gate end n (batch_of stored)) at.counts there in
-          let same : other ≡ batch_of stored = body_unique (1 + length at.batches) other (batch_of stored) (drop (front.gate + 1) image) is.body here.body in
-          let sound_here = subst (λ (b : Batch). IsSoundFront (at.batches ++ b ∷ [])) same sound in
+          let same : other ≡ batch_of stored = body_unique (1 + length batches) other (batch_of stored) (drop (front.gate + 1) image) is.body here.body in
+          let sound_here = subst (λ (b : Batch). IsSoundFront (batches ++ b ∷ [])) same sound in
           not (record {
-            rises = subst (λ v. version_number v ≤ version_number stored.version) (sym at.version_is) (front_rises at.batches (batch_of stored) sound_here);
-            ordered = subst (λ l. IsInOrderBehind l stored.records.items) (sym at.last_is) (front_order at.batches (batch_of stored) sound_here);
+            rises = subst (λ v. version_number v ≤ version_number stored.version) (sym at.version_is) (front_rises batches (batch_of stored) sound_here);
+            ordered = subst (λ l. IsInOrderBehind l stored.records.items) (sym at.last_is) (front_order batches (batch_of stored) sound_here);
           }),
     );
   }
@@ -184,9 +186,9 @@ pub seen_at : (first mid : Image) (gate end number : ℕ) (at found : AtGate) �
 seen_at first mid gate end number at found same is shows =
     subst (λ (l : Image). ShowsAt l gate end number found) same (subst (λ (a : AtGate). ShowsAt mid gate end number a) is shows)
 
-pub walk_begins : (disk : DiskState) (start end : ℕ) (front : Front) → LeavesNoOther disk → 1 ≤ start → start < end
-    → front ≡ record { gate = start; number = 1; version = One; last = None } → Walking disk disk start end front
-walk_begins disk start end front only_now some below is =
+pub walk_begins : {V : Type 0} (takes : V → List Record → V → Type 0) (visitor : V) (disk : DiskState) (start end : ℕ) (front : Front) → LeavesNoOther disk → 1 ≤ start → start < end
+    → front ≡ record { gate = start; number = 1; version = One; last = None } → Walking takes visitor visitor disk disk start end front
+walk_begins takes visitor disk start end front only_now some below is =
     let gate : front.gate ≡ start = ap (λ (f : Front). f.gate) is in
     let number : front.number ≡ 1 = ap (λ (f : Front). f.number) is in
     record {
@@ -197,5 +199,7 @@ walk_begins disk start end front only_now some below is =
       only = reads_none disk only_now;
       well = well_none disk;
       trace = sym (append-nil disk.trace) ∙ ap (λ n. disk.trace ++ reads_from start n) (let none : 0 ≡ front.gate - start = omega (arith, gate) in none);
+      shown = none_shown takes visitor start front gate (ap (λ (f : Front). f.version) is) (ap (λ (f : Front). f.last) is);
+      batches = [];
       at = λ honest synced. starts disk.image start end front gate number (ap (λ (f : Front). f.version) is) (ap (λ (f : Front). f.last) is);
     }

@@ -86,3 +86,7 @@ HasReadAt sector end old new = (more : ℕ) × (more ≤ 2) × (sector + more < 
 -- row.
 abbrev pub opening_calls : ℕ → ℕ → List Access
 opening_calls start count = Sync ∷ Read 1 ∷ Read 0 ∷ reads_from start count
+
+-- the same by the size of a half, which one is picked, and how many of its sectors are used
+abbrev pub opening_of : (half : ℕ) → Bool → (taken : ℕ) → List Access
+opening_of half is_second taken = opening_calls (half_start is_second half) (taken + 1)

@@ -8,6 +8,7 @@ pub mod Journal
 pub mod Walk
 pub mod Seen
 pub mod Fronts
+pub mod Visits
 pub mod Opening
 pub mod Checkpoint
 pub mod Switch

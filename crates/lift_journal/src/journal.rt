@@ -16,9 +16,11 @@ ghost use Rattle.lift_journal.specs.Steps.{Makes, ReadsOnly, IsSyncedAt};
 ghost use Rattle.lift_journal.specs.Stops.{StopsShort, StopsCheckpoint};
 ghost use Rattle.lift_journal.specs.Told.{AnswersAsTold};
 ghost use Rattle.lift_journal.specs.Calls.{half_start, append_calls, pick_of, checkpoint_calls};
-ghost use Rattle.lift_journal.specs.Calls.{opening_calls, reads_from, StopsIn, HasRead, HasReadAt};
+ghost use Rattle.lift_journal.specs.Calls.{opening_calls, opening_of};
+ghost use Rattle.lift_journal.specs.Calls.{reads_from, StopsIn, HasRead, HasReadAt};
 ghost use Rattle.lift_journal.specs.Behind.{RefusedBehind};
 ghost use Rattle.lift_journal.specs.Fronts.{IsOfCursor};
+ghost use Rattle.lift_journal.specs.Visits.{TakesAll, HasTaken};
 
 use crate::body::{body_count, put_body, sectors_of};
 use crate::checkpoint::{batches_for, other_half, write_checkpoint};
@@ -26,6 +28,7 @@ use crate::device::write_batch;
 use crate::fault::JournalFault;
 use crate::place::find_place;
 use crate::reads::{AtGate, look};
+use crate::visitor::{Nobody, Visitor};
 use arrayvec::ArrayVec;
 use lift_base::{Record, Shape};
 use lift_disk::{Arm, Disk, DiskFault};
@@ -178,8 +181,34 @@ impl<D: Disk> Journal<D> {
         ensures calls_before { IfErr result (λ err.
             RefusedBehind err.1 (D.state disk) (D.state err.0)) }
     {
+        Journal::open_with(disk, &mut Nobody)
+    }
+
+    /// Opens it as [`Journal::open`] does, and shows the visitor each batch on the way, so that
+    /// each is read once. Where it is refused, the visitor was shown those before the refusal.
+    pub fn open_with<V: Visitor>(disk: D, visitor: &mut V) -> Result<Journal<D>, (D, JournalFault)>
+        ensures opens { IfOk result (λ journal.
+            Opens (D.state disk) (D.state journal.device) journal.shape journal.used) }
+        ensures whole { IfOk result (λ journal. journal.is_broken ≡ false) }
+        ensures opened { IfOk result (λ journal.
+            journal.opened ≡ (D.state journal.device).failures) }
+        ensures half { IfOk result (λ journal.
+            LeavesNow (D.state journal.device) (Picks journal.is_second)) }
+        ensures refused { IfErr result (λ err. Refuses (D.state disk) (D.state err.0) err.1) }
+        ensures calls { IfOk result (λ journal. (D.state journal.device).trace
+            ≡ (D.state disk).trace
+            ++ opening_of journal.shape.half journal.is_second journal.used) }
+        ensures calls_before { IfErr result (λ err.
+            RefusedBehind err.1 (D.state disk) (D.state err.0)) }
+        // Just the batches that are there, each once and in their order.
+        ensures shown { IfOk result (λ journal. (D.state disk).is_honest → (batches : List Batch)
+            → Holds journal.shape batches (D.state journal.device).image
+            → TakesAll V.takes visitor.old batches visitor.new) }
+        // Of any device, and where it is refused: batches that may begin a chain.
+        ensures shown_some { HasTaken V.takes 1000000 visitor.old visitor.new }
+    {
         let mut device = disk;
-        match find_place(&mut device) {
+        match find_place(&mut device, visitor) {
             Ok(place) => {
                 let opened = Snapshot::of(&device);
                 Ok(Journal {
@@ -518,15 +547,18 @@ impl<D: Disk> Journal<D> {
         ensures second { OnErr result (self.new.is_second ≡ self.old.is_second) }
         ensures number { OnErr result (self.new.number ≡ self.old.number) }
     {
-        match self.reopen_from() {
+        match self.reopen_from(&mut Nobody) {
             Ok(_former) => Ok(()),
             Err(fault) => Err(fault),
         }
     }
 
-    /// Opens it again as [`Journal::reopen`] does, and gives where it stood, for a caller who may
-    /// yet refuse what it finds.
-    pub fn reopen_from(&mut self) -> Result<FormerPlace<D>, JournalFault>
+    /// Opens it again as [`Journal::reopen`] does, shows the visitor each batch on the way, and
+    /// gives where it stood, for a caller who may yet refuse what it finds.
+    pub fn reopen_from<V: Visitor>(
+        &mut self,
+        visitor: &mut V,
+    ) -> Result<FormerPlace<D>, JournalFault>
         ensures former { IfOk result (λ former. former ≡ self.old) }
         ensures reads { ReadsOnly (D.state self.old.device) (D.state self.new.device) }
         ensures opens { OnOk result
@@ -540,8 +572,7 @@ impl<D: Disk> Journal<D> {
             Refuses (D.state self.old.device) (D.state self.new.device) fault) }
         ensures calls { OnOk result ((D.state self.new.device).trace
             ≡ (D.state self.old.device).trace
-            ++ opening_calls (half_start self.new.is_second self.new.shape.half)
-            (self.new.used + 1)) }
+            ++ opening_of self.new.shape.half self.new.is_second self.new.used) }
         ensures calls_before { IfErr result (λ fault.
             RefusedBehind fault (D.state self.old.device) (D.state self.new.device)) }
         ensures breaks { IsErrOf result JournalFault.Disk → self.new.is_broken ≡ true }
@@ -551,9 +582,15 @@ impl<D: Disk> Journal<D> {
             × (self.new.used ≡ self.old.used) × (self.new.opened ≡ self.old.opened)) }
         ensures second { OnErr result (self.new.is_second ≡ self.old.is_second) }
         ensures number { OnErr result (self.new.number ≡ self.old.number) }
+        // Just the batches that are there, each once and in their order.
+        ensures shown { OnOk result ((D.state self.old.device).is_honest → (batches : List Batch)
+            → Holds self.new.shape batches (D.state self.new.device).image
+            → TakesAll V.takes visitor.old batches visitor.new) }
+        // Of any device, and where it is refused: batches that may begin a chain.
+        ensures shown_some { HasTaken V.takes 1000000 visitor.old visitor.new }
     {
         let device = Snapshot::of(&self.device);
-        match find_place(&mut self.device) {
+        match find_place(&mut self.device, visitor) {
             Ok(place) => {
                 let opened = replace(&mut self.opened, Snapshot::of(&self.device));
                 let former = FormerPlace {

@@ -15,8 +15,10 @@ mod parse;
 mod place;
 mod reads;
 mod stamp;
+mod visitor;
 mod walk;
 
 pub use fault::JournalFault;
 pub use formatting::format;
 pub use journal::{Cursor, FormerPlace, Journal};
+pub use visitor::Visitor;

@@ -1,16 +1,17 @@
 //! Where a formatted device goes on. This reads and writes nothing.
 ghost use Rattle.std.specs.Prelude.{ℕ, ◌≡◌, ◌⊎◌, ◌≤◌, ◌<◌, ◌+◌, ◌-◌, ◌*◌, ◌++◌, [], ◌∷◌, IsErrOf};
-ghost use Rattle.std.specs.Prelude.{IfOk, IfErr, OnOk};
+ghost use Rattle.std.specs.Prelude.{IfOk, IfErr, OnOk, List};
 ghost use Rattle.lift_base.specs.declared.history.Shape.{Shape as ShapeValue};
 ghost use Rattle.lift_base.specs.History.{IsWithinLimits};
 ghost use Rattle.lift_disk.specs.Disk.{IsSynced, Image, MayLeave};
-ghost use Rattle.lift_journal.specs.Layout.{IsStamped, start_of};
+ghost use Rattle.lift_journal.specs.Layout.{Batch, Holds, IsStamped, start_of};
 ghost use Rattle.lift_journal.specs.Journal.{HasPlace, StandsAt};
 ghost use Rattle.lift_journal.specs.Steps.{Examines, ReadsOnly, HasItsCause};
 ghost use Rattle.lift_journal.specs.Walk.{IsDamagedAt};
 ghost use Rattle.lift_journal.specs.Opening.{RefusedFor};
 ghost use Rattle.lift_journal.specs.Fronts.{IsOfChain, IsOfStamp};
 ghost use Rattle.lift_journal.specs.Told.{NoneFails};
+ghost use Rattle.lift_journal.specs.Visits.{TakesAll, HasTaken};
 ghost use Rattle.lift_disk.specs.Trace.Access.{Read};
 ghost use Rattle.lift_journal.specs.Calls.{reads_from, opening_calls};
 ghost use Rattle.lift_journal.specs.Behind.{StampBehind, EndsInHalf, RefusedBehind};
@@ -18,6 +19,7 @@ ghost use Rattle.lift_journal.specs.Behind.{StampBehind, EndsInHalf, RefusedBehi
 use crate::fault::JournalFault;
 use crate::reads::{read_mark, read_sector, settle};
 use crate::stamp::read_stamp;
+use crate::visitor::Visitor;
 use crate::walk::walk;
 use lift_base::Shape;
 use lift_disk::Disk;
@@ -62,8 +64,12 @@ fn read_shape<D: Disk>(disk: &mut D) -> Result<Shape, JournalFault>
     }
 }
 
-/// The place of a settled device of this shape.
-fn place_of<D: Disk>(disk: &mut D, shape: Shape) -> Result<Place, JournalFault>
+/// The place of a settled device of this shape. Each batch is shown to the visitor.
+fn place_of<D: Disk, V: Visitor>(
+    disk: &mut D,
+    shape: Shape,
+    visitor: &mut V,
+) -> Result<Place, JournalFault>
     requires within { IsWithinLimits shape }
     requires room { 2 * shape.half + 2 ≤ (D.state disk.old).size }
     ensures examines { Examines result (D.state disk.old) (D.state disk.new) }
@@ -86,12 +92,17 @@ fn place_of<D: Disk>(disk: &mut D, shape: Shape) -> Result<Place, JournalFault>
         ⊎ EndsInHalf fault (Read 0 ∷ []) ((D.state disk.old).is_honest
         × IsSynced (D.state disk.old)) (D.state disk.old).image (D.state disk.old)
         (D.state disk.new)) }
+    ensures shown { IfOk result (λ place. (D.state disk.old).is_honest
+        → IsSynced (D.state disk.old) → (batches : List Batch)
+        → Holds place.shape batches (D.state disk.old).image
+        → TakesAll V.takes visitor.old batches visitor.new) }
+    ensures shown_some { HasTaken V.takes 1000000 visitor.old visitor.new }
 {
     let Ok(is_second) = read_mark(disk, 0) else {
         return Err(JournalFault::Disk);
     };
     let start = if is_second { shape.half + 2 } else { 2 };
-    match walk(disk, start, start + shape.half) {
+    match walk(disk, start, start + shape.half, visitor) {
         Ok(front) => Ok(Place {
             shape,
             start,
@@ -102,8 +113,8 @@ fn place_of<D: Disk>(disk: &mut D, shape: Shape) -> Result<Place, JournalFault>
     }
 }
 
-/// Settles a device and finds its place.
-pub fn find_place<D: Disk>(disk: &mut D) -> Result<Place, JournalFault>
+/// Settles a device and finds its place. Each batch before it is shown to the visitor.
+pub fn find_place<D: Disk, V: Visitor>(disk: &mut D, visitor: &mut V) -> Result<Place, JournalFault>
     ensures only { ReadsOnly (D.state disk.old) (D.state disk.new) }
     ensures failures { OnOk result ((D.state disk.new).failures ≡ (D.state disk.old).failures) }
     ensures told { OnOk result (NoneFails (D.state disk.old) (D.state disk.new)) }
@@ -121,6 +132,10 @@ pub fn find_place<D: Disk>(disk: &mut D) -> Result<Place, JournalFault>
         ++ opening_calls place.start (place.gate - place.start + 1)) }
     ensures behind { IfErr result (λ fault.
         RefusedBehind fault (D.state disk.old) (D.state disk.new)) }
+    ensures shown { IfOk result (λ place. (D.state disk.old).is_honest → (batches : List Batch)
+        → Holds place.shape batches (D.state disk.new).image
+        → TakesAll V.takes visitor.old batches visitor.new) }
+    ensures shown_some { HasTaken V.takes 1000000 visitor.old visitor.new }
 {
     if settle(disk).is_err() {
         return Err(JournalFault::Disk);
@@ -129,5 +144,5 @@ pub fn find_place<D: Disk>(disk: &mut D) -> Result<Place, JournalFault>
         Ok(shape) => shape,
         Err(fault) => return Err(fault),
     };
-    place_of(disk, shape)
+    place_of(disk, shape, visitor)
 }

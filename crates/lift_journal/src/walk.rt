@@ -1,6 +1,6 @@
 //! The way along a chain to its closed gate.
 ghost use Rattle.std.specs.Prelude.{◌≡◌, ◌≤◌, ◌<◌, ◌+◌, ◌-◌, ◌++◌, ◌^◌, ◌↔◌, [], IsTrue, IsErrOf};
-ghost use Rattle.std.specs.Prelude.{IfOk, IfErr, None};
+ghost use Rattle.std.specs.Prelude.{IfOk, IfErr, OnOk, None, List, take, drop};
 ghost use Rattle.lift_disk.specs.Disk.{IsSynced};
 ghost use Rattle.lift_record.specs.declared.version.Version.TheVariants.{One};
 ghost use Rattle.lift_journal.specs.Steps.{Examines};
@@ -8,12 +8,15 @@ ghost use Rattle.lift_journal.specs.Calls.{reads_from};
 ghost use Rattle.lift_journal.specs.Behind.{EndsIn};
 ghost use Rattle.lift_journal.specs.Walk.{EndsAt, IsDamagedAt};
 ghost use Rattle.lift_journal.specs.Fronts.{Passes, passed, IsOfChain};
+ghost use Rattle.lift_journal.specs.Layout.{Batch, IsChain};
+ghost use Rattle.lift_journal.specs.Visits.{TakesAll, HasTaken};
 
 use crate::batch::Stored;
 use crate::body::body_count;
 use crate::fault::JournalFault;
 use crate::order::{may_end, pass_records};
 use crate::reads::{AtGate, look};
+use crate::visitor::Visitor;
 use lift_base::Record;
 use lift_disk::{Disk, DiskFault};
 use lift_record::Version;
@@ -61,8 +64,14 @@ impl Front {
     }
 }
 
-/// The closed gate at the end of a chain, and the number of the batch that would stand there.
-pub fn walk<D: Disk>(disk: &mut D, start: u32, end: u32) -> Result<Front, JournalFault>
+/// The closed gate at the end of a chain, and the number of the batch that would stand there. Each
+/// batch before it is shown to the visitor.
+pub fn walk<D: Disk, V: Visitor>(
+    disk: &mut D,
+    start: u32,
+    end: u32,
+    visitor: &mut V,
+) -> Result<Front, JournalFault>
     requires first { 1 ≤ start }
     requires below { start < end }
     requires inside { end ≤ (D.state disk.old).size }
@@ -82,6 +91,11 @@ pub fn walk<D: Disk>(disk: &mut D, start: u32, end: u32) -> Result<Front, Journa
     ensures whole { IfOk result (λ at.
         (D.state disk.new).trace ≡ (D.state disk.old).trace
         ++ reads_from start (at.gate - start + 1)) }
+    ensures shown { OnOk result ((D.state disk.old).is_honest → IsSynced (D.state disk.old)
+        → (batches : List Batch)
+        → IsChain batches 1 (take (end - start) (drop start (D.state disk.old).image))
+        → TakesAll V.takes visitor.old batches visitor.new) }
+    ensures shown_some { HasTaken V.takes (end - start) visitor.old visitor.new }
 {
     let mut front = Front::at(start);
     loop {
@@ -99,6 +113,7 @@ pub fn walk<D: Disk>(disk: &mut D, start: u32, end: u32) -> Result<Front, Journa
                 if !front.pass(&stored) {
                     return Err(JournalFault::Damaged(gate));
                 }
+                visitor.visit(&stored.records);
             }
         }
     }

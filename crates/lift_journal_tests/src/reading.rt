@@ -1,9 +1,40 @@
 //! What the journal lists, batch by batch.
+ghost use Rattle.std.specs.Prelude.{⊤};
+
 use crate::listing::{add, add_stops, lists, make};
 use crate::records::{allot, demo, stop, stops};
+use arrayvec::ArrayVec;
+use lift_base::Record;
 use lift_disk::{FlakyDisk, MemDisk};
-use lift_journal::{Journal, JournalFault};
+use lift_journal::{Journal, JournalFault, Visitor};
 use std::test::Fail;
+
+/// Counts the batches that it is shown, and their records by the place of the batch.
+#[derive(Drop)]
+struct Counter {
+    batches: usize,
+    records: [usize; 8],
+}
+
+impl Visitor for Counter {
+    ghost takes = { λ old records new. ⊤ };
+
+    fn visit(&mut self, records: &ArrayVec<Record, 63>) {
+        if self.batches < 8 {
+            self.records[self.batches] = records.len();
+            self.batches += 1;
+        }
+    }
+}
+
+impl Counter {
+    fn new() -> Self {
+        Counter {
+            batches: 0,
+            records: [0; 8],
+        }
+    }
+}
 
 /// The batches come in the order in which they were appended, each cursor by itself.
 #[test]
@@ -65,5 +96,24 @@ fn a_failed_read_is_told(rt: HostRuntime) -> Result<(), Fail> {
         journal.arm(0);
         assert!(rt; lists(&mut journal, &[&stops(1, 63)]));
     }
+    Ok(())
+}
+
+/// An opening shows each batch once, and a reopening again.
+#[test]
+fn an_opening_shows_each_batch_once(rt: HostRuntime) -> Result<(), Fail> {
+    let mut disk = MemDisk::new(rt.alloc(), 130).ok().ok_or("memory")?;
+    assert!(rt; make(&mut disk, demo()) == Some(Ok(())));
+    let mut seen = Counter::new();
+    let mut journal = Journal::open_with(disk, &mut seen).ok().ok_or("refused")?;
+    assert!(rt; seen.batches == 0);
+    assert!(rt; add(&mut journal, &[allot(1, 1), allot(2, 15)]) == Some(Ok(())));
+    assert!(rt; add_stops(&mut journal, 1, 63) == Some(Ok(())));
+    assert!(rt; add_stops(&mut journal, 64, 1) == Some(Ok(())));
+    assert!(rt; journal.reopen_from(&mut seen).is_ok());
+    assert!(rt; seen.batches == 3 && seen.records == [2, 63, 1, 0, 0, 0, 0, 0]);
+    let mut fresh = Counter::new();
+    assert!(rt; Journal::open_with(journal.into_disk(), &mut fresh).is_ok());
+    assert!(rt; fresh.batches == 3 && fresh.records == seen.records);
     Ok(())
 }

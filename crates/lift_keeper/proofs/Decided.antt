@@ -5,7 +5,7 @@ use Rattle.std.proofs.lemmas.Bool.{and_parts, ltb-true, leb-true, leb-false, eqb
 use Rattle.lift_base.specs.declared.travel.Dir.{Dir}
 use Rattle.lift_base.specs.declared.history.Entry.TheVariants.{Allot, Stop as Stopping}
 use Rattle.lift_base.specs.declared.command.Body.{Body}
-use Rattle.lift_base.specs.declared.command.Body.TheVariants.{Call, Stop, Place}
+use Rattle.lift_base.specs.declared.command.Body.TheVariants.{Call, Stop}
 use Rattle.lift_base.specs.declared.command.Reason.{Reason}
 use Rattle.lift_base.specs.declared.command.Reply.{Reply}
 use Rattle.lift_base.specs.declared.command.Reply.TheVariants.{Refused}

@@ -8,4 +8,3 @@ pub mod Applying
 pub mod Guarding
 pub mod Reopenings
 pub mod Writers
-pub mod Reading

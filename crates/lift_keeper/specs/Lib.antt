@@ -1,7 +1,7 @@
 pub mod Decider
 pub mod Fault
 pub mod Recovery
-pub mod Opening
+pub mod Reading
 pub mod Images
 pub mod Cuts
 pub mod Writer

@@ -1,6 +1,6 @@
 //! Decisions, and the batch that makes them safe.
 
-ghost use Rattle.std.specs.Prelude.{◌≡◌, ◌<◌, ◌≤◌, ◌+◌, ◌⊎◌, ◌↔◌, [], ◌∷◌, length, true, false, Ok};
+ghost use Rattle.std.specs.Prelude.{◌≡◌, ◌<◌, ◌≤◌, ◌+◌, ◌++◌, ◌⊎◌, ◌↔◌, [], length, true, false, Ok};
 ghost use Rattle.std.specs.Prelude.{Err, IfOk, IfErr, OnOk, OnErr};
 ghost use Rattle.lift_disk.specs.Disk.{LeavesNow, LeavesOnly, RunsOn};
 ghost use Rattle.lift_register.specs.Register.{register_of};
@@ -14,8 +14,8 @@ ghost use Rattle.lift_journal.specs.Told.{NoneFails};
 ghost use Rattle.lift_keeper.specs.Decider.{starting, IsPossible};
 ghost use Rattle.lift_keeper.specs.Images.{IsImageOf, IsImageIn, IsInDoubt};
 ghost use Rattle.lift_keeper.specs.Reopening.{Reopens, RefusesReopening, FailsBy};
-ghost use Rattle.lift_disk.specs.Trace.Access.{Sync};
-ghost use Rattle.lift_keeper.specs.Calls.{ReadsBehind, SyncsBeforeReading};
+ghost use Rattle.lift_journal.specs.Calls.{opening_of};
+ghost use Rattle.lift_keeper.specs.Calls.{StopsOpening};
 ghost use Rattle.lift_keeper.specs.Writer.{StopsCommit, commit_calls, commit_writes, commit_used};
 ghost use Rattle.lift_keeper.specs.Writer.{commit_second};
 
@@ -70,11 +70,12 @@ impl<'b, D: Disk> Keeper<'b, D> {
             keeper.writer.opened ≡ (D.state keeper.writer.device).failures) }
         ensures refused { IfErr result (λ err.
             RefusesReopening building.now (D.state disk) (D.state err.0) err.1) }
-        // One sync before all reads.
-        ensures calls { IfOk result (λ keeper.
-            ReadsBehind (Sync ∷ []) (D.state disk) (D.state keeper.writer.device)) }
+        // The opening of its journal, and no other call; where it is refused, as far as that came.
+        ensures calls { IfOk result (λ keeper. (D.state keeper.writer.device).trace
+            ≡ (D.state disk).trace ++ opening_of
+            keeper.writer.half keeper.writer.is_second keeper.writer.used) }
         ensures calls_before { IfErr result (λ err.
-            SyncsBeforeReading err.1 (D.state disk) (D.state err.0)) }
+            StopsOpening err.1 (D.state disk) (D.state err.0)) }
     {
         match Writer::open(disk, building) {
             Ok(writer) => {
@@ -292,11 +293,11 @@ impl<'b, D: Disk> Keeper<'b, D> {
             × (self.new.writer.is_second ≡ self.old.writer.is_second)
             × (self.new.writer.used ≡ self.old.writer.used)) }
         ensures plan { self.new.writer.plan ≡ self.old.writer.plan }
-        ensures calls { OnOk result
-            (ReadsBehind (Sync ∷ []) (D.state self.old.writer.device)
-            (D.state self.new.writer.device)) }
+        ensures calls { OnOk result ((D.state self.new.writer.device).trace
+            ≡ (D.state self.old.writer.device).trace ++ opening_of
+            self.new.writer.half self.new.writer.is_second self.new.writer.used) }
         ensures calls_before { IfErr result (λ fault.
-            SyncsBeforeReading fault (D.state self.old.writer.device)
+            StopsOpening fault (D.state self.old.writer.device)
             (D.state self.new.writer.device)) }
     {
         self.writer.reopen()?;

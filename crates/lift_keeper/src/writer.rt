@@ -1,6 +1,6 @@
 //! The safe register, and the journal that it is safe in.
 
-ghost use Rattle.std.specs.Prelude.{◌≡◌, ◌<◌, ◌⊎◌, ◌↔◌, [], ◌∷◌, length, true, false, Ok, Err};
+ghost use Rattle.std.specs.Prelude.{◌≡◌, ◌<◌, ◌++◌, ◌⊎◌, ◌↔◌, [], length, true, false, Ok, Err};
 ghost use Rattle.std.specs.Prelude.{IfOk, IfErr, OnOk, OnErr};
 ghost use Rattle.lift_disk.specs.Disk.{LeavesNow, LeavesOnly, MayLeave, RunsOn};
 ghost use Rattle.lift_register.specs.Register.{register_of};
@@ -12,14 +12,15 @@ ghost use Rattle.lift_journal.specs.Steps.{Makes};
 ghost use Rattle.lift_journal.specs.Told.{NoneFails};
 ghost use Rattle.lift_keeper.specs.Images.{IsImageOf, IsImageIn, IsInDoubt};
 ghost use Rattle.lift_keeper.specs.Reopening.{Reopens, RefusesReopening, FailsBy};
-ghost use Rattle.lift_disk.specs.Trace.Access.{Sync};
-ghost use Rattle.lift_keeper.specs.Calls.{ReadsBehind, SyncsBeforeReading};
+ghost use Rattle.lift_journal.specs.Calls.{opening_of};
+ghost use Rattle.lift_keeper.specs.Calls.{StopsOpening};
 ghost use Rattle.lift_keeper.specs.Writer.{Guards, StopsCommit, commit_calls, commit_writes};
 ghost use Rattle.lift_keeper.specs.Writer.{commit_used, commit_second};
 
 use crate::copies::{apply_all, put_records};
 use crate::fault::KeeperFault;
-use crate::opening::recover;
+use crate::opening::recovered;
+use crate::reading::Reading;
 use crate::store::store;
 use arrayvec::ArrayVec;
 use lift_base::{Entry, Record};
@@ -82,17 +83,18 @@ impl<'b, D: Disk> Writer<'b, D> {
         ensures opened { IfOk result (λ writer. writer.opened ≡ (D.state writer.device).failures) }
         ensures refused { IfErr result (λ err.
             RefusesReopening building.now (D.state disk) (D.state err.0) err.1) }
-        // One sync before all reads.
-        ensures calls { IfOk result (λ writer.
-            ReadsBehind (Sync ∷ []) (D.state disk) (D.state writer.device)) }
+        // The opening of its journal, and no other call; where it is refused, as far as that came.
+        ensures calls { IfOk result (λ writer. (D.state writer.device).trace
+            ≡ (D.state disk).trace ++ opening_of writer.half writer.is_second writer.used) }
         ensures calls_before { IfErr result (λ err.
-            SyncsBeforeReading err.1 (D.state disk) (D.state err.0)) }
+            StopsOpening err.1 (D.state disk) (D.state err.0)) }
     {
-        let mut journal = match Journal::open(disk) {
+        let mut reading = Reading::new(building);
+        let journal = match Journal::open_with(disk, &mut reading) {
             Ok(journal) => journal,
             Err((disk, fault)) => return Err((disk, KeeperFault::Journal(fault))),
         };
-        match recover(&mut journal, building) {
+        match recovered(&journal, reading, building) {
             Ok(register) => {
                 let opened = Snapshot::of(&journal);
                 Ok(Writer {
@@ -253,10 +255,11 @@ impl<'b, D: Disk> Writer<'b, D> {
         ensures place { OnErr result ((self.new.half ≡ self.old.half)
             × (self.new.is_second ≡ self.old.is_second) × (self.new.used ≡ self.old.used)) }
         ensures plan { self.new.plan ≡ self.old.plan }
-        ensures calls { OnOk result
-            (ReadsBehind (Sync ∷ []) (D.state self.old.device) (D.state self.new.device)) }
+        ensures calls { OnOk result ((D.state self.new.device).trace
+            ≡ (D.state self.old.device).trace
+            ++ opening_of self.new.half self.new.is_second self.new.used) }
         ensures calls_before { IfErr result (λ fault.
-            SyncsBeforeReading fault (D.state self.old.device) (D.state self.new.device)) }
+            StopsOpening fault (D.state self.old.device) (D.state self.new.device)) }
     {
         match reopened(&mut self.journal, self.building) {
             Ok(register) => {
@@ -322,16 +325,18 @@ fn reopened<D: Disk>(journal: &mut Journal<D>, building: &Building) -> Result<Re
     ensures unmoved { OnErr result ((journal.new.shape ≡ journal.old.shape)
         × (journal.new.is_second ≡ journal.old.is_second) × (journal.new.used ≡ journal.old.used)) }
     ensures number { OnErr result (journal.new.number ≡ journal.old.number) }
-    ensures calls { OnOk result
-        (ReadsBehind (Sync ∷ []) (D.state journal.old.device) (D.state journal.new.device)) }
+    ensures calls { OnOk result ((D.state journal.new.device).trace
+        ≡ (D.state journal.old.device).trace
+        ++ opening_of journal.new.shape.half journal.new.is_second journal.new.used) }
     ensures calls_before { IfErr result (λ fault.
-        SyncsBeforeReading fault (D.state journal.old.device) (D.state journal.new.device)) }
+        StopsOpening fault (D.state journal.old.device) (D.state journal.new.device)) }
 {
-    let former = match journal.reopen_from() {
+    let mut reading = Reading::new(building);
+    let former = match journal.reopen_from(&mut reading) {
         Ok(former) => former,
         Err(fault) => return Err(KeeperFault::Journal(fault)),
     };
-    match recover(journal, building) {
+    match recovered(journal, reading, building) {
         Ok(register) => Ok(register),
         Err(fault) => {
             journal.return_to(former);

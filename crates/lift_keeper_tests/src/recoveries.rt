@@ -1,12 +1,13 @@
 //! A recovery from a device that fails.
 use crate::journals::{add, allot, demo, formatted, stop};
-use lift_disk::FuseDisk;
+use lift_disk::{Arm, FuseDisk};
 use lift_journal::{Journal, JournalFault};
-use lift_keeper::{KeeperFault, recover};
+use lift_keeper::{Keeper, KeeperFault};
 use std::test::Fail;
 
-/// Each of the four reads of a recovery, a gate and a body for each batch, fails in turn; after
-/// that the journal is broken until it is reopened.
+/// Each of the eight calls of an opening (the sync, the stamp, the pick, a gate and a body for each
+/// of two batches, and the closing gate) fails in turn, and the device comes back; with one call
+/// more it opens.
 #[test]
 fn tells_of_a_failing_device(rt: HostRuntime) -> Result<(), Fail> {
     let building = demo(rt.alloc(), 1)?;
@@ -14,17 +15,22 @@ fn tells_of_a_failing_device(rt: HostRuntime) -> Result<(), Fail> {
     let mut journal = Journal::open(disk).ok().ok_or("a journal")?;
     assert!(rt; add(&mut journal, &[allot(1, 3)]) == Some(Ok(())));
     assert!(rt; add(&mut journal, &[stop(1)]) == Some(Ok(())));
-    for calls in 0..4 {
-        journal.arm(calls);
-        let fault = recover(&mut journal, &building).err();
-        journal.arm(1_000);
-        let again = recover(&mut journal, &building).err();
-        let is_told = fault == Some(KeeperFault::Journal(JournalFault::Disk))
-            && again == Some(KeeperFault::Journal(JournalFault::Broken));
-        assert!(rt; is_told && journal.reopen() == Ok(()));
+    let mut disk = journal.into_disk();
+    for calls in 0..8 {
+        disk.arm(calls);
+        let (refused, fault) = Keeper::open(disk, &building).err().ok_or("opened")?;
+        assert!(rt; fault == KeeperFault::Journal(JournalFault::Disk));
+        disk = refused;
     }
-    journal.arm(4);
-    let register = recover(&mut journal, &building).ok().ok_or("refused")?;
-    assert!(rt; register.open_count() == 1);
+    disk.arm(8);
+    let mut keeper = Keeper::open(disk, &building).ok().ok_or("refused")?;
+    assert!(rt; keeper.register().open_count() == 1);
+    for calls in 0..8 {
+        keeper.arm(calls);
+        let fault = keeper.reopen().err();
+        assert!(rt; fault == Some(KeeperFault::Journal(JournalFault::Disk)) && keeper.is_broken());
+    }
+    keeper.arm(8);
+    assert!(rt; keeper.reopen() == Ok(()) && keeper.register().open_count() == 1);
     Ok(())
 }

@@ -27,8 +27,8 @@ pub(crate) struct Work {
 
 impl Work {
     /// How many calls an opening makes behind these first failures: the sync, the stamp, the pick,
-    /// the chain twice, two sectors for each batch, and the closing gate once. The half that a
-    /// checkpoint begins has one batch.
+    /// two sectors for each batch, and the closing gate. The half that a checkpoint begins has one
+    /// batch.
     pub(crate) fn calls_of_opening(&self, first: &Failures) -> u32 {
         let batches = if first.is_in(self.calls) {
             2
@@ -37,7 +37,7 @@ impl Work {
         } else {
             self.stops.wrapping_add(1)
         };
-        4u32.wrapping_add(batches.wrapping_mul(4))
+        4u32.wrapping_add(batches.wrapping_mul(2))
     }
 }
 
@@ -263,6 +263,6 @@ fn commits_stop(rt: HostRuntime) -> Result<(), Fail> {
     stop_all::<FuseDisk>(rt.alloc(), &mut tally, &CHECKPOINTED)?;
     stop_all::<FlakyDisk>(rt.alloc(), &mut tally, &CHECKPOINTED)?;
     assert_eq!(rt; tally.wrong, 0);
-    assert_eq!(rt; tally.looked_at, 718_268);
+    assert_eq!(rt; tally.looked_at, 415_308);
     Ok(())
 }

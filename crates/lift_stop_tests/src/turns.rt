@@ -317,7 +317,7 @@ fn turns_stop(rt: HostRuntime) -> Result<(), Fail> {
     let once = stop_all::<_, FlakyDisk>(&rt, rt.alloc(), false)?;
     let for_good = stop_all::<_, FuseDisk>(&rt, rt.alloc(), false)?;
     assert_eq!(rt; once.wrong.saturating_add(for_good.wrong), 0);
-    assert_eq!(rt; once.looked_at.saturating_add(for_good.looked_at), 413_092);
+    assert_eq!(rt; once.looked_at.saturating_add(for_good.looked_at), 240_052);
     Ok(())
 }
 
@@ -326,6 +326,6 @@ fn turns_of_both_parts_stop(rt: HostRuntime) -> Result<(), Fail> {
     let once = stop_all::<_, FlakyDisk>(&rt, rt.alloc(), true)?;
     let for_good = stop_all::<_, FuseDisk>(&rt, rt.alloc(), true)?;
     assert_eq!(rt; once.wrong.saturating_add(for_good.wrong), 0);
-    assert_eq!(rt; once.looked_at.saturating_add(for_good.looked_at), 413_092);
+    assert_eq!(rt; once.looked_at.saturating_add(for_good.looked_at), 240_052);
     Ok(())
 }

@@ -1,8 +1,8 @@
-use Rattle.std.proofs.Common.{◌≡◌, ◌++◌, sym, subst, ap, ◌∙◌, Err}
+use Rattle.std.proofs.Common.{◌≡◌, ◌++◌, sym, subst, ap, ◌∙◌, refl, Err}
 use Rattle.lift_disk.specs.Disk.{IsSynced, Image}
 use Rattle.lift_journal.specs.declared.fault.JournalFault.{JournalFault}
 use Rattle.lift_journal.specs.Fronts.{IsOfChain}
-use Rattle.lift_journal.specs.Layout.{IsStamped}
+use Rattle.lift_journal.specs.Layout.{Holds, IsStamped}
 use Rattle.lift_journal.specs.Steps.{ReadsOnly, ReadsWell, HasItsCause}
 use Rattle.lift_journal.specs.Opening.{RefusedFor}
 use Rattle.lift_journal.specs.lemmas.Looking.{reads_then, well_then, ok_weaker, cause_then, if_err_weaker, if_err_both, open_ok, open_err}
@@ -12,7 +12,8 @@ use Rattle.std.proofs.Common.{[], ◌∷◌, inl, arith}
 use Rattle.lift_disk.specs.Trace.Access.{Read, Sync}
 use Rattle.lift_journal.specs.Behind.{RefusedBehind}
 use Rattle.lift_journal.proofs.Following.{all_then, if_ok_weaker}
-use Rattle.lift_journal.proofs.Ending.{stamp_behind, half_behind}
+use Rattle.lift_journal.proofs.Ending.{image_stays, stamp_behind, half_behind}
+use Rattle.lift_journal.proofs.Visiting.{taken_none}
 use Rattle.std.proofs.lemmas.List.{append-nil}
 use Rattle.lift_journal.proofs.place.find_place.Goals as goal
 
@@ -125,3 +126,25 @@ returns-then-is_err-clause-behind g c =
     let new = g.D.Disk.state c.settle.new.disk in
     let same = open_err c.settle.result (new.trace ≡ old.trace) (sym c.is_err.ensures.value ∙ c.if-is_err.true) c.settle.ensures.recorded.err in
     inl (record { count = 0; some_left = omega arith; made = same ∙ sym (append-nil old.trace) })
+
+pub returns-then-is_err-clause-shown_some : goal.returns-then-is_err-clause-shown_some
+returns-then-is_err-clause-shown_some g c = taken_none g.V.Visitor.takes 1000000 c.args.visitor.now c.args.visitor.now (omega arith) refl
+
+pub returns-in-Err-clause-shown_some : goal.returns-in-Err-clause-shown_some
+returns-in-Err-clause-shown_some g c = taken_none g.V.Visitor.takes 1000000 c.args.visitor.now c.args.visitor.now (omega arith) refl
+
+pub returns-clause-shown : goal.returns-clause-shown
+returns-clause-shown g c =
+    let mid = g.D.Disk.state c.settle.new.disk in
+    let read = g.D.Disk.state c.read_shape.new.disk in
+    let new = g.D.Disk.state c.place_of.new.disk in
+    let first = c.settle.ensures.looks.only in
+    let second = c.read_shape.ensures.examines.only in
+    let safe = open_ok c.settle.result ((g.D.Disk.state c.args.disk.now).is_honest → IsSynced mid) (sym c.is_err.ensures.value ∙ c.if-is_err.false) c.settle.ensures.synced in
+    if_ok_weaker c.place_of.result _ _
+    (λ place all honest batches holds.
+    (let honest_mid = first.runs.honest.1 honest in
+    let honest_read = second.runs.honest.1 honest_mid in
+    let synced = (c.in-Ok.ensures.examines.ok.kept honest_mid (safe honest)).synced in
+    all honest_read synced batches (subst (λ (l : Image). Holds place.shape batches l) (sym (image_stays read new c.place_of.ensures.examines.only honest_read synced)) holds)))
+    c.place_of.ensures.shown

@@ -1,8 +1,9 @@
 use Rattle.lift_journal.specs.lemmas.Looking.{reads_then, well_then, cause_then}
-use Rattle.std.proofs.Common.{◌≡◌, ◌⊎◌, ◌+◌, [], ◌∷◌, inl, inr, refl}
+use Rattle.std.proofs.Common.{◌≡◌, ◌⊎◌, ◌+◌, ◌-◌, [], ◌∷◌, inl, inr, refl, arith}
 use Rattle.lift_disk.specs.Trace.Access.{Read}
 use Rattle.lift_journal.proofs.Following.{all_then}
 use Rattle.lift_journal.proofs.Ending.{ends_then}
+use Rattle.lift_journal.proofs.Visiting.{taken_none, taken_weaker}
 use Rattle.lift_disk.specs.Disk.{IsSynced}
 use Rattle.lift_journal.proofs.place.place_of.Goals.{then-is_second, else-is_second}
 use Rattle.lift_journal.proofs.place.place_of.Goals as goal
@@ -53,3 +54,16 @@ returns-in-Err-clause-behind g c =
 
 pub returns-in_default-clause-behind : goal.returns-in_default-clause-behind
 returns-in_default-clause-behind g c = inl (refl, c.in_default.ensures.unread)
+
+pub returns-in-Ok-walk-clause-shown_some : goal.returns-in-Ok-walk-clause-shown_some
+returns-in-Ok-walk-clause-shown_some g c =
+    let start = c.if-is_second.start in
+    taken_weaker g.V.Visitor.takes (start + c.args.shape.half - start) 1000000 c.args.visitor.now c.walk.new.visitor (omega (arith, c.requires.within.half)) c.walk.ensures.shown_some
+
+pub returns-in-Err-clause-shown_some : goal.returns-in-Err-clause-shown_some
+returns-in-Err-clause-shown_some g c =
+    let start = c.if-is_second.start in
+    taken_weaker g.V.Visitor.takes (start + c.args.shape.half - start) 1000000 c.args.visitor.now c.walk.new.visitor (omega (arith, c.requires.within.half)) c.walk.ensures.shown_some
+
+pub returns-in_default-clause-shown_some : goal.returns-in_default-clause-shown_some
+returns-in_default-clause-shown_some g c = taken_none g.V.Visitor.takes 1000000 c.args.visitor.now c.args.visitor.now (omega arith) refl

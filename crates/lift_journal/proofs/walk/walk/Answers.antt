@@ -1,11 +1,15 @@
-use Rattle.std.proofs.Common.{◌≡◌, ◌≤◌, ◌+◌, ◌-◌, ◌++◌, ◌∙◌, length, refl, ap, sym, subst, arith}
+use Rattle.std.proofs.Common.{◌≡◌, ◌≤◌, ◌+◌, ◌-◌, ◌++◌, ◌∙◌, List, [], ◌∷◌, take, drop, length, refl, ap, sym, subst, arith}
 use Rattle.lift_journal.specs.Walk.{IsDamagedAt}
 use Rattle.lift_journal.specs.declared.walk.Front.{Front}
 use Rattle.lift_journal.specs.declared.reads.AtGate.TheVariants.{Closed, Batch, Damaged}
-use Rattle.lift_journal.proofs.Walks.{IsAtFront, walk_begins, goes_on, ends, ends_early, none_here, may_not, seen_at}
+use Rattle.lift_journal.proofs.Visiting.{more_shown, has_taken}
+use Rattle.lift_journal.specs.Visits.{TakesAll}
+use Rattle.lift_journal.specs.Seen.{batch_of}
+use Rattle.lift_journal.proofs.Unique.{chain_unique}
+use Rattle.lift_journal.proofs.Walks.{walk_begins, goes_on, reaches_end, ends, ends_early, none_here, may_not, seen_at}
 use Rattle.lift_journal.specs.lemmas.Looking.{reads_then, well_then, failed_then}
 use Rattle.lift_journal.proofs.Seeing.{bodies_few}
-use Rattle.lift_journal.specs.Layout.{bodies}
+use Rattle.lift_journal.specs.Layout.{bodies, Batch as BatchValue}
 use Rattle.lift_journal.specs.Calls.{reads_from}
 use Rattle.lift_journal.proofs.Following.{rows_then}
 use Rattle.lift_journal.proofs.walk.walk.Goals as goal
@@ -17,7 +21,7 @@ pass-requires-clause-room g c =
 
 pub loop-front-init : goal.loop-front-init
 loop-front-init g c =
-    walk_begins (g.D.Disk.state c.args.disk.now) c.args.start c.args.end c.at-front.result (g.met.D.Disk.only_now c.args.disk.now) c.requires.first c.requires.below c.at-front.ensures
+    walk_begins g.V.Visitor.takes c.args.visitor.now (g.D.Disk.state c.args.disk.now) c.args.start c.args.end c.at-front.result (g.met.D.Disk.only_now c.args.disk.now) c.requires.first c.requires.below c.at-front.ensures
 
 pub loop-front-preserved : goal.loop-front-preserved
 loop-front-preserved g c =
@@ -31,6 +35,8 @@ loop-front-preserved g c =
     let is = c.pass.ensures.passed c.if-not-pass.false in
     let gate = ap (λ (f : Front). f.gate) is in
     let number = ap (λ (f : Front). f.number) is in
+    let passes = c.pass.ensures.may.0 c.if-not-pass.false in
+    let next = c.pass.new.self in
     record {
       low = omega (arith, inv.low, gate);
       below = omega (arith, gate, fits.below);
@@ -44,13 +50,14 @@ loop-front-preserved g c =
           subst (λ (f : Front). new.trace ≡ old.trace ++ reads_from c.args.start (f.gate - c.args.start)) (sym is)
           (rows_then old mid new c.args.start (front.gate - c.args.start) more front.gate (omega (arith, inv.low)) inv.trace (c.in-Ok-Batch.ensures.whole stored c.in-Ok-Batch.field-0-is)
           ∙ ap (λ n. old.trace ++ reads_from c.args.start n) place);
+      batches = inv.batches ++ batch_of stored ∷ [];
+      shown = more_shown g.V.Visitor.takes c.args.visitor.now c.loop-front.visitor c.visit.new.self c.args.start front next inv.batches stored inv.shown (fits.some, fits.few) passes c.visit.ensures is;
       at = λ honest synced.
           let before = inv.well.kept honest synced in
           let shows = seen_at old.image mid.image front.gate c.args.end front.number c.in-Ok-Batch.field-0 (Batch stored) before.same c.in-Ok-Batch.field-0-is
           (c.in-Ok-Batch.ensures.seen (inv.only.runs.honest.1 honest) before.synced) in
           let whole : c.args.end ≤ length old.image = omega (arith, c.requires.inside, g.met.D.Disk.whole c.args.disk.now honest) in
-          subst (λ (f : Front). IsAtFront old.image c.args.start c.args.end f) (sym is)
-          (goes_on old.image c.args.start c.args.end front (inv.at honest synced) inv.below whole stored shows.0 shows.1 (c.pass.ensures.may.0 c.if-not-pass.false));
+          goes_on old.image c.args.start c.args.end front inv.batches (inv.at honest synced) inv.below whole next stored shows.0 shows.1 passes is;
     }
 
 pub returns-in-Err-clause-examines : goal.returns-in-Err-clause-examines
@@ -92,7 +99,7 @@ returns-in-Ok-Damaged-clause-damaged g c s is honest synced =
     let whole : c.args.end ≤ length old.image = omega (arith, c.requires.inside, g.met.D.Disk.whole c.args.disk.now honest) in
     let here : front.gate ≡ s = cc is in
     subst (λ k. IsDamagedAt old.image c.args.start c.args.end k) here
-    (none_here old.image c.args.start c.args.end front (inv.at honest synced) inv.below whole shows.0 shows.1)
+    (none_here old.image c.args.start c.args.end front inv.batches (inv.at honest synced) inv.below whole shows.0 shows.1)
 
 pub returns-in-Ok-Closed-clause-examines : goal.returns-in-Ok-Closed-clause-examines
 returns-in-Ok-Closed-clause-examines g c =
@@ -118,7 +125,7 @@ returns-in-Ok-Closed-clause-damaged g c s is honest synced =
     let whole : c.args.end ≤ length old.image = omega (arith, c.requires.inside, g.met.D.Disk.whole c.args.disk.now honest) in
     let here : front.gate ≡ s = cc is in
     subst (λ k. IsDamagedAt old.image c.args.start c.args.end k) here
-    (ends_early old.image c.args.start c.args.end front (inv.at honest synced) inv.below whole shows (λ may. absurd (cc (c.may_end.ensures.1 may, c.if-may_end.false))))
+    (ends_early old.image c.args.start c.args.end front inv.batches (inv.at honest synced) inv.below whole shows (λ may. absurd (cc (c.may_end.ensures.1 may, c.if-may_end.false))))
 
 pub returns-then-may_end-clause-examines : goal.returns-then-may_end-clause-examines
 returns-then-may_end-clause-examines g c =
@@ -142,7 +149,7 @@ returns-then-may_end-clause-found g c honest synced =
     let shows = seen_at old.image mid.image front.gate c.args.end front.number c.in-Ok-Closed.field-0 Closed before.same c.in-Ok-Closed.field-0-is
     (c.in-Ok-Closed.ensures.seen (inv.only.runs.honest.1 honest) before.synced) in
     let whole : c.args.end ≤ length old.image = omega (arith, c.requires.inside, g.met.D.Disk.whole c.args.disk.now honest) in
-    ends old.image c.args.start c.args.end front (inv.at honest synced) inv.below whole shows (c.may_end.ensures.0 c.if-may_end.true)
+    ends old.image c.args.start c.args.end front inv.batches (inv.at honest synced) inv.below whole shows (c.may_end.ensures.0 c.if-may_end.true)
 
 pub returns-then-not-pass-clause-examines : goal.returns-then-not-pass-clause-examines
 returns-then-not-pass-clause-examines g c =
@@ -169,7 +176,7 @@ returns-then-not-pass-clause-damaged g c s is honest synced =
     let whole : c.args.end ≤ length old.image = omega (arith, c.requires.inside, g.met.D.Disk.whole c.args.disk.now honest) in
     let here : front.gate ≡ s = cc is in
     subst (λ k. IsDamagedAt old.image c.args.start c.args.end k) here
-    (may_not old.image c.args.start c.args.end front (inv.at honest synced) inv.below whole stored shows.0 shows.1 (λ passes. absurd (cc (c.pass.ensures.may.1 passes, c.if-not-pass.true))))
+    (may_not old.image c.args.start c.args.end front inv.batches (inv.at honest synced) inv.below whole stored shows.0 shows.1 (λ passes. absurd (cc (c.pass.ensures.may.1 passes, c.if-not-pass.true))))
 
 pub returns-in-Err-clause-behind : goal.returns-in-Err-clause-behind
 returns-in-Err-clause-behind g c =
@@ -184,7 +191,7 @@ returns-in-Err-clause-behind g c =
       inside = row.2;
       made = rows_then (g.D.Disk.state c.args.disk.now) (g.D.Disk.state c.loop-front.disk) (g.D.Disk.state c.look.new.disk) c.args.start (front.gate - c.args.start) row.0 front.gate
           (omega (arith, inv.low)) inv.trace row.3;
-      reached = λ known. (let at = inv.at known.0 known.1 in (at.batches, at.reached));
+      reached = λ known. (inv.batches, (inv.at known.0 known.1).reached);
     }
 
 pub returns-in-Ok-Damaged-clause-behind : goal.returns-in-Ok-Damaged-clause-behind
@@ -238,3 +245,37 @@ returns-then-may_end-clause-whole g c =
     let inv = c.loop-front.invariant in
     rows_then (g.D.Disk.state c.args.disk.now) (g.D.Disk.state c.loop-front.disk) (g.D.Disk.state c.look.new.disk) c.args.start (c.loop-front.front.gate - c.args.start) 1 c.loop-front.front.gate
     (omega (arith, inv.low)) inv.trace (c.in-Ok-Closed.ensures.closed c.in-Ok-Closed.field-0-is)
+
+pub returns-then-may_end-clause-shown : goal.returns-then-may_end-clause-shown
+returns-then-may_end-clause-shown g c honest synced batches chain =
+    let old = g.D.Disk.state c.args.disk.now in
+    let mid = g.D.Disk.state c.loop-front.disk in
+    let inv = c.loop-front.invariant in
+    let front = c.loop-front.front in
+    let before = inv.well.kept honest synced in
+    let shows = seen_at old.image mid.image front.gate c.args.end front.number c.in-Ok-Closed.field-0 Closed before.same c.in-Ok-Closed.field-0-is
+    (c.in-Ok-Closed.ensures.seen (inv.only.runs.honest.1 honest) before.synced) in
+    let whole : c.args.end ≤ length old.image = omega (arith, c.requires.inside, g.met.D.Disk.whole c.args.disk.now honest) in
+    let found = reaches_end old.image c.args.start c.args.end front.gate inv.batches (inv.at honest synced).reached inv.below whole shows in
+    let same = chain_unique inv.batches batches 1 (take (c.args.end - c.args.start) (drop c.args.start old.image)) found chain in
+    subst (λ (bs : List BatchValue). TakesAll g.V.Visitor.takes c.args.visitor.now bs c.loop-front.visitor) same inv.shown.taken
+
+pub returns-in-Err-clause-shown_some : goal.returns-in-Err-clause-shown_some
+returns-in-Err-clause-shown_some g c =
+    has_taken g.V.Visitor.takes c.args.visitor.now c.loop-front.visitor c.args.start c.args.end c.loop-front.front c.loop-front.invariant.batches c.loop-front.invariant.shown c.loop-front.invariant.below
+
+pub returns-in-Ok-Damaged-clause-shown_some : goal.returns-in-Ok-Damaged-clause-shown_some
+returns-in-Ok-Damaged-clause-shown_some g c =
+    has_taken g.V.Visitor.takes c.args.visitor.now c.loop-front.visitor c.args.start c.args.end c.loop-front.front c.loop-front.invariant.batches c.loop-front.invariant.shown c.loop-front.invariant.below
+
+pub returns-in-Ok-Closed-clause-shown_some : goal.returns-in-Ok-Closed-clause-shown_some
+returns-in-Ok-Closed-clause-shown_some g c =
+    has_taken g.V.Visitor.takes c.args.visitor.now c.loop-front.visitor c.args.start c.args.end c.loop-front.front c.loop-front.invariant.batches c.loop-front.invariant.shown c.loop-front.invariant.below
+
+pub returns-then-may_end-clause-shown_some : goal.returns-then-may_end-clause-shown_some
+returns-then-may_end-clause-shown_some g c =
+    has_taken g.V.Visitor.takes c.args.visitor.now c.loop-front.visitor c.args.start c.args.end c.loop-front.front c.loop-front.invariant.batches c.loop-front.invariant.shown c.loop-front.invariant.below
+
+pub returns-then-not-pass-clause-shown_some : goal.returns-then-not-pass-clause-shown_some
+returns-then-not-pass-clause-shown_some g c =
+    has_taken g.V.Visitor.takes c.args.visitor.now c.loop-front.visitor c.args.start c.args.end c.loop-front.front c.loop-front.invariant.batches c.loop-front.invariant.shown c.loop-front.invariant.below

@@ -1,4 +1,4 @@
-use Rattle.std.proofs.Common.{◌≡◌, ◌+◌, ◌-◌, ◌++◌, ◌∙◌, nat_lt, arith, refl, sym, ap, subst}
+use Rattle.std.proofs.Common.{◌≡◌, ◌+◌, ◌-◌, ◌++◌, ◌∙◌, nat_lt, List, arith, refl, sym, ap, subst}
 use Rattle.lift_journal.specs.Journal.{JournalView}
 use Rattle.lift_journal.specs.Opening.{Opens, Refuses}
 use Rattle.lift_journal.specs.lemmas.Looking.{cause_told}
@@ -6,6 +6,8 @@ use Rattle.lift_journal.proofs.Refusals.{good_refusal}
 use Rattle.lift_journal.proofs.Standing.{opens, picks_synced}
 use Rattle.lift_journal.specs.Calls.{half_start, opening_calls}
 use Rattle.lift_journal.specs.Behind.{RefusedBehind}
+use Rattle.lift_journal.specs.Layout.{Batch, Holds}
+use Rattle.lift_journal.specs.Visits.{TakesAll}
 use Rattle.lift_journal.proofs.Following.{opening_at}
 use Rattle.lift_journal.proofs.journal.Journal.reopen_from.Goals.{then-is_of_disk, else-is_of_disk}
 use Rattle.lift_journal.proofs.journal.Journal.reopen_from.Goals as goal
@@ -61,3 +63,9 @@ returns-after-is_of_disk-clause-calls_before g c =
     let after : (v : JournalView g.row.D.Denot) → c.if-is_of_disk.self ≡ v → v.device ≡ c.find_place.new.disk → RefusedBehind fault (g.D.Disk.state c.args.self.now.device) (g.D.Disk.state c.if-is_of_disk.self.device) =
     λ v is same. subst (λ (d : g.row.D.Denot). RefusedBehind fault (g.D.Disk.state c.args.self.now.device) (g.D.Disk.state d)) (sym (ap (λ (w : JournalView g.row.D.Denot). w.device) is ∙ same)) seen in
     elim c.if-is_of_disk.branch [ then-is_of_disk w ↦ after _ w.self-is refl | else-is_of_disk w ↦ after _ w.self-is refl ]
+
+pub returns-in-Ok-clause-shown : goal.returns-in-Ok-clause-shown
+returns-in-Ok-clause-shown g c =
+    let place = c.in-Ok.place in
+    let new = g.D.Disk.state c.find_place.new.disk in
+    subst (λ (v : JournalView g.row.D.Denot). (g.D.Disk.state v.device).is_honest → (batches : List Batch) → Holds place.shape batches new.image → TakesAll g.V.Visitor.takes c.args.visitor.now batches c.find_place.new.visitor) c.self.view_is c.in-Ok.ensures.shown

@@ -1,56 +1,53 @@
-use Rattle.std.proofs.Common.{[], ◌∷◌, inr, false, refl, sym, ap, subst, arith}
-use Rattle.lift_base.specs.declared.history.Shape.{Shape}
-use Rattle.lift_keeper.specs.Reopening.{RefusesReopening}
-use Rattle.lift_keeper.proofs.Reopenings.{reopens, guards, refused_journal, refused_recovery}
-use Rattle.lift_keeper.proofs.Writers.{whole_writer}
+use Rattle.std.proofs.Common.{false, refl, sym, ◌∙◌, ap, subst, arith}
 use Rattle.lift_journal.specs.Journal.{JournalView}
-use Rattle.lift_disk.specs.Trace.Access.{Sync}
-use Rattle.lift_keeper.specs.Calls.{SyncsBeforeReading}
-use Rattle.lift_keeper.proofs.Reading.{behind_then, opening_row, refused_row}
+use Rattle.lift_journal.specs.Visits.{TakesAll}
+use Rattle.lift_keeper.specs.Calls.{StopsOpening}
+use Rattle.lift_keeper.specs.Reading.{ReadingState, Reads}
+use Rattle.lift_keeper.specs.Reopening.{RefusesReopening}
+use Rattle.lift_keeper.proofs.Recovering.{plan_read}
+use Rattle.lift_keeper.proofs.Reopenings.{reopens, guards, all_read, refused_journal, refused_reading, stopped_reading}
+use Rattle.lift_keeper.proofs.Writers.{whole_writer}
 use Rattle.lift_keeper.proofs.writer.Writer.open.Goals as goal
 
 pub returns-in-Err-clause-refused : goal.returns-in-Err-clause-refused
 returns-in-Err-clause-refused g c = refused_journal c.args.building.now (g.D.Disk.state c.args.disk) (g.D.Disk.state c.in-Err.disk) c.in-Err.fault c.in-Err.ensures.refused
 
-pub returns-in-Ok-recover-clause-opens : goal.returns-in-Ok-recover-clause-opens
-returns-in-Ok-recover-clause-opens g c =
-    let middle = c.in-Ok.journal in
-    let after = c.recover.new.journal in
-    let found = c.in-Ok-recover.ensures in
-    reopens c.args.building.now (g.D.Disk.state c.args.disk) (g.D.Disk.state middle.device) (g.D.Disk.state after.device) middle.shape middle.used
-    c.in-Ok.ensures.opens c.recover.ensures.reads c.in-Ok-recover.register found.shape found.is_read found.kept middle.is_second c.in-Ok.ensures.half after.shape.half after.is_second after.used
-    (ap (λ (s : Shape). s.half) c.recover.ensures.same.0) c.recover.ensures.second c.recover.ensures.same.1
+pub returns-in-Ok-recovered-clause-opens : goal.returns-in-Ok-recovered-clause-opens
+returns-in-Ok-recovered-clause-opens g c =
+    let journal = c.in-Ok.journal in
+    let reading = c.open_with.new.visitor in
+    let found = c.in-Ok-recovered.ensures in
+    reopens c.args.building.now (g.D.Disk.state c.args.disk) (g.D.Disk.state journal.device) journal.shape journal.used c.in-Ok.ensures.opens reading
+    (λ honest batches holds. subst (λ (s : ReadingState). TakesAll Reads s batches reading) c.new-reading.ensures (c.in-Ok.ensures.shown honest batches holds))
+    c.in-Ok-recovered.register found.shape found.gives journal.is_second c.in-Ok.ensures.half
 
-pub returns-in-Err-recover-clause-refused : goal.returns-in-Err-recover-clause-refused
-returns-in-Err-recover-clause-refused g c =
-    subst (λ (d : g.row.D.Denot). RefusesReopening c.args.building.now (g.D.Disk.state c.args.disk) (g.D.Disk.state d) c.in-Err-recover.fault) (sym c.into_disk.ensures)
-    (refused_recovery g.D.Disk.state c.args.building.now (g.D.Disk.state c.args.disk) c.in-Ok.journal c.recover.new.journal c.in-Ok.journal.used
-    c.in-Ok.ensures.opens c.in-Ok.ensures.whole c.recover.ensures.reads c.in-Err-recover.fault c.in-Err-recover.ensures.refused)
+pub returns-in-Err-recovered-clause-refused : goal.returns-in-Err-recovered-clause-refused
+returns-in-Err-recovered-clause-refused g c =
+    let journal = c.in-Ok.journal in
+    let reading = c.open_with.new.visitor in
+    subst (λ (d : g.row.D.Denot). RefusesReopening c.args.building.now (g.D.Disk.state c.args.disk) (g.D.Disk.state d) c.in-Err-recovered.fault) (sym c.into_disk.ensures)
+    (refused_reading c.args.building.now (g.D.Disk.state c.args.disk) (g.D.Disk.state journal.device) journal.shape journal.used c.in-Ok.ensures.opens reading
+    (λ honest batches holds. subst (λ (s : ReadingState). TakesAll Reads s batches reading) c.new-reading.ensures (c.in-Ok.ensures.shown honest batches holds))
+    c.in-Err-recovered.fault c.in-Err-recovered.ensures.refused)
 
 pub invariant_of-result : goal.invariant_of-result
 invariant_of-result g c =
-    let middle = c.in-Ok.journal in
-    let after = c.recover.new.journal in
-    let found = c.in-Ok-recover.ensures in
-    let made = guards c.args.building.now (g.D.Disk.state c.args.disk) (g.D.Disk.state middle.device) (g.D.Disk.state after.device) middle.shape middle.used
-    c.in-Ok.ensures.opens c.recover.ensures.reads c.in-Ok-recover.register found.shape found.is_read found.kept middle.is_second c.in-Ok.ensures.half found.possible after.shape after.is_second after.used
-    c.recover.ensures.same.0 c.recover.ensures.second c.recover.ensures.same.1 in
+    let journal = c.in-Ok.journal in
+    let reading = c.open_with.new.visitor in
+    let found = c.in-Ok-recovered.ensures in
+    let some = c.open_with.ensures.shown_some in
+    let made = guards c.args.building.now (g.D.Disk.state c.args.disk) (g.D.Disk.state journal.device) journal.shape journal.used c.in-Ok.ensures.opens reading
+    (λ honest batches holds. subst (λ (s : ReadingState). TakesAll Reads s batches reading) c.new-reading.ensures (c.in-Ok.ensures.shown honest batches holds))
+    c.in-Ok-recovered.register found.shape found.gives journal.is_second c.in-Ok.ensures.half
+    (plan_read c.new-reading.result some.batches reading some.taken ∙ ap (λ (s : ReadingState). s.recovery.plan) c.new-reading.ensures) in
     let counted = ap (λ (j : JournalView g.row.D.Denot). (g.D.Disk.state j.device).failures) c.of-opened.ensures in
-    whole_writer c.args.building.now after c.in-Ok-recover.register c.of.result.value.items (g.D.Disk.state c.of-opened.result.value.device).failures false
-    (g.D.Disk.state after.device) refl made found.whole.1 (cc (c.of.ensures, c.new.ensures)) (omega (arith, counted))
+    whole_writer c.args.building.now journal c.in-Ok-recovered.register c.of.result.value.items (g.D.Disk.state c.of-opened.result.value.device).failures false
+    (g.D.Disk.state journal.device) refl made c.in-Ok.ensures.whole (cc (c.of.ensures, c.new.ensures)) (omega (arith, counted))
 
-pub returns-in-Err-clause-calls_before : goal.returns-in-Err-clause-calls_before
-returns-in-Err-clause-calls_before g c = refused_row c.in-Err.fault (g.D.Disk.state c.args.disk) (g.D.Disk.state c.in-Err.disk) c.in-Err.ensures.calls_before
-
-pub returns-in-Ok-recover-clause-calls : goal.returns-in-Ok-recover-clause-calls
-returns-in-Ok-recover-clause-calls g c =
-    let old = g.D.Disk.state c.args.disk in
-    let mid = g.D.Disk.state c.in-Ok.journal.device in
-    behind_then (Sync ∷ []) old mid (g.D.Disk.state c.recover.new.journal.device) (opening_row old mid _ _ c.in-Ok.ensures.calls) c.recover.ensures.row
-
-pub returns-in-Err-recover-clause-calls_before : goal.returns-in-Err-recover-clause-calls_before
-returns-in-Err-recover-clause-calls_before g c =
-    let old = g.D.Disk.state c.args.disk in
-    let mid = g.D.Disk.state c.in-Ok.journal.device in
-    subst (λ (d : g.row.D.Denot). SyncsBeforeReading c.in-Err-recover.fault old (g.D.Disk.state d)) (sym c.into_disk.ensures)
-    (inr (behind_then (Sync ∷ []) old mid (g.D.Disk.state c.recover.new.journal.device) (opening_row old mid _ _ c.in-Ok.ensures.calls) c.recover.ensures.row))
+pub returns-in-Err-recovered-clause-calls_before : goal.returns-in-Err-recovered-clause-calls_before
+returns-in-Err-recovered-clause-calls_before g c =
+    let journal = c.in-Ok.journal in
+    let reading = c.open_with.new.visitor in
+    subst (λ (d : g.row.D.Denot). StopsOpening c.in-Err-recovered.fault (g.D.Disk.state c.args.disk) (g.D.Disk.state d)) (sym c.into_disk.ensures)
+    (stopped_reading c.args.building.now journal.shape reading (g.D.Disk.state c.args.disk) (g.D.Disk.state journal.device) c.in-Err-recovered.fault c.in-Err-recovered.ensures.refused
+    (all_read (g.D.Disk.state c.args.disk) (g.D.Disk.state journal.device) journal.shape journal.used c.in-Ok.ensures.opens journal.is_second c.in-Ok.ensures.half c.in-Ok.ensures.calls))

@@ -3,7 +3,7 @@ use Rattle.lift_journal.proofs.Refusals.{good_refusal}
 use Rattle.lift_journal.proofs.Standing.{opens, picks_synced}
 use Rattle.std.proofs.Common.{◌+◌, ◌-◌, arith}
 use Rattle.lift_journal.proofs.Following.{opening_at}
-use Rattle.lift_journal.proofs.journal.Journal.open.Goals as goal
+use Rattle.lift_journal.proofs.journal.Journal.open_with.Goals as goal
 
 pub returns-in-Ok-clause-opens : goal.returns-in-Ok-clause-opens
 returns-in-Ok-clause-opens g c =

@@ -1,0 +1,85 @@
+-- What was shown to a visitor on the way along a chain.
+use Rattle.std.proofs.Common.{◌≡◌, ◌<◌, ◌≤◌, ◌+◌, ◌-◌, ℕ, List, [], ◌∷◌, ◌++◌, None, length, All, refl, sym, ◌∙◌, ap, subst, arith, add-zero}
+use Rattle.std.proofs.lemmas.List.Elements.{All-append, All-from_recursion}
+use Rattle.lift_base.specs.declared.history.Record.{Record}
+use Rattle.lift_record.specs.declared.version.Version.TheVariants.{One}
+use Rattle.lift_record.specs.Version.{version_number}
+use Rattle.lift_journal.specs.Order.{last_behind, IsInOrderBehind}
+use Rattle.lift_journal.specs.Layout.{Batch, records_of, used, bodies}
+use Rattle.lift_journal.specs.Walk.{IsSoundFront, version_behind}
+use Rattle.lift_journal.specs.Seen.{batch_of}
+use Rattle.lift_journal.specs.declared.batch.Stored.{Stored}
+use Rattle.lift_journal.specs.declared.walk.Front.{Front}
+use Rattle.lift_journal.specs.Fronts.{Passes, passed}
+use Rattle.lift_journal.specs.Visits.{TakesAll, IsSized, HasTaken}
+use Rattle.lift_journal.specs.lemmas.Chains.{used_more}
+use Rattle.lift_journal.specs.lemmas.Orders.{front_push, version_push, last_push}
+
+-- the batches before a front, on any device
+pub record IsShown {V : Type 0} (takes : V → List Record → V → Type 0) (was is : V) (start : ℕ) (front : Front) (batches : List Batch) : Type 0 where
+  pub sound : IsSoundFront batches
+  pub sized : All IsSized batches
+  pub stands : front.gate ≡ start + used batches
+  pub version_is : front.version ≡ version_behind One batches
+  pub last_is : front.last ≡ last_behind None (records_of batches)
+  pub taken : TakesAll takes was batches is
+
+module _ {V : Type 0} (takes : V → List Record → V → Type 0) where
+  -- one batch more
+  pub takes_push : (batches : List Batch) (batch : Batch) (old mid new : V) → TakesAll takes old batches mid → takes mid batch.records new → TakesAll takes old (batches ++ batch ∷ []) new
+  takes_push [] batch old mid new same step = (new, subst (λ (v : V). takes v batch.records new) same step, refl)
+  takes_push (first ∷ batches) batch old mid new (next, one, rest) step = (next, one, takes_push batches batch next mid new rest step)
+
+  pub none_shown : (visitor : V) (start : ℕ) (front : Front) → front.gate ≡ start → front.version ≡ One → front.last ≡ None → IsShown takes visitor visitor start front []
+  none_shown visitor start front gate version last = record {
+    sound = record { versions = tt; ordered = tt };
+    sized = All-from_recursion IsSized [] tt;
+    stands = gate ∙ sym (add-zero start);
+    version_is = version;
+    last_is = last;
+    taken = refl;
+  }
+
+  pub more_shown : (was mid new : V) (start : ℕ) (front next : Front) (batches : List Batch) (stored : Stored) → IsShown takes was mid start front batches → IsSized (batch_of stored) → Passes front stored
+      → takes mid stored.records.items new → next ≡ passed front stored → IsShown takes was new start next (batches ++ batch_of stored ∷ [])
+  more_shown was mid new start front next batches stored shown sized passes step is =
+      let batch = batch_of stored in
+      let gate : next.gate ≡ front.gate + (1 + bodies (length stored.records.items)) = ap (λ (f : Front). f.gate) is in
+      record {
+        sound = front_push batches batch shown.sound (subst (λ v. version_number v ≤ version_number stored.version) shown.version_is passes.rises)
+            (subst (λ l. IsInOrderBehind l stored.records.items) shown.last_is passes.ordered);
+        sized = All-append IsSized batches (batch ∷ []) shown.sized (All-from_recursion IsSized (batch ∷ []) (sized, tt));
+        stands = omega (arith, gate, shown.stands, used_more batches batch);
+        version_is = ap (λ (f : Front). f.version) is ∙ sym (version_push One batches batch);
+        last_is = ap (λ (f : Front). f.last) is ∙ ap (λ l. last_behind l stored.records.items) shown.last_is ∙ sym (last_push batches batch);
+        taken = takes_push batches batch was mid new shown.taken step;
+      }
+
+  -- below the end of a half
+  pub has_taken : (was is : V) (start end : ℕ) (front : Front) (batches : List Batch) → IsShown takes was is start front batches → front.gate < end → HasTaken takes (end - start) was is
+  has_taken was is start end front batches shown below = record {
+    batches = batches;
+    sound = shown.sound;
+    sized = shown.sized;
+    few = omega (arith, shown.stands, below);
+    taken = shown.taken;
+  }
+
+  pub taken_weaker : (few many : ℕ) (was is : V) → few ≤ many → HasTaken takes few was is → HasTaken takes many was is
+  taken_weaker few many was is more taken = record {
+    batches = taken.batches;
+    sound = taken.sound;
+    sized = taken.sized;
+    few = omega (arith, taken.few, more);
+    taken = taken.taken;
+  }
+
+  -- nothing was shown
+  pub taken_none : (sectors : ℕ) (was is : V) → 1 ≤ sectors → is ≡ was → HasTaken takes sectors was is
+  taken_none sectors was is some same = record {
+    batches = [];
+    sound = record { versions = tt; ordered = tt };
+    sized = All-from_recursion IsSized [] tt;
+    few = some;
+    taken = same;
+  }
