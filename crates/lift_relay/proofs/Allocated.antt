@@ -13,12 +13,12 @@ use Rattle.lift_clerk.specs.Turn.{settled}
 use Rattle.lift_policy.specs.declared.command.Command.{Command}
 use Rattle.lift_clerk.specs.Visits.{commands_of, served}
 use Rattle.std.proofs.lemmas.List.{length-map}
-use Rattle.lift_relay.specs.declared.batch.Taken.{Taken}
-use Rattle.lift_relay.specs.Batch.{BatchState, after, turns_behind, turns_of, turns_after, commands_in, replies_in, noted_in}
-use Rattle.lift_relay.specs.Line.{SendState, Begins, IsNext, SendsOne, WasFull}
-use Rattle.lift_relay.specs.Scan.{ScansAhead, TakesEach, turns_in}
+use Rattle.lift_parts.specs.declared.taken.Taken.{Taken}
+use Rattle.lift_parts.specs.Batch.{BatchState, after, turns_behind, turns_of, turns_after, commands_in, replies_in, noted_in}
+use Rattle.lift_parts.specs.Line.{SendState, Begins, IsNext, SendsOne, WasFull}
+use Rattle.lift_parts.specs.Scan.{ScansAhead, TakesEach, turns_in}
 use Rattle.lift_relay.proofs.Queues.{full_by}
-use Rattle.lift_relay.specs.Allocator.{AllocatorState, DecidesAlong, GoesOnBehind, IsAllocator, IsScanTurn, IsAllocation}
+use Rattle.lift_parts.specs.Allocator.{AllocatorState, DecidesAlong, GoesOnBehind, IsAllocator, IsScanTurn, IsAllocation}
 
 -- one batch more
 pub along_more : (plan : Plan) (choice : Choice) (start mid decided : State) (batches : List BatchState) (batch : BatchState) → DecidesAlong plan choice start batches mid

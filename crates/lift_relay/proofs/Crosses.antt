@@ -31,8 +31,8 @@ use Rattle.lift_desk.proofs.desk.TakeSeat.TheSendSync as seat_is
 use Rattle.lift_keeper.specs.contracts.decider.Decider as Decider
 use Rattle.lift_keeper.proofs.decider.Decider.TheSendSync as decider_is
 use Rattle.lift_policy.specs.declared.policy.Policy.{Ghosts}
-use Rattle.lift_relay.proofs.batch.Taken.TheSendSync as taken_is
-use Rattle.lift_relay.specs.contracts.batch.Taken as Taken
+use Rattle.lift_parts.proofs.taken.Taken.TheSendSync as taken_is
+use Rattle.lift_parts.specs.contracts.taken.Taken as Taken
 use Rattle.lift_relay.specs.contracts.batch.Batch as Batch
 use Rattle.lift_relay.specs.contracts.batch.Batch.TheInside as batch_inside
 use Rattle.lift_relay.specs.contracts.line.EndView as EndView

@@ -6,7 +6,7 @@ use Rattle.lift_building.specs.Plan.{Plan}
 use Rattle.lift_relay.specs.declared.line.EndView.{EndView}
 use Rattle.lift_relay.specs.declared.line.SendEnd.TheInside.{Inside}
 use Rattle.lift_relay.specs.declared.line.ReceiveEnd.TheInside.{Inside as ReceiveInside}
-use Rattle.lift_relay.specs.Line.{SendState, ReceiveState}
+use Rattle.lift_parts.specs.Line.{SendState, ReceiveState}
 use Rattle.lift_relay.specs.SendInside.{seen}
 use Rattle.lift_relay.specs.ReceiveInside.{seen as received_seen}
 use Rattle.lift_relay.specs.Rule.{sending, receiving, joined, told_both}

@@ -17,10 +17,10 @@ use Rattle.lift_clerk.specs.Scanning.{told}
 use Rattle.lift_clerk.specs.Visits.{Visit, FindsAt}
 use Rattle.lift_clerk.specs.lemmas.Visiting.{finds-at, taken-new}
 use Rattle.lift_clerk.specs.lemmas.Scanned.{Looked}
-use Rattle.lift_relay.specs.declared.batch.Taken.{Taken}
-use Rattle.lift_relay.specs.Batch.{AreBelow, commands_in, turns_of, turns_with, turns_after, IsNoted, AreNoted}
-use Rattle.lift_relay.specs.Flusher.{GivesIt, answered_at, AnswersOne, AnswersAll, Answered, IsSettled}
-use Rattle.lift_relay.proofs.Turns.{is_below}
+use Rattle.lift_parts.specs.declared.taken.Taken.{Taken}
+use Rattle.lift_parts.specs.Batch.{AreBelow, commands_in, turns_of, turns_with, turns_after, IsNoted, AreNoted}
+use Rattle.lift_parts.specs.Flusher.{GivesIt, answered_at, AnswersOne, AnswersAll, Answered, IsSettled}
+use Rattle.lift_parts.specs.lemmas.Used.{is_below}
 
 finds : (places next : List ClerkPlace) (n word : ℕ) (found : Option Ask) → Looked places next n word found → FindsAt (get_or places n no_place) (record { word = word; found = found })
 finds places next n word found look = finds-at (get_or places n no_place) word found look.takes look.even look.number look.in_range look.known look.told

@@ -7,10 +7,11 @@ use Rattle.crossbeam_queue.proofs.Lists.{at_set, at_snoc}
 use Rattle.atomic_table.specs.Seated.{TableId}
 use Rattle.lift_building.specs.Plan.{Plan}
 use Rattle.lift_register.specs.Register.{RegisterState}
-use Rattle.lift_relay.specs.Batch.{BatchState, after, turns_behind}
+use Rattle.lift_parts.specs.Batch.{BatchState, after, turns_behind}
 use Rattle.lift_relay.specs.declared.line.EndView.{EndView}
-use Rattle.lift_relay.specs.Line.{Begins, IsNext}
-use Rattle.lift_relay.specs.Rule.{opening, opening_view, begun_with, sending, receiving, most_batches, joined, told_both, spent_pass, GoesOn, Lists, Fits, IsInOrder, IsKept, Named, Begun, Sent, Received, SentAllBut, ReceivedBefore, Waits}
+use Rattle.lift_parts.specs.Line.{Begins, IsNext}
+use Rattle.lift_relay.specs.Rule.{opening, opening_view, begun_with, sending, receiving, most_batches, joined, told_both, spent_pass, Lists, Fits, IsInOrder, IsKept, Named, Begun, Sent, Received, SentAllBut, ReceivedBefore, Waits}
+use Rattle.lift_parts.specs.Line.{GoesOn}
 
 off : {A : Type 0} → false ≡ true → A
 off e = absurd (true≢false (sym e))

@@ -15,10 +15,10 @@ use Rattle.lift_desk.specs.lemmas.WordLists.{last_of-push}
 use Rattle.lift_policy.specs.declared.command.Command.{Command}
 use Rattle.lift_clerk.specs.Visits.{command_at}
 use Rattle.lift_clerk.specs.lemmas.Visiting.{taken-new, taken-old}
-use Rattle.lift_relay.specs.declared.batch.Taken.{Taken}
-use Rattle.lift_relay.specs.Batch.{commands_in, noted_in, turns_of, turns_with, turns_after, IsNoted, AreNoted}
-use Rattle.lift_relay.specs.Scan.{word_at}
-use Rattle.lift_relay.proofs.Turns.{below_is}
+use Rattle.lift_parts.specs.declared.taken.Taken.{Taken}
+use Rattle.lift_parts.specs.Batch.{commands_in, noted_in, turns_of, turns_with, turns_after, IsNoted, AreNoted}
+use Rattle.lift_parts.specs.Scan.{word_at}
+use Rattle.lift_parts.specs.lemmas.Used.{below_is}
 
 noted_last : (desk : List TableId) (turns : List ℕ) (xs : List Taken) (x : Taken) → AreNoted desk turns xs → IsNoted desk (turns_after turns xs) x → AreNoted desk turns (xs ++ x ∷ [])
 noted_last desk turns [] x all one = (one, tt)

@@ -1,7 +1,7 @@
 -- Seats that have answered all that they took owe nothing.
 use Rattle.std.proofs.Common.{◌≡◌, ℕ, zero, suc, ◌<◌, List, [], ◌∷◌, length, get_or, refl, sym, subst, arith}
 use Rattle.lift_desk.specs.Seats.{ClerkPlace, no_place, Owes, OwesNothing}
-use Rattle.lift_relay.specs.Flusher.{IsSettled}
+use Rattle.lift_parts.specs.Flusher.{IsSettled}
 
 same_at : (places : List ClerkPlace) (k : ℕ) (d e : ClerkPlace) → k < length places → get_or places k d ≡ get_or places k e
 same_at [] k d e below = absurd (omega arith)

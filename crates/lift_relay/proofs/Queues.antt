@@ -1,9 +1,9 @@
 -- What the line holds, by its two ends.
 use Rattle.std.proofs.Common.{◌≡◌, ℕ, ◌+◌, ◌≤◌, List, [], ◌∷◌, ◌++◌, length, drop, refl, sym, ap, ◌∙◌, append-nil, length-append, arith}
-use Rattle.lift_relay.specs.Batch.{BatchState}
-use Rattle.lift_relay.specs.Line.{SendState, ReceiveState, ReceivesOne, WasFull, WasEmpty}
-use Rattle.lift_relay.specs.Queued.{Queued}
-use Rattle.lift_relay.specs.Flusher.{entries_of, entries_between}
+use Rattle.lift_parts.specs.Batch.{BatchState}
+use Rattle.lift_parts.specs.Line.{SendState, ReceiveState, ReceivesOne, WasFull, WasEmpty}
+use Rattle.lift_parts.specs.Queued.{Queued}
+use Rattle.lift_parts.specs.Flusher.{entries_of, entries_between}
 
 no_more : {A : Type 0} (xs ys : List A) → length xs ≡ length xs + length ys → ys ≡ []
 no_more xs [] same = refl

@@ -8,11 +8,12 @@ use Rattle.lift_policy.specs.Eligible.{Choice}
 use Rattle.lift_keeper.specs.declared.fault.KeeperFault.{KeeperFault}
 use Rattle.lift_relay.specs.declared.pair.RunFault.{RunFault}
 use Rattle.lift_relay.specs.declared.pair.RunFault.TheVariants.{Keeper, Spawn}
-use Rattle.lift_relay.specs.Allocator.{AllocatorState}
-use Rattle.lift_relay.specs.Flusher.{FlusherState}
-use Rattle.lift_relay.specs.Pair.{AllocatorTurns, FlusherTurns, fault_of, HaveRun, IsRun, IsSameAllocator, IsSameFlusher}
-use Rattle.lift_relay.specs.Runs.{HasPast, Advances, RunsAreHistories}
-use Rattle.lift_relay.proofs.Paired.{turns_joined, flushes_joined, same_allocator, same_flusher, faults_broken}
+use Rattle.lift_parts.specs.Allocator.{AllocatorState}
+use Rattle.lift_parts.specs.Flusher.{FlusherState}
+use Rattle.lift_parts.specs.Turns.{AllocatorTurns, FlusherTurns, IsSameAllocator, IsSameFlusher}
+use Rattle.lift_relay.specs.Pair.{fault_of, HaveRun, IsRun}
+use Rattle.lift_parts.specs.Runs.{HasPast, Advances, RunsAreHistories}
+use Rattle.lift_parts.specs.lemmas.Paired.{turns_joined, flushes_joined, same_allocator, same_flusher, faults_broken}
 
 abbrev fault_in : Option RunFault → Option KeeperFault
 fault_in None = None

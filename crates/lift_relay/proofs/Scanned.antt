@@ -21,9 +21,9 @@ use Rattle.lift_keeper.specs.Keeper.{IsKeeper}
 use Rattle.lift_keeper.specs.lemmas.Keepers.{decided_keeper, settled_keeper}
 use Rattle.lift_clerk.specs.Visits.{Visit, command_at, commands_of}
 use Rattle.lift_clerk.specs.lemmas.Visiting.{commands-more, looked-more, untouched}
-use Rattle.lift_relay.specs.declared.batch.Taken.{Taken}
-use Rattle.lift_relay.specs.Batch.{commands_in, replies_in, noted_in, AreBelow}
-use Rattle.lift_relay.specs.Scan.{TakesAt, TakesEach, ScansAhead, word_at, words_of}
+use Rattle.lift_parts.specs.declared.taken.Taken.{Taken}
+use Rattle.lift_parts.specs.Batch.{commands_in, replies_in, noted_in, AreBelow}
+use Rattle.lift_parts.specs.Scan.{TakesAt, TakesEach, ScansAhead, word_at, words_of}
 
 takes-more : (places : List ClerkPlace) (visits : List Visit) (n : ℕ) (v : Visit) → n ≡ length visits → n < length places → TakesEach places visits → TakesAt (get_or places n no_place) v
     → TakesEach places (visits ++ v ∷ [])

@@ -2,7 +2,7 @@ use Rattle.std.specs.Prelude.{◌≡◌, ◌≤◌, true, length}
 use Rattle.std.specs.Arc.{arc_value}
 use Rattle.crossbeam_queue.specs.Passes.{view, IsPassOf, ruled_capacity}
 use Rattle.lift_relay.specs.declared.line.ReceiveEnd.TheInside.{Inside}
-use Rattle.lift_relay.specs.Line.{ReceiveState}
+use Rattle.lift_parts.specs.Line.{ReceiveState}
 
 abbrev pub seen : Inside → ReceiveState
 seen s = record {

@@ -6,9 +6,9 @@ use lib.ListN.{get_elem?}
 use Rattle.atomic_table.specs.Seated.{TableId}
 use Rattle.lift_building.specs.Plan.{Plan}
 use Rattle.lift_register.specs.Register.{RegisterState, empty}
-use Rattle.lift_relay.specs.Batch.{BatchState, after, turns_behind}
+use Rattle.lift_parts.specs.Batch.{BatchState, after, turns_behind}
 use Rattle.lift_relay.specs.declared.line.EndView.{EndView}
-use Rattle.lift_relay.specs.Line.{Begins, IsNext}
+use Rattle.lift_parts.specs.Line.{Begins, IsNext, GoesOn}
 
 abbrev pub no_building : Plan
 no_building = record { floors = 0; door_ms = 0; kiosks = []; flights = []; cars = [] }
@@ -82,15 +82,6 @@ told_both v w = record v {
 -- a pass that was taken in by another
 abbrev pub spent_pass : EndView
 spent_pass = record opening_view { begun = true }
-
--- each of these batches goes on from the register and the turns that those before it leave, from
--- these to those
-abbrev pub GoesOn : Plan → List TableId → RegisterState → List ℕ → List BatchState → RegisterState
-    → List ℕ → Type 0
-GoesOn building desk first turns [] last ended = (first ≡ last) × (turns ≡ ended)
-GoesOn building desk first turns (batch ∷ batches) last ended =
-    IsNext building desk first turns batch
-    × GoesOn building desk (after batch) (turns_behind batch) batches last ended
 
 -- each batch takes a turn of some terminal: 63 terminals of 1,048,575 turns
 abbrev pub most_batches : ℕ

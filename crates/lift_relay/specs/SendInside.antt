@@ -2,7 +2,7 @@ use Rattle.std.specs.Prelude.{◌≡◌, true, length}
 use Rattle.std.specs.Arc.{arc_value}
 use Rattle.crossbeam_queue.specs.Passes.{view, IsPassOf, ruled_capacity}
 use Rattle.lift_relay.specs.declared.line.SendEnd.TheInside.{Inside}
-use Rattle.lift_relay.specs.Line.{SendState}
+use Rattle.lift_parts.specs.Line.{SendState}
 
 abbrev pub seen : Inside → SendState
 seen s = record {

@@ -2,12 +2,12 @@
 
 ghost use Rattle.std.specs.Prelude.{◌≡◌, ◌≢◌, ◌↔◌, ◌<◌, ◌≤◌, ◌+◌, [], ◌∷◌, ◌++◌, length, true};
 ghost use Rattle.std.specs.Prelude.{false};
-ghost use Rattle.lift_relay.specs.Line.{Begins, WasFull};
+ghost use Rattle.lift_parts.specs.Line.{Begins, WasFull};
 ghost use Rattle.lift_desk.specs.Seats.{IsClerkOf};
-ghost use Rattle.lift_relay.specs.Batch.{turns_of};
-ghost use Rattle.lift_relay.specs.Allocator.{IsAllocation, IsScanTurn, DecidesAlong};
-ghost use Rattle.lift_relay.specs.Pair.{IsSameAllocator};
-ghost use Rattle.lift_relay.specs.Queued.{Queued};
+ghost use Rattle.lift_parts.specs.Batch.{turns_of};
+ghost use Rattle.lift_parts.specs.Allocator.{IsAllocation, IsScanTurn, DecidesAlong};
+ghost use Rattle.lift_parts.specs.Turns.{IsSameAllocator};
+ghost use Rattle.lift_parts.specs.Queued.{Queued};
 
 use crate::batch::Batch;
 use crate::line::{ReceiveEnd, SendEnd};
@@ -37,7 +37,7 @@ pub struct Allocator<'d, 'b, P: Policy + Drop> {
 }
 
 impl<'d, 'b, P: Policy + Drop> Model for Allocator<'d, 'b, P> {
-    ghost use Rattle.lift_relay.specs.Allocator.{AllocatorState, IsAllocator};
+    ghost use Rattle.lift_parts.specs.Allocator.{AllocatorState, IsAllocator};
     ghost use Rattle.std.specs.Option.{option_to_list};
 
     ghost Value = { AllocatorState P };

@@ -1,38 +1,16 @@
 //! A sealed batch: the commands of one scan with their replies, and the entries that they add.
 ghost use Rattle.std.specs.Prelude.{◌≡◌, length};
 ghost use Rattle.lift_register.specs.Fits.{FitFrom};
-ghost use Rattle.lift_relay.specs.Batch.{AreBelow, AreNoted, IsDecided, commands_in, turns_of};
+ghost use Rattle.lift_parts.specs.Batch.{AreBelow, AreNoted, IsDecided, commands_in, turns_of};
 
 use arrayvec::ArrayVec;
-use lift_base::{Body, Entry, Number, Reply, Terminal};
+use lift_base::Entry;
 use lift_building::Building;
-use lift_desk::{Desk, Note, TakeSeat};
-use lift_policy::Command;
+use lift_desk::{Desk, TakeSeat};
+use lift_parts::Taken;
 use lift_register::Register;
 use std::marker::Model;
 use std::snapshot::Snapshot;
-
-/// A command that was taken, a note of its ask, and the reply that it gets once its batch is safe.
-#[derive(Drop)]
-pub struct Taken {
-    pub command: Command,
-    pub reply: Reply,
-    pub note: Note,
-}
-
-impl Default for Taken {
-    fn default() -> Self {
-        Taken {
-            command: Command {
-                terminal: Terminal::default(),
-                number: Number::default(),
-                body: Body::default(),
-            },
-            reply: Reply::Unknown,
-            note: Note::default(),
-        }
-    }
-}
 
 /// What one scan took and decided. Contracts also see in which building and on which register it
 /// was decided, at which desk it was taken, and the turn of the last ask that was taken before, of
@@ -48,7 +26,7 @@ pub struct Batch {
 }
 
 impl Model for Batch {
-    ghost use Rattle.lift_relay.specs.Batch.{BatchState, IsBatch, turns_of};
+    ghost use Rattle.lift_parts.specs.Batch.{BatchState, IsBatch, turns_of};
 
     ghost Value = { BatchState };
 

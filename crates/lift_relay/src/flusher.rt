@@ -12,14 +12,14 @@ ghost use Rattle.lift_keeper.specs.Writer.{StopsCommit, commit_calls, commit_wri
 ghost use Rattle.lift_keeper.specs.Writer.{commit_second};
 ghost use Rattle.lift_clerk.specs.Turn.{IsEither};
 ghost use Rattle.lift_clerk.specs.Visits.{Visit};
-ghost use Rattle.lift_relay.specs.Batch.{BatchState, turns_behind, turns_with};
-ghost use Rattle.lift_relay.specs.Queued.{Queued};
-ghost use Rattle.lift_relay.specs.Relay.{AreOfOne};
-ghost use Rattle.lift_relay.specs.Flusher.{IsFlusher, AnswersOne, Answered, IsSettled, IsEmptyTurn};
-ghost use Rattle.lift_relay.specs.Flusher.{IsBatchTurn, entries_between};
+ghost use Rattle.lift_parts.specs.Batch.{BatchState, turns_behind, turns_with};
+ghost use Rattle.lift_parts.specs.Queued.{Queued};
+ghost use Rattle.lift_parts.specs.Parts.{AreOfOne};
+ghost use Rattle.lift_parts.specs.Flusher.{IsFlusher, AnswersOne, Answered, IsSettled, IsEmptyTurn};
+ghost use Rattle.lift_parts.specs.Flusher.{IsBatchTurn, entries_between};
 
 use crate::allocator::Allocator;
-use crate::batch::{Batch, Taken};
+use crate::batch::Batch;
 use crate::line::ReceiveEnd;
 use crate::places::with_both;
 use arrayvec::ArrayVec;
@@ -28,20 +28,12 @@ use lift_desk::{ClerkSeat, Desk};
 use lift_disk::Disk;
 use lift_journal::JournalFault;
 use lift_keeper::{KeeperFault, Writer};
+use lift_parts::{FlushCounts, Taken};
 use lift_policy::Policy;
 use lift_register::Register;
 use std::marker::Model;
 use std::mem;
 use std::sync::Wait;
-
-/// What one turn of a flusher did.
-#[derive(Clone, Copy, PartialEq, Eq)]
-pub struct FlushCounts {
-    /// How many batches it made safe, at most one.
-    pub batches: usize,
-    /// How many answers it stored: one for each command of the batch, at most 63.
-    pub answers: usize,
-}
 
 /// Makes batches safe in the order in which they were sent, and answers them. Contracts see its
 /// desk's tables, its seats there, its writer and its end of the line.
@@ -54,7 +46,7 @@ pub struct Flusher<'d, 'b, D: Disk> {
 }
 
 impl<'d, 'b, D: Disk> Model for Flusher<'d, 'b, D> {
-    ghost use Rattle.lift_relay.specs.Flusher.{FlusherState, IsFlusher};
+    ghost use Rattle.lift_parts.specs.Flusher.{FlusherState, IsFlusher};
 
     ghost Value = { FlusherState D };
 

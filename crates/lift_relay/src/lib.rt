@@ -13,8 +13,9 @@ mod scan;
 mod tie;
 
 pub use allocator::Allocator;
-pub use batch::{Batch, Taken};
-pub use flusher::{FlushCounts, Flusher};
+pub use batch::Batch;
+pub use flusher::Flusher;
+pub use lift_parts::{FlushCounts, Taken};
 pub use pair::{Gate, RunFault, run};
 pub use relay::{rejoin, split, tell};
-pub use tie::{relays_are_the_machines, runs_are_histories, turn_flusher_once};
+pub use tie::turn_flusher_once;

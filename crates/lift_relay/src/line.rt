@@ -1,7 +1,7 @@
 //! A queue of four batches with one end that sends and one that receives.
 ghost use Rattle.std.specs.Prelude.{◌≡◌, ◌<◌, ◌^◌, [], length, MatchResult, MatchOption, IfOk};
-ghost use Rattle.lift_relay.specs.Line.{SendsOne, ReceivesOne, IsNext, IsLine, WasFull, WasEmpty};
-ghost use Rattle.lift_relay.specs.Queued.{Queued};
+ghost use Rattle.lift_parts.specs.Line.{SendsOne, ReceivesOne, IsNext, IsLine, WasFull, WasEmpty};
+ghost use Rattle.lift_parts.specs.Queued.{Queued};
 
 use crate::batch::Batch;
 use crossbeam_queue::protocol::{Join, Lesson, Outcome, Protocol, Split};
@@ -150,7 +150,7 @@ pub struct SendEnd {
 }
 
 impl Model for SendEnd {
-    ghost use Rattle.lift_relay.specs.Line.{SendState};
+    ghost use Rattle.lift_parts.specs.Line.{SendState};
 
     ghost Value = { SendState };
 
@@ -170,7 +170,7 @@ pub struct ReceiveEnd {
 }
 
 impl Model for ReceiveEnd {
-    ghost use Rattle.lift_relay.specs.Line.{ReceiveState};
+    ghost use Rattle.lift_parts.specs.Line.{ReceiveState};
 
     ghost Value = { ReceiveState };
 

@@ -4,19 +4,21 @@ ghost use Rattle.std.specs.Prelude.{◌≡◌, ◌≢◌, List, [], length, true
 ghost use Rattle.lift_base.specs.declared.history.Entry.{Entry};
 ghost use Rattle.lift_keeper.specs.declared.fault.KeeperFault.{KeeperFault};
 ghost use Rattle.lift_world.specs.declared.event.Taken.{Taken};
-ghost use Rattle.lift_relay.specs.declared.flusher.FlushCounts.{FlushCounts};
-ghost use Rattle.lift_relay.specs.Queued.{Queued};
-ghost use Rattle.lift_relay.specs.Relay.{AreOfOne};
-ghost use Rattle.lift_relay.specs.Pair.{AllocatorTurns, FlusherTurns, IsFlush, first_of, ComesFrom};
-ghost use Rattle.lift_relay.specs.Pair.{HaveTurned, IsRun, HaveRun, IsSameAllocator, IsSameFlusher};
-ghost use Rattle.lift_relay.specs.Runs.{HasPast, Advances};
+ghost use Rattle.lift_parts.specs.declared.counts.FlushCounts.{FlushCounts};
+ghost use Rattle.lift_parts.specs.Queued.{Queued};
+ghost use Rattle.lift_parts.specs.Parts.{AreOfOne};
+ghost use Rattle.lift_parts.specs.Turns.{AllocatorTurns, FlusherTurns, IsFlush, first_of};
+ghost use Rattle.lift_relay.specs.Pair.{ComesFrom};
+ghost use Rattle.lift_relay.specs.Pair.{HaveTurned, IsRun, HaveRun};
+ghost use Rattle.lift_parts.specs.Turns.{IsSameAllocator, IsSameFlusher};
+ghost use Rattle.lift_parts.specs.Runs.{HasPast, Advances};
 
 use crate::allocator::Allocator;
 use crate::flusher::Flusher;
 use crate::places::with_both;
-use crate::tie::runs_are_histories;
 use lift_disk::Disk;
 use lift_keeper::KeeperFault;
+use lift_parts::runs_are_histories;
 use lift_policy::Policy;
 use std::snapshot::Snapshot;
 use std::sync::Wait;

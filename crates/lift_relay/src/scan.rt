@@ -8,15 +8,15 @@ ghost use Rattle.lift_policy.specs.Run.{Run};
 ghost use Rattle.lift_clerk.specs.Visits.{command_at};
 ghost use Rattle.lift_register.specs.Register.{register_of};
 ghost use Rattle.lift_register.specs.Fits.{FitFrom};
-ghost use Rattle.lift_relay.specs.Batch.{AreBelow, AreNoted, commands_in, replies_in, turns_of};
-ghost use Rattle.lift_relay.specs.Batch.{turns_after};
-ghost use Rattle.lift_relay.specs.Scan.{ScansAhead, turns_in};
+ghost use Rattle.lift_parts.specs.Batch.{AreBelow, AreNoted, commands_in, replies_in, turns_of};
+ghost use Rattle.lift_parts.specs.Batch.{turns_after};
+ghost use Rattle.lift_parts.specs.Scan.{ScansAhead, turns_in};
 
-use crate::batch::Taken;
 use arrayvec::ArrayVec;
 use lift_base::Terminal;
 use lift_desk::{Ask, Desk, Note, TakeSeat};
 use lift_keeper::Decider;
+use lift_parts::Taken;
 use lift_policy::{Command, Policy, decisions_keep};
 
 /// A note of what a terminal was just found to ask, if it asked.

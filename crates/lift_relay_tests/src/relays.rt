@@ -1,7 +1,7 @@
 //! Both parts of one split, held together.
 ghost use Rattle.std.specs.Prelude.{◌≡◌, IfOk};
 ghost use Rattle.lift_desk.specs.Seats.{IsClerkOf, OwesNothing};
-ghost use Rattle.lift_relay.specs.Relay.{AreOfOne};
+ghost use Rattle.lift_parts.specs.Parts.{AreOfOne};
 
 use lift_building::Building;
 use lift_clerk::{Clerk, Counts};

@@ -12,10 +12,11 @@ use Rattle.lift_clerk.specs.Clerk.{ClerkState}
 use Rattle.lift_clerk.specs.Turn.{IsTurn, IsFailedTurn, IsBrokenTurn}
 use Rattle.lift_relay.specs.declared.pair.RunFault.{RunFault}
 use Rattle.lift_relay.specs.declared.pair.RunFault.TheVariants.{Keeper, Spawn}
-use Rattle.lift_relay.specs.Allocator.{AllocatorState}
-use Rattle.lift_relay.specs.Flusher.{FlusherState}
-use Rattle.lift_relay.specs.Pair.{HaveRun, IsSameAllocator}
-use Rattle.lift_relay.specs.Relay.{AreOfOne, AreParts, IsRejoined}
+use Rattle.lift_parts.specs.Allocator.{AllocatorState}
+use Rattle.lift_parts.specs.Flusher.{FlusherState}
+use Rattle.lift_relay.specs.Pair.{HaveRun}
+use Rattle.lift_parts.specs.Turns.{IsSameAllocator}
+use Rattle.lift_parts.specs.Parts.{AreOfOne, AreParts, IsRejoined}
 use Rattle.lift_serve.specs.declared.serving.ServeFault.{ServeFault}
 use Rattle.lift_serve.specs.declared.serving.ServeFault.TheVariants.{Network, Thread, Memory}
 use Rattle.lift_serve.specs.declared.serving.Lack.{Lack}

@@ -1,7 +1,7 @@
 //! A clerk's work in two parts, until the parts are one clerk again.
 
 ghost use Rattle.std.specs.Prelude.{◌≡◌, [], Some};
-ghost use Rattle.lift_relay.specs.Relay.{AreOfOne, IsRejoined};
+ghost use Rattle.lift_parts.specs.Parts.{AreOfOne, IsRejoined};
 ghost use Rattle.lift_serve.specs.Relaying.{HaveRunOn, IsLastTurn, TurnsTo};
 
 use lift_clerk::{Clerk, Counts};

@@ -3,7 +3,7 @@
 ghost use Rattle.std.specs.Prelude.{◌≡◌, ◌≤◌, ◌+◌, [], All, Option, Some, IfOk, IfErr, length};
 ghost use Rattle.std.specs.Thread.{IsSend, IsSync};
 ghost use Rattle.lift_desk.specs.Seats.{AreSeatsOf, seats_from};
-ghost use Rattle.lift_relay.specs.Relay.{AreOfOne};
+ghost use Rattle.lift_parts.specs.Parts.{AreOfOne};
 ghost use Rattle.lift_serve.specs.Lobby.{AreInOrder, all_found};
 ghost use Rattle.lift_relay.specs.declared.pair.RunFault.{RunFault as Fault};
 ghost use Rattle.lift_serve.specs.Relaying.{ComesTo, HaveRunOn, Relayed, first_told, told, undone};

@@ -1,5 +1,5 @@
 //! Both parts of a clerk, turned by one thread.
-ghost use Rattle.lift_relay.specs.Relay.{AreOfOne};
+ghost use Rattle.lift_parts.specs.Parts.{AreOfOne};
 
 use lift_clerk::{Clerk, Counts};
 use lift_disk::Disk;

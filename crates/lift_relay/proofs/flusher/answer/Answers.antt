@@ -8,7 +8,7 @@ use Rattle.lift_desk.specs.Seats.{ClerkPlace, view_at, Owes}
 use Rattle.lift_desk.specs.lemmas.Places.{view_at-here}
 use Rattle.lift_clerk.specs.Scanning.{told}
 use Rattle.lift_clerk.specs.lemmas.Scanned.{looked-at}
-use Rattle.lift_relay.specs.Flusher.{GivesIt}
+use Rattle.lift_parts.specs.Flusher.{GivesIt}
 use Rattle.lift_relay.proofs.Flushed.{gives_one, settles_one}
 use Rattle.lift_relay.proofs.flusher.answer.Goals.{then-is_safe, else-is_safe}
 use Rattle.lift_relay.proofs.flusher.answer.Goals as goal

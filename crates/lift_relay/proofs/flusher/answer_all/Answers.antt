@@ -2,9 +2,9 @@ use Rattle.std.proofs.Common.{◌≡◌, ◌<◌, List, take, length, get_or, sy
 use Rattle.std.proofs.lemmas.List.{length-set, get_or-set_other}
 use Rattle.atomic_table.specs.Seated.{TableId}
 use Rattle.lift_desk.specs.lemmas.Places.{refill_set}
-use Rattle.lift_relay.specs.declared.batch.Taken.{Taken}
-use Rattle.lift_relay.specs.Batch.{turns_after, IsNoted}
-use Rattle.lift_relay.specs.Flusher.{IsSettled}
+use Rattle.lift_parts.specs.declared.taken.Taken.{Taken}
+use Rattle.lift_parts.specs.Batch.{turns_after, IsNoted}
+use Rattle.lift_parts.specs.Flusher.{IsSettled}
 use Rattle.lift_relay.proofs.Flushed.{answered_more, below_one, noted_at, says_it, after_more}
 use Rattle.lift_relay.proofs.flusher.answer_all.Goals as goal
 

@@ -1,8 +1,8 @@
 use Rattle.std.proofs.Common.{◌≡◌, ◌≤◌, ℕ, length, take, get_or}
 use Rattle.lift_desk.specs.Seats.{IsClerkOf}
-use Rattle.lift_relay.specs.declared.batch.Taken.{Taken}
-use Rattle.lift_relay.specs.Batch.{turns_after}
-use Rattle.lift_relay.specs.Flusher.{Answered, IsSettled}
+use Rattle.lift_parts.specs.declared.taken.Taken.{Taken}
+use Rattle.lift_parts.specs.Batch.{turns_after}
+use Rattle.lift_parts.specs.Flusher.{Answered, IsSettled}
 use Rattle.lift_relay.proofs.flusher.answer_all.Given as goal
 
 abbrev pub invariant-loop-place : goal.invariant-loop-place

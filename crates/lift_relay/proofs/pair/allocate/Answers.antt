@@ -1,6 +1,6 @@
 use Rattle.std.proofs.Common.{refl, ◌∙◌}
-use Rattle.lift_relay.specs.Pair.{NoMore}
-use Rattle.lift_relay.proofs.Paired.{same_policy, turns_more}
+use Rattle.lift_parts.specs.Turns.{NoMore}
+use Rattle.lift_parts.specs.lemmas.Paired.{same_policy, turns_more}
 use Rattle.lift_relay.proofs.pair.allocate.Goals as goal
 
 pub loop-init : goal.loop-init

@@ -1,5 +1,5 @@
 use Rattle.std.proofs.Common.{◌≡◌}
-use Rattle.lift_relay.specs.Pair.{AllocatorTurns}
+use Rattle.lift_parts.specs.Turns.{AllocatorTurns}
 use Rattle.lift_relay.proofs.pair.allocate.Given as goal
 
 abbrev pub invariant-loop : goal.invariant-loop

@@ -1,7 +1,7 @@
 use Rattle.std.proofs.Common.{sym, subst}
-use Rattle.lift_relay.specs.Allocator.{AllocatorState}
-use Rattle.lift_relay.specs.Pair.{AllocatorTurns, NoMore, NoFlush, OneFlush}
-use Rattle.lift_relay.proofs.Paired.{sending_more}
+use Rattle.lift_parts.specs.Allocator.{AllocatorState}
+use Rattle.lift_parts.specs.Turns.{AllocatorTurns, NoMore, NoFlush, OneFlush}
+use Rattle.lift_parts.specs.lemmas.Paired.{sending_more}
 use Rattle.lift_relay.proofs.pair.drain.Goals.{in-None, in-Some+then-is_sent+then-sent-received}
 use Rattle.lift_relay.proofs.pair.drain.Goals as goal
 

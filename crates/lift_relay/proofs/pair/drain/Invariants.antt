@@ -1,4 +1,4 @@
-use Rattle.lift_relay.specs.Pair.{AllocatorTurns, FlusherTurns}
+use Rattle.lift_parts.specs.Turns.{AllocatorTurns, FlusherTurns}
 use Rattle.lift_relay.proofs.pair.drain.Given as goal
 
 abbrev pub invariant-loop : goal.invariant-loop

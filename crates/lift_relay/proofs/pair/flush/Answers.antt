@@ -1,4 +1,4 @@
-use Rattle.lift_relay.specs.Pair.{NoFlush, OneFlush}
+use Rattle.lift_parts.specs.Turns.{NoFlush, OneFlush}
 use Rattle.lift_relay.proofs.pair.flush.Goals as goal
 
 pub loop-init : goal.loop-init

@@ -1,5 +1,5 @@
 use Rattle.std.proofs.Common.{None}
-use Rattle.lift_relay.specs.Pair.{FlusherTurns}
+use Rattle.lift_parts.specs.Turns.{FlusherTurns}
 use Rattle.lift_relay.proofs.pair.flush.Given as goal
 
 abbrev pub invariant-loop : goal.invariant-loop

@@ -1,11 +1,12 @@
 use Rattle.std.proofs.Common.{◌≡◌, sym, ap, ◌∙◌, subst}
-use Rattle.lift_relay.specs.Allocator.{AllocatorState}
-use Rattle.lift_relay.specs.Flusher.{FlusherState}
-use Rattle.lift_relay.specs.Pair.{HaveRun, IsSameAllocator, IsSameFlusher}
-use Rattle.lift_relay.specs.Relay.{AreOfOne}
+use Rattle.lift_parts.specs.Allocator.{AllocatorState}
+use Rattle.lift_parts.specs.Flusher.{FlusherState}
+use Rattle.lift_relay.specs.Pair.{HaveRun}
+use Rattle.lift_parts.specs.Turns.{IsSameAllocator, IsSameFlusher}
+use Rattle.lift_parts.specs.Parts.{AreOfOne}
 use Rattle.lift_relay.proofs.Queues.{all_received}
-use Rattle.lift_relay.proofs.Paired.{still_of_one}
-use Rattle.lift_relay.specs.Runs.{Advances}
+use Rattle.lift_parts.specs.lemmas.Paired.{still_of_one}
+use Rattle.lift_parts.specs.Runs.{Advances}
 use Rattle.lift_relay.proofs.Ran.{refused_of, ran_of, broken_of, allocator_of, flusher_of, advances_of}
 use Rattle.lift_relay.proofs.pair.run.Goals as goal
 

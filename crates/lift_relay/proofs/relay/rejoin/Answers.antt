@@ -1,9 +1,9 @@
 use Rattle.std.proofs.Common.{rules, ◌≡◌, length, subst}
-use Rattle.lift_relay.specs.Allocator.{AllocatorState}
-use Rattle.lift_relay.specs.Flusher.{FlusherState}
-use Rattle.lift_relay.specs.Relay.{IsRejoined}
+use Rattle.lift_parts.specs.Allocator.{AllocatorState}
+use Rattle.lift_parts.specs.Flusher.{FlusherState}
+use Rattle.lift_parts.specs.Parts.{IsRejoined}
 use Rattle.lift_relay.proofs.Queues.{all_received}
-use Rattle.lift_relay.proofs.RunJoins.{turns_join}
+use Rattle.lift_relay.proofs.Pasts.{turns_join}
 use Rattle.lift_relay.proofs.relay.rejoin.Goals as goal
 
 pub returns-clause-joined : goal.returns-clause-joined

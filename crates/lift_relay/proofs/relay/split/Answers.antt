@@ -3,11 +3,11 @@ use Rattle.lift_desk.specs.Seats.{ClerkPlace, ahead_from}
 use Rattle.lift_policy.specs.Eligible.{any_eligible}
 use Rattle.lift_policy.specs.Step.{State}
 use Rattle.lift_policy.specs.Run.{Run}
-use Rattle.lift_relay.specs.declared.batch.Taken.{Taken}
-use Rattle.lift_relay.specs.Batch.{BatchState, turns_of, commands_in, replies_in}
-use Rattle.lift_relay.specs.Line.{ReceiveState}
-use Rattle.lift_relay.specs.Flusher.{IsSettled}
-use Rattle.lift_relay.specs.Relay.{AreParts}
+use Rattle.lift_parts.specs.declared.taken.Taken.{Taken}
+use Rattle.lift_parts.specs.Batch.{BatchState, turns_of, commands_in, replies_in}
+use Rattle.lift_parts.specs.Line.{ReceiveState}
+use Rattle.lift_parts.specs.Flusher.{IsSettled}
+use Rattle.lift_parts.specs.Parts.{AreParts}
 use Rattle.lift_relay.proofs.Flushed.{settled_first}
 use Rattle.lift_relay.proofs.relay.split.Goals as goal
 

@@ -1,4 +1,4 @@
-use Rattle.lift_relay.proofs.RunJoins.{tellings_go_on}
+use Rattle.lift_relay.proofs.Pasts.{tellings_go_on}
 use Rattle.lift_relay.proofs.relay.tell.Goals as goal
 
 pub returns-clause-history : goal.returns-clause-history

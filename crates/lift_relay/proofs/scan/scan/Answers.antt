@@ -10,11 +10,11 @@ use Rattle.lift_policy.specs.Run.{Run}
 use Rattle.lift_clerk.specs.Visits.{command_at}
 use Rattle.lift_clerk.specs.lemmas.Scanned.{few-more}
 use Rattle.lift_keeper.specs.lemmas.Keepers.{nothing_more}
-use Rattle.lift_relay.specs.Batch.{AreBelow, AreNoted, commands_in, replies_in, turns_of, turns_after}
-use Rattle.lift_relay.specs.declared.batch.Taken.{Taken}
-use Rattle.lift_relay.specs.Scan.{ScansAhead, turns_in}
+use Rattle.lift_parts.specs.Batch.{AreBelow, AreNoted, commands_in, replies_in, turns_of, turns_after}
+use Rattle.lift_parts.specs.declared.taken.Taken.{Taken}
+use Rattle.lift_parts.specs.Scan.{ScansAhead, turns_in}
 use Rattle.lift_relay.proofs.Noted.{noted_more}
-use Rattle.lift_relay.proofs.Turns.{uses}
+use Rattle.lift_parts.specs.lemmas.Used.{uses}
 use Rattle.lift_relay.proofs.Scanned.{Looked, looked-at, scans-more, below, run-keeps}
 use Rattle.lift_relay.proofs.scan.scan.Goals as goal
 

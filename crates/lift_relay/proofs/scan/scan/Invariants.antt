@@ -1,7 +1,7 @@
 use Rattle.std.proofs.Common.{◌≡◌, ◌≤◌, length}
 use Rattle.lift_desk.specs.Seats.{IsClerkOf}
-use Rattle.lift_relay.specs.Batch.{AreNoted, turns_of, turns_after}
-use Rattle.lift_relay.specs.Scan.{ScansAhead}
+use Rattle.lift_parts.specs.Batch.{AreNoted, turns_of, turns_after}
+use Rattle.lift_parts.specs.Scan.{ScansAhead}
 use Rattle.lift_relay.proofs.scan.scan.Given as goal
 
 abbrev pub invariant-loop-t : goal.invariant-loop-t

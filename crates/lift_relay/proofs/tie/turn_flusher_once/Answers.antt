@@ -1,4 +1,4 @@
-use Rattle.lift_relay.proofs.TiedTurns.{flushes_of, fails_of, rests_of}
+use Rattle.lift_parts.specs.lemmas.TiedTurns.{flushes_of, fails_of, rests_of}
 use Rattle.lift_relay.proofs.tie.turn_flusher_once.Goals as goal
 
 pub returns-clause-flushes : goal.returns-clause-flushes

@@ -6,12 +6,12 @@ use Rattle.lift_building.specs.Plan.{Plan}
 use Rattle.lift_policy.specs.Eligible.{any_eligible}
 use Rattle.lift_policy.specs.Run.{Run}
 use Rattle.lift_world.specs.lemmas.Policies.{runs_are_any}
-use Rattle.lift_relay.specs.Batch.{BatchState, commands_in, replies_in}
-use Rattle.lift_relay.specs.Line.{SendState, Begins, WasFull}
-use Rattle.lift_relay.specs.Allocator.{AllocatorState, IsAllocation}
+use Rattle.lift_parts.specs.Batch.{BatchState, commands_in, replies_in}
+use Rattle.lift_parts.specs.Line.{SendState, Begins, WasFull}
+use Rattle.lift_parts.specs.Allocator.{AllocatorState, IsAllocation}
 use Rattle.std.proofs.lemmas.List.{length-map}
 use Rattle.lift_desk.specs.Seats.{ClerkPlace}
-use Rattle.lift_relay.proofs.Turns.{most_turns}
+use Rattle.lift_parts.specs.lemmas.Used.{most_turns}
 use Rattle.lift_relay.proofs.Allocated.{Makes, makes, sent_one, held_one, Between, scan_turn}
 use Rattle.lift_relay.proofs.allocator.Allocator.send_and_scan.Goals.{in-Some-1, in-None-1}
 use Rattle.lift_relay.proofs.allocator.Allocator.send_and_scan.Goals as goal

@@ -2,8 +2,8 @@ use Rattle.std.proofs.Common.{◌≡◌, length, Option, Some, sym, ap, ◌∙�
 use Rattle.std.specs.Option.{option_to_list}
 use Rattle.std.proofs.lemmas.List.{length-map}
 use Rattle.lift_desk.specs.Seats.{ClerkPlace}
-use Rattle.lift_relay.specs.Batch.{BatchState}
-use Rattle.lift_relay.proofs.Turns.{most_turns}
+use Rattle.lift_parts.specs.Batch.{BatchState}
+use Rattle.lift_parts.specs.lemmas.Used.{most_turns}
 use Rattle.lift_relay.proofs.allocator.Allocator.send_hand.Goals as goal
 
 pub send-requires-clause-few : goal.send-requires-clause-few

@@ -1,5 +1,5 @@
 use Rattle.lift_relay.proofs.Allocated.{looks, none_in_hand}
-use Rattle.lift_relay.proofs.Paired.{allocator_stays}
+use Rattle.lift_parts.specs.lemmas.Paired.{allocator_stays}
 use Rattle.lift_relay.proofs.allocator.Allocator.turn.Goals as goal
 
 pub returns-clause-looks : goal.returns-clause-looks

@@ -1,7 +1,7 @@
 use Rattle.std.proofs.Common.{◌≡◌, sym, ap, ◌∙◌}
 use Rattle.crossbeam_queue.specs.Passes.{view}
 use Rattle.lift_relay.specs.declared.line.EndView.{EndView}
-use Rattle.lift_relay.specs.Line.{SendState, ReceiveState}
+use Rattle.lift_parts.specs.Line.{SendState, ReceiveState}
 use Rattle.lift_relay.specs.Rule.{sending, receiving}
 use Rattle.lift_relay.proofs.Moves.{joins, ends}
 use Rattle.lift_relay.proofs.Ends.{sender_same, receiver_same}

@@ -1,6 +1,6 @@
 use Rattle.std.proofs.Common.{ap, ◌∙◌, sym, subst, length, ◌<◌}
 use Rattle.crossbeam_queue.specs.Passes.{ruled_capacity, view}
-use Rattle.lift_relay.specs.Line.{SendState, IsNext}
+use Rattle.lift_parts.specs.Line.{SendState, IsNext}
 use Rattle.lift_relay.proofs.Moves.{sends, sender_learns}
 use Rattle.lift_relay.proofs.line.SendEnd.send.Goals as goal
 

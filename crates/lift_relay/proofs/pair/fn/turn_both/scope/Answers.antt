@@ -8,8 +8,8 @@ use denote.Param.Send.{IsSend, IsSync, sendable, param_send, arg_send, shr_send}
 use Rattle.core.specs.contracts.atomic.AtomicBool as AtomicBool
 use Rattle.core.proofs.atomic.AtomicBool.TheSendSync as flag_is
 use Rattle.lift_policy.specs.Eligible.{Choice}
-use Rattle.lift_relay.specs.Allocator.{AllocatorState}
-use Rattle.lift_relay.specs.Pair.{AllocatorTurns, NoMore, NoFlush}
+use Rattle.lift_parts.specs.Allocator.{AllocatorState}
+use Rattle.lift_parts.specs.Turns.{AllocatorTurns, NoMore, NoFlush}
 use Rattle.lift_relay.proofs.Crosses.{allocator_send, allocating_send}
 use Rattle.lift_relay.proofs.pair.fn.turn_both.scope.Goals as goal
 

@@ -1,0 +1,17 @@
+pub mod OneAsk
+pub mod Tied
+pub mod TiedScan
+pub mod TiedTake
+pub mod TiedFlush
+pub mod TiedTerminals
+pub mod TiedCrash
+pub mod Steps
+pub mod Courses
+pub mod CourseLeads
+pub mod TiedHistory
+pub mod CourseEnds
+pub mod RunPast
+pub mod RunTurns
+pub mod RunJoins
+pub mod RunMoments
+pub mod RunCuts

@@ -1,0 +1,426 @@
+-- A scan is the machine's.
+use Rattle.std.proofs.Common.{ℕ, zero, suc, ◌≡◌, ◌≢◌, ◌+◌, ◌<◌, ◌≤◌, Bool, true, false, cond, eqb, List, [], ◌∷◌, ◌++◌, length, map, Option, Some, None, refl, sym, ap, subst, ◌∙◌, arith, append_assoc}
+use Rattle.std.specs.Prelude.{filter, count_by, All, Contains}
+use Rattle.std.specs.List.{AllByRecursion, flat_map}
+use Rattle.std.proofs.lemmas.Bool.{ne_eqb, eq-eqb, eqb-true, false≢true}
+use Rattle.std.proofs.lemmas.List.{append-nil, length-append, length-map}
+use Rattle.std.proofs.lemmas.List.Elements.{filter_passes}
+use Rattle.std.proofs.lemmas.List.Sums.{length-filter}
+use mathlib.Core.List.{map-append}
+use Rattle.lift_base.specs.declared.command.Reply.{Reply}
+use Rattle.lift_base.specs.declared.history.Entry.{Entry}
+use Rattle.lift_building.specs.Plan.{Plan}
+use Rattle.lift_desk.specs.declared.view.ClerkView.{ClerkView}
+use Rattle.lift_desk.specs.declared.words.Ask.{Ask}
+use Rattle.lift_desk.specs.Rule.{CountTurns, IsAhead}
+use Rattle.lift_desk.specs.Words.{turn_of, last_of, body_bits, ask_word}
+use Rattle.lift_desk.specs.Spelled.{ask_words, IsAsk}
+use Rattle.lift_desk.specs.Steps.{with_taking}
+use Rattle.lift_desk.specs.Seats.{ClerkPlace, no_table, placed_at, view_at, TakesOf}
+use Rattle.lift_desk.specs.lemmas.WordLists.{last_of-push, turn_of-last_of, CountTurns-front, turn_at_most, turn_is_last}
+use Rattle.lift_policy.specs.Eligible.{Choice}
+use Rattle.lift_policy.specs.Step.{State}
+use Rattle.lift_policy.specs.Run.{Run}
+use Rattle.lift_policy.specs.declared.command.Command.{Command}
+use Rattle.lift_world.specs.declared.event.Taken.{Taken as Held}
+use Rattle.lift_world.specs.World.{World, Batch, asks, is_off, is_answer_to, is_taken_of}
+use Rattle.lift_world.specs.Next.{unanswered}
+use Rattle.lift_world.specs.Among.{StandsAsk}
+use Rattle.lift_world.specs.Headline.{AsksOneByOne}
+use Rattle.lift_world.specs.Turns.{AreFound}
+use Rattle.lift_clerk.specs.Turn.{settled}
+use Rattle.lift_clerk.specs.Visits.{Visit, command_at, commands_of, served}
+use Rattle.lift_clerk.specs.Machine.{IsReached, ask_of}
+use Rattle.lift_clerk.specs.lemmas.Lists.{AreOthers, no_asks}
+use Rattle.lift_clerk.specs.lemmas.Served.{AreApart, behind}
+use Rattle.lift_clerk.specs.lemmas.Standing.{finds_last}
+use Rattle.lift_clerk.specs.lemmas.Words.{asks_both, asks_count}
+use Rattle.lift_clerk.specs.lemmas.Visiting.{taken-new, taken-old}
+use Rattle.lift_clerk.specs.declared.counts.Counts.{Counts}
+use Rattle.lift_parts.specs.Batch.{BatchState, AreBelow, replies_in}
+use Rattle.lift_parts.specs.Scan.{TakesAt, TakesEach}
+use Rattle.lift_parts.specs.Allocator.{AllocatorState, IsScanTurn}
+use Rattle.lift_parts.specs.Flusher.{FlusherState}
+use Rattle.lift_parts.specs.Laws.{RelayLaws}
+use Rattle.lift_parts.specs.Tie.{command_of, queued_in, on_way, ShowsBoth, IsRelayOf, TakesAsked, Reads, AsksNext, AllAskNext, QueuedHaveRoom, NothingTakenIsNoEvent}
+use Rattle.lift_parts.specs.lemmas.Used.{below_is}
+use Rattle.lift_parts.proofs.OneAsk.{bits_small, word_turn, one_ask}
+use Rattle.lift_parts.proofs.Tied.{hears, one_by_one, shown_same, nothing_gathered}
+
+-- ---- what is on its way of a terminal
+module _ (t : ℕ) where
+  -- no command is of the terminal
+  none_passes : (x : Held) (b : Bool) (xs : List Held) → eqb x.terminal t ≡ b → cond b (command_of x ∷ filter (asks t) (map command_of xs)) (filter (asks t) (map command_of xs)) ≡ []
+      → (x.terminal ≢ t) × (filter (asks t) (map command_of xs) ≡ [])
+  none_passes x true xs e none = absurd (cc)
+  none_passes x false xs e none = ((λ same. let yes : eqb x.terminal t ≡ true = eq-eqb x.terminal t same in absurd (false≢true (sym e ∙ yes))), none)
+
+  pub none_of : (xs : List Held) → filter (asks t) (map command_of xs) ≡ [] → AllByRecursion (λ (x : Held). x.terminal ≢ t) xs
+  none_of [] none = tt
+  none_of (x ∷ xs) none = let k = none_passes x (eqb x.terminal t) xs refl none in (k.0, none_of xs k.1)
+
+  -- how many there are
+  one_counted : (x : Held) (xs : List Held) (b : Bool) → length (filter (asks t) (map command_of xs)) ≡ length (filter (is_taken_of t) xs)
+      → length (cond b (command_of x ∷ filter (asks t) (map command_of xs)) (filter (asks t) (map command_of xs))) ≡ length (cond b (x ∷ filter (is_taken_of t) xs) (filter (is_taken_of t) xs))
+  one_counted x xs true e = ap suc e
+  one_counted x xs false e = e
+
+  pub same_count : (xs : List Held) → length (filter (asks t) (map command_of xs)) ≡ length (filter (is_taken_of t) xs)
+  same_count [] = refl
+  same_count (x ∷ xs) = one_counted x xs (eqb x.terminal t) (same_count xs)
+
+abbrev pub flat : List Batch → List Held
+flat queue = flat_map (λ (q : Batch). q.commands) queue
+
+pub queued_is : (queue : List Batch) → queued_in queue ≡ map command_of (flat queue)
+queued_is [] = refl
+queued_is (q ∷ queue) = ap (λ (cs : List Command). map command_of q.commands ++ cs) (queued_is queue) ∙ sym (map-append command_of q.commands (flat queue))
+
+-- all that is on its way is queued
+pub record OnlyQueued (w : World) : Type 0 where
+  pub on : is_off w.power ≡ false
+  pub all : unanswered w ≡ flat w.queue
+
+pub only_queued : (w : World) → w.due ≡ [] → w.flight.commands ≡ [] → w.taken ≡ [] → unanswered w ≡ flat w.queue
+only_queued w d f t =
+    ap (λ (xs : List Held). xs ++ w.flight.commands ++ flat w.queue ++ w.taken) d
+    ∙ ap (λ (xs : List Held). xs ++ flat w.queue ++ w.taken) f
+    ∙ ap (λ (xs : List Held). flat w.queue ++ xs) t ∙ append-nil (flat w.queue)
+
+pub is_queued : {D P : Type 0} (w : World) (a : AllocatorState P) (f : FlusherState D) → IsRelayOf w a f → OnlyQueued w
+is_queued w a f m = by_state f.writer.is_broken refl
+  where
+    by_state : (b : Bool) → f.writer.is_broken ≡ b → OnlyQueued w
+    by_state false e =
+        let k = (m.whole e).between in
+        record { on = ap is_off k.running; all = only_queued w m.nothing_due (ap (λ (b : Batch). b.commands) k.nothing_flies) m.between.nothing_taken }
+    by_state true e =
+        let k = (m.broken e).between in
+        record { on = ap is_off k.broken; all = only_queued w m.nothing_due k.nothing_flies m.between.nothing_taken }
+
+-- ---- one look
+-- one of some has what all have
+pub last_has : {A : Type 0} (Q : A → Type 0) (xs : List A) (x : A) (ys : List A) → All Q (xs ++ x ∷ ys) → Q x
+last_has Q [] x ys h = h 0 x (omega arith)
+last_has Q (y ∷ xs) x ys h = last_has Q xs x ys (λ k d below. h (suc k) d (omega arith))
+
+-- the words of asks have the turns from the first on
+turns_count : (first : ℕ) (asks : List Ask) → All IsAsk asks → CountTurns first (ask_words first asks)
+turns_count first [] in_range = tt
+turns_count first (a ∷ asks) in_range =
+    let one : IsAsk a = in_range 0 a (omega arith) in
+    (word_turn first a.number (body_bits a.body) one.0 (bits_small a.body one.1), turns_count (suc first) asks (λ k d below. in_range (suc k) d (omega arith)))
+
+-- the ask of a command stands, which is the only one that waits
+pub record Stands (w : World) (t : ℕ) (waiting : List Command) (c : Command) : Type 0 where
+  pub stands : StandsAsk w t c
+  pub only : waiting ≡ c ∷ []
+
+module _ (laws : RelayLaws) (w : World) (reached : IsReached w) (only : OnlyQueued w) (t : ℕ) (p : ClerkPlace) (behind_it : ClerkView) (s : ShowsBoth w t p.view behind_it) where
+  abbrev fa : List Command
+  fa = s.first ++ on_way w t
+
+  all_asks : map ask_of (filter (asks t) w.asked) ≡ map ask_of fa ++ map ask_of s.waiting
+  all_asks = ap (map ask_of) s.asked ∙ map-append ask_of fa s.waiting
+
+  on_way_is : length (on_way w t) ≡ count_by (is_taken_of t) (unanswered w)
+  on_way_is =
+      ap (λ (cs : List Command). length (filter (asks t) cs)) (queued_is w.queue) ∙ same_count t (flat w.queue) ∙ ap (λ (xs : List Held). length (filter (is_taken_of t) xs)) (sym only.all)
+      ∙ length-filter (is_taken_of t) (unanswered w)
+
+  -- at most one ask waits, and then nothing is on its way
+  few : length s.first + length (on_way w t) + length s.waiting ≤ length s.first + 1
+  few =
+      let one : AsksOneByOne w t = one_by_one laws w reached t in
+      let heard = hears laws w reached t in
+      let asked = one.asked in
+      let even = s.even in
+      omega (
+        arith,
+        ap length s.asked,
+        length-append (s.first ++ on_way w t) s.waiting,
+        length-append s.first (on_way w t),
+        length-filter (asks t) w.asked,
+        ap length heard.1,
+        length-append (filter (is_answer_to t) w.heard) heard.0,
+        length-filter (is_answer_to t) w.heard,
+        length-filter (is_answer_to t) w.answered,
+      )
+
+  -- the one that waits stands
+  pub stands_where : (command : Command) → s.waiting ≡ command ∷ [] → Stands w t s.waiting command
+  stands_where command is =
+      let lw : length s.waiting ≡ 1 = ap length is in
+      let le = few in
+      let none : length (on_way w t) ≡ 0 = omega arith in
+      let empty : on_way w t ≡ [] = no_length (on_way w t) none in
+      let split : filter (asks t) w.asked ≡ fa ++ command ∷ [] = s.asked ∙ ap (λ (cs : List Command). fa ++ cs) is in
+      let even = s.even in
+      record {
+        stands = record {
+          powered = only.on;
+          asks_more = omega (
+            arith,
+            ap length s.asked,
+            length-append (s.first ++ on_way w t) s.waiting,
+            length-append s.first (on_way w t),
+            length-filter (asks t) w.asked,
+          );
+          not_taken = subst (λ (xs : List Held). AllByRecursion (λ (x : Held). x.terminal ≢ t) xs) (sym only.all)
+              (none_of t (flat w.queue) (ap (filter (asks t)) (sym (queued_is w.queue)) ∙ empty));
+          asked_last = finds_last (asks t) w.asked fa command split;
+        };
+        only = is;
+      }
+    where
+      no_length : (xs : List Command) → length xs ≡ 0 → xs ≡ []
+      no_length [] e = refl
+      no_length (x ∷ xs) e = absurd (omega arith)
+
+  module _ (word : ℕ) (ask : Ask) (at : TakesAt p (record { word = word; found = Some ask })) (asked : TakesAsked w.asked t (with_taking p.view word)) where
+    abbrev command : Command
+    command = record { terminal = t; number = ask.number; body = ask.body }
+
+    abbrev all_words : List ℕ
+    all_words = ask_words 1 (map ask_of (filter (asks t) w.asked))
+
+    words_are : all_words ≡ ask_words 1 (map ask_of fa) ++ ask_words (1 + length (map ask_of fa)) (map ask_of s.waiting)
+    words_are = ap (ask_words 1) all_asks ∙ asks_both 1 (map ask_of fa) (map ask_of s.waiting)
+
+    -- its turn is behind those of all that was taken, and no later than that of the last ask
+    was_asked : Contains all_words word
+    was_asked = last_has (Contains all_words) p.view.taken word [] (subst (All (Contains all_words)) (taken-new p.view word at.reads.0) asked.ahead.asked_all)
+
+    counted : CountTurns 1 all_words
+    counted = turns_count 1 (map ask_of (filter (asks t) w.asked)) asked.in_range
+
+    long : length all_words ≡ length fa + length s.waiting
+    long = asks_count 1 (map ask_of (filter (asks t) w.asked)) ∙ length-map (filter (asks t) w.asked) ask_of ∙ ap length s.asked ∙ length-append fa s.waiting
+
+    taken_turn : turn_of (last_of p.view.taken) ≡ length fa
+    taken_turn =
+        turn_of-last_of p.view.taken (subst (CountTurns 1) (sym s.taken) (CountTurns-front 1 (ask_words 1 (map ask_of fa)) (ask_words (1 + length (map ask_of fa)) (map ask_of s.waiting)) (subst (CountTurns 1) words_are counted)))
+        ∙ ap length s.taken ∙ asks_count 1 (map ask_of fa) ∙ length-map fa ask_of
+
+    above : length fa < turn_of word
+    above = subst (λ (n : ℕ). n < turn_of word) taken_turn (below_is (turn_of (last_of p.view.taken)) (turn_of word) at.reads.0)
+
+    most : turn_of word ≤ length all_words
+    most = turn_at_most all_words word counted was_asked
+
+    -- where one waits it is that one's
+    last_word : (d : Command) → s.waiting ≡ d ∷ [] → word ≡ ask_word (1 + length (map ask_of fa)) d.number d.body
+    last_word d e =
+        let up = above in
+        let le = most in
+        let all = long in
+        turn_is_last all_words word counted was_asked (omega (arith, ap length e)) ∙ ap last_of words_are
+        ∙ ap (λ (cs : List Command). last_of (ask_words 1 (map ask_of fa) ++ ask_words (1 + length (map ask_of fa)) (map ask_of cs))) e
+        ∙ last_of-push (ask_words 1 (map ask_of fa)) (ask_word (1 + length (map ask_of fa)) d.number d.body)
+
+    -- the word is the next ask's
+    pub record Next (d : Command) : Type 0 where
+      pub is : d ≡ command
+      pub turn : word ≡ ask_word (suc (length p.view.taken)) ask.number ask.body
+
+    next_is : (d : Command) → s.waiting ≡ d ∷ [] → Next d
+    next_is d e =
+        let split : filter (asks t) w.asked ≡ fa ++ d ∷ [] = s.asked ∙ ap (λ (cs : List Command). fa ++ cs) e in
+        let own : d.terminal ≡ t =
+        eqb-true d.terminal t (last_has (λ (x : Command). asks t x ≡ true) fa d [] (subst (All (λ (x : Command). asks t x ≡ true)) split (filter_passes (asks t) w.asked))) in
+        let spelled : IsAsk (ask_of d) = last_has IsAsk (map ask_of fa) (ask_of d) [] (subst (All IsAsk) (all_asks ∙ ap (λ (cs : List Command). map ask_of fa ++ map ask_of cs) e) asked.in_range) in
+        let count : suc (length p.view.taken) ≡ 1 + length (map ask_of fa) = omega (arith, ap length s.taken, asks_count 1 (map ask_of fa)) in
+        let first : word ≡ ask_word (suc (length p.view.taken)) d.number d.body = last_word d e ∙ ap (λ (n : ℕ). ask_word n d.number d.body) (sym count) in
+        let same = one_ask (turn_of word) (suc (length p.view.taken)) ask (ask_of d) at.in_range spelled (sym at.reads.1 ∙ first) in
+        let says : word ≡ ask_word (suc (length p.view.taken)) ask.number ask.body = at.reads.1 ∙ ap (λ (n : ℕ). ask_word n ask.number ask.body) same.0 in
+        record { is = λ i. record { terminal = own i; number = sym same.1 i; body = sym same.2 i }; turn = says }
+
+    one : (d : Command) → s.waiting ≡ d ∷ [] → Next d → Stands w t s.waiting command × (word ≡ ask_word (suc (length p.view.taken)) ask.number ask.body)
+    one d e n =
+        (stands_where command (e ∙ ap (λ (x : Command). x ∷ []) n.is), n.turn)
+
+    by_waiting : (waiting : List Command) → s.waiting ≡ waiting → Stands w t s.waiting command × (word ≡ ask_word (suc (length p.view.taken)) ask.number ask.body)
+    by_waiting [] e = let up = above in let le = most in let all = long in absurd (omega (arith, ap length e))
+    by_waiting (d ∷ []) e = one d e (next_is d e)
+    by_waiting (d ∷ x ∷ more) e = let le = few in absurd (omega (arith, ap length e))
+
+    pub stands : Stands w t s.waiting command × (word ≡ ask_word (suc (length p.view.taken)) ask.number ask.body)
+    stands = by_waiting s.waiting refl
+
+-- ---- all looks
+-- lists as long in front have the same behind
+pub same_behind : {A : Type 0} (xs ys us vs : List A) → length xs ≡ length ys → xs ++ us ≡ ys ++ vs → us ≡ vs
+same_behind [] [] us vs l e = e
+same_behind [] (y ∷ ys) us vs l e = absurd (omega arith)
+same_behind (x ∷ xs) [] us vs l e = absurd (omega arith)
+same_behind (x ∷ xs) (y ∷ ys) us vs l e = same_behind xs ys us vs (omega arith) (cc)
+
+pub served_first : (place : ClerkPlace) (places : List ClerkPlace) (word : ℕ) (found : Option Ask) (visits : List Visit)
+    → (view_at (served (place ∷ places) (record { word = word; found = found } ∷ visits) []) 0).taken ≡ (with_taking place.view word).taken
+served_first place places word None visits = refl
+served_first place places word (Some ask) visits = refl
+
+pub served_behind : (place : ClerkPlace) (places : List ClerkPlace) (word : ℕ) (found : Option Ask) (visits : List Visit) (k : ℕ)
+    → view_at (served (place ∷ places) (record { word = word; found = found } ∷ visits) []) (suc k) ≡ view_at (served places visits []) k
+served_behind place places word None visits k = refl
+served_behind place places word (Some ask) visits k = refl
+
+pub asked_same : (w : World) (t : ℕ) (u v : ClerkView) → u.taken ≡ v.taken → TakesAsked w.asked t u → TakesAsked w.asked t v
+asked_same w t u v e k = record { ahead = subst (λ (xs : List ℕ). IsAhead (ask_words 1 (map ask_of (filter (asks t) w.asked))) xs) e k.ahead; in_range = k.in_range }
+
+module _ (laws : RelayLaws) (w : World) (reached : IsReached w) (only : OnlyQueued w) (ahead later : ℕ → ClerkView) (s : (t : ℕ) → ShowsBoth w t (ahead t) (later t)) where
+  abbrev pub AllStand : List Command → Type 0
+  AllStand cs = AllByRecursion (λ (c : Command). Stands w c.terminal (s c.terminal).waiting c) cs
+
+  all_both : (xs ys : List Command) → AllStand xs → AllStand ys → AllStand (xs ++ ys)
+  all_both [] ys h k = k
+  all_both (x ∷ xs) ys h k = (h.0, all_both xs ys h.1 k)
+
+  -- at a place that has these words
+  abbrev shows_at : (t : ℕ) (p : ClerkPlace) → p.view ≡ ahead t → ShowsBoth w t p.view (later t)
+  shows_at t p e = record {
+    first = (s t).first;
+    waiting = (s t).waiting;
+    asked = (s t).asked;
+    taken = ap (λ (v : ClerkView). v.taken) e ∙ (s t).taken;
+    looked = (s t).looked;
+    answered = (s t).answered;
+    even = (s t).even;
+  }
+
+  look_at : (t : ℕ) (p : ClerkPlace) → p.view ≡ ahead t → (word : ℕ) (found : Option Ask) → TakesAt p (record { word = word; found = found })
+      → TakesAsked w.asked t (with_taking p.view word) → TakesOf p.view word found × AllStand (command_at t found)
+  look_at t p e word None at asked = (at.reads, tt)
+  look_at t p e word (Some ask) at asked =
+      let k = stands laws w reached only t p (later t) (shows_at t p e) word ask at asked in
+      ((at.reads.0, k.1), (k.0, tt))
+
+  pub looks_from : (first : ℕ) (places : List ClerkPlace) (visits : List Visit) → ((k t : ℕ) → t ≡ first + k → view_at places k ≡ ahead t) → TakesEach places visits
+      → ((k t : ℕ) → t ≡ first + k → TakesAsked w.asked t (view_at (served places visits []) k)) → Reads places visits × AllStand (commands_of first visits)
+  looks_from first places [] same takes asked = (tt, tt)
+  looks_from first [] (u ∷ visits) same takes asked = absurd takes
+  looks_from first (p ∷ places) (u ∷ visits) same takes asked =
+      let here = look_at first p (same 0 first (omega arith)) u.word u.found takes.0
+      (asked_same w first (view_at (served (p ∷ places) (u ∷ visits) []) 0) (with_taking p.view u.word) (served_first p places u.word u.found visits) (asked 0 first (omega arith))) in
+      let rest = looks_from (suc first) places visits (λ k t e. same (suc k) t (omega arith)) takes.1
+      (λ k t e. subst (TakesAsked w.asked t) (served_behind p places u.word u.found visits k) (asked (suc k) t (omega arith))) in
+      ((here.0, rest.0), all_both (command_at first u.found) (commands_of (suc first) visits) here.1 rest.1)
+
+  -- so do those that were asked next
+  pub stands_next : (c : Command) → AsksNext w.asked (ahead c.terminal) c → Stands w c.terminal (s c.terminal).waiting c
+  stands_next c k =
+      let x = s c.terminal in
+      let front : List Command = x.first ++ on_way w c.terminal in
+      let long : length front ≡ length k.before = omega (arith, ap length x.taken, asks_count 1 (map ask_of front), length-map front ask_of, k.as_many) in
+      let last : x.waiting ≡ c ∷ [] = same_behind front k.before x.waiting (c ∷ []) long (sym x.asked ∙ k.asked_is) in
+      stands_where laws w reached only c.terminal (placed_at no_table (ahead c.terminal)) (later c.terminal) x c last
+
+  pub all_next : (places : List ClerkPlace) → ((t : ℕ) → view_at places t ≡ ahead t) → (cs : List Command) → AllAskNext w.asked places cs → AllStand cs
+  all_next places same [] k = tt
+  all_next places same (c ∷ cs) k = (stands_next c (subst (λ (v : ClerkView). AsksNext w.asked v c) (same c.terminal) k.0), all_next places same cs k.1)
+
+  -- so they are found
+  pub found : (cs : List Command) → length w.queue ≤ 4 → AllStand cs → AreApart cs → AreFound w cs
+  found [] room h apart = tt
+  found (c ∷ cs) room h apart = ((laws.looks w c.terminal c).finds h.0.stands room, apart.0, found cs room h.1 apart.1)
+
+  -- of what waits at a terminal they are the first
+  first_waits : (t : ℕ) (c : Command) (cs : List Command) (b : Bool) → eqb c.terminal t ≡ b → Stands w c.terminal (s c.terminal).waiting c → AreOthers c.terminal cs
+      → (rest : List Command) × ((s t).waiting ≡ filter (asks t) cs ++ rest) → (rest : List Command) × ((s t).waiting ≡ cond b (c ∷ filter (asks t) cs) (filter (asks t) cs) ++ rest)
+  first_waits t c cs true e h others rest =
+      let at : c.terminal ≡ t = eqb-true c.terminal t e in
+      ([], ap (λ (n : ℕ). (s n).waiting) (sym at) ∙ h.only ∙ ap (λ (xs : List Command). (c ∷ xs) ++ []) (sym (no_asks t cs (subst (λ (n : ℕ). AreOthers n cs) at others))))
+  first_waits t c cs false e h others rest = rest
+
+  pub waits : (t : ℕ) (cs : List Command) → AllStand cs → AreApart cs → (rest : List Command) × ((s t).waiting ≡ filter (asks t) cs ++ rest)
+  waits t [] h apart = ((s t).waiting, refl)
+  waits t (c ∷ cs) h apart = first_waits t c cs (eqb c.terminal t) refl h.0 apart.0 (waits t cs h.1 apart.1)
+
+-- ---- what the looks leave
+abbrev Later : List ClerkPlace → List Visit → ℕ → Type 0
+Later places visits first = (k t : ℕ) → t ≡ first + k
+    → (view_at (served places visits []) k).taken ≡ (view_at places k).taken ++ ask_words (suc (length (view_at places k).taken)) (map ask_of (filter (asks t) (commands_of first visits)))
+
+none_more : (xs : List ℕ) (t n : ℕ) (cs : List Command) → AreOthers t cs → xs ≡ xs ++ ask_words n (map ask_of (filter (asks t) cs))
+none_more xs t n cs others = sym (append-nil xs) ∙ ap (λ (ds : List Command). xs ++ ask_words n (map ask_of ds)) (sym (no_asks t cs others))
+
+left_at : (place : ClerkPlace) (places : List ClerkPlace) (word : ℕ) (found : Option Ask) (visits : List Visit) (first : ℕ) → TakesOf place.view word found → Later places visits (suc first)
+    → Later (place ∷ places) (record { word = word; found = found } ∷ visits) first
+left_at place places word None visits first reads later zero t e =
+    taken-old place.view word reads ∙ none_more place.view.taken t (suc (length place.view.taken)) (commands_of (suc first) visits) (behind t (suc first) visits (omega arith))
+left_at place places word None visits first reads later (suc k) t e = later k t (omega arith)
+left_at place places word (Some ask) visits first reads later zero t e =
+    let c : Command = record { terminal = first; number = ask.number; body = ask.body } in
+    let rest = commands_of (suc first) visits in
+    let at : first ≡ t = omega arith in
+    let own : filter (asks t) (c ∷ rest) ≡ c ∷ [] =
+    ap (λ (b : Bool). cond b (c ∷ filter (asks t) rest) (filter (asks t) rest)) (eq-eqb first t at) ∙ ap (λ (cs : List Command). c ∷ cs) (no_asks t rest (behind t (suc first) visits (omega arith))) in
+    taken-new place.view word reads.0 ∙ ap (λ (n : ℕ). place.view.taken ++ n ∷ []) reads.1
+    ∙ ap (λ (cs : List Command). place.view.taken ++ ask_words (suc (length place.view.taken)) (map ask_of cs)) (sym own)
+left_at place places word (Some ask) visits first reads later (suc k) t e =
+    let c : Command = record { terminal = first; number = ask.number; body = ask.body } in
+    let rest = commands_of (suc first) visits in
+    let other : filter (asks t) (c ∷ rest) ≡ filter (asks t) rest =
+    ap (λ (b : Bool). cond b (c ∷ filter (asks t) rest) (filter (asks t) rest)) (ne_eqb first t (λ q. absurd (omega arith))) in
+    later k t (omega arith) ∙ ap (λ (cs : List Command). (view_at places k).taken ++ ask_words (suc (length (view_at places k).taken)) (map ask_of cs)) (sym other)
+
+pub left : (places : List ClerkPlace) (visits : List Visit) (first : ℕ) → Reads places visits → Later places visits first
+left places [] first reads k t e = sym (append-nil (view_at places k).taken)
+left [] (u ∷ visits) first reads k t e = absurd reads
+left (p ∷ places) (u ∷ visits) first reads k t e = left_at p places u.word u.found visits first reads.0 (left places visits (suc first) reads.1) k t e
+
+-- the commands are of the seats' terminals
+below_at : (count first : ℕ) (found : Option Ask) (rest : List Command) → first < count → AreBelow count rest → AreBelow count (command_at first found ++ rest)
+below_at count first None rest le h = h
+below_at count first (Some ask) rest le h = (le, h)
+
+pub below : (count first : ℕ) (places : List ClerkPlace) (visits : List Visit) → first + length places ≤ count → TakesEach places visits → AreBelow count (commands_of first visits)
+below count first places [] le takes = tt
+below count first [] (u ∷ visits) le takes = absurd takes
+below count first (p ∷ places) (u ∷ visits) le takes = below_at count first u.found (commands_of (suc first) visits) (omega arith) (below count (suc first) places visits (omega arith) takes.1)
+
+-- ---- a scan that took nothing
+nothing_at : (place : ClerkPlace) (word : ℕ) (found : Option Ask) (first : ℕ) (rest : List Command) → TakesAt place (record { word = word; found = found }) → command_at first found ++ rest ≡ []
+    → TakesOf place.view word found × (rest ≡ [])
+nothing_at place word None first rest at none = (at.reads, none)
+nothing_at place word (Some ask) first rest at none = absurd (cc)
+
+nothing_read : (places : List ClerkPlace) (visits : List Visit) (first : ℕ) → TakesEach places visits → commands_of first visits ≡ [] → Reads places visits
+nothing_read places [] first takes none = tt
+nothing_read [] (u ∷ visits) first takes none = absurd takes
+nothing_read (p ∷ places) (u ∷ visits) first takes none =
+    let k = nothing_at p u.word u.found first (commands_of (suc first) visits) takes.0 none in
+    (k.0, nothing_read places visits (suc first) takes.1 k.1)
+
+-- what the line holds
+pub have_room : {D P : Type 0} → QueuedHaveRoom D P
+have_room a f q = (
+  (let four = q.four in omega (arith, ap length q.in_order, length-append f.end.received q.items)),
+  (q.items ++ a.hand, ap (λ (xs : List BatchState). xs ++ a.hand) q.in_order ∙ append_assoc f.end.received q.items a.hand),
+)
+
+length-served : (places : List ClerkPlace) (visits : List Visit) → length (served places visits []) ≡ length places
+length-served places visits = Rattle.lift_clerk.specs.lemmas.Visiting.length-served places visits []
+
+empty_run : (plan : Plan) (choice : Choice) (state next : State) (cs : List Command) (rs : List Reply) → cs ≡ [] → Run plan choice state cs rs next → next ≡ state
+empty_run plan choice state next [] [] e r = r
+empty_run plan choice state next [] (reply ∷ rs) e r = absurd r
+empty_run plan choice state next (c ∷ cs) rs e r = absurd (cc)
+
+-- of each terminal as much is taken as before
+pub nothing_seen : {P : Type 0} (choice : Choice) (a b : AllocatorState P) (counts : Counts) (t : IsScanTurn choice a b counts) → commands_of 0 t.visits ≡ [] → (k : ℕ) → (view_at b.seat k).taken ≡ (view_at a.seat k).taken
+nothing_seen choice a b counts t none k =
+    ap (λ (x : List ClerkPlace). (view_at x k).taken) t.looked ∙ left a.seat t.visits 0 (nothing_read a.seat t.visits 0 t.takes none) k k (omega arith)
+    ∙ ap (λ (cs : List Command). (view_at a.seat k).taken ++ ask_words (suc (length (view_at a.seat k).taken)) (map ask_of (filter (asks k) cs))) none ∙ append-nil (view_at a.seat k).taken
+
+pub nothing_taken : {D P : Type 0} (choice : Choice) → NothingTakenIsNoEvent D P choice
+nothing_taken {D} {P} choice w a b f counts t none m =
+    shown_same w a b f t.same_place.1
+    (λ e q.
+    let same : t.decided ≡ a.state = empty_run a.plan choice a.state t.decided (commands_of 0 t.visits) (replies_in t.batch.commands) none t.run in
+    let empty : a.state.batch ≡ [] = ap (λ (x : State). x.batch) (sym q) ∙ nothing_gathered w m.between in
+    t.after ∙ ap settled same ∙ ap (λ (xs : List Entry). record a.state { batch = xs }) (sym empty))
+    (ap (λ (x : List ClerkPlace). length x) t.looked ∙ length-served a.seat t.visits)
+    (t.nothing none).0
+    (λ k. nothing_seen choice a b counts t none k)
+    m

@@ -1,0 +1,98 @@
+-- A sealed batch as contracts see it.
+use Rattle.std.specs.Prelude.{ℕ, ◌≡◌, ◌<◌, List, [], ◌∷◌, length, map, slice_index_or, slice_set}
+use Rattle.std.specs.List.{AllByRecursion}
+use Rattle.atomic_table.specs.Seated.{TableId}
+use Rattle.lift_base.specs.declared.command.Reply.{Reply}
+use Rattle.lift_base.specs.declared.history.Entry.{Entry}
+use Rattle.lift_building.specs.Plan.{Plan}
+use Rattle.lift_register.specs.Register.{RegisterState, register_of}
+use Rattle.lift_register.specs.Fits.{FitFrom}
+use Rattle.lift_desk.specs.Words.{turn_of, last_of, ask_word}
+use Rattle.lift_desk.specs.Spelled.{IsAsk}
+use Rattle.lift_desk.specs.Seats.{ClerkPlace, IsNoteOf}
+use Rattle.lift_policy.specs.declared.command.Command.{Command}
+use Rattle.lift_policy.specs.Eligible.{any_eligible}
+use Rattle.lift_policy.specs.Step.{State}
+use Rattle.lift_policy.specs.Run.{Run}
+use Rattle.lift_parts.specs.declared.taken.Taken.{Taken}
+
+pub record BatchState : Type 0 where
+  -- what was taken, by rising terminal, each with its reply
+  pub commands : List Taken
+  -- what was accepted of it
+  pub entries : List Entry
+  -- the building and the register that it was decided in and on, and the desk that it was taken at
+  pub building : Plan
+  pub before : RegisterState
+  pub desk : List TableId
+  -- the turn of the last ask that was taken before it, of each terminal
+  pub turns : List ℕ
+
+abbrev pub commands_in : List Taken → List Command
+commands_in taken = map (λ (t : Taken). t.command) taken
+
+abbrev pub replies_in : List Taken → List Reply
+replies_in taken = map (λ (t : Taken). t.reply) taken
+
+-- the words that their notes say
+abbrev pub noted_in : List Taken → List ℕ
+noted_in taken = map (λ (t : Taken). t.note.word) taken
+
+-- these commands are of the first so many terminals
+abbrev pub AreBelow : ℕ → List Command → Type 0
+AreBelow count commands = AllByRecursion (λ (c : Command). c.terminal < count) commands
+
+-- the turn of the last ask that was taken, of each terminal
+abbrev pub turns_of : List ClerkPlace → List ℕ
+turns_of places = map (λ (p : ClerkPlace). turn_of (last_of p.view.taken)) places
+
+-- the turns once this command was taken
+abbrev pub turns_with : List ℕ → Taken → List ℕ
+turns_with turns taken = slice_set turns taken.command.terminal (turn_of taken.note.word)
+
+-- the turns once all of these were taken
+abbrev pub turns_after : List ℕ → List Taken → List ℕ
+turns_after turns [] = turns
+turns_after turns (taken ∷ commands) = turns_after (turns_with turns taken) commands
+
+-- The command's note is of its terminal's table, it says the ask that the command is, and that ask
+-- is later than all that was taken there before.
+pub record IsNoted (desk : List TableId) (turns : List ℕ) (taken : Taken) : Type 0 where
+  pub of_table : IsNoteOf desk taken.command.terminal taken.note
+  pub in_range : IsAsk (record { number = taken.command.number; body = taken.command.body })
+  pub says : taken.note.word
+      ≡ ask_word (turn_of taken.note.word) taken.command.number taken.command.body
+  pub counted : taken.command.terminal < length turns
+  pub later : slice_index_or turns taken.command.terminal 0 < turn_of taken.note.word
+
+-- so is each of these, one after another
+abbrev pub AreNoted : List TableId → List ℕ → List Taken → Type 0
+AreNoted desk turns [] = Unit {0}
+AreNoted desk turns (taken ∷ commands) = IsNoted desk turns taken
+    × AreNoted desk (turns_with turns taken) commands
+
+-- Its commands with their replies are a run of the rules on the register that it was decided on,
+-- and its entries are what that run accepted.
+pub record IsDecided (batch : BatchState) : Type 0 where
+  pub first : State
+  pub last : State
+  pub on_register : first.register ≡ batch.before
+  pub sealed : first.batch ≡ []
+  pub run : Run batch.building any_eligible first (commands_in batch.commands)
+      (replies_in batch.commands) last
+  pub entries : batch.entries ≡ last.batch
+
+-- What is true of every batch: its entries fit where they were decided, its commands are of
+-- terminals of the desk, each has a note of its ask, and its replies and entries are of one run.
+pub record IsBatch (batch : BatchState) : Type 0 where
+  pub fits : FitFrom batch.building batch.before batch.entries
+  pub at_desk : AreBelow (length batch.desk) (commands_in batch.commands)
+  pub noted : AreNoted batch.desk batch.turns batch.commands
+  pub decided : IsDecided batch
+
+-- the register that a batch leads to, and the turns
+abbrev pub after : BatchState → RegisterState
+after batch = register_of batch.before batch.entries
+
+abbrev pub turns_behind : BatchState → List ℕ
+turns_behind batch = turns_after batch.turns batch.commands

@@ -1,0 +1,15 @@
+pub mod Batch
+pub mod Line
+pub mod Queued
+pub mod Scan
+pub mod Allocator
+pub mod Flusher
+pub mod Parts
+pub mod Turns
+pub mod Laws
+pub mod Tie
+pub mod Words
+pub mod Course
+pub mod History
+pub mod Runs
+pub mod lemmas

@@ -1,0 +1,14 @@
+-- What the line holds, of both its ends held together.
+use Rattle.std.specs.Prelude.{◌≡◌, ◌≤◌, List, ◌++◌, length}
+use Rattle.lift_parts.specs.Batch.{BatchState}
+use Rattle.lift_parts.specs.Line.{SendState, ReceiveState}
+use Rattle.lift_parts.specs.Line.{GoesOn}
+
+-- What was received, and then what the line holds, at most four batches, is what was sent. Each of
+-- these goes on from the one before it, the first from what was received.
+pub record Queued (sender : SendState) (receiver : ReceiveState) : Type 0 where
+  pub items : List BatchState
+  pub in_order : sender.sent ≡ receiver.received ++ items
+  pub goes_on : GoesOn sender.building sender.desk receiver.register receiver.turns items
+      sender.register sender.turns
+  pub four : length items ≤ 4

@@ -1,0 +1,331 @@
+-- What the machine of events is while the two parts run, and which of its events their turns are.
+use Rattle.std.specs.Prelude.{ℕ, ◌≡◌, ◌≢◌, ◌≤◌, ◌+◌, Bool, true, false, List, [], ◌∷◌, ◌++◌, length}
+use Rattle.std.specs.Prelude.{map, filter, count_by, All, IsTrue, Some, Option, Result, Ok, Err}
+use Rattle.std.specs.List.{AllByRecursion, flat_map}
+use Rattle.lift_base.specs.declared.history.Entry.{Entry}
+use Rattle.lift_building.specs.Plan.{IsBuilding}
+use Rattle.lift_disk.specs.Disk.{Image}
+use Rattle.lift_keeper.specs.Images.{IsInDoubt}
+use Rattle.lift_journal.specs.declared.fault.JournalFault.TheVariants.{Disk, Broken}
+use Rattle.lift_desk.specs.declared.view.ClerkView.{ClerkView}
+use Rattle.lift_desk.specs.Rule.{IsAhead}
+use Rattle.lift_desk.specs.Spelled.{ask_words, IsAsk}
+use Rattle.lift_desk.specs.Seats.{ClerkPlace, TakesOf, view_at}
+use Rattle.lift_policy.specs.Eligible.{Choice}
+use Rattle.lift_policy.specs.declared.command.Command.{Command}
+use Rattle.lift_keeper.specs.declared.fault.KeeperFault.{KeeperFault}
+use Rattle.lift_keeper.specs.declared.fault.KeeperFault.TheVariants.{Journal}
+use Rattle.lift_world.specs.declared.event.Event.{Event}
+use Rattle.lift_world.specs.declared.event.Kept.TheVariants.{WithBatch}
+use Rattle.lift_world.specs.declared.event.Phase.TheVariants.{GateWritten}
+use Rattle.lift_world.specs.declared.event.Taken.{Taken as Held}
+use Rattle.lift_world.specs.World.{World, Batch, asks, is_answer_to, register_after, state_of}
+use Rattle.lift_world.specs.World.{safe_list, batch_of, may_keep}
+use Rattle.lift_world.specs.Next.{next, goes, answer_of, unknown_to}
+use Rattle.lift_world.specs.Beside.{is_of_terminals}
+use Rattle.lift_world.specs.Relay.{IsBetweenScans, IsBetweenFlushes, IsBrokenBetween}
+use Rattle.lift_world.specs.Relay.{allocator_events, flusher_events, failing_flush, broken_flush}
+use Rattle.lift_clerk.specs.declared.counts.Counts.{Counts}
+use Rattle.lift_clerk.specs.Clerk.{ClerkState}
+use Rattle.lift_clerk.specs.Visits.{Visit, commands_of}
+use Rattle.lift_clerk.specs.Machine.{IsReached, IsMachineOf, Shows, kept_of, ask_of, answer_words}
+use Rattle.lift_clerk.specs.Turn.{IsEither}
+use Rattle.lift_parts.specs.declared.taken.Taken.{Taken}
+use Rattle.lift_parts.specs.declared.counts.FlushCounts.{FlushCounts}
+use Rattle.lift_parts.specs.Batch.{BatchState, AreBelow, commands_in}
+use Rattle.lift_parts.specs.Line.{Begins}
+use Rattle.lift_parts.specs.Queued.{Queued}
+use Rattle.lift_parts.specs.Allocator.{AllocatorState, IsFullTurn, IsScanTurn}
+use Rattle.lift_parts.specs.Flusher.{FlusherState, IsFlusher, IsEmptyTurn, IsBatchTurn}
+use Rattle.lift_parts.specs.Turns.{IsSending, IsTelling}
+use Rattle.lift_parts.specs.Parts.{AreParts, IsRejoined}
+
+-- a command that was taken, with the reply decided to it, as the machine holds it
+abbrev pub held_as : Taken → Held
+held_as t = record {
+  terminal = t.command.terminal;
+  number = t.command.number;
+  body = t.command.body;
+  reply = t.reply;
+}
+
+abbrev pub command_of : Held → Command
+command_of h = record { terminal = h.terminal; number = h.number; body = h.body }
+
+abbrev pub entries_of : List BatchState → List Entry
+entries_of batches = flat_map (λ (b : BatchState). b.entries) batches
+
+-- the commands of the machine's queue, and those of one terminal
+abbrev pub queued_in : List Batch → List Command
+queued_in queue = flat_map (λ (q : Batch). map command_of q.commands) queue
+
+abbrev pub on_way : World → ℕ → List Command
+on_way w terminal = filter (asks terminal) (queued_in w.queue)
+
+-- the machine's queue has the commands of these batches, which are of so many terminals
+abbrev pub AreQueued : ℕ → List BatchState → List Batch → Type 0
+AreQueued count [] [] = Unit {0}
+AreQueued count (b ∷ batches) (q ∷ queue) = (map command_of q.commands ≡ commands_in b.commands)
+    × AreBelow count (commands_in b.commands) × AreQueued count batches queue
+AreQueued count [] (q ∷ queue) = ⊥
+AreQueued count (b ∷ batches) [] = ⊥
+
+-- with their replies, and each ends where its entries do, from here on
+abbrev pub AreDecided : ℕ → List BatchState → List Batch → Type 0
+AreDecided from [] [] = Unit {0}
+AreDecided from (b ∷ batches) (q ∷ queue) = (q.commands ≡ map held_as b.commands)
+    × (q.upto ≡ from + length b.entries) × AreDecided (from + length b.entries) batches queue
+AreDecided from [] (q ∷ queue) = ⊥
+AreDecided from (b ∷ batches) [] = ⊥
+
+-- The words of a terminal at both parts. Of what it asked the first was answered, then comes what
+-- is on its way, and the rest may wait. The allocator took all but what waits, and the flusher what
+-- it answered.
+pub record ShowsBoth (w : World) (terminal : ℕ) (ahead behind : ClerkView) : Type 0 where
+  pub first : List Command
+  pub waiting : List Command
+  pub asked : filter (asks terminal) w.asked ≡ (first ++ on_way w terminal) ++ waiting
+  pub taken : ahead.taken ≡ ask_words 1 (map ask_of (first ++ on_way w terminal))
+  pub looked : behind.taken ≡ ask_words 1 (map ask_of first)
+  pub answered : behind.answered ≡ answer_words 1 (filter (is_answer_to terminal) w.answered)
+  pub even : length first ≡ count_by (is_answer_to terminal) w.answered
+
+-- While nothing has failed the machine decides on what the allocator shows. What is accepted is
+-- what is safe, and then the entries of the batches that wait, which the machine holds with their
+-- replies.
+pub record RunsWhole {D P : Type 0} (w : World) (a : AllocatorState P) (f : FlusherState D)
+    (waiting : List BatchState) : Type 0 where
+  pub between : IsBetweenFlushes w
+  pub state : state_of w ≡ a.state
+  pub accepted : w.accepted ≡ safe_list w ++ entries_of waiting
+  pub decided : AreDecided (length (safe_list w)) waiting w.queue
+  pub register : f.writer.register ≡ f.end.register
+  pub no_doubt : f.writer.doubt ≡ []
+
+-- After a fault the machine's batch in doubt is the writer's: a crash may keep it. What is decided
+-- is no matter: each command is answered Unknown.
+pub record RunsBroken {D : Type 0} (w : World) (f : FlusherState D) : Type 0 where
+  pub between : IsBrokenBetween w
+  pub doubt : batch_of w ≡ f.writer.doubt
+  pub may_be_kept : f.writer.doubt ≢ [] → IsTrue (may_keep w WithBatch)
+
+-- The world is what this group's two parts are, each between two of its turns. What was sent, with
+-- a batch in hand, is what was received and the batches that wait; these are the machine's queue.
+pub record IsRelayOf {D P : Type 0} (w : World) (a : AllocatorState P)
+    (f : FlusherState D) : Type 0 where
+  pub building : w.building ≡ a.plan
+  pub same_plan : w.building ≡ f.writer.plan
+  pub reached : IsReached w
+  pub between : IsBetweenScans w
+  pub nothing_due : w.due ≡ []
+  pub safe : register_after (safe_list w) ≡ f.writer.register
+  pub seats : length a.seat ≡ length f.seat
+  pub waiting : List BatchState
+  pub line : a.end.sent ++ a.hand ≡ f.end.received ++ waiting
+  pub queue : AreQueued (length f.seat) waiting w.queue
+  pub words : (terminal : ℕ)
+      → ShowsBoth w terminal (view_at a.seat terminal) (view_at f.seat terminal)
+  pub whole : f.writer.is_broken ≡ false → RunsWhole w a f waiting
+  pub broken : f.writer.is_broken ≡ true → RunsBroken w f
+
+-- These events, each possible in its place, lead to a world that is these parts'. These commands
+-- were given their answers meanwhile, and these entries are safe then. Terminals did nothing.
+pub record LeadsOn {D P : Type 0} (w : World) (events : List Event) (given : List Held)
+    (safe : List Entry) (a : AllocatorState P) (f : FlusherState D) : Type 0 where
+  pub end : World
+  pub possible : goes events w ≡ Some end
+  pub given_is : end.given ≡ w.given ++ given
+  pub safe_is : safe_list end ≡ safe
+  pub same_building : end.building ≡ w.building
+  pub answered_is : end.answered ≡ w.answered ++ map answer_of given
+  pub same_asked : end.asked ≡ w.asked
+  pub same_heard : end.heard ≡ w.heard
+  pub shows : IsRelayOf end a f
+
+-- A split of a clerk is no event.
+abbrev pub SplitsAreNoEvents : (D P : Type 0) → Type 0
+SplitsAreNoEvents D P = (w : World) (clerk : ClerkState D P) (a : AllocatorState P)
+    (f : FlusherState D) → AreParts clerk a f → IsFlusher f → IsMachineOf w clerk → IsRelayOf w a f
+
+-- Nor is a rejoining of the parts.
+abbrev pub RejoiningsAreNoEvents : (D P : Type 0) → Type 0
+RejoiningsAreNoEvents D P =
+    (w : World) (a : AllocatorState P) (f : FlusherState D) (clerk : ClerkState D P)
+    → IsRejoined a f clerk → IsRelayOf w a f → IsMachineOf w clerk
+
+-- A turn that found the line full is no event.
+abbrev pub FullTurnsAreNoEvents : (D P : Type 0) → Type 0
+FullTurnsAreNoEvents D P =
+    (w : World) (a b : AllocatorState P) (f : FlusherState D) (counts : Counts)
+    → IsFullTurn a b counts → IsRelayOf w a f → IsRelayOf w b f
+
+-- Nor is one that found it empty.
+abbrev pub EmptyTurnsAreNoEvents : (D P : Type 0) → Type 0
+EmptyTurnsAreNoEvents D P =
+    (w : World) (a : AllocatorState P) (f g : FlusherState D)
+    (result : Result FlushCounts KeeperFault) → IsEmptyTurn f g result → IsRelayOf w a f
+    → IsRelayOf w a g
+
+-- Nor is the sending of a batch in hand.
+abbrev pub SendingsAreNoEvents : (D P : Type 0) → Type 0
+SendingsAreNoEvents D P = (w : World) (a b : AllocatorState P) (f : FlusherState D) → IsSending a b
+    → IsRelayOf w a f → IsRelayOf w b f
+
+-- Nor is a telling of both parts.
+abbrev pub TellingsAreNoEvents : (D P : Type 0) → Type 0
+TellingsAreNoEvents D P = (w : World) (a b : AllocatorState P) (f g : FlusherState D)
+    → IsTelling a b f g → IsRelayOf w a f → IsRelayOf w b g
+
+-- Nor is a scan that took nothing.
+abbrev pub NothingTakenIsNoEvent : (D P : Type 0) → Choice → Type 0
+NothingTakenIsNoEvent D P choice =
+    (w : World) (a b : AllocatorState P) (f : FlusherState D) (counts : Counts)
+    (t : IsScanTurn choice a b counts) → commands_of 0 t.visits ≡ []
+    → IsRelayOf w a f → IsRelayOf w b f
+
+-- It stays so whatever terminals ask and hear.
+abbrev pub TerminalsKeepParts : (D P : Type 0) → Type 0
+TerminalsKeepParts D P = (w end : World) (a : AllocatorState P) (f : FlusherState D) (event : Event)
+    → IsTrue (is_of_terminals event) → next w event ≡ Some end
+    → IsRelayOf w a f → IsRelayOf end a f
+
+-- By the desk's rule each word that the allocator took of a terminal was asked there, in rising
+-- turns, and a word can spell each of these asks.
+pub record TakesAsked (asked : List Command) (terminal : ℕ) (view : ClerkView) : Type 0 where
+  pub ahead : IsAhead (ask_words 1 (map ask_of (filter (asks terminal) asked))) view.taken
+  pub in_range : All IsAsk (map ask_of (filter (asks terminal) asked))
+
+abbrev pub AllTakesAsked : List Command → List ClerkPlace → Type 0
+AllTakesAsked asked places = (terminal : ℕ) → TakesAsked asked terminal (view_at places terminal)
+
+-- The line holds at most four batches: of those that were sent at most so many weren't received.
+abbrev pub HasRoom : {D P : Type 0} → AllocatorState P → FlusherState D → Type 0
+HasRoom a f = length a.end.sent ≤ length f.end.received + 4
+
+-- By the line's rule what the flusher has received begins what was sent.
+abbrev pub ReceivesSent : {D P : Type 0} → AllocatorState P → FlusherState D → Type 0
+ReceivesSent a f = Begins f.end.received (a.end.sent ++ a.hand)
+
+-- Both are so of parts of which `tell`, `rejoin` or `run` said what the line holds.
+abbrev pub QueuedHaveRoom : (D P : Type 0) → Type 0
+QueuedHaveRoom D P = (a : AllocatorState P) (f : FlusherState D) → Queued a.end f.end
+    → HasRoom a f × ReceivesSent a f
+
+-- A scan that took something is the machine's, and its batch joins the queue.
+abbrev pub ScansAreAllocations : (D P : Type 0) → Choice → Type 0
+ScansAreAllocations D P choice =
+    (w : World) (a b : AllocatorState P) (f : FlusherState D) (counts : Counts)
+    (t : IsScanTurn choice a b counts) → commands_of 0 t.visits ≢ []
+    → AllTakesAsked w.asked b.seat → HasRoom b f → IsRelayOf w a f
+    → (letters : List (Option ℕ))
+    × LeadsOn w (allocator_events (commands_of 0 t.visits) letters) [] (safe_list w) b f
+
+-- each look takes the word of its place's next turn, or nothing
+abbrev pub Reads : List ClerkPlace → List Visit → Type 0
+Reads places [] = Unit {0}
+Reads [] (visit ∷ visits) = ⊥
+Reads (place ∷ places) (visit ∷ visits) = TakesOf place.view visit.word visit.found
+    × Reads places visits
+
+-- The command is what its terminal asked behind all that was taken there.
+pub record AsksNext (asked : List Command) (view : ClerkView) (command : Command) : Type 0 where
+  pub before : List Command
+  pub asked_is : filter (asks command.terminal) asked ≡ before ++ command ∷ []
+  pub as_many : length before ≡ length view.taken
+
+abbrev pub AllAskNext : List Command → List ClerkPlace → List Command → Type 0
+AllAskNext asked places commands =
+    AllByRecursion (λ (c : Command). AsksNext asked (view_at places c.terminal) c) commands
+
+-- So it is where each look took the word of the next turn, and what that says was asked next.
+abbrev pub NextsAreAllocations : (D P : Type 0) → Choice → Type 0
+NextsAreAllocations D P choice =
+    (w : World) (a b : AllocatorState P) (f : FlusherState D) (counts : Counts)
+    (t : IsScanTurn choice a b counts) → commands_of 0 t.visits ≢ []
+    → Reads a.seat t.visits → AllAskNext w.asked a.seat (commands_of 0 t.visits) → HasRoom b f
+    → IsRelayOf w a f
+    → (letters : List (Option ℕ))
+    × LeadsOn w (allocator_events (commands_of 0 t.visits) letters) [] (safe_list w) b f
+
+-- each ask is found by the flusher's own look
+abbrev pub all_found : ℕ → Bool
+all_found terminal = true
+
+-- what a flusher's turn gives where it receives this batch and answers Ok
+pub record Flushes {D : Type 0} (f g : FlusherState D) (batch : BatchState)
+    (counts : FlushCounts) : Type 0 where
+  pub turn : IsBatchTurn f g batch (Ok counts)
+  pub was_whole : f.writer.is_broken ≡ false
+  pub is_whole : g.writer.is_broken ≡ false
+  pub register : g.writer.register ≡ g.end.register
+  pub no_doubt : g.writer.doubt ≡ []
+  pub same_plan : g.writer.plan ≡ f.writer.plan
+
+-- It makes the first batch of the queue safe, and answers its commands.
+abbrev pub FlushesAreFlushes : (D P : Type 0) → Type 0
+FlushesAreFlushes D P = (w : World) (a : AllocatorState P) (f g : FlusherState D)
+    (batch : BatchState) (counts : FlushCounts) → Flushes f g batch counts → ReceivesSent a g
+    → IsRelayOf w a f
+    → (q : Batch) × ((folds : ℕ)
+    → LeadsOn w (flusher_events all_found q folds (length batch.entries))
+    (map held_as batch.commands) (safe_list w ++ batch.entries) a g)
+
+-- what it gives where the device failed it
+pub record FlushFails {D : Type 0} (f g : FlusherState D) (batch : BatchState) : Type 0 where
+  pub turn : IsBatchTurn f g batch (Err (Journal Disk))
+  pub was_whole : f.writer.is_broken ≡ false
+  pub breaks : g.writer.is_broken ≡ true
+  pub same_register : g.writer.register ≡ f.writer.register
+  pub same_plan : g.writer.plan ≡ f.writer.plan
+
+-- It is one of the machine that fails once the batch's gate was written: whichever call it was, a
+-- crash may find all of the batch or nothing of it, as in that phase.
+abbrev pub FailedFlushesAreFailures : (D P : Type 0) → Type 0
+FailedFlushesAreFailures D P =
+    (w : World) (a : AllocatorState P) (f g : FlusherState D) (batch : BatchState)
+    → FlushFails f g batch → ReceivesSent a g → IsRelayOf w a f
+    → (q : Batch) × ((folds : ℕ)
+    → LeadsOn w (failing_flush all_found q folds GateWritten (length batch.entries))
+    (map unknown_to (map held_as batch.commands)) (safe_list w) a g)
+
+-- what it gives after a fault
+pub record FlushesBroken {D : Type 0} (f g : FlusherState D) (batch : BatchState) : Type 0 where
+  pub turn : IsBatchTurn f g batch (Err (Journal Broken))
+  pub was_broken : f.writer.is_broken ≡ true
+  pub rests : g.writer ≡ f.writer
+
+-- It answers Unknown to each command of the first batch of the queue.
+abbrev pub BrokenFlushesAreBroken : (D P : Type 0) → Type 0
+BrokenFlushesAreBroken D P =
+    (w : World) (a : AllocatorState P) (f g : FlusherState D) (batch : BatchState)
+    → FlushesBroken f g batch → ReceivesSent a g → IsRelayOf w a f
+    → (q : Batch) × LeadsOn w (broken_flush all_found q)
+    (map unknown_to (map held_as batch.commands)) (safe_list w) a g
+
+-- What a crash may leave between two turns of the flusher, whatever the allocator has taken or
+-- sent, reads as the register of what is safe, or after a fault of that with the batch in doubt. It
+-- holds all that was acknowledged, and shows each letter that was given.
+abbrev pub CrashesOfPartsShow : (D P : Type 0) → Type 0
+CrashesOfPartsShow D P = (w : World) (a : AllocatorState P) (f : FlusherState D) (left : Image)
+    → IsBuilding w.building → IsRelayOf w a f
+    → (doubt : IsInDoubt f.writer.plan f.writer.register f.writer.doubt left)
+    → Shows w (kept_of (safe_list w) f.writer.doubt doubt) left
+
+-- So it does at any moment of a flusher's turn, of what was given before it: it reads as the
+-- register of what was safe, or of that with the turn's batch.
+abbrev pub CrashesInFlushesShow : (D P : Type 0) → Type 0
+CrashesInFlushesShow D P =
+    (w : World) (a : AllocatorState P) (f g : FlusherState D) (batch : BatchState)
+    (counts : FlushCounts) (left : Image) → IsBuilding w.building
+    → Flushes f g batch counts → ReceivesSent a g → IsRelayOf w a f
+    → (either : IsEither f.writer.plan f.writer.register g.end.register left)
+    → Shows w (kept_of (safe_list w) batch.entries either) left
+
+-- And of one that the device fails.
+abbrev pub CrashesInFailuresShow : (D P : Type 0) → Type 0
+CrashesInFailuresShow D P =
+    (w : World) (a : AllocatorState P) (f g : FlusherState D) (batch : BatchState) (left : Image)
+    → IsBuilding w.building
+    → FlushFails f g batch → ReceivesSent a g → IsRelayOf w a f
+    → (either : IsEither f.writer.plan f.writer.register g.end.register left)
+    → Shows w (kept_of (safe_list w) batch.entries either) left

@@ -1,0 +1,3 @@
+pub mod Used
+pub mod Paired
+pub mod TiedTurns
