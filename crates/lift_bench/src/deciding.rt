@@ -8,7 +8,7 @@ use crate::fault::Fault;
 use lift_base::{Body, Dir, Floor, Letter, Number, Party, Reply, Terminal};
 use lift_building::Building;
 use lift_cost::{NewCall, total_cost};
-use lift_keeper::Decider;
+use lift_decider::Decider;
 use lift_policy::{Eligible, Etd, FewestOpen, Policy, View};
 use std::alloc::Global;
 

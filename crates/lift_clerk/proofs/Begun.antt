@@ -6,7 +6,7 @@ use Rattle.lift_disk.specs.Disk.{DiskState, Image}
 use Rattle.lift_register.specs.Register.{RegisterState, empty}
 use Rattle.lift_desk.specs.Seats.{ClerkPlace, clerk_of}
 use Rattle.lift_policy.specs.Eligible.{Choice}
-use Rattle.lift_keeper.specs.Decider.{starting}
+use Rattle.lift_decider.specs.Decider.{starting}
 use Rattle.lift_keeper.specs.Images.{IsImageOf}
 use Rattle.lift_keeper.specs.Keeper.{KeeperView}
 use Rattle.lift_clerk.specs.Clerk.{ClerkState}

@@ -15,7 +15,7 @@ use Rattle.lift_desk.specs.Spelled.{ask_words, IsAsk}
 use Rattle.lift_desk.specs.Seats.{view_at, clerk_of}
 use Rattle.lift_policy.specs.Eligible.{Choice}
 use Rattle.lift_policy.specs.declared.command.Command.{Command}
-use Rattle.lift_keeper.specs.Decider.{starting}
+use Rattle.lift_decider.specs.Decider.{starting}
 use Rattle.lift_keeper.specs.Images.{IsImageOf, IsInDoubt}
 use Rattle.lift_keeper.specs.Keeper.{KeeperView}
 use Rattle.lift_world.specs.declared.event.Answer.{Answer}

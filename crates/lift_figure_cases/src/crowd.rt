@@ -8,7 +8,7 @@ use crate::trip::schedule_with;
 use lift_base::{Body, Dir, Floor, Letter, Number, Party, Position, Reply, Row, Stop, Terminal};
 use lift_building::Building;
 use lift_cost::{NewCall, total_cost};
-use lift_keeper::Decider;
+use lift_decider::Decider;
 use lift_policy::{Etd, FewestOpen, View};
 use lift_stops::{Schedule, next_stop, stop_list};
 

@@ -13,7 +13,7 @@ use crate::{crowd, registers};
 use lift_base::{Body, Halt, Letter, Number, Reply, Terminal};
 use lift_building::Building;
 use lift_cost::{NewCall, arrival_at, waiting_row};
-use lift_keeper::Decider;
+use lift_decider::Decider;
 use lift_policy::{Eligible, Etd, FewestOpen, Policy, Shipped, ShortestWait, View};
 use lift_stops::pass_of;
 use std::fmt::Write;

@@ -1,4 +1,3 @@
-pub mod Decider
 pub mod Fault
 pub mod Recovery
 pub mod Reading

@@ -9,9 +9,9 @@ ghost use Rattle.lift_register.specs.Belongs.{BelongsTo};
 ghost use Rattle.lift_register.specs.Balanced.{IsBalanced};
 ghost use Rattle.lift_policy.specs.View.{positions_of, AreSchedulesOf};
 ghost use Rattle.lift_policy.specs.Step.{Step, view_of};
+ghost use Rattle.lift_decider.specs.Decider.{starting, IsPossible};
 ghost use Rattle.lift_journal.specs.Steps.{Makes};
 ghost use Rattle.lift_journal.specs.Told.{NoneFails};
-ghost use Rattle.lift_keeper.specs.Decider.{starting, IsPossible};
 ghost use Rattle.lift_keeper.specs.Images.{IsImageOf, IsImageIn, IsInDoubt};
 ghost use Rattle.lift_keeper.specs.Reopening.{Reopens, RefusesReopening, FailsBy};
 ghost use Rattle.lift_journal.specs.Calls.{opening_of};
@@ -20,11 +20,11 @@ ghost use Rattle.lift_keeper.specs.Writer.{StopsCommit, commit_calls, commit_wri
 ghost use Rattle.lift_keeper.specs.Writer.{commit_second};
 
 use crate::copies::copy_of;
-use crate::decider::Decider;
 use crate::fault::KeeperFault;
 use crate::writer::Writer;
 use lift_base::{Body, Number, Reply, Terminal};
 use lift_building::Building;
+use lift_decider::Decider;
 use lift_disk::{Arm, Disk};
 use lift_journal::JournalFault;
 use lift_policy::{Policy, View, decisions_keep};

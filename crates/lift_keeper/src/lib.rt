@@ -3,18 +3,14 @@
 #![tactic(auto)]
 
 mod copies;
-mod decider;
 mod fault;
-mod group;
 mod keeper;
 mod opening;
 mod reading;
 mod recovery;
-mod schedules;
 mod store;
 mod writer;
 
-pub use decider::Decider;
 pub use fault::KeeperFault;
 pub use keeper::Keeper;
 pub use writer::Writer;

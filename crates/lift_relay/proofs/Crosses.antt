@@ -28,8 +28,8 @@ use Rattle.lift_desk.specs.contracts.desk.Desk as Desk
 use Rattle.lift_desk.specs.contracts.desk.TakeSeat as TakeSeat
 use Rattle.lift_desk.proofs.desk.Desk.TheSendSync as desk_is
 use Rattle.lift_desk.proofs.desk.TakeSeat.TheSendSync as seat_is
-use Rattle.lift_keeper.specs.contracts.decider.Decider as Decider
-use Rattle.lift_keeper.proofs.decider.Decider.TheSendSync as decider_is
+use Rattle.lift_decider.specs.contracts.decider.Decider as Decider
+use Rattle.lift_decider.proofs.decider.Decider.TheSendSync as decider_is
 use Rattle.lift_policy.specs.declared.policy.Policy.{Ghosts}
 use Rattle.lift_parts.proofs.taken.Taken.TheSendSync as taken_is
 use Rattle.lift_parts.specs.contracts.taken.Taken as Taken

@@ -14,8 +14,8 @@ ghost use Rattle.lift_parts.specs.Scan.{ScansAhead, turns_in};
 
 use arrayvec::ArrayVec;
 use lift_base::Terminal;
+use lift_decider::Decider;
 use lift_desk::{Ask, Desk, Note, TakeSeat};
-use lift_keeper::Decider;
 use lift_parts::Taken;
 use lift_policy::{Command, Policy, decisions_keep};
 

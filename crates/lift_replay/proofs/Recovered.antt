@@ -8,8 +8,8 @@ use Rattle.std.specs.Prelude.{slice_get}
 use Rattle.lift_base.specs.declared.history.Shape.{Shape}
 use Rattle.lift_desk.specs.Rule.{no_asks, no_answers}
 use Rattle.lift_desk.specs.Seats.{TerminalSeat, seats_from, clerk_of, view_at, placed_at}
+use Rattle.lift_decider.specs.Decider.{starting}
 use Rattle.lift_journal.specs.Layout.{Batch, Holds, IsChain, Picks, records_of, used, start_of}
-use Rattle.lift_keeper.specs.Decider.{starting}
 use Rattle.lift_journal.specs.Told.{LastFails}
 use Rattle.lift_journal.specs.declared.fault.JournalFault.TheVariants.{Disk}
 use Rattle.lift_keeper.specs.declared.fault.KeeperFault.{KeeperFault}

@@ -7,7 +7,7 @@ ghost use Rattle.lift_disk.specs.Faults.{fuse_state_of};
 ghost use Rattle.lift_disk.specs.Outcomes.{IsLeftBy};
 ghost use Rattle.lift_register.specs.Register.{RegisterState, empty};
 ghost use Rattle.lift_desk.specs.Seats.{AreSeatsOf, IsClerkOf, OwesNothing, seats_from};
-ghost use Rattle.lift_keeper.specs.Decider.{starting};
+ghost use Rattle.lift_decider.specs.Decider.{starting};
 ghost use Rattle.lift_keeper.specs.Images.{IsImageOf};
 ghost use Rattle.lift_keeper.specs.Reopening.{Reopens};
 ghost use Rattle.lift_replay.specs.Group.{GroupState, first_group, left_by, recovered};

@@ -11,7 +11,7 @@ use Rattle.lift_register.specs.Register as Registers
 use Rattle.lift_desk.specs.declared.view.ClerkView.{ClerkView}
 use Rattle.lift_desk.specs.Rule.{no_answers}
 use Rattle.lift_desk.specs.Seats.{ClerkPlace, view_at, clerk_of}
-use Rattle.lift_keeper.specs.Decider.{starting}
+use Rattle.lift_decider.specs.Decider.{starting}
 use Rattle.lift_policy.specs.declared.command.Command.{Command}
 use Rattle.lift_world.specs.declared.event.Answer.{Answer}
 use Rattle.lift_world.specs.declared.event.Event.{Event}

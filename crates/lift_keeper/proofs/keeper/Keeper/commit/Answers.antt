@@ -1,6 +1,6 @@
 use Rattle.std.proofs.Common.{◌≡◌, ◌∙◌, [], sym, ap, subst}
 use Rattle.lift_register.specs.Register.{RegisterState, register_of}
-use Rattle.lift_keeper.specs.Decider.{DeciderState}
+use Rattle.lift_decider.specs.Decider.{DeciderState}
 use Rattle.lift_keeper.proofs.Recovering.{not_true}
 use Rattle.lift_keeper.specs.lemmas.Keepers.{settled_keeper, nothing_behind}
 use Rattle.lift_keeper.proofs.keeper.Keeper.commit.Goals as goal

@@ -1,6 +1,6 @@
 use Rattle.std.proofs.Common.{◌≡◌, ⊎_elim, [], false, ◌∙◌, ap}
 use Rattle.lift_register.specs.Register.{register_of}
-use Rattle.lift_keeper.specs.Decider.{DeciderState}
+use Rattle.lift_decider.specs.Decider.{DeciderState}
 use Rattle.lift_keeper.specs.Keeper.{KeeperView}
 use Rattle.lift_keeper.proofs.Writers.{not_both}
 use Rattle.lift_keeper.specs.lemmas.Keepers.{nothing_more}

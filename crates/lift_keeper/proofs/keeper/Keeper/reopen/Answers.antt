@@ -1,5 +1,5 @@
 use Rattle.std.proofs.Common.{◌∙◌, sym, ap}
-use Rattle.lift_keeper.specs.Decider.{DeciderState}
+use Rattle.lift_decider.specs.Decider.{DeciderState}
 use Rattle.lift_keeper.specs.lemmas.Keepers.{settled_keeper, nothing_more}
 use Rattle.lift_keeper.proofs.keeper.Keeper.reopen.Goals as goal
 

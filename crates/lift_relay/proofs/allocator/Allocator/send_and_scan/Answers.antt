@@ -1,6 +1,6 @@
 use Rattle.std.proofs.Common.{◌≡◌, ◌++◌, [], ◌∷◌, length, refl, sym, ap, ◌∙◌, subst, inr, arith, append-nil}
 use Rattle.std.specs.Option.{option_to_list}
-use Rattle.lift_keeper.specs.Decider.{DeciderState}
+use Rattle.lift_decider.specs.Decider.{DeciderState}
 use Rattle.lift_clerk.specs.declared.counts.Counts.{Counts}
 use Rattle.lift_building.specs.Plan.{Plan}
 use Rattle.lift_policy.specs.Eligible.{any_eligible}

@@ -1,8 +1,8 @@
 use Rattle.std.proofs.Common.{[], None, refl, ap}
 use Rattle.std.specs.Prelude.{replicate}
 use Rattle.lift_policy.specs.View.{positions_of}
-use Rattle.lift_keeper.proofs.Inside.{all_none, same_state}
-use Rattle.lift_keeper.proofs.group.Group.of.Goals as goal
+use Rattle.lift_decider.proofs.Inside.{all_none, same_state}
+use Rattle.lift_decider.proofs.group.Group.of.Goals as goal
 
 pub returns : goal.returns
 returns c =

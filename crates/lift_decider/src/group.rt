@@ -12,7 +12,7 @@ ghost use Rattle.lift_register.specs.WellFormed.{IsWellFormed};
 ghost use Rattle.lift_register.specs.Fits.{Fits};
 ghost use Rattle.lift_policy.specs.Step.{view_of, accepting, standing, next_from};
 ghost use Rattle.lift_policy.specs.Laws.{IsStateIn};
-ghost use Rattle.lift_keeper.specs.Decider.{IsBatch, starting};
+ghost use Rattle.lift_decider.specs.Decider.{IsBatch, starting};
 
 use crate::schedules::{insert, serve, stand};
 use arrayvec::ArrayVec;
@@ -60,7 +60,7 @@ pub struct Group {
 impl Model for Group {
     ghost use Rattle.lift_policy.specs.Step.{State};
     ghost use Rattle.lift_policy.specs.View.{AreSchedulesOf};
-    ghost use Rattle.lift_keeper.specs.Decider.{state_of, IsBatch};
+    ghost use Rattle.lift_decider.specs.Decider.{state_of, IsBatch};
 
     ghost Value = { State };
 

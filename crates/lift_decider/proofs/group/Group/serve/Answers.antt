@@ -7,10 +7,10 @@ use Rattle.lift_register.specs.Register.{RegisterState, rows_of, register_of}
 use Rattle.lift_stops.specs.Schedule.{ScheduleState, position_after}
 use Rattle.lift_policy.specs.Step.{State, accepting}
 use Rattle.lift_policy.specs.Laws.{IsStateIn}
-use Rattle.lift_keeper.specs.Decider.{IsBatch}
-use Rattle.lift_keeper.proofs.Changes.{own_again, taken_rows, if_some, made_rows, rows_of-stop, rows_of-other_stop}
-use Rattle.lift_keeper.proofs.Inside.{room_at, accepted_stood, accepting_inside, standing_inside, batch_push}
-use Rattle.lift_keeper.proofs.group.Group.serve.Goals as goal
+use Rattle.lift_decider.specs.Decider.{IsBatch}
+use Rattle.lift_decider.proofs.Changes.{own_again, taken_rows, if_some, made_rows, rows_of-stop, rows_of-other_stop}
+use Rattle.lift_decider.proofs.Inside.{room_at, accepted_stood, accepting_inside, standing_inside, batch_push}
+use Rattle.lift_decider.proofs.group.Group.serve.Goals as goal
 
 pub serve-requires : goal.serve-requires
 serve-requires c = record {

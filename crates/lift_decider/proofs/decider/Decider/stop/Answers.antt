@@ -3,10 +3,10 @@ use Rattle.std.specs.Prelude.{None}
 use Rattle.lift_base.specs.declared.command.Body.TheVariants.{Stop}
 use Rattle.lift_policy.specs.Step.{first_cause}
 use Rattle.lift_policy.specs.Laws.{IsStateIn}
-use Rattle.lift_keeper.specs.Decider.{DeciderState}
-use Rattle.lift_keeper.proofs.Decided.{is_inside}
-use Rattle.lift_keeper.proofs.Inside.{standing_inside}
-use Rattle.lift_keeper.proofs.decider.Decider.stop.Goals as goal
+use Rattle.lift_decider.specs.Decider.{DeciderState}
+use Rattle.lift_decider.proofs.Decided.{is_inside}
+use Rattle.lift_decider.proofs.Inside.{standing_inside}
+use Rattle.lift_decider.proofs.decider.Decider.stop.Goals as goal
 
 pub invariant_of-self : goal.invariant_of-self
 invariant_of-self c = record {

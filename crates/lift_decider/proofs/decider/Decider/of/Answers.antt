@@ -1,7 +1,7 @@
 use Rattle.std.proofs.Common.{sym, subst}
 use Rattle.lift_policy.specs.Laws.{IsStateIn}
-use Rattle.lift_keeper.proofs.Inside.{starting_inside}
-use Rattle.lift_keeper.proofs.decider.Decider.of.Goals as goal
+use Rattle.lift_decider.proofs.Inside.{starting_inside}
+use Rattle.lift_decider.proofs.decider.Decider.of.Goals as goal
 
 pub invariant_of-result : goal.invariant_of-result
 invariant_of-result c = record {

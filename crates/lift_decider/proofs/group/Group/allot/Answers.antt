@@ -5,10 +5,10 @@ use Rattle.lift_register.specs.Register.{RegisterState, rows_of, register_of}
 use Rattle.lift_stops.specs.Schedule.{ScheduleState}
 use Rattle.lift_policy.specs.Step.{State}
 use Rattle.lift_policy.specs.Laws.{IsStateIn}
-use Rattle.lift_keeper.specs.Decider.{IsBatch}
-use Rattle.lift_keeper.proofs.Changes.{own_again, taken_rows, if_some, with_row-rows, rows_of-allot, rows_of-other_allot}
-use Rattle.lift_keeper.proofs.Inside.{room_at, accepted_with, accepting_inside, batch_push}
-use Rattle.lift_keeper.proofs.group.Group.allot.Goals as goal
+use Rattle.lift_decider.specs.Decider.{IsBatch}
+use Rattle.lift_decider.proofs.Changes.{own_again, taken_rows, if_some, with_row-rows, rows_of-allot, rows_of-other_allot}
+use Rattle.lift_decider.proofs.Inside.{room_at, accepted_with, accepting_inside, batch_push}
+use Rattle.lift_decider.proofs.group.Group.allot.Goals as goal
 
 pub insert-requires : goal.insert-requires
 insert-requires c = record {

@@ -1,9 +1,9 @@
 use Rattle.std.proofs.Common.{◌≡◌, ◌∙◌, get_or, refl, arith}
 use Rattle.lift_register.specs.Register.{rows_of}
 use Rattle.lift_stops.specs.Schedule.{ScheduleState}
-use Rattle.lift_keeper.proofs.Changes.{own_again, taken_rows, if_some, made_rows}
-use Rattle.lift_keeper.proofs.Inside.{room_at, stood}
-use Rattle.lift_keeper.proofs.group.Group.stand.Goals as goal
+use Rattle.lift_decider.proofs.Changes.{own_again, taken_rows, if_some, made_rows}
+use Rattle.lift_decider.proofs.Inside.{room_at, stood}
+use Rattle.lift_decider.proofs.group.Group.stand.Goals as goal
 
 pub stand-requires : goal.stand-requires
 stand-requires c = record {

@@ -13,7 +13,7 @@ ghost use Rattle.lift_policy.specs.View.{positions_of, AreSchedulesOf, IsViewIn}
 ghost use Rattle.lift_policy.specs.Eligible.{eligible_cars};
 ghost use Rattle.lift_policy.specs.Step.{Step, Proceeds, first_cause, view_of, standing, stopping};
 ghost use Rattle.lift_policy.specs.Step.{next_from};
-ghost use Rattle.lift_keeper.specs.Decider.{IsPossible, nothing, starting};
+ghost use Rattle.lift_decider.specs.Decider.{IsPossible, nothing, starting};
 
 use crate::group::Group;
 use arrayvec::ArrayVec;
@@ -35,7 +35,7 @@ pub struct Decider<'b> {
 }
 
 impl<'b> Model for Decider<'b> {
-    ghost use Rattle.lift_keeper.specs.Decider.{DeciderState, IsPossible};
+    ghost use Rattle.lift_decider.specs.Decider.{DeciderState, IsPossible};
 
     ghost Value = { DeciderState };
 

@@ -6,10 +6,10 @@ use Rattle.lift_cost.specs.declared.call.NewCall.{NewCall}
 use Rattle.lift_register.specs.Fits.{Fits}
 use Rattle.lift_policy.specs.Eligible.{eligible_cars}
 use Rattle.lift_policy.specs.Step.{call_at, first_cause, is_new, view_of}
-use Rattle.lift_keeper.specs.Decider.{DeciderState}
-use Rattle.lift_keeper.specs.declared.decider.Decider.TheInside.{Inside}
-use Rattle.lift_keeper.proofs.Decided.{call_fits}
-use Rattle.lift_keeper.proofs.decider.Decider.call.Goals as goal
+use Rattle.lift_decider.specs.Decider.{DeciderState}
+use Rattle.lift_decider.specs.declared.decider.Decider.TheInside.{Inside}
+use Rattle.lift_decider.proofs.Decided.{call_fits}
+use Rattle.lift_decider.proofs.decider.Decider.call.Goals as goal
 
 pub allot-requires-clause-fits : goal.allot-requires-clause-fits
 allot-requires-clause-fits g c =
