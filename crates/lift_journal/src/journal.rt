@@ -156,6 +156,7 @@ impl<D: Disk> Journal<D> {
     }
 
     /// The device, as it is.
+    #[inline(never)]
     pub fn into_disk(self) -> D
         ensures { result ≡ self.device }
     {
@@ -186,6 +187,8 @@ impl<D: Disk> Journal<D> {
 
     /// Opens it as [`Journal::open`] does, and shows the visitor each batch on the way, so that
     /// each is read once. Where it is refused, the visitor was shown those before the refusal.
+    // (the compiler takes minutes over what moves a device of 16 sectors through it)
+    #[inline(never)]
     pub fn open_with<V: Visitor>(disk: D, visitor: &mut V) -> Result<Journal<D>, (D, JournalFault)>
         ensures opens { IfOk result (λ journal.
             Opens (D.state disk) (D.state journal.device) journal.shape journal.used) }
