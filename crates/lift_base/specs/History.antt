@@ -3,9 +3,6 @@ use Rattle.lift_base.specs.declared.travel.Dir.{Dir}
 use Rattle.lift_base.specs.declared.travel.Dir.TheVariants.{Up, Down}
 use Rattle.lift_base.specs.declared.history.Entry.{Entry}
 use Rattle.lift_base.specs.declared.history.Entry.TheVariants.{Allot, Stop}
-use Rattle.lift_base.specs.declared.history.Record.{Record}
-use Rattle.lift_base.specs.declared.history.Record.TheVariants.{Allot as AllotRecord}
-use Rattle.lift_base.specs.declared.history.Record.TheVariants.{Stop as StopRecord}
 use Rattle.lift_base.specs.declared.history.Row.{Row}
 use Rattle.lift_base.specs.declared.history.Shape.{Shape}
 use Rattle.lift_base.specs.declared.travel.Stop.{Stop as CarStop}
@@ -20,11 +17,6 @@ terminal_of (Stop car number floor dir) = car
 abbrev pub number_of : Entry → ℕ
 number_of (Allot kiosk number from to car party) = number
 number_of (Stop car number floor dir) = number
-
--- the record that keeps an entry
-abbrev pub record_of : Entry → Record
-record_of (Allot kiosk number from to car party) = AllotRecord kiosk number from to car party
-record_of (Stop car number floor dir) = StopRecord car number floor dir
 
 -- a call goes up where its goal is above the floor that it starts from, else down
 abbrev pub dir_of : ℕ → ℕ → Dir

@@ -2,8 +2,9 @@
 use Rattle.std.specs.Prelude.{ℕ, ◌≢◌, ◌<◌, ◌≤◌, ◌^◌}
 use Rattle.lift_base.specs.declared.history.Content.{Content}
 use Rattle.lift_base.specs.declared.history.Content.TheVariants.{Letter, Stopped}
+use Rattle.lift_base.specs.declared.history.Entry.TheVariants.{Allot, Stop}
 use Rattle.lift_base.specs.declared.history.Record.{Record}
-use Rattle.lift_base.specs.declared.history.Record.TheVariants.{Allot, Stop, Row, Last, Done}
+use Rattle.lift_base.specs.declared.history.Record.TheVariants.{Entry, Row, Last, Done}
 
 -- every call that all kiosks can number: 47 kiosks, 16,777,215 numbers each
 abbrev pub most_done : ℕ
@@ -43,9 +44,9 @@ IsLawfulLast terminal number (Stopped floor dir) = IsLawfulStop terminal number
 -- what each record of the program is by its types: floors to 63, cars to 15, terminals to 62,
 -- numbers to 16,777,215, parties of 1 to 15
 abbrev pub IsTyped : Record → Type 0
-IsTyped (Allot kiosk number from to car party) = IsTypedCommand kiosk number
+IsTyped (Entry (Allot kiosk number from to car party)) = IsTypedCommand kiosk number
     × IsTypedCall from to car party
-IsTyped (Stop car number floor dir) = IsTypedCommand car number × (car ≤ 15) × (floor ≤ 63)
+IsTyped (Entry (Stop car number floor dir)) = IsTypedCommand car number × (car ≤ 15) × (floor ≤ 63)
 IsTyped (Row row) = IsTypedCommand row.kiosk row.number
     × IsTypedCall row.from row.to row.car row.party
 IsTyped (Last terminal last) = IsTypedCommand terminal last.number × IsTypedContent last.content
@@ -53,8 +54,8 @@ IsTyped (Done count) = count < 2 ^ 32
 
 -- the rules that a record's types don't say
 abbrev pub IsLawful : Record → Type 0
-IsLawful (Allot kiosk number from to car party) = IsLawfulCall kiosk number from to
-IsLawful (Stop car number floor dir) = 1 ≤ number
+IsLawful (Entry (Allot kiosk number from to car party)) = IsLawfulCall kiosk number from to
+IsLawful (Entry (Stop car number floor dir)) = 1 ≤ number
 IsLawful (Row row) = IsLawfulCall row.kiosk row.number row.from row.to
 IsLawful (Last terminal last) = IsLawfulLast terminal last.number last.content
 IsLawful (Done count) = count ≤ most_done

@@ -1,7 +1,9 @@
 //! Entries, open calls, and the records that keep them.
-ghost use Rattle.std.specs.Prelude.{◌≡◌, ◌≢◌, ◌↔◌, IsTrue, IfSome, IfNone};
+ghost use Rattle.std.specs.Prelude.{◌≡◌, ◌↔◌, IsTrue};
 ghost use Rattle.std.specs.Option.{option_to_list};
-ghost use Rattle.lift_base.specs.History.{record_of, dir_of, row_after, IsWithinLimits};
+ghost use Rattle.lift_base.specs.declared.history.Content.{Content as ContentValue};
+ghost use Rattle.lift_base.specs.declared.history.Entry.{Entry as EntryValue};
+ghost use Rattle.lift_base.specs.History.{dir_of, row_after, IsWithinLimits};
 
 use crate::checked::{Floor, Letter, Number, Party, Terminal};
 use crate::travel::{Dir, Stop};
@@ -70,6 +72,39 @@ impl Row {
         }
     }
 
+    /// The entry that allots this call.
+    pub fn allotment(&self) -> Entry
+        ensures { result ≡ EntryValue.Allot self.now.kiosk self.now.number self.now.from self.now.to
+            self.now.car self.now.party }
+    {
+        Entry::Allot {
+            kiosk: self.kiosk,
+            number: self.number,
+            from: self.from,
+            to: self.to,
+            car: self.car,
+            party: self.party,
+        }
+    }
+
+    /// This call as the last command of its kiosk.
+    pub fn kept(&self) -> Last
+        ensures { result ≡ record {
+          number = self.now.number;
+          content = ContentValue.Letter self.now.from self.now.to self.now.car self.now.party;
+        } }
+    {
+        Last {
+            number: self.number,
+            content: Content::Letter {
+                from: self.from,
+                to: self.to,
+                car: self.car,
+                party: self.party,
+            },
+        }
+    }
+
     /// The call after a stop of its car, none once its passengers have left. Those aboard for the
     /// stop's floor leave, whatever its direction is; those who wait there board where their
     /// direction is the stop's.
@@ -128,22 +163,8 @@ pub struct Last {
 /// One record of the journal: an entry, or a part of a checkpoint.
 #[derive(Clone, Copy, PartialEq, Eq)]
 pub enum Record {
-    /// A call that was allotted.
-    Allot {
-        kiosk: Terminal,
-        number: Number,
-        from: Floor,
-        to: Floor,
-        car: Letter,
-        party: Party,
-    },
-    /// A stop of a car.
-    Stop {
-        car: Letter,
-        number: Number,
-        floor: Floor,
-        dir: Dir,
-    },
+    /// A command that was accepted: a call that was allotted, or a stop of a car.
+    Entry(Entry),
     /// An open call of a checkpoint.
     Row(Row),
     /// The last command of a terminal at a checkpoint.
@@ -161,82 +182,6 @@ pub enum Record {
 impl Default for Record {
     fn default() -> Self {
         Record::Done { count: 0 }
-    }
-}
-
-impl Record {
-    /// The record that keeps this entry.
-    pub fn of_entry(entry: &Entry) -> Self
-        ensures { result ≡ record_of entry.now }
-    {
-        match *entry {
-            Entry::Allot {
-                kiosk,
-                number,
-                from,
-                to,
-                car,
-                party,
-            } => Record::Allot {
-                kiosk,
-                number,
-                from,
-                to,
-                car,
-                party,
-            },
-            Entry::Stop {
-                car,
-                number,
-                floor,
-                dir,
-            } => Record::Stop {
-                car,
-                number,
-                floor,
-                dir,
-            },
-        }
-    }
-}
-
-impl Record {
-    ghost use Rattle.lift_base.specs.declared.history.Entry.{Entry as EntryValue};
-
-    /// The entry that this record keeps; none for a part of a checkpoint.
-    pub fn entry(&self) -> Option<Entry>
-        ensures some { IfSome result (λ entry. record_of entry ≡ self.now) }
-        ensures none { IfNone result ((entry : EntryValue) → record_of entry ≢ self.now) }
-    {
-        match *self {
-            Record::Allot {
-                kiosk,
-                number,
-                from,
-                to,
-                car,
-                party,
-            } => Some(Entry::Allot {
-                kiosk,
-                number,
-                from,
-                to,
-                car,
-                party,
-            }),
-            Record::Stop {
-                car,
-                number,
-                floor,
-                dir,
-            } => Some(Entry::Stop {
-                car,
-                number,
-                floor,
-                dir,
-            }),
-            _ => None,
-        }
     }
 }
 

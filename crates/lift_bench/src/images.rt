@@ -5,7 +5,7 @@ ghost use Rattle.lift_journal.specs.Order.{IsEntry};
 
 use crate::fault::Fault;
 use arrayvec::ArrayVec;
-use lift_base::{Dir, Floor, Letter, Number, Record, Shape, push_some};
+use lift_base::{Dir, Entry, Floor, Letter, Number, Record, Shape, push_some};
 use lift_disk::{Disk, FileDisk};
 use lift_journal::{Journal, Visitor};
 use std::fs::{File, Files};
@@ -15,12 +15,12 @@ fn stop() -> Record
     ensures lawful { IsLawful result }
     ensures entry { IsEntry result }
 {
-    Record::Stop {
+    Record::Entry(Entry::Stop {
         car: Letter::default(),
         number: Number::new(1).unwrap(),
         floor: Floor::default(),
         dir: Dir::Up,
-    }
+    })
 }
 
 /// So many stops.

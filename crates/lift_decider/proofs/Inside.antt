@@ -6,7 +6,7 @@ use Rattle.std.specs.Prelude.{option_map}
 use Rattle.lift_base.specs.declared.history.Row.{Row}
 use Rattle.std.proofs.lemmas.List.Elements.{All-push}
 use Rattle.std.specs.Prelude.{replicate}
-use Rattle.lift_base.specs.History.{record_of}
+use Rattle.lift_base.specs.declared.history.Record.TheVariants.{Entry as EntryRecord}
 use Rattle.lift_base.specs.Records.{IsRecord}
 use Rattle.lift_base.specs.declared.travel.Dir.{Dir}
 use Rattle.lift_base.specs.declared.travel.Position.{Position}
@@ -67,10 +67,10 @@ pub same_state : (r s : RegisterState) (p q : List (Option Position)) (b d : Lis
 same_state r s p q b d e f g = rw (e, f, g) refl
 
 -- an entry that can be written joins a batch that has room
-pub batch_push : (entries : List Entry) (entry : Entry) → IsBatch entries → length entries < 63 → IsRecord (record_of entry) → IsBatch (entries ++ entry ∷ [])
+pub batch_push : (entries : List Entry) (entry : Entry) → IsBatch entries → length entries < 63 → IsRecord (EntryRecord entry) → IsBatch (entries ++ entry ∷ [])
 batch_push entries entry is room written = record {
   limit = omega (arith, length-append entries (entry ∷ []));
-  written = All-push (λ (e : Entry). IsRecord (record_of e)) entries entry is.written written;
+  written = All-push (λ (e : Entry). IsRecord (EntryRecord e)) entries entry is.written written;
 }
 
 -- the state after a car stands somewhere, of its parts

@@ -1,6 +1,6 @@
 -- What a decider holds: the building that it decides for, and what decisions read and change.
 use Rattle.std.specs.Prelude.{◌≤◌, All, List, [], length, replicate, Option, None}
-use Rattle.lift_base.specs.History.{record_of}
+use Rattle.lift_base.specs.declared.history.Record.TheVariants.{Entry as EntryRecord}
 use Rattle.lift_base.specs.Records.{IsRecord}
 use Rattle.lift_base.specs.declared.history.Entry.{Entry}
 use Rattle.lift_building.specs.Plan.{Plan, IsBuilding}
@@ -30,7 +30,7 @@ nothing = starting empty
 -- entries that the journal may hold, as many as one batch may have
 pub record IsBatch (entries : List Entry) : Type 0 where
   pub limit : length entries ≤ 63
-  pub written : All (λ (e : Entry). IsRecord (record_of e)) entries
+  pub written : All (λ (e : Entry). IsRecord (EntryRecord e)) entries
 
 -- what is true of each decider: what decisions read is possible in the building, and no call was
 -- lost

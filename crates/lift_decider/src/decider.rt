@@ -1,7 +1,7 @@
 //! Decisions of the rules.
 
 ghost use Rattle.std.specs.Prelude.{◌≡◌, ◌<◌, ◌≤◌, ◌+◌, [], All, Contains, length, None};
-ghost use Rattle.lift_base.specs.History.{record_of};
+ghost use Rattle.lift_base.specs.declared.history.Record.TheVariants.{Entry as EntryRecord};
 ghost use Rattle.lift_base.specs.Records.{IsRecord};
 ghost use Rattle.lift_base.specs.declared.history.Entry.{Entry as EntryValue};
 ghost use Rattle.lift_base.specs.declared.command.Body.{Body as BodyValue};
@@ -109,7 +109,7 @@ impl<'b> Decider<'b> {
     /// The batch so far: each of its entries can be written.
     pub fn batch(&self) -> &ArrayVec<Entry, 63>
         ensures value { result.now.items ≡ self.now.state.batch }
-        ensures written { All (λ (e : EntryValue). IsRecord (record_of e)) result.now.items }
+        ensures written { All (λ (e : EntryValue). IsRecord (EntryRecord e)) result.now.items }
     {
         &self.group.batch
     }
@@ -128,7 +128,7 @@ impl<'b> Decider<'b> {
     pub fn seal(&mut self) -> ArrayVec<Entry, 63>
         ensures batch { result.items ≡ self.old.state.batch }
         ensures limit { length result.items ≤ 63 }
-        ensures written { All (λ (e : EntryValue). IsRecord (record_of e)) result.items }
+        ensures written { All (λ (e : EntryValue). IsRecord (EntryRecord e)) result.items }
         ensures kept { self.new ≡ record {
           plan = self.old.plan;
           state = record self.old.state { batch = [] };

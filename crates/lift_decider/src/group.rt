@@ -1,7 +1,7 @@
 //! The calls and the cars of a lift group, as decisions change them.
 
 ghost use Rattle.std.specs.Prelude.{ℕ, ◌≡◌, ◌<◌, ◌∷◌, ◌++◌, [], length, Some};
-ghost use Rattle.lift_base.specs.History.{record_of};
+ghost use Rattle.lift_base.specs.declared.history.Record.TheVariants.{Entry as EntryRecord};
 ghost use Rattle.lift_base.specs.Records.{IsRecord};
 ghost use Rattle.lift_base.specs.declared.history.Entry.{Entry as EntryValue};
 ghost use Rattle.lift_base.specs.declared.history.Content.{Content as ContentValue};
@@ -41,7 +41,7 @@ fn join(
     ensures balanced { IsBalanced register.new }
     ensures belongs { BelongsTo building.now register.new }
     ensures batch { batch.new.items ≡ batch.old.items ++ entry.now ∷ [] }
-    ensures written { IsRecord (record_of entry.now) }
+    ensures written { IsRecord (EntryRecord entry.now) }
 {
     prove!(register.fits(building, entry));
     register.apply(building, entry);

@@ -5,7 +5,7 @@ use Rattle.std.proofs.lemmas.List.{map-append}
 use Rattle.std.proofs.lemmas.List.Elements.{recursion_from_All, All-from_recursion}
 use Rattle.lift_base.specs.declared.history.Last.{Last as LastCommand}
 use Rattle.lift_base.specs.declared.history.Record.{Record}
-use Rattle.lift_base.specs.declared.history.Record.TheVariants.{Allot, Stop, Row, Last, Done}
+use Rattle.lift_base.specs.declared.history.Record.TheVariants.{Entry, Row, Last, Done}
 use Rattle.lift_base.specs.declared.history.Row.{Row as CallRow}
 use Rattle.lift_register.specs.Register.{RegisterState, rows_of, last_of, cars, terminals}
 use Rattle.lift_register.specs.Base.{base_records, record_of_last, last_records}
@@ -16,8 +16,7 @@ use Rattle.lift_journal.specs.lemmas.Orders.{order_join, last_join}
 -- an open call of this car, or of a later one, may follow
 abbrev BeforeCar : ℕ → Option Record → Type 0
 BeforeCar car None = Unit {0}
-BeforeCar car (Some (Allot kiosk number from to other party)) = ⊥
-BeforeCar car (Some (Stop other number floor dir)) = ⊥
+BeforeCar car (Some (Entry entry)) = ⊥
 BeforeCar car (Some (Row row)) = row.car ≤ car
 BeforeCar car (Some (Last terminal last)) = ⊥
 BeforeCar car (Some (Done count)) = ⊥
@@ -25,24 +24,21 @@ BeforeCar car (Some (Done count)) = ⊥
 -- the last command of this terminal, or of a later one, may follow
 abbrev BeforeTerminal : ℕ → Option Record → Type 0
 BeforeTerminal terminal None = Unit {0}
-BeforeTerminal terminal (Some (Allot kiosk number from to other party)) = ⊥
-BeforeTerminal terminal (Some (Stop other number floor dir)) = ⊥
+BeforeTerminal terminal (Some (Entry entry)) = ⊥
 BeforeTerminal terminal (Some (Row row)) = Unit {0}
 BeforeTerminal terminal (Some (Last other last)) = other < terminal
 BeforeTerminal terminal (Some (Done count)) = ⊥
 
 before_next : (car : ℕ) (last : Option Record) → BeforeCar car last → BeforeCar (car + 1) last
 before_next car None before = tt
-before_next car (Some (Allot kiosk number from to other party)) before = before
-before_next car (Some (Stop other number floor dir)) before = before
+before_next car (Some (Entry entry)) before = before
 before_next car (Some (Row row)) before = omega (arith, before)
 before_next car (Some (Last terminal last)) before = before
 before_next car (Some (Done count)) before = before
 
 row_follows : (car : ℕ) (last : Option Record) (row : CallRow) → row.car ≡ car → BeforeCar car last → MayFollow last (Row row)
 row_follows car None row own before = tt
-row_follows car (Some (Allot kiosk number from to other party)) row own before = absurd before
-row_follows car (Some (Stop other number floor dir)) row own before = absurd before
+row_follows car (Some (Entry entry)) row own before = absurd before
 row_follows car (Some (Row first)) row own before = omega (arith, before, own)
 row_follows car (Some (Last terminal last)) row own before = absurd before
 row_follows car (Some (Done count)) row own before = absurd before
@@ -74,24 +70,21 @@ all_rows f i (suc n) last own before =
 
 rows_then_lasts : (car : ℕ) (last : Option Record) → BeforeCar car last → BeforeTerminal 0 last
 rows_then_lasts car None before = tt
-rows_then_lasts car (Some (Allot kiosk number from to other party)) before = before
-rows_then_lasts car (Some (Stop other number floor dir)) before = before
+rows_then_lasts car (Some (Entry entry)) before = before
 rows_then_lasts car (Some (Row row)) before = tt
 rows_then_lasts car (Some (Last terminal last)) before = absurd before
 rows_then_lasts car (Some (Done count)) before = before
 
 last_follows : (terminal : ℕ) (before : Option Record) (last : LastCommand) → BeforeTerminal terminal before → MayFollow before (Last terminal last)
 last_follows terminal None last is = tt
-last_follows terminal (Some (Allot kiosk number from to other party)) last is = absurd is
-last_follows terminal (Some (Stop other number floor dir)) last is = absurd is
+last_follows terminal (Some (Entry entry)) last is = absurd is
 last_follows terminal (Some (Row row)) last is = tt
 last_follows terminal (Some (Last other command)) last is = is
 last_follows terminal (Some (Done count)) last is = absurd is
 
 before_terminal : (terminal : ℕ) (before : Option Record) → BeforeTerminal terminal before → BeforeTerminal (terminal + 1) before
 before_terminal terminal None is = tt
-before_terminal terminal (Some (Allot kiosk number from to other party)) is = is
-before_terminal terminal (Some (Stop other number floor dir)) is = is
+before_terminal terminal (Some (Entry entry)) is = is
 before_terminal terminal (Some (Row row)) is = tt
 before_terminal terminal (Some (Last other command)) is = omega (arith, is)
 before_terminal terminal (Some (Done count)) is = is
@@ -118,8 +111,7 @@ all_lasts f i (suc n) before is =
 
 done_follows : (terminal : ℕ) (before : Option Record) (count : ℕ) → BeforeTerminal terminal before → MayFollow before (Done count)
 done_follows terminal None count is = tt
-done_follows terminal (Some (Allot kiosk number from to other party)) count is = absurd is
-done_follows terminal (Some (Stop other number floor dir)) count is = absurd is
+done_follows terminal (Some (Entry entry)) count is = absurd is
 done_follows terminal (Some (Row row)) count is = tt
 done_follows terminal (Some (Last other command)) count is = tt
 done_follows terminal (Some (Done other)) count is = absurd is

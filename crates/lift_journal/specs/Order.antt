@@ -3,36 +3,32 @@
 -- one, entries.
 use Rattle.std.specs.Prelude.{ℕ, ◌<◌, ◌≤◌, List, [], ◌∷◌, Option, Some, None}
 use Rattle.lift_base.specs.declared.history.Record.{Record}
-use Rattle.lift_base.specs.declared.history.Record.TheVariants.{Allot, Stop, Row, Last, Done}
+use Rattle.lift_base.specs.declared.history.Record.TheVariants.{Entry, Row, Last, Done}
 
 -- an accepted command
 abbrev pub IsEntry : Record → Type 0
-IsEntry (Allot kiosk number from to car party) = Unit {0}
-IsEntry (Stop car number floor dir) = Unit {0}
+IsEntry (Entry entry) = Unit {0}
 IsEntry (Row row) = ⊥
 IsEntry (Last terminal last) = ⊥
 IsEntry (Done count) = ⊥
 
 -- a part of a checkpoint
 abbrev pub IsOfBase : Record → Type 0
-IsOfBase (Allot kiosk number from to car party) = ⊥
-IsOfBase (Stop car number floor dir) = ⊥
+IsOfBase (Entry entry) = ⊥
 IsOfBase (Row row) = Unit {0}
 IsOfBase (Last terminal last) = Unit {0}
 IsOfBase (Done count) = Unit {0}
 
 -- behind an open call of a checkpoint
 abbrev pub MayFollowRow : ℕ → Record → Type 0
-MayFollowRow car (Allot kiosk number from to other party) = ⊥
-MayFollowRow car (Stop other number floor dir) = ⊥
+MayFollowRow car (Entry entry) = ⊥
 MayFollowRow car (Row row) = car ≤ row.car
 MayFollowRow car (Last terminal last) = Unit {0}
 MayFollowRow car (Done count) = Unit {0}
 
 -- behind the last command of a terminal
 abbrev pub MayFollowLast : ℕ → Record → Type 0
-MayFollowLast terminal (Allot kiosk number from to car party) = ⊥
-MayFollowLast terminal (Stop car number floor dir) = ⊥
+MayFollowLast terminal (Entry entry) = ⊥
 MayFollowLast terminal (Row row) = ⊥
 MayFollowLast terminal (Last other last) = terminal < other
 MayFollowLast terminal (Done count) = Unit {0}
@@ -40,8 +36,7 @@ MayFollowLast terminal (Done count) = Unit {0}
 -- the record may stand right behind that one; any may stand first
 abbrev pub MayFollow : Option Record → Record → Type 0
 MayFollow None next = Unit {0}
-MayFollow (Some (Allot kiosk number from to car party)) next = IsEntry next
-MayFollow (Some (Stop car number floor dir)) next = IsEntry next
+MayFollow (Some (Entry entry)) next = IsEntry next
 MayFollow (Some (Row row)) next = MayFollowRow row.car next
 MayFollow (Some (Last terminal last)) next = MayFollowLast terminal next
 MayFollow (Some (Done count)) next = IsEntry next
@@ -62,8 +57,7 @@ last_behind last (next ∷ rest) = last_behind (Some next) rest
 -- a chain may end behind it: no checkpoint is begun
 abbrev pub MayEnd : Option Record → Type 0
 MayEnd None = Unit {0}
-MayEnd (Some (Allot kiosk number from to car party)) = Unit {0}
-MayEnd (Some (Stop car number floor dir)) = Unit {0}
+MayEnd (Some (Entry entry)) = Unit {0}
 MayEnd (Some (Row row)) = ⊥
 MayEnd (Some (Last terminal last)) = ⊥
 MayEnd (Some (Done count)) = Unit {0}

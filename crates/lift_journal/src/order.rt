@@ -9,7 +9,7 @@ fn is_entry(content: &Record) -> bool
     ensures { IsTrue result ↔ IsEntry content.now }
 {
     match *content {
-        Record::Allot { .. } | Record::Stop { .. } => true,
+        Record::Entry(_) => true,
         Record::Row(_) | Record::Last { .. } | Record::Done { .. } => false,
     }
 }
@@ -20,7 +20,7 @@ fn may_follow_row(car: Letter, next: &Record) -> bool
     match *next {
         Record::Row(row) => car.get() <= row.car.get(),
         Record::Last { .. } | Record::Done { .. } => true,
-        Record::Allot { .. } | Record::Stop { .. } => false,
+        Record::Entry(_) => false,
     }
 }
 
@@ -33,7 +33,7 @@ fn may_follow_last(terminal: Terminal, next: &Record) -> bool
             ..
         } => terminal.get() < other.get(),
         Record::Done { .. } => true,
-        Record::Row(_) | Record::Allot { .. } | Record::Stop { .. } => false,
+        Record::Row(_) | Record::Entry(_) => false,
     }
 }
 
@@ -44,7 +44,7 @@ fn may_follow(last: &Option<Record>, next: &Record) -> bool
         None => true,
         Some(Record::Row(row)) => may_follow_row(row.car, next),
         Some(Record::Last { terminal, .. }) => may_follow_last(terminal, next),
-        Some(Record::Allot { .. } | Record::Stop { .. } | Record::Done { .. }) => is_entry(next),
+        Some(Record::Entry(_) | Record::Done { .. }) => is_entry(next),
     }
 }
 

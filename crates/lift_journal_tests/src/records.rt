@@ -4,7 +4,7 @@ ghost use Rattle.lift_base.specs.Records.{IsLawful};
 ghost use Rattle.lift_journal.specs.Order.{IsEntry};
 
 use arrayvec::ArrayVec;
-use lift_base::{Dir, Floor, Letter, Number, Party, Record, Shape, Terminal};
+use lift_base::{Dir, Entry, Floor, Letter, Number, Party, Record, Shape, Terminal};
 use lift_record::is_lawful;
 
 /// Ten floors, two cars, two kiosks, and halves of 64 sectors.
@@ -19,30 +19,30 @@ pub(crate) fn demo() -> Shape {
 
 /// A stop of car A at floor 0, up.
 pub(crate) fn stop(number: u32) -> Record {
-    Record::Stop {
+    Record::Entry(Entry::Stop {
         car: Letter::default(),
         number: Number::new(number).unwrap_or_default(),
         floor: Floor::default(),
         dir: Dir::Up,
-    }
+    })
 }
 
 /// A call of kiosk 0 from floor 0 to floor 5, allotted to car A.
 pub(crate) fn allot(number: u32, persons: u8) -> Record {
-    Record::Allot {
+    Record::Entry(Entry::Allot {
         kiosk: Terminal::new(16).unwrap_or_default(),
         number: Number::new(number).unwrap_or_default(),
         from: Floor::default(),
         to: Floor::new(5).unwrap_or_default(),
         car: Letter::default(),
         party: Party::new(persons).unwrap_or_default(),
-    }
+    })
 }
 
 fn is_entry(record: &Record) -> bool
     ensures { result ≡ true → IsEntry «record».now }
 {
-    matches!(*record, Record::Allot { .. } | Record::Stop { .. })
+    matches!(*record, Record::Entry(_))
 }
 
 /// These records as a batch, where there are 1 to 63 and the journal takes each.

@@ -2,7 +2,7 @@
 use Rattle.std.proofs.Common.{◌≡◌, ℕ, zero, suc, List, [], ◌∷◌, ◌++◌, Some, take, drop, map, All, ap, subst, arith}
 use Rattle.std.specs.Prelude.{slice_get}
 use Rattle.std.proofs.lemmas.List.Elements.{All-nil, All-cons, All-head, All-tail}
-use Rattle.lift_base.specs.History.{record_of}
+use Rattle.lift_base.specs.declared.history.Record.TheVariants.{Entry as EntryRecord}
 use Rattle.lift_base.specs.Records.{IsLawful}
 use Rattle.lift_base.specs.declared.history.Entry.{Entry}
 use Rattle.lift_base.specs.declared.history.Entry.TheVariants.{Allot, Stop}
@@ -43,25 +43,21 @@ entry_next (first ∷ entries) zero next is = let same : first ≡ next = cc is 
 entry_next (first ∷ entries) (suc k) next is = ap (λ (l : List Entry). first ∷ l) (entry_next entries k next is)
 
 -- what fits is lawful
-fits_lawful : (plan : Plan) (register : RegisterState) (entry : Entry) → Fits plan register entry → IsLawful (record_of entry)
+fits_lawful : (plan : Plan) (register : RegisterState) (entry : Entry) → Fits plan register entry → IsLawful (EntryRecord entry)
 fits_lawful plan register (Allot kiosk number from to car party) fits = record { of_kiosk = fits.0.of_kiosk.0; numbered = omega (arith, fits.1); apart = fits.0.apart }
 fits_lawful plan register (Stop car number floor dir) fits = omega (arith, fits.1)
 
-pub all_lawful : (plan : Plan) (register : RegisterState) (entries : List Entry) → FitFrom plan register entries → All (λ (e : Entry). IsLawful (record_of e)) entries
-all_lawful plan register [] fit = All-nil (λ (e : Entry). IsLawful (record_of e))
+pub all_lawful : (plan : Plan) (register : RegisterState) (entries : List Entry) → FitFrom plan register entries → All (λ (e : Entry). IsLawful (EntryRecord e)) entries
+all_lawful plan register [] fit = All-nil (λ (e : Entry). IsLawful (EntryRecord e))
 all_lawful plan register (entry ∷ entries) fit =
-    All-cons (λ (e : Entry). IsLawful (record_of e)) entry entries (fits_lawful plan register entry fit.0) (all_lawful plan (register_of register (entry ∷ [])) entries fit.1)
+    All-cons (λ (e : Entry). IsLawful (EntryRecord e)) entry entries (fits_lawful plan register entry fit.0) (all_lawful plan (register_of register (entry ∷ [])) entries fit.1)
 
 -- the records of entries
-is_entry : (e : Entry) → IsEntry (record_of e)
-is_entry (Allot kiosk number from to car party) = tt
-is_entry (Stop car number floor dir) = tt
-
-pub are_entries : (entries : List Entry) → All IsEntry (map record_of entries)
+pub are_entries : (entries : List Entry) → All IsEntry (map EntryRecord entries)
 are_entries [] = All-nil IsEntry
-are_entries (e ∷ es) = All-cons IsEntry (record_of e) (map record_of es) (is_entry e) (are_entries es)
+are_entries (e ∷ es) = All-cons IsEntry (EntryRecord e) (map EntryRecord es) tt (are_entries es)
 
-pub are_lawful : (entries : List Entry) → All (λ (e : Entry). IsLawful (record_of e)) entries → All IsLawful (map record_of entries)
+pub are_lawful : (entries : List Entry) → All (λ (e : Entry). IsLawful (EntryRecord e)) entries → All IsLawful (map EntryRecord entries)
 are_lawful [] all = All-nil IsLawful
 are_lawful (e ∷ es) all =
-    All-cons IsLawful (record_of e) (map record_of es) (All-head (λ (x : Entry). IsLawful (record_of x)) e es all) (are_lawful es (All-tail (λ (x : Entry). IsLawful (record_of x)) e es all))
+    All-cons IsLawful (EntryRecord e) (map EntryRecord es) (All-head (λ (x : Entry). IsLawful (EntryRecord x)) e es all) (are_lawful es (All-tail (λ (x : Entry). IsLawful (EntryRecord x)) e es all))

@@ -3,11 +3,9 @@ use Rattle.std.proofs.Common.{◌≡◌, ◌⊎◌, ◌↔◌, inl, inr, ⊎_eli
 use Rattle.std.specs.Prelude.{OnOk, OnErr, IfErr, Result, Ok, Err}
 use Rattle.std.proofs.lemmas.List.{append-nil, length-set, length-map}
 use Rattle.std.proofs.lemmas.List.Elements.{All-nil, All-cons, All-append}
-use Rattle.lift_base.specs.History.{record_of}
 use Rattle.lift_base.specs.declared.history.Entry.{Entry}
-use Rattle.lift_base.specs.declared.history.Entry.TheVariants.{Allot as Allotting, Stop as Stopping}
 use Rattle.lift_base.specs.declared.history.Record.{Record}
-use Rattle.lift_base.specs.declared.history.Record.TheVariants.{Allot, Stop, Row, Last, Done}
+use Rattle.lift_base.specs.declared.history.Record.TheVariants.{Entry as EntryRecord, Row, Last, Done}
 use Rattle.lift_base.specs.declared.history.Shape.{Shape}
 use Rattle.lift_building.specs.Plan.{Plan, shape_of}
 use Rattle.lift_disk.specs.Disk.{DiskState, Image, CountsNow, RunsOn, LeavesNow, LeavesOnly, MayLeave, MayLose}
@@ -144,8 +142,7 @@ all_with register [] all = all
 all_with register (Row row ∷ records) all = all_with (with_record register (Row row)) records (record { rows = length-set register.rows row.car (rows_of register row.car ++ row ∷ []) ∙ all.rows; lasts = all.lasts })
 all_with register (Last terminal last ∷ records) all = all_with (with_record register (Last terminal last)) records (record { rows = all.rows; lasts = length-set register.lasts terminal _ ∙ all.lasts })
 all_with register (Done count ∷ records) all = all_with (with_record register (Done count)) records (record { rows = all.rows; lasts = all.lasts })
-all_with register (Allot kiosk number from to car party ∷ records) all = all_with register records all
-all_with register (Stop car number floor dir ∷ records) all = all_with register records all
+all_with register (EntryRecord entry ∷ records) all = all_with register records all
 
 all_empty : HasAll empty
 all_empty = record { rows = length-on_cars (λ (k : ℕ). []); lasts = length-on_terminals (λ (k : ℕ). None) }
@@ -154,25 +151,23 @@ base_nothing : (base : List Record) → register_of (with_records empty base) []
 base_nothing base = let all = all_with empty base all_empty in nothing_of (with_records empty base) all.rows all.lasts
 
 -- the entries of records
-entries_same : (batch : List Entry) → entries_of (map record_of batch) ≡ batch
+entries_same : (batch : List Entry) → entries_of (map EntryRecord batch) ≡ batch
 entries_same [] = refl
-entries_same (Allotting kiosk number from to car party ∷ batch) = ap (λ (l : List Entry). Allotting kiosk number from to car party ∷ l) (entries_same batch)
-entries_same (Stopping car number floor dir ∷ batch) = ap (λ (l : List Entry). Stopping car number floor dir ∷ l) (entries_same batch)
+entries_same (entry ∷ batch) = ap (λ (l : List Entry). entry ∷ l) (entries_same batch)
 
 entries_then : (first later : List Record) → entries_of (first ++ later) ≡ entries_of first ++ entries_of later
 entries_then [] later = refl
-entries_then (Allot kiosk number from to car party ∷ first) later = ap (λ (l : List Entry). Allotting kiosk number from to car party ∷ l) (entries_then first later)
-entries_then (Stop car number floor dir ∷ first) later = ap (λ (l : List Entry). Stopping car number floor dir ∷ l) (entries_then first later)
+entries_then (EntryRecord entry ∷ first) later = ap (λ (l : List Entry). entry ∷ l) (entries_then first later)
 entries_then (Row row ∷ first) later = entries_then first later
 entries_then (Last terminal last ∷ first) later = entries_then first later
 entries_then (Done count ∷ first) later = entries_then first later
 
-entries_more : (entries : List Record) (batch : List Entry) → entries_of (entries ++ map record_of batch) ≡ entries_of entries ++ batch
-entries_more entries batch = entries_then entries (map record_of batch) ∙ ap (λ (l : List Entry). entries_of entries ++ l) (entries_same batch)
+entries_more : (entries : List Record) (batch : List Entry) → entries_of (entries ++ map EntryRecord batch) ≡ entries_of entries ++ batch
+entries_more entries batch = entries_then entries (map EntryRecord batch) ∙ ap (λ (l : List Entry). entries_of entries ++ l) (entries_same batch)
 
 -- a batch behind the entries
 pub batch_behind : (plan : Plan) (base entries : List Record) (register : RegisterState) (batch : List Entry) (records : List Record) → IsRegisterOf plan base entries register
-    → FitFrom plan register batch → records ≡ map record_of batch → IsRegisterOf plan base (entries ++ records) (register_of register batch)
+    → FitFrom plan register batch → records ≡ map EntryRecord batch → IsRegisterOf plan base (entries ++ records) (register_of register batch)
 batch_behind plan base entries register batch records is fit kept =
     let start = with_records empty base in
     let same : entries_of (entries ++ records) ≡ entries_of entries ++ batch = ap (λ (l : List Record). entries_of (entries ++ l)) kept ∙ entries_more entries batch in
@@ -189,8 +184,7 @@ records_push (first ∷ batches) batch = ap (λ (l : List Record). first.records
 
 -- a checkpoint has parts of one alone
 is_part : (plan : Plan) (register : RegisterState) (content : Record) → BaseFits plan register content → IsOfBase content
-is_part plan register (Allot kiosk number from to car party) fits = absurd fits.1
-is_part plan register (Stop car number floor dir) fits = absurd fits.1
+is_part plan register (EntryRecord entry) fits = absurd fits.1
 is_part plan register (Row row) fits = tt
 is_part plan register (Last terminal last) fits = tt
 is_part plan register (Done count) fits = tt
@@ -279,7 +273,7 @@ module _ (plan : Plan) (shape : Shape) (is_second : Bool) (taken : ℕ) (registe
         by_other true is left held = folded_in left (subst (λ (b : Bool). HoldsIn shape (not b) checkpoint left) is held)
         by_other false is left held = old_in honest left (subst (λ (b : Bool). HoldsIn shape b (guards.keeps honest).batches left) is held)
 
-  module _ (batch : List Entry) (records : List Record) (kept : records ≡ map record_of batch) (fit : FitFrom plan register batch) where
+  module _ (batch : List Entry) (records : List Record) (kept : records ≡ map EntryRecord batch) (fit : FitFrom plan register batch) where
     -- an append
     pub append_leaves : (new : DiskState) → (new.is_honest ↔ old.is_honest)
         → ((base entries : List Record) → StandsFor shape base entries old → LeavesOnly old new (λ left. ReadsAs shape base entries left ⊎ ReadsAs shape base (entries ++ records) left))
@@ -320,7 +314,7 @@ module _ (plan : Plan) (shape : Shape) (is_second : Bool) (taken : ℕ) (registe
       pick_at left leaves = picks honest_new left leaves
 
       long : length records ≡ length batch
-      long = ap length kept ∙ length-map batch record_of
+      long = ap length kept ∙ length-map batch EntryRecord
 
       before_in : (left : Image) → MayLeave new left → Holds shape (guards.keeps honest).batches left → IsImageIn plan shape.half is_second taken register left
       before_in left leaves holds = old_in honest left (record { holds = holds; picks = pick_at left leaves })

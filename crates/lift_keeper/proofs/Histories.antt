@@ -4,9 +4,8 @@ use Rattle.std.specs.Prelude.{All}
 use Rattle.std.proofs.lemmas.List.{append-nil}
 use Rattle.std.proofs.lemmas.List.Elements.{All-head, All-tail}
 use Rattle.lift_base.specs.declared.history.Entry.{Entry}
-use Rattle.lift_base.specs.declared.history.Entry.TheVariants.{Allot as Allotting, Stop as Stopping}
 use Rattle.lift_base.specs.declared.history.Record.{Record}
-use Rattle.lift_base.specs.declared.history.Record.TheVariants.{Allot, Stop, Row, Last, Done}
+use Rattle.lift_base.specs.declared.history.Record.TheVariants.{Entry as EntryRecord, Row, Last, Done}
 use Rattle.lift_building.specs.Plan.{Plan}
 use Rattle.lift_register.specs.Register.{RegisterState, register_of, empty}
 use Rattle.lift_register.specs.WellFormed.{IsWellFormed}
@@ -21,8 +20,7 @@ use Rattle.lift_keeper.specs.Recovery.{AllFit, with_all, entries_of, IsRegisterO
 -- a checkpoint, and records behind it
 base_with : (register : RegisterState) (base later : List Record) → All IsOfBase base → with_all register (base ++ later) ≡ with_all (with_records register base) later
 base_with register [] later is = refl
-base_with register (Allot kiosk number from to car party ∷ base) later is = absurd (All-head IsOfBase (Allot kiosk number from to car party) base is)
-base_with register (Stop car number floor dir ∷ base) later is = absurd (All-head IsOfBase (Stop car number floor dir) base is)
+base_with register (EntryRecord entry ∷ base) later is = absurd (All-head IsOfBase (EntryRecord entry) base is)
 base_with register (Row row ∷ base) later is = base_with (with_record register (Row row)) base later (All-tail IsOfBase (Row row) base is)
 base_with register (Last terminal last ∷ base) later is = base_with (with_record register (Last terminal last)) base later (All-tail IsOfBase (Last terminal last) base is)
 base_with register (Done count ∷ base) later is = base_with (with_record register (Done count)) base later (All-tail IsOfBase (Done count) base is)
@@ -30,8 +28,7 @@ base_with register (Done count ∷ base) later is = base_with (with_record regis
 base_fit : (plan : Plan) (register : RegisterState) (base later : List Record) → All IsOfBase base → AllFit plan register (base ++ later)
     → BaseFitFrom plan register base × AllFit plan (with_records register base) later
 base_fit plan register [] later is fit = (tt, fit)
-base_fit plan register (Allot kiosk number from to car party ∷ base) later is fit = absurd (All-head IsOfBase (Allot kiosk number from to car party) base is)
-base_fit plan register (Stop car number floor dir ∷ base) later is fit = absurd (All-head IsOfBase (Stop car number floor dir) base is)
+base_fit plan register (EntryRecord entry ∷ base) later is fit = absurd (All-head IsOfBase (EntryRecord entry) base is)
 base_fit plan register (Row row ∷ base) later is fit =
     let rest = base_fit plan (with_record register (Row row)) base later (All-tail IsOfBase (Row row) base is) fit.1 in ((fit.0, rest.0), rest.1)
 base_fit plan register (Last terminal last ∷ base) later is fit =
@@ -42,10 +39,8 @@ base_fit plan register (Done count ∷ base) later is fit =
 -- entries alone
 entries_fit : (plan : Plan) (register : RegisterState) (entries : List Record) → All IsEntry entries → AllFit plan register entries → FitFrom plan register (entries_of entries)
 entries_fit plan register [] is fit = tt
-entries_fit plan register (Allot kiosk number from to car party ∷ entries) is fit =
-    (fit.0, entries_fit plan (register_of register (Allotting kiosk number from to car party ∷ [])) entries (All-tail IsEntry (Allot kiosk number from to car party) entries is) fit.1)
-entries_fit plan register (Stop car number floor dir ∷ entries) is fit =
-    (fit.0, entries_fit plan (register_of register (Stopping car number floor dir ∷ [])) entries (All-tail IsEntry (Stop car number floor dir) entries is) fit.1)
+entries_fit plan register (EntryRecord entry ∷ entries) is fit =
+    (fit.0, entries_fit plan (register_of register (entry ∷ [])) entries (All-tail IsEntry (EntryRecord entry) entries is) fit.1)
 entries_fit plan register (Row row ∷ entries) is fit = absurd (All-head IsEntry (Row row) entries is)
 entries_fit plan register (Last terminal last ∷ entries) is fit = absurd (All-head IsEntry (Last terminal last) entries is)
 entries_fit plan register (Done count ∷ entries) is fit = absurd (All-head IsEntry (Done count) entries is)
@@ -60,10 +55,8 @@ entry_then register first entry entries then =
 entries_with : (register : RegisterState) (first : List Entry) (entries : List Record) → All IsEntry entries
     → with_all (register_of register first) entries ≡ register_of register (first ++ entries_of entries)
 entries_with register first [] is = ap (register_of register) (sym (append-nil first))
-entries_with register first (Allot kiosk number from to car party ∷ entries) is =
-    entry_then register first (Allotting kiosk number from to car party) entries (entries_with register (first ++ Allotting kiosk number from to car party ∷ []) entries (All-tail IsEntry (Allot kiosk number from to car party) entries is))
-entries_with register first (Stop car number floor dir ∷ entries) is =
-    entry_then register first (Stopping car number floor dir) entries (entries_with register (first ++ Stopping car number floor dir ∷ []) entries (All-tail IsEntry (Stop car number floor dir) entries is))
+entries_with register first (EntryRecord entry ∷ entries) is =
+    entry_then register first entry entries (entries_with register (first ++ entry ∷ []) entries (All-tail IsEntry (EntryRecord entry) entries is))
 entries_with register first (Row row ∷ entries) is = absurd (All-head IsEntry (Row row) entries is)
 entries_with register first (Last terminal last ∷ entries) is = absurd (All-head IsEntry (Last terminal last) entries is)
 entries_with register first (Done count ∷ entries) is = absurd (All-head IsEntry (Done count) entries is)
@@ -71,8 +64,7 @@ entries_with register first (Done count ∷ entries) is = absurd (All-head IsEnt
 entries_from : (register : RegisterState) (entries : List Record) → All IsEntry entries → IsWellFormed (with_all register entries)
     → with_all register entries ≡ register_of register (entries_of entries)
 entries_from register [] is well = sym (register_of-nothing register well)
-entries_from register (Allot kiosk number from to car party ∷ entries) is well = entries_with register (Allotting kiosk number from to car party ∷ []) entries (All-tail IsEntry (Allot kiosk number from to car party) entries is)
-entries_from register (Stop car number floor dir ∷ entries) is well = entries_with register (Stopping car number floor dir ∷ []) entries (All-tail IsEntry (Stop car number floor dir) entries is)
+entries_from register (EntryRecord entry ∷ entries) is well = entries_with register (entry ∷ []) entries (All-tail IsEntry (EntryRecord entry) entries is)
 entries_from register (Row row ∷ entries) is well = absurd (All-head IsEntry (Row row) entries is)
 entries_from register (Last terminal last ∷ entries) is well = absurd (All-head IsEntry (Last terminal last) entries is)
 entries_from register (Done count ∷ entries) is well = absurd (All-head IsEntry (Done count) entries is)

@@ -1,7 +1,7 @@
 -- Records taken in, one after another.
 use Rattle.std.proofs.Common.{◌≡◌, ◌<◌, ◌+◌, ℕ, zero, suc, Bool, true, false, List, [], ◌∷◌, ◌++◌, Option, Some, None, length, take, get_or, refl, sym, arith}
 use Rattle.lift_base.specs.declared.history.Record.{Record}
-use Rattle.lift_base.specs.declared.history.Record.TheVariants.{Allot, Stop, Row, Last, Done}
+use Rattle.lift_base.specs.declared.history.Record.TheVariants.{Entry, Row, Last, Done}
 use Rattle.lift_building.specs.Plan.{Plan}
 use Rattle.lift_register.specs.Register.{RegisterState}
 use Rattle.lift_register.specs.Base.{BaseFitFrom, with_record, with_records}
@@ -53,8 +53,7 @@ taken_passed state (next ∷ records) = omega (arith, taken_passed (passed state
 
 -- what passes fits
 fits_here : (state : RecoveryState) (next : Record) → Passes state next → RecordFits state.plan state.register next
-fits_here state (Allot kiosk number from to car party) here = here.1
-fits_here state (Stop car number floor dir) here = here.1
+fits_here state (Entry entry) here = here.1
 fits_here state (Row row) here = here
 fits_here state (Last terminal last) here = here
 fits_here state (Done count) here = here
@@ -66,16 +65,14 @@ fits_passed state (next ∷ records) pass = (fits_here state next pass.0, fits_p
 -- the records of a checkpoint are taken in as such
 pub base_fits_all : (plan : Plan) (register : RegisterState) (records : List Record) → BaseFitFrom plan register records → AllFit plan register records
 base_fits_all plan register [] fit = tt
-base_fits_all plan register ((Allot kiosk number from to car party) ∷ records) fit = absurd fit.0.1
-base_fits_all plan register ((Stop car number floor dir) ∷ records) fit = absurd fit.0.1
+base_fits_all plan register ((Entry entry) ∷ records) fit = absurd fit.0.1
 base_fits_all plan register ((Row row) ∷ records) fit = (fit.0, base_fits_all plan (with_record register (Row row)) records fit.1)
 base_fits_all plan register ((Last terminal content) ∷ records) fit = (fit.0, base_fits_all plan (with_record register (Last terminal content)) records fit.1)
 base_fits_all plan register ((Done count) ∷ records) fit = (fit.0, base_fits_all plan (with_record register (Done count)) records fit.1)
 
 pub base_makes_all : (plan : Plan) (register : RegisterState) (records : List Record) → BaseFitFrom plan register records → with_all register records ≡ with_records register records
 base_makes_all plan register [] fit = refl
-base_makes_all plan register ((Allot kiosk number from to car party) ∷ records) fit = absurd fit.0.1
-base_makes_all plan register ((Stop car number floor dir) ∷ records) fit = absurd fit.0.1
+base_makes_all plan register ((Entry entry) ∷ records) fit = absurd fit.0.1
 base_makes_all plan register ((Row row) ∷ records) fit = base_makes_all plan (with_record register (Row row)) records fit.1
 base_makes_all plan register ((Last terminal content) ∷ records) fit = base_makes_all plan (with_record register (Last terminal content)) records fit.1
 base_makes_all plan register ((Done count) ∷ records) fit = base_makes_all plan (with_record register (Done count)) records fit.1
@@ -87,19 +84,16 @@ open_passed state last (next ∷ records) is = open_passed (passed state next) (
 
 -- no entry stands within a checkpoint
 no_entry : (last next : Record) → leaves_open last ≡ true → MayFollow (Some last) next → leaves_open next ≡ false → (count : ℕ) × (next ≡ Done count)
-no_entry (Allot kiosk number from to car party) next is may entry = cc
-no_entry (Stop car number floor dir) next is may entry = cc
-no_entry (Done n) next is may entry = cc
-no_entry (Row row) (Allot kiosk number from to car party) is may entry = absurd may
-no_entry (Row row) (Stop car number floor dir) is may entry = absurd may
-no_entry (Row row) (Row other) is may entry = cc
-no_entry (Row row) (Last terminal content) is may entry = cc
-no_entry (Row row) (Done count) is may entry = (count, refl)
-no_entry (Last terminal last) (Allot kiosk number from to car party) is may entry = absurd may
-no_entry (Last terminal last) (Stop car number floor dir) is may entry = absurd may
-no_entry (Last terminal last) (Row other) is may entry = cc
-no_entry (Last terminal last) (Last other content) is may entry = cc
-no_entry (Last terminal last) (Done count) is may entry = (count, refl)
+no_entry (Entry entry) next is may closed = cc
+no_entry (Done n) next is may closed = cc
+no_entry (Row row) (Entry entry) is may closed = absurd may
+no_entry (Row row) (Row other) is may closed = cc
+no_entry (Row row) (Last terminal content) is may closed = cc
+no_entry (Row row) (Done count) is may closed = (count, refl)
+no_entry (Last terminal last) (Entry entry) is may closed = absurd may
+no_entry (Last terminal last) (Row other) is may closed = cc
+no_entry (Last terminal last) (Last other content) is may closed = cc
+no_entry (Last terminal last) (Done count) is may closed = (count, refl)
 
 closed_before : (b : Bool) (last : Option Record) (next : Record) → b ≡ is_unended last → MayFollow last next → leaves_open next ≡ false → ((count : ℕ) → next ≡ Done count → ⊥) → b ≡ false
 closed_before b None next is may entry not_done = is
@@ -111,10 +105,8 @@ closed_before true (Some last) next is may entry not_done =
 -- so what may stand there and fits passes
 pub passes_here : (state : RecoveryState) (last : Option Record) (next : Record) → state.is_open ≡ is_unended last → MayFollow last next
     → RecordFits state.plan state.register next → Passes state next
-passes_here state last (Allot kiosk number from to car party) is may fits =
-    (closed_before state.is_open last (Allot kiosk number from to car party) is may refl (λ count same. cc same), fits)
-passes_here state last (Stop car number floor dir) is may fits =
-    (closed_before state.is_open last (Stop car number floor dir) is may refl (λ count same. cc same), fits)
+passes_here state last (Entry entry) is may fits =
+    (closed_before state.is_open last (Entry entry) is may refl (λ count same. cc same), fits)
 passes_here state last (Row row) is may fits = fits
 passes_here state last (Last terminal content) is may fits = fits
 passes_here state last (Done count) is may fits = fits
@@ -122,8 +114,7 @@ passes_here state last (Done count) is may fits = fits
 -- where a chain may end no checkpoint is open
 pub ended_closed : (last : Option Record) → MayEnd last → is_unended last ≡ false
 ended_closed None may = refl
-ended_closed (Some (Allot kiosk number from to car party)) may = refl
-ended_closed (Some (Stop car number floor dir)) may = refl
+ended_closed (Some (Entry entry)) may = refl
 ended_closed (Some (Row row)) may = absurd may
 ended_closed (Some (Last terminal content)) may = absurd may
 ended_closed (Some (Done count)) may = refl

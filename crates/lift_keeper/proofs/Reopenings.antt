@@ -2,9 +2,8 @@
 use Rattle.std.proofs.Common.{◌≡◌, ℕ, zero, suc, Bool, List, [], ◌∷◌, ◌++◌, Some, All, take, sym, ◌∙◌, ap, subst}
 use Rattle.std.specs.Prelude.{slice_get}
 use Rattle.std.proofs.lemmas.List.Elements.{All-head, All-tail}
-use Rattle.lift_base.specs.declared.history.Entry.TheVariants.{Allot as Allotting, Stop as Stopping}
 use Rattle.lift_base.specs.declared.history.Record.{Record}
-use Rattle.lift_base.specs.declared.history.Record.TheVariants.{Allot, Stop, Row, Last, Done}
+use Rattle.lift_base.specs.declared.history.Record.TheVariants.{Entry as EntryRecord, Row, Last, Done}
 use Rattle.lift_base.specs.declared.history.Shape.{Shape}
 use Rattle.lift_building.specs.Plan.{Plan, shape_of}
 use Rattle.lift_disk.specs.Disk.{DiskState, Image, LeavesNow, MayLeave}
@@ -44,10 +43,8 @@ fit_at plan register (first ∷ records) (suc k) next is fit = fit_at plan (with
 
 entries_fit_all : (plan : Plan) (register : RegisterState) (entries : List Record) → All IsEntry entries → FitFrom plan register (entries_of entries) → AllFit plan register entries
 entries_fit_all plan register [] are fit = tt
-entries_fit_all plan register (Allot kiosk number from to car party ∷ entries) are fit =
-    (fit.0, entries_fit_all plan (register_of register (Allotting kiosk number from to car party ∷ [])) entries (All-tail IsEntry (Allot kiosk number from to car party) entries are) fit.1)
-entries_fit_all plan register (Stop car number floor dir ∷ entries) are fit =
-    (fit.0, entries_fit_all plan (register_of register (Stopping car number floor dir ∷ [])) entries (All-tail IsEntry (Stop car number floor dir) entries are) fit.1)
+entries_fit_all plan register (EntryRecord entry ∷ entries) are fit =
+    (fit.0, entries_fit_all plan (register_of register (entry ∷ [])) entries (All-tail IsEntry (EntryRecord entry) entries are) fit.1)
 entries_fit_all plan register (Row row ∷ entries) are fit = absurd (All-head IsEntry (Row row) entries are)
 entries_fit_all plan register (Last terminal last ∷ entries) are fit = absurd (All-head IsEntry (Last terminal last) entries are)
 entries_fit_all plan register (Done count ∷ entries) are fit = absurd (All-head IsEntry (Done count) entries are)

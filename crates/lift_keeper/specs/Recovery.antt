@@ -2,9 +2,8 @@
 use Rattle.std.specs.Prelude.{ℕ, ◌≡◌, ◌+◌, Bool, true, false, List, [], ◌∷◌, Option, Some, None}
 use Rattle.std.specs.Prelude.{take, slice_get}
 use Rattle.lift_base.specs.declared.history.Entry.{Entry}
-use Rattle.lift_base.specs.declared.history.Entry.TheVariants.{Allot as Allotting, Stop as Stopping}
 use Rattle.lift_base.specs.declared.history.Record.{Record}
-use Rattle.lift_base.specs.declared.history.Record.TheVariants.{Allot, Stop, Row, Last, Done}
+use Rattle.lift_base.specs.declared.history.Record.TheVariants.{Entry as EntryRecord, Row, Last, Done}
 use Rattle.lift_building.specs.Plan.{Plan}
 use Rattle.lift_journal.specs.Layout.{Batch, records_of}
 use Rattle.lift_register.specs.Register.{RegisterState, register_of, empty}
@@ -16,20 +15,14 @@ use Rattle.lift_register.specs.WellFormed.{IsWellFormed}
 
 -- the record can be taken in now, as an entry or as a part of a checkpoint
 abbrev pub RecordFits : Plan → RegisterState → Record → Type 0
-RecordFits plan register (Allot kiosk number from to car party) =
-    Fits plan register (Allotting kiosk number from to car party)
-RecordFits plan register (Stop car number floor dir) =
-    Fits plan register (Stopping car number floor dir)
+RecordFits plan register (EntryRecord entry) = Fits plan register entry
 RecordFits plan register (Row row) = BaseFits plan register (Row row)
 RecordFits plan register (Last terminal last) = BaseFits plan register (Last terminal last)
 RecordFits plan register (Done count) = BaseFits plan register (Done count)
 
 -- the register with the record taken in
 abbrev pub with_next : RegisterState → Record → RegisterState
-with_next register (Allot kiosk number from to car party) =
-    register_of register (Allotting kiosk number from to car party ∷ [])
-with_next register (Stop car number floor dir) =
-    register_of register (Stopping car number floor dir ∷ [])
+with_next register (EntryRecord entry) = register_of register (entry ∷ [])
 with_next register (Row row) = with_record register (Row row)
 with_next register (Last terminal last) = with_record register (Last terminal last)
 with_next register (Done count) = with_record register (Done count)
@@ -61,9 +54,7 @@ pub record MakesRegister (plan : Plan) (batches : List Batch)
 -- the accepted commands among these records
 abbrev pub entries_of : List Record → List Entry
 entries_of [] = []
-entries_of (Allot kiosk number from to car party ∷ later) =
-    Allotting kiosk number from to car party ∷ entries_of later
-entries_of (Stop car number floor dir ∷ later) = Stopping car number floor dir ∷ entries_of later
+entries_of (EntryRecord entry ∷ later) = entry ∷ entries_of later
 entries_of (Row row ∷ later) = entries_of later
 entries_of (Last terminal last ∷ later) = entries_of later
 entries_of (Done count ∷ later) = entries_of later
@@ -77,8 +68,7 @@ pub record IsRegisterOf (plan : Plan) (base entries : List Record)
 
 -- behind the record a checkpoint has begun and not ended
 abbrev pub leaves_open : Record → Bool
-leaves_open (Allot kiosk number from to car party) = false
-leaves_open (Stop car number floor dir) = false
+leaves_open (EntryRecord entry) = false
 leaves_open (Row row) = true
 leaves_open (Last terminal last) = true
 leaves_open (Done count) = false
@@ -102,11 +92,8 @@ beginning plan = record { plan = plan; register = empty; is_open = false; taken 
 
 -- the record can be taken in now: it fits, and no entry stands within a checkpoint
 abbrev pub Passes : RecoveryState → Record → Type 0
-Passes state (Allot kiosk number from to car party) =
-    (state.is_open ≡ false) × Fits state.plan state.register
-    (Allotting kiosk number from to car party)
-Passes state (Stop car number floor dir) =
-    (state.is_open ≡ false) × Fits state.plan state.register (Stopping car number floor dir)
+Passes state (EntryRecord entry) =
+    (state.is_open ≡ false) × Fits state.plan state.register entry
 Passes state (Row row) = BaseFits state.plan state.register (Row row)
 Passes state (Last terminal last) = BaseFits state.plan state.register (Last terminal last)
 Passes state (Done count) = BaseFits state.plan state.register (Done count)

@@ -2,7 +2,7 @@
 
 ghost use Rattle.std.specs.Prelude.{◌≡◌, length, All, map};
 ghost use Rattle.lift_base.specs.declared.history.Entry.{Entry as EntryValue};
-ghost use Rattle.lift_base.specs.History.{record_of};
+ghost use Rattle.lift_base.specs.declared.history.Record.TheVariants.{Entry as EntryRecord};
 ghost use Rattle.lift_base.specs.Records.{IsLawful};
 ghost use Rattle.lift_register.specs.Register.{register_of};
 ghost use Rattle.lift_register.specs.Fits.{FitFrom};
@@ -48,14 +48,14 @@ pub fn apply_all(register: &mut Register, building: &Building, entries: &[Entry]
 
 /// The records that keep these entries, in the place of others.
 pub fn put_records(batch: &ArrayVec<Entry, 63>, records: &mut ArrayVec<Record, 63>)
-    requires lawful { All (λ (e : EntryValue). IsLawful (record_of e)) batch.now.items }
-    ensures kept { records.new.items ≡ map record_of batch.now.items }
+    requires lawful { All (λ (e : EntryValue). IsLawful (EntryRecord e)) batch.now.items }
+    ensures kept { records.new.items ≡ map EntryRecord batch.now.items }
     ensures length { length records.new.items ≡ length batch.now.items }
     ensures lawful { All IsLawful records.new.items }
     ensures entries { All IsEntry records.new.items }
 {
     records.clear();
     for place in 0..batch.len() {
-        push_some(records, Some(Record::of_entry(&batch[place])));
+        push_some(records, Some(Record::Entry(batch[place])));
     }
 }

@@ -112,32 +112,7 @@ impl<'b> Recovery<'b> {
         ensures stays { IsFalse result → self.new ≡ self.old }
     {
         match *content {
-            Record::Allot {
-                kiosk,
-                number,
-                from,
-                to,
-                car,
-                party,
-            } => self.take_entry(&Entry::Allot {
-                kiosk,
-                number,
-                from,
-                to,
-                car,
-                party,
-            }),
-            Record::Stop {
-                car,
-                number,
-                floor,
-                dir,
-            } => self.take_entry(&Entry::Stop {
-                car,
-                number,
-                floor,
-                dir,
-            }),
+            Record::Entry(ref entry) => self.take_entry(entry),
             Record::Row(_) => self.take_base(content),
             Record::Last { .. } => self.take_base(content),
             Record::Done { .. } => self.take_base(content),
@@ -182,6 +157,6 @@ fn leaves_open(content: &Record) -> bool
 {
     match *content {
         Record::Row(_) | Record::Last { .. } => true,
-        Record::Allot { .. } | Record::Stop { .. } | Record::Done { .. } => false,
+        Record::Entry(_) | Record::Done { .. } => false,
     }
 }

@@ -3,7 +3,7 @@
 ghost use Rattle.std.specs.Prelude.{◌≡◌, ◌<◌, ◌≤◌, ◌+◌, List, length, map, All, false, IfErr, OnOk};
 ghost use Rattle.std.specs.Prelude.{OnErr};
 ghost use Rattle.lift_base.specs.declared.history.Entry.{Entry as EntryValue};
-ghost use Rattle.lift_base.specs.History.{record_of};
+ghost use Rattle.lift_base.specs.declared.history.Record.TheVariants.{Entry as EntryRecord};
 ghost use Rattle.lift_base.specs.Records.{IsLawful};
 ghost use Rattle.lift_building.specs.Plan.{Plan};
 ghost use Rattle.lift_disk.specs.Disk.{LeavesOnly, RunsOn};
@@ -85,13 +85,13 @@ pub fn store<D: Disk>(
     requires lawful { All IsLawful records.now.items }
     requires entries { All IsEntry records.now.items }
     ensures any_moment { (plan : Plan) (batch : List EntryValue)
-        → records.now.items ≡ map record_of batch → FitFrom plan register.now batch
+        → records.now.items ≡ map EntryRecord batch → FitFrom plan register.now batch
         → Guards plan journal.old.shape journal.old.is_second journal.old.used register.now
         (D.state journal.old.device)
         → LeavesOnly (D.state journal.old.device) (D.state journal.new.device)
         (IsInDoubt plan register.now batch) }
     ensures keeps { OnOk result ((plan : Plan) (batch : List EntryValue)
-        → records.now.items ≡ map record_of batch → FitFrom plan register.now batch
+        → records.now.items ≡ map EntryRecord batch → FitFrom plan register.now batch
         → Guards plan journal.old.shape journal.old.is_second journal.old.used register.now
         (D.state journal.old.device)
         → (D.state journal.new.device).is_honest
@@ -112,7 +112,7 @@ pub fn store<D: Disk>(
         (D.state journal.old.device) (D.state journal.new.device) }
     ensures told { AnswersAsTold result (D.state journal.old.device) (D.state journal.new.device) }
     ensures stops { OnErr result ((plan : Plan) (batch : List EntryValue)
-        → records.now.items ≡ map record_of batch → FitFrom plan register.now batch
+        → records.now.items ≡ map EntryRecord batch → FitFrom plan register.now batch
         → Guards plan journal.old.shape journal.old.is_second journal.old.used register.now
         (D.state journal.old.device)
         → (D.state journal.old.device).is_honest → (D.state journal.old.device).is_inert

@@ -4,7 +4,7 @@ ghost use Rattle.lift_base.specs.Records.{IsLawful};
 ghost use Rattle.lift_journal.specs.Order.{IsEntry};
 
 use arrayvec::ArrayVec;
-use lift_base::{Dir, Floor, Letter, Number, Party, Record, Terminal};
+use lift_base::{Dir, Entry, Floor, Letter, Number, Party, Record, Terminal};
 use lift_building::Building;
 use lift_disk::{Disk, MemDisk};
 use lift_journal::{Journal, JournalFault, format};
@@ -54,30 +54,30 @@ pub(crate) fn number(number: u32) -> Number {
 
 /// A call of kiosk 0 at floor 0 that went to car A.
 pub(crate) fn allot(call: u32, to: u8) -> Record {
-    Record::Allot {
+    Record::Entry(Entry::Allot {
         kiosk: kiosk(0),
         number: number(call),
         from: floor(0),
         to: floor(to),
         car: Letter::default(),
         party: Party::default(),
-    }
+    })
 }
 
 /// A stop of car A at floor 0, going up.
 pub(crate) fn stop(told: u32) -> Record {
-    Record::Stop {
+    Record::Entry(Entry::Stop {
         car: Letter::default(),
         number: number(told),
         floor: floor(0),
         dir: Dir::Up,
-    }
+    })
 }
 
 fn is_entry(record: &Record) -> bool
     ensures { result ≡ true → IsEntry «record».now }
 {
-    matches!(*record, Record::Allot { .. } | Record::Stop { .. })
+    matches!(*record, Record::Entry(_))
 }
 
 /// These records as a batch, where there are 1 to 63 and the journal takes each.

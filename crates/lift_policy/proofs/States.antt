@@ -4,7 +4,8 @@ use Rattle.std.specs.Prelude.{Option, Some, None, MatchBool}
 use Rattle.std.proofs.Math.ListN.{length-set}
 use Rattle.std.proofs.lemmas.Bool.{and_parts, eqb-true, leb-false}
 use Rattle.lift_base.specs.Travel.{same_dir}
-use Rattle.lift_base.specs.History.{terminal_of, number_of, record_of}
+use Rattle.lift_base.specs.History.{terminal_of, number_of}
+use Rattle.lift_base.specs.declared.history.Record.TheVariants.{Entry as EntryRecord}
 use Rattle.lift_base.specs.Records.{IsTyped, IsTypedCommand}
 use Rattle.lift_base.specs.declared.travel.Dir.{Dir}
 use Rattle.lift_base.specs.declared.travel.Dir.TheVariants.{Up, Down}
@@ -37,7 +38,7 @@ use Rattle.lift_policy.specs.lemmas.Joins.{Step-joins}
 
 -- an entry that keeps a typed command is typed
 typed : (plan : Plan) (state : State) (terminal number : ℕ) (body : Body) (entry : Entry) → IsBuilding plan → IsTypedCommand terminal number → IsTypedBody body
-    → terminal_of entry ≡ terminal → number_of entry ≡ number → is_same body (kept_of entry).content ≡ true → Fits plan state.register entry → IsTyped (record_of entry)
+    → terminal_of entry ≡ terminal → number_of entry ≡ number → is_same body (kept_of entry).content ≡ true → Fits plan state.register entry → IsTyped (EntryRecord entry)
 typed plan state terminal number (Call to party) (Allot k n f t c p) lawful command body at numbered says fits =
     let parts = and_parts (eqb t to) (eqb p party) says in
     let persons : p ≡ party = eqb-true p party parts.1 in

@@ -11,8 +11,9 @@ use Rattle.lift_base.specs.declared.travel.Dir.{Dir}
 use Rattle.lift_base.specs.declared.history.Content.{Content}
 use Rattle.lift_base.specs.declared.history.Content.TheVariants.{Letter, Stopped}
 use Rattle.lift_base.specs.declared.history.Row.{Row as RowValue}
+use Rattle.lift_base.specs.declared.history.Entry.TheVariants.{Allot, Stop}
 use Rattle.lift_base.specs.declared.history.Record.{Record}
-use Rattle.lift_base.specs.declared.history.Record.TheVariants.{Allot, Stop, Row, Last}
+use Rattle.lift_base.specs.declared.history.Record.TheVariants.{Entry, Row, Last}
 use Rattle.lift_record.specs.declared.version.Version.{Version}
 use Rattle.lift_record.specs.Record.{record_bytes, stop_bytes, IsSpellingOf}
 use Rattle.lift_record.specs.lemmas.Spellings.{spelling_unique}
@@ -38,7 +39,7 @@ NoRecord version bytes = (value : Record) → ¬ IsSpellingOf version bytes valu
 pub no_allot : (version : Version) (terminal : ℕ) (content : List ℕ) (number : ℕ)
     → NoWaiting version terminal content number
     → NoRecord version (record_bytes 1 terminal content number)
-no_allot version terminal content number absent (Allot kiosk n from to car party) spelling =
+no_allot version terminal content number absent (Entry (Allot kiosk n from to car party)) spelling =
     absent (record {
       kiosk = kiosk;
       number = n;
@@ -109,7 +110,7 @@ stop_told kind terminal number other car n floor dir content small absent one mo
 pub no_stop : (version : Version) (terminal : ℕ) (content : List ℕ) (number : ℕ)
     → number < 2 ^ 32 → NoStop content number
     → NoRecord version (record_bytes 2 terminal content number)
-no_stop version terminal content number small absent (Stop car n floor dir) spelling =
+no_stop version terminal content number small absent (Entry (Stop car n floor dir)) spelling =
     stop_told 2 terminal number 2 car n floor dir content small absent spelling.lawful
     spelling.typed.0.number_range spelling.typed.2 spelling.spelled
 no_stop version terminal content number small absent value spelling = cc (spelling.spelled)
@@ -162,6 +163,10 @@ pub no_last_call : (version : Version) (terminal : ℕ) (content : List ℕ) (nu
     → NoRecord version (record_bytes 5 terminal content number)
 no_last_call version terminal content number kiosk absent (Last t last) spelling =
     last_call_told version terminal content number kiosk absent t last.number last.content spelling
+no_last_call version terminal content number kiosk absent (Entry (Allot k n from to car party))
+    spelling = cc (spelling.spelled)
+no_last_call version terminal content number kiosk absent (Entry (Stop car n floor dir))
+    spelling = cc (spelling.spelled)
 no_last_call version terminal content number kiosk absent value spelling =
     cc (spelling.spelled)
 
@@ -171,6 +176,10 @@ pub no_last_stop : (version : Version) (terminal : ℕ) (content : List ℕ) (nu
 no_last_stop version terminal content number car small absent (Last t last) spelling =
     last_stop_told version terminal content number car small absent t last.number
     last.content spelling
+no_last_stop version terminal content number car small absent (Entry (Allot kiosk n from to c party))
+    spelling = cc (spelling.spelled)
+no_last_stop version terminal content number car small absent (Entry (Stop c n floor dir))
+    spelling = cc (spelling.spelled)
 no_last_stop version terminal content number car small absent value spelling =
     cc (spelling.spelled)
 

@@ -6,8 +6,9 @@ use Rattle.lift_base.specs.declared.travel.Dir.{Dir}
 use Rattle.lift_base.specs.declared.travel.Dir.TheVariants.{Up, Down}
 use Rattle.lift_base.specs.declared.history.Content.{Content}
 use Rattle.lift_base.specs.declared.history.Content.TheVariants.{Letter, Stopped}
+use Rattle.lift_base.specs.declared.history.Entry.TheVariants.{Allot, Stop}
 use Rattle.lift_base.specs.declared.history.Record.{Record}
-use Rattle.lift_base.specs.declared.history.Record.TheVariants.{Allot, Stop, Row, Last, Done}
+use Rattle.lift_base.specs.declared.history.Record.TheVariants.{Entry, Row, Last, Done}
 use Rattle.lift_base.specs.Records.{IsTyped, IsLawful}
 use Rattle.lift_record.specs.declared.version.Version.{Version}
 use Rattle.lift_record.specs.Version.{party_byte, IsSayableParty}
@@ -18,8 +19,8 @@ IsSayableContent version (Stopped floor dir) = Unit {0}
 
 -- a record that the version can say
 abbrev pub IsSayable : Version → Record → Type 0
-IsSayable version (Allot kiosk number from to car party) = IsSayableParty version party
-IsSayable version (Stop car number floor dir) = Unit {0}
+IsSayable version (Entry (Allot kiosk number from to car party)) = IsSayableParty version party
+IsSayable version (Entry (Stop car number floor dir)) = Unit {0}
 IsSayable version (Row row) = IsSayableParty version row.party
 IsSayable version (Last terminal last) = IsSayableContent version last.content
 IsSayable version (Done count) = Unit {0}
@@ -52,9 +53,10 @@ last_bytes version (Stopped floor dir) = stop_bytes floor dir
 
 -- how each kind of record is spelled
 abbrev pub spelling_of : Version → Record → List ℕ
-spelling_of version (Allot kiosk number from to car party) =
+spelling_of version (Entry (Allot kiosk number from to car party)) =
     record_bytes 1 kiosk (call_bytes version from to car party false) number
-spelling_of version (Stop car number floor dir) = record_bytes 2 car (stop_bytes floor dir) number
+spelling_of version (Entry (Stop car number floor dir)) =
+    record_bytes 2 car (stop_bytes floor dir) number
 spelling_of version (Row row) =
     record_bytes 4 row.kiosk (call_bytes version row.from row.to row.car row.party row.aboard)
     row.number

@@ -16,7 +16,7 @@ ghost use Rattle.lift_record.specs.declared.version.Version.TheVariants.{Two};
 
 use crate::version::Version;
 use lift_base::{
-    Content, Dir, Floor, Last, Letter, MOST_DONE, Number, Party, Record, Row, Terminal,
+    Content, Dir, Entry, Floor, Last, Letter, MOST_DONE, Number, Party, Record, Row, Terminal,
 };
 
 fn is_lawful_call(kiosk: Terminal, number: Number, from: Floor, to: Floor) -> bool
@@ -30,14 +30,14 @@ pub fn is_lawful(record: &Record) -> bool
     ensures { IsTrue result ↔ IsLawful «record».now }
 {
     match *record {
-        Record::Allot {
+        Record::Entry(Entry::Allot {
             kiosk,
             number,
             from,
             to,
             ..
-        } => is_lawful_call(kiosk, number, from, to),
-        Record::Stop { number, .. } => number.get() >= 1,
+        }) => is_lawful_call(kiosk, number, from, to),
+        Record::Entry(Entry::Stop { number, .. }) => number.get() >= 1,
         Record::Row(row) => is_lawful_call(row.kiosk, row.number, row.from, row.to),
         Record::Last { terminal, ref last } => match &last.content {
             Content::Letter { from, to, .. } => is_lawful_call(terminal, last.number, *from, *to),
@@ -163,23 +163,23 @@ fn spell(version: Version, record: &Record) -> [u8; 16]
     ensures typed { IsTyped «record».now }
 {
     match *record {
-        Record::Allot {
+        Record::Entry(Entry::Allot {
             kiosk,
             number,
             from,
             to,
             car,
             party,
-        } => {
+        }) => {
             let content = call_bytes(version, from, to, car, party, false);
             record_to_bytes(1, kiosk.get(), content, number.get())
         }
-        Record::Stop {
+        Record::Entry(Entry::Stop {
             car,
             number,
             floor,
             dir,
-        } => record_to_bytes(2, car.get(), stop_bytes(floor, dir), number.get()),
+        }) => record_to_bytes(2, car.get(), stop_bytes(floor, dir), number.get()),
         Record::Row(row) => {
             let content = call_bytes(version, row.from, row.to, row.car, row.party, row.aboard);
             record_to_bytes(4, row.kiosk.get(), content, row.number.get())
@@ -257,21 +257,6 @@ fn read_stop(content: [u8; 5], number: u32) -> Option<(Number, Floor, Dir)>
     ))
 }
 
-/// The allotment of a call.
-fn allot_of(row: &Row) -> Record
-    ensures { result ≡ RecordValue.Allot row.now.kiosk row.now.number row.now.from row.now.to
-        row.now.car row.now.party }
-{
-    Record::Allot {
-        kiosk: row.kiosk,
-        number: row.number,
-        from: row.from,
-        to: row.to,
-        car: row.car,
-        party: row.party,
-    }
-}
-
 /// A call as the last one of its kiosk.
 fn last_call_of(row: &Row) -> Record
     ensures { result ≡ RecordValue.Last row.now.kiosk (record {
@@ -279,16 +264,9 @@ fn last_call_of(row: &Row) -> Record
       content = ContentValue.Letter row.now.from row.now.to row.now.car row.now.party;
     }) }
 {
-    let content = Content::Letter {
-        from: row.from,
-        to: row.to,
-        car: row.car,
-        party: row.party,
-    };
-    let number = row.number;
     Record::Last {
         terminal: row.kiosk,
-        last: Last { number, content },
+        last: row.kept(),
     }
 }
 
@@ -338,16 +316,16 @@ fn read(version: Version, kind: u8, terminal: u8, content: [u8; 5], number: u32)
     match kind {
         1 => {
             let row = read_waiting(version, terminal, content, number)?;
-            Some(allot_of(&row))
+            Some(Record::Entry(row.allotment()))
         }
         2 => {
             let (number, floor, dir) = read_stop(content, number)?;
-            Some(Record::Stop {
+            Some(Record::Entry(Entry::Stop {
                 car: Letter::new(terminal)?,
                 number,
                 floor,
                 dir,
-            })
+            }))
         }
         4 => Some(Record::Row(read_call(version, terminal, content, number)?)),
         5 => read_last(version, Terminal::new(terminal)?, content, number),

@@ -1,5 +1,5 @@
 //! Records by their numbers.
-use lift_base::{Content, Dir, Floor, Last, Letter, Number, Party, Record, Row, Terminal};
+use lift_base::{Content, Dir, Entry, Floor, Last, Letter, Number, Party, Record, Row, Terminal};
 
 fn floor(number: u8) -> Floor {
     Floor::new(number).unwrap_or_default()
@@ -19,23 +19,23 @@ pub(crate) fn terminal(index: u8) -> Terminal {
 
 pub(crate) fn allot(kiosk: u8, number: u32, way: [u8; 2], car: u8, party: u8) -> Record {
     let [from, to] = way;
-    Record::Allot {
+    Record::Entry(Entry::Allot {
         kiosk: terminal(kiosk),
         number: number_of(number),
         from: floor(from),
         to: floor(to),
         car: Letter::new(car).unwrap_or_default(),
         party: party_of(party),
-    }
+    })
 }
 
 pub(crate) fn stop(car: u8, number: u32, at: u8, dir: Dir) -> Record {
-    Record::Stop {
+    Record::Entry(Entry::Stop {
         car: Letter::new(car).unwrap_or_default(),
         number: number_of(number),
         floor: floor(at),
         dir,
-    }
+    })
 }
 
 pub(crate) fn row(

@@ -5,7 +5,7 @@ use Rattle.lift_building.specs.Plan.{Plan}
 use Rattle.lift_base.specs.Records.{IsLawful}
 use Rattle.lift_base.specs.declared.history.Last.{Last as LastCommand}
 use Rattle.lift_base.specs.declared.history.Record.{Record}
-use Rattle.lift_base.specs.declared.history.Record.TheVariants.{Allot, Stop, Row, Last, Done}
+use Rattle.lift_base.specs.declared.history.Record.TheVariants.{Entry, Row, Last, Done}
 use Rattle.lift_register.specs.Register.{RegisterState, rows_of, last_of, cars, terminals}
 use Rattle.lift_register.specs.Fits.{IsPossibleCall, IsPossibleLast, HasPlace}
 use Rattle.lift_register.specs.Balanced.{open_count, numbered_calls}
@@ -32,8 +32,7 @@ IsPossibleBase plan register (Row row) =
     IsPossibleCall plan row.kiosk row.from row.to row.car × HasPlace plan register row.car row.party
 IsPossibleBase plan register (Last terminal last) = IsPossibleLast plan terminal last.content
 IsPossibleBase plan register (Done count) = count + open_count register ≡ numbered_calls register
-IsPossibleBase plan register (Allot kiosk number from to car party) = ⊥
-IsPossibleBase plan register (Stop car number floor dir) = ⊥
+IsPossibleBase plan register (Entry entry) = ⊥
 
 -- a record of a checkpoint that the register can take now in a building
 abbrev pub BaseFits : Plan → RegisterState → Record → Type 0
@@ -49,8 +48,7 @@ with_record register (Row row) =
 with_record register (Last terminal last) =
     record register { lasts = slice_set register.lasts terminal (Some last) }
 with_record register (Done count) = record register { done = count }
-with_record register (Allot kiosk number from to car party) = register
-with_record register (Stop car number floor dir) = register
+with_record register (Entry entry) = register
 
 -- the register with these records taken in, one after another
 abbrev pub with_records : RegisterState → List Record → RegisterState

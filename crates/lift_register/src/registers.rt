@@ -3,7 +3,6 @@ ghost use Rattle.std.specs.Prelude.{ℕ, ◌≡◌, ◌↔◌, ◌+◌, ◌<◌,
 ghost use Rattle.std.specs.Prelude.{◌++◌, All, Some, length, slice_get};
 ghost use Rattle.std.specs.List.{flat_map};
 ghost use Rattle.std.specs.Option.{option_to_list};
-ghost use Rattle.lift_base.specs.History.{record_of};
 ghost use Rattle.lift_base.specs.Records.{IsRecord};
 ghost use Rattle.lift_base.specs.declared.history.Entry.{Entry as EntryValue};
 ghost use Rattle.lift_base.specs.declared.history.Record.{Record as RecordValue};
@@ -144,10 +143,11 @@ impl Register {
         ensures exact { IsTrue result ↔ Fits building.now self.now entry.now }
         ensures lawful { IsWellFormed self.now }
         // What fits can be written.
-        ensures written { Fits building.now self.now entry.now → IsRecord (record_of entry.now) }
+        ensures written { Fits building.now self.now entry.now
+            → IsRecord (RecordValue.Entry entry.now) }
     {
         self.note_lawful();
-        note_ranges(&Record::of_entry(entry));
+        note_ranges(&Record::Entry(*entry));
         match *entry {
             Entry::Allot {
                 kiosk,
@@ -214,14 +214,7 @@ impl Register {
         ensures lawful { IsWellFormed self.new }
     {
         self.add_row(row);
-        let content = Content::Letter {
-            from: row.from,
-            to: row.to,
-            car: row.car,
-            party: row.party,
-        };
-        let number = row.number;
-        self.keep_last(row.kiosk, &Last { number, content });
+        self.keep_last(row.kiosk, &row.kept());
     }
 
     /// Takes in an entry.
@@ -237,7 +230,7 @@ impl Register {
         ensures balanced { IsBalanced self.new }
         ensures belongs { BelongsTo building.now self.old → BelongsTo building.now self.new }
     {
-        note_ranges(&Record::of_entry(entry));
+        note_ranges(&Record::Entry(*entry));
         self.note_lawful();
         match *entry {
             Entry::Allot {
@@ -324,7 +317,7 @@ impl Register {
             Record::Done { count } => {
                 *count <= MOST_DONE && *count + self.open_count() == self.numbered_calls()
             }
-            Record::Allot { .. } | Record::Stop { .. } => false,
+            Record::Entry(_) => false,
         }
     }
 
@@ -349,7 +342,7 @@ impl Register {
             Record::Done { count } => {
                 self.done = *count;
             }
-            Record::Allot { .. } | Record::Stop { .. } => unreachable!(),
+            Record::Entry(_) => unreachable!(),
         }
     }
 

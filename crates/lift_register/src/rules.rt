@@ -5,7 +5,7 @@ ghost use Rattle.lift_register.specs.Fits.{persons_of};
 ghost use Rattle.lift_base.specs.Records.{IsTypedCommand, IsTypedCall, IsTypedContent, IsTyped};
 ghost use Rattle.lift_base.specs.Records.{IsLawfulLast};
 
-use lift_base::{Content, Floor, Last, Letter, Number, Party, Record, Row, Terminal};
+use lift_base::{Content, Entry, Floor, Last, Letter, Number, Party, Record, Row, Terminal};
 use lift_building::Building;
 
 fn has_car(building: &Building, car: Letter) -> bool
@@ -93,23 +93,23 @@ pub fn note_ranges(record: &Record)
     ensures { IsTyped «record».now }
 {
     match record {
-        Record::Allot {
+        Record::Entry(Entry::Allot {
             kiosk,
             number,
             from,
             to,
             car,
             party,
-        } => {
+        }) => {
             note_command(*kiosk, *number);
             note_call(*from, *to, *car, *party);
         }
-        Record::Stop {
+        Record::Entry(Entry::Stop {
             car,
             number,
             floor,
             ..
-        } => {
+        }) => {
             note_command(Terminal::of_car(*car), *number);
             prove!(car.get() <= 15 && floor.get() <= 63);
         }

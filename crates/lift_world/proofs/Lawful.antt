@@ -5,7 +5,8 @@ use Rattle.std.specs.List.{AllByRecursion}
 use Rattle.std.proofs.lemmas.Bool.{false≢true, and_parts, eqb-true}
 use Rattle.std.proofs.lemmas.List.{take-append-drop}
 use Rattle.std.proofs.lemmas.List.Elements.{All-nil, All-push, All-append, All-contains, All-take, All-drop}
-use Rattle.lift_base.specs.History.{terminal_of, number_of, record_of}
+use Rattle.lift_base.specs.History.{terminal_of, number_of}
+use Rattle.lift_base.specs.declared.history.Record.TheVariants.{Entry as EntryRecord}
 use Rattle.lift_base.specs.Records.{IsRecord, IsTyped, IsTypedCommand}
 use Rattle.lift_base.specs.declared.history.Entry.{Entry}
 use Rattle.lift_base.specs.declared.history.Entry.TheVariants.{Allot, Stop as Stopping}
@@ -47,7 +48,7 @@ command_typed terminal number t n k e f =
 
 -- an entry that keeps a typed command, and fits, is typed
 entry_typed : (building : Plan) (accepted : List Entry) (terminal number : ℕ) (body : Body) (e : Entry) → IsBuilding building → IsTypedCommand terminal number → IsTypedBody body
-    → terminal_of e ≡ terminal → number_of e ≡ number → is_same body (kept_of e).content ≡ true → Fits building (register_after accepted) e → IsTyped (record_of e)
+    → terminal_of e ≡ terminal → number_of e ≡ number → is_same body (kept_of e).content ≡ true → Fits building (register_after accepted) e → IsTyped (EntryRecord e)
 entry_typed building accepted terminal number body (Allot k n from to car party) sound typed typed_body t m same fits =
     let good = fits_allotted building accepted (Allot k n from to car party) sound fits in
     let a = good.from_below in
@@ -64,7 +65,7 @@ entry_typed building accepted terminal number body (Stopping car n floor dir) so
     (command_typed terminal number car n typed t m, omega arith, omega arith)
 
 abbrev IsWritable : Entry → Type 0
-IsWritable e = IsRecord (record_of e)
+IsWritable e = IsRecord (EntryRecord e)
 
 abbrev IsTypedAsk : Command → Type 0
 IsTypedAsk c = IsTypedCommand c.terminal c.number × IsTypedBody c.body

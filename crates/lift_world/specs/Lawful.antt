@@ -1,7 +1,7 @@
 -- What is accepted, and what recoveries give, can be written: each entry fits, and is a record that
 -- the journal may hold.
 use Rattle.std.specs.Prelude.{All, IsTrue}
-use Rattle.lift_base.specs.History.{record_of}
+use Rattle.lift_base.specs.declared.history.Record.TheVariants.{Entry as EntryRecord}
 use Rattle.lift_base.specs.Records.{IsRecord, IsTypedCommand}
 use Rattle.lift_base.specs.declared.history.Entry.{Entry}
 use Rattle.lift_register.specs.Register.{empty}
@@ -20,7 +20,7 @@ IsTypedEvent event = Unit {0}
 -- each recovery gives entries that are records of the journal
 abbrev pub RecoversRecords : World → Type 0
 RecoversRecords w = (kept : Kept) → IsTrue (may_keep w kept)
-    → All (λ (e : Entry). IsRecord (record_of e)) (outcome w kept)
+    → All (λ (e : Entry). IsRecord (EntryRecord e)) (outcome w kept)
 
 -- All that was accepted, safe or not, fits one after another: what a batch is asked for before its
 -- first device call.
@@ -29,4 +29,4 @@ AcceptsFitting w = FitFrom w.building empty w.accepted
 
 -- and each of it is a record of the journal
 abbrev pub AcceptsRecords : World → Type 0
-AcceptsRecords w = All (λ (e : Entry). IsRecord (record_of e)) w.accepted
+AcceptsRecords w = All (λ (e : Entry). IsRecord (EntryRecord e)) w.accepted

@@ -44,18 +44,6 @@ fn open_row_of(words: &[&str]) -> Result<Row, Trouble> {
     })
 }
 
-fn allot_of(words: &[&str]) -> Result<Record, Trouble> {
-    let row = row_of(words)?;
-    Ok(Record::Allot {
-        kiosk: row.kiosk,
-        number: row.number,
-        from: row.from,
-        to: row.to,
-        car: row.car,
-        party: row.party,
-    })
-}
-
 /// A car's stop: its number, floor and direction.
 fn stopped_of(words: &[&str]) -> Result<(Letter, Number, Stop), Trouble> {
     match words {
@@ -69,16 +57,6 @@ fn stopped_of(words: &[&str]) -> Result<(Letter, Number, Stop), Trouble> {
         }
         _ => Err(Trouble::Words),
     }
-}
-
-fn stop_record_of(words: &[&str]) -> Result<Record, Trouble> {
-    let (car, number, stop) = stopped_of(words)?;
-    Ok(Record::Stop {
-        car,
-        number,
-        floor: stop.floor,
-        dir: stop.dir,
-    })
 }
 
 /// The last stop of any terminal, as `last A 1 0 up`.
@@ -105,28 +83,17 @@ fn last_stop_of(words: &[&str]) -> Result<Record, Trouble> {
 /// The last call of any terminal, as `last K0 1 0 5 A`.
 fn last_call_of(words: &[&str]) -> Result<Record, Trouble> {
     let row = row_of(words)?;
-    let content = Content::Letter {
-        from: row.from,
-        to: row.to,
-        car: row.car,
-        party: row.party,
-    };
     Ok(Record::Last {
         terminal: row.kiosk,
-        last: Last {
-            number: row.number,
-            content,
-        },
+        last: row.kept(),
     })
 }
 
 /// The record that these words name.
 pub(crate) fn record_of(words: &[&str]) -> Result<Record, Trouble> {
     let (kind, behind) = words.split_first().ok_or(Trouble::Words)?;
-    if *kind == "allot" {
-        allot_of(behind)
-    } else if *kind == "stop" {
-        stop_record_of(behind)
+    if *kind == "allot" || *kind == "stop" {
+        Ok(Record::Entry(entry_of(words)?))
     } else if *kind == "row" {
         Ok(Record::Row(open_row_of(behind)?))
     } else if *kind == "last" && behind.len() == 4 {
@@ -146,15 +113,7 @@ pub(crate) fn record_of(words: &[&str]) -> Result<Record, Trouble> {
 pub(crate) fn entry_of(words: &[&str]) -> Result<Entry, Trouble> {
     let (kind, behind) = words.split_first().ok_or(Trouble::Words)?;
     if *kind == "allot" {
-        let row = row_of(behind)?;
-        Ok(Entry::Allot {
-            kiosk: row.kiosk,
-            number: row.number,
-            from: row.from,
-            to: row.to,
-            car: row.car,
-            party: row.party,
-        })
+        Ok(row_of(behind)?.allotment())
     } else if *kind == "stop" {
         let (car, number, stop) = stopped_of(behind)?;
         Ok(Entry::Stop {
@@ -195,10 +154,9 @@ fn push_call(
     }
 }
 
-/// The record as the words that name it.
-pub(crate) fn push_record(text: &mut String, record: &Record) -> Result<(), AllocError> {
-    match *record {
-        Record::Allot {
+fn push_entry(text: &mut String, entry: &Entry) -> Result<(), AllocError> {
+    match *entry {
+        Entry::Allot {
             kiosk,
             number,
             from,
@@ -215,7 +173,7 @@ pub(crate) fn push_record(text: &mut String, record: &Record) -> Result<(), Allo
             };
             push_call(text, kiosk, number, &content)
         }
-        Record::Stop {
+        Entry::Stop {
             car,
             number,
             floor,
@@ -225,6 +183,13 @@ pub(crate) fn push_record(text: &mut String, record: &Record) -> Result<(), Allo
             let content = Content::Stopped { floor, dir };
             push_call(text, Terminal::of_car(car), number, &content)
         }
+    }
+}
+
+/// The record as the words that name it.
+pub(crate) fn push_record(text: &mut String, record: &Record) -> Result<(), AllocError> {
+    match *record {
+        Record::Entry(ref entry) => push_entry(text, entry),
         Record::Row(row) => {
             text.push_str("row ")?;
             push_row(text, &row)

@@ -6,7 +6,7 @@ use Rattle.std.specs.List.{AllByRecursion}
 use Rattle.std.proofs.lemmas.List.{append-nil}
 use Rattle.std.proofs.lemmas.List.Elements.{recursion_from_All}
 use Rattle.lift_base.specs.declared.history.Record.{Record}
-use Rattle.lift_base.specs.declared.history.Record.TheVariants.{Allot, Stop, Row, Last, Done}
+use Rattle.lift_base.specs.declared.history.Record.TheVariants.{Entry, Row, Last, Done}
 use Rattle.lift_record.specs.declared.version.Version.{Version}
 use Rattle.lift_record.specs.declared.version.Version.TheVariants.{One, Two}
 use Rattle.lift_record.specs.Version.{version_number}
@@ -134,15 +134,13 @@ last_push batches batch =
 entry_follows : (last : Option Record) (next : Record) → MayEnd last → IsEntry next
     → MayFollow last next
 entry_follows None next may entry = tt
-entry_follows (Some (Allot kiosk number from to car party)) next may entry = entry
-entry_follows (Some (Stop car number floor dir)) next may entry = entry
+entry_follows (Some (Entry kept)) next may entry = entry
 entry_follows (Some (Row row)) next may entry = absurd may
 entry_follows (Some (Last terminal last)) next may entry = absurd may
 entry_follows (Some (Done count)) next may entry = entry
 
 entry_ends : (next : Record) → IsEntry next → MayEnd (Some next)
-entry_ends (Allot kiosk number from to car party) entry = tt
-entry_ends (Stop car number floor dir) entry = tt
+entry_ends (Entry kept) entry = tt
 entry_ends (Row row) entry = absurd entry
 entry_ends (Last terminal last) entry = absurd entry
 entry_ends (Done count) entry = absurd entry
@@ -195,8 +193,7 @@ only_entries last (next ∷ records) may order =
     (entry, only_entries next records (entry_ends next entry) order.1)
   where
     follows : (last next : Record) → MayEnd (Some last) → MayFollow (Some last) next → IsEntry next
-    follows (Allot kiosk number from to car party) next may order = order
-    follows (Stop car number floor dir) next may order = order
+    follows (Entry kept) next may order = order
     follows (Row row) next may order = absurd may
     follows (Last terminal last) next may order = absurd may
     follows (Done count) next may order = order
@@ -206,19 +203,12 @@ pub order_parts : (last : Option Record) (records : List Record) → IsInOrderBe
     → Parts records
 order_parts last [] order =
     record { base = []; entries = []; joined = refl; is_base = tt; are_entries = tt }
-order_parts last ((Allot kiosk number from to car party) ∷ records) order = record {
+order_parts last ((Entry entry) ∷ records) order = record {
   base = [];
-  entries = (Allot kiosk number from to car party) ∷ records;
+  entries = (Entry entry) ∷ records;
   joined = refl;
   is_base = tt;
-  are_entries = (tt, only_entries (Allot kiosk number from to car party) records tt order.1);
-}
-order_parts last ((Stop car number floor dir) ∷ records) order = record {
-  base = [];
-  entries = (Stop car number floor dir) ∷ records;
-  joined = refl;
-  is_base = tt;
-  are_entries = (tt, only_entries (Stop car number floor dir) records tt order.1);
+  are_entries = (tt, only_entries (Entry entry) records tt order.1);
 }
 order_parts last ((Row row) ∷ records) order =
     let rest = order_parts (Some (Row row)) records order.1 in

@@ -9,8 +9,9 @@ use Rattle.lift_base.specs.declared.history.Content.{Content}
 use Rattle.lift_base.specs.declared.history.Content.TheVariants.{Letter, Stopped}
 use Rattle.lift_base.specs.declared.history.Last.{Last as LastValue}
 use Rattle.lift_base.specs.declared.history.Row.{Row as RowValue}
+use Rattle.lift_base.specs.declared.history.Entry.TheVariants.{Allot, Stop}
 use Rattle.lift_base.specs.declared.history.Record.{Record}
-use Rattle.lift_base.specs.declared.history.Record.TheVariants.{Allot, Stop, Row, Last, Done}
+use Rattle.lift_base.specs.declared.history.Record.TheVariants.{Entry, Row, Last, Done}
 use Rattle.lift_base.specs.Records.{IsRecord, IsLawfulLast}
 use Rattle.lift_record.specs.declared.headers.Header.{Header}
 use Rattle.lift_record.specs.declared.version.Version.{Version}
@@ -27,8 +28,8 @@ length-last_bytes version (Stopped floor dir) = refl
 
 pub length-spelling_of : (version : Version) (content : Record)
     → length (spelling_of version content) ≡ 16
-length-spelling_of version (Allot kiosk number from to car party) = refl
-length-spelling_of version (Stop car number floor dir) = refl
+length-spelling_of version (Entry (Allot kiosk number from to car party)) = refl
+length-spelling_of version (Entry (Stop car number floor dir)) = refl
 length-spelling_of version (Row row) = refl
 length-spelling_of version (Last terminal last) = by_content last.content
   where
@@ -147,8 +148,8 @@ pub spelling_of_unique : (version : Version) (first second : Record) → IsRecor
     → IsRecord second
     → IsSayable version first → IsSayable version second
     → spelling_of version first ≡ spelling_of version second → first ≡ second
-spelling_of_unique version (Allot kiosk number from to car party)
-    (Allot kiosk2 number2 from2 to2 car2 party2) a b c d same =
+spelling_of_unique version (Entry (Allot kiosk number from to car party))
+    (Entry (Allot kiosk2 number2 from2 to2 car2 party2)) a b c d same =
     let kiosks : kiosk ≡ kiosk2 = ap (λ l. byte_at l 1) same in
     let froms : from ≡ from2 = ap (λ l. byte_at l 2) same in
     let tos : to ≡ to2 = ap (λ l. byte_at l 3) same in
@@ -159,8 +160,8 @@ spelling_of_unique version (Allot kiosk number from to car party)
     number_unique number number2 (omega (arith, a.0.0.number_range))
     (omega (arith, b.0.0.number_range)) (ap (λ l. take 4 (drop 8 l)) same) in
     cc
-spelling_of_unique version (Stop car number floor dir)
-    (Stop car2 number2 floor2 dir2) a b c d same =
+spelling_of_unique version (Entry (Stop car number floor dir))
+    (Entry (Stop car2 number2 floor2 dir2)) a b c d same =
     let cars : car ≡ car2 = ap (λ l. byte_at l 1) same in
     let floors : floor ≡ floor2 = ap (λ l. byte_at l 2) same in
     let dirs : dir ≡ dir2 = dir_unique dir dir2 (ap (λ l. byte_at l 3) same) in
@@ -224,6 +225,9 @@ spelling_of_unique version (Done count) (Done count2) a b c d same =
     let counts : count ≡ count2 =
     number_unique count count2 a.0 b.0 (ap (λ l. take 4 (drop 8 l)) same) in
     cc
+spelling_of_unique version first (Entry (Allot kiosk number from to car party)) a b c d same =
+    absurd (cc same)
+spelling_of_unique version first (Entry (Stop car number floor dir)) a b c d same = absurd (cc same)
 spelling_of_unique version first second a b c d same = absurd (cc same)
 
 pub spelling_unique : (version : Version) (bytes : List ℕ) (first second : Record)

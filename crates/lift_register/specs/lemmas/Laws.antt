@@ -7,7 +7,7 @@ use Rattle.std.proofs.lemmas.List.Elements.{All-nil, All-head, All-tail}
 use Rattle.std.proofs.lemmas.Option.{none-some}
 use Rattle.std.proofs.lemmas.Bool.{cases_lt}
 use Rattle.lift_building.specs.Plan.{Plan, places_of}
-use Rattle.lift_base.specs.History.{record_of}
+use Rattle.lift_base.specs.declared.history.Record.TheVariants.{Entry as EntryRecord}
 use Rattle.lift_base.specs.Records.{IsRecord, IsTyped}
 use Rattle.lift_base.specs.declared.travel.Stop.{Stop as CarStop}
 use Rattle.lift_base.specs.declared.history.Entry.{Entry}
@@ -37,7 +37,7 @@ use Rattle.lift_register.specs.lemmas.KeptLemmas.{countable, has_room, number_in
 
 -- what fits can be written
 pub IsRecord-fitting : (plan : Plan) (register : RegisterState) (entry : Entry)
-    → IsTyped (record_of entry) → Fits plan register entry → IsRecord (record_of entry)
+    → IsTyped (EntryRecord entry) → Fits plan register entry → IsRecord (EntryRecord entry)
 IsRecord-fitting plan register (Allot kiosk number from to car party) typed fits = (
   typed,
   record {
@@ -52,13 +52,13 @@ IsRecord-fitting plan register (Stop car number floor dir) typed fits =
 -- a register after one fitting entry: well formed, balanced, and of the same building
 pub IsWellFormed-entry : (plan : Plan) (register : RegisterState) (entry : Entry)
     → ((car : ℕ) → places_of plan car ≤ 32) → IsWellFormed register → IsBalanced register
-    → IsTyped (record_of entry) → Fits plan register entry
+    → IsTyped (EntryRecord entry) → Fits plan register entry
     → IsWellFormed (register_of register (entry ∷ []))
 IsWellFormed-entry plan register (Allot kiosk number from to car party) few lawful balanced typed
     fits =
     let row : Row = waiting_row kiosk number from to car party in
     let last : Last = kept_of (Allot kiosk number from to car party) in
-    let written : IsRecord (record_of (Allot kiosk number from to car party)) =
+    let written : IsRecord (EntryRecord (Allot kiosk number from to car party)) =
     IsRecord-fitting plan register (Allot kiosk number from to car party) typed fits in
     let with_row : IsWellFormed (with_record register (RowRecord row)) =
     IsWellFormed-row register row lawful written
@@ -79,7 +79,7 @@ IsWellFormed-entry plan register (Stop car number floor dir) few lawful balanced
     ((typed.0, typed.2), record { of_car = typed.1; numbered = omega (arith, fits.1) }))
 
 pub IsBalanced-entry : (plan : Plan) (register : RegisterState) (entry : Entry)
-    → IsWellFormed register → IsBalanced register → IsTyped (record_of entry)
+    → IsWellFormed register → IsBalanced register → IsTyped (EntryRecord entry)
     → Fits plan register entry → IsBalanced (register_of register (entry ∷ []))
 IsBalanced-entry plan register (Allot kiosk number from to car party) lawful balanced typed fits =
     let row : Row = waiting_row kiosk number from to car party in
@@ -109,7 +109,7 @@ IsBalanced-entry plan register (Stop car number floor dir) lawful balanced typed
     ))
 
 pub BelongsTo-entry : (plan : Plan) (register : RegisterState) (entry : Entry)
-    → IsWellFormed register → BelongsTo plan register → IsTyped (record_of entry)
+    → IsWellFormed register → BelongsTo plan register → IsTyped (EntryRecord entry)
     → Fits plan register entry → BelongsTo plan (register_of register (entry ∷ []))
 BelongsTo-entry plan register (Allot kiosk number from to car party) lawful belongs typed fits =
     let row : Row = waiting_row kiosk number from to car party in
@@ -134,49 +134,49 @@ BelongsTo-entry plan register (Stop car number floor dir) lawful belongs typed f
 -- The same after a list of entries, each of which fits where it comes.
 pub IsWellFormed-entries : (plan : Plan) (register : RegisterState) (entries : List Entry)
     → ((car : ℕ) → places_of plan car ≤ 32) → IsWellFormed register → IsBalanced register
-    → All (λ (entry : Entry). IsTyped (record_of entry)) entries → FitFrom plan register entries
+    → All (λ (entry : Entry). IsTyped (EntryRecord entry)) entries → FitFrom plan register entries
     → IsWellFormed (register_of register entries)
 IsWellFormed-entries plan register [] few lawful balanced typed fit =
     subst IsWellFormed (sym (register_of-nothing register lawful)) lawful
 IsWellFormed-entries plan register (entry ∷ later) few lawful balanced typed fit =
-    let here : IsTyped (record_of entry) =
-    All-head (λ (e : Entry). IsTyped (record_of e)) entry later typed in
+    let here : IsTyped (EntryRecord entry) =
+    All-head (λ (e : Entry). IsTyped (EntryRecord e)) entry later typed in
     subst IsWellFormed (register_of-append register (entry ∷ []) later)
     (IsWellFormed-entries plan (register_of register (entry ∷ [])) later few
     (IsWellFormed-entry plan register entry few lawful balanced here fit.0)
     (IsBalanced-entry plan register entry lawful balanced here fit.0) (All-tail (λ (e : Entry).
-    IsTyped (record_of e)) entry later typed) fit.1)
+    IsTyped (EntryRecord e)) entry later typed) fit.1)
 
 pub IsBalanced-entries : (plan : Plan) (register : RegisterState) (entries : List Entry)
     → ((car : ℕ) → places_of plan car ≤ 32) → IsWellFormed register → IsBalanced register
-    → All (λ (entry : Entry). IsTyped (record_of entry)) entries → FitFrom plan register entries
+    → All (λ (entry : Entry). IsTyped (EntryRecord entry)) entries → FitFrom plan register entries
     → IsBalanced (register_of register entries)
 IsBalanced-entries plan register [] few lawful balanced typed fit =
     subst IsBalanced (sym (register_of-nothing register lawful)) balanced
 IsBalanced-entries plan register (entry ∷ later) few lawful balanced typed fit =
-    let here : IsTyped (record_of entry) =
-    All-head (λ (e : Entry). IsTyped (record_of e)) entry later typed in
+    let here : IsTyped (EntryRecord entry) =
+    All-head (λ (e : Entry). IsTyped (EntryRecord e)) entry later typed in
     subst IsBalanced (register_of-append register (entry ∷ []) later)
     (IsBalanced-entries plan (register_of register (entry ∷ [])) later few
     (IsWellFormed-entry plan register entry few lawful balanced here fit.0)
     (IsBalanced-entry plan register entry lawful balanced here fit.0) (All-tail (λ (e : Entry).
-    IsTyped (record_of e)) entry later typed) fit.1)
+    IsTyped (EntryRecord e)) entry later typed) fit.1)
 
 pub BelongsTo-entries : (plan : Plan) (register : RegisterState) (entries : List Entry)
     → ((car : ℕ) → places_of plan car ≤ 32) → IsWellFormed register → IsBalanced register
-    → BelongsTo plan register → All (λ (entry : Entry). IsTyped (record_of entry)) entries
+    → BelongsTo plan register → All (λ (entry : Entry). IsTyped (EntryRecord entry)) entries
     → FitFrom plan register entries → BelongsTo plan (register_of register entries)
 BelongsTo-entries plan register [] few lawful balanced belongs typed fit =
     subst (BelongsTo plan) (sym (register_of-nothing register lawful)) belongs
 BelongsTo-entries plan register (entry ∷ later) few lawful balanced belongs typed fit =
-    let here : IsTyped (record_of entry) =
-    All-head (λ (e : Entry). IsTyped (record_of e)) entry later typed in
+    let here : IsTyped (EntryRecord entry) =
+    All-head (λ (e : Entry). IsTyped (EntryRecord e)) entry later typed in
     subst (BelongsTo plan) (register_of-append register (entry ∷ []) later)
     (BelongsTo-entries plan (register_of register (entry ∷ [])) later few
     (IsWellFormed-entry plan register entry few lawful balanced here fit.0)
     (IsBalanced-entry plan register entry lawful balanced here fit.0)
     (BelongsTo-entry plan register entry lawful belongs here fit.0) (All-tail (λ (e : Entry).
-    IsTyped (record_of e)) entry later typed) fit.1)
+    IsTyped (EntryRecord e)) entry later typed) fit.1)
 
 -- two lists fit one after the other where the second fits the register after the first
 pub FitFrom-append : (plan : Plan) (register : RegisterState) (first later : List Entry)

@@ -3,7 +3,7 @@ use Rattle.lift_disk.specs.lemmas.Moments.{leaves_then, leaves_weaker}
 use Rattle.lift_keeper.specs.Images.{IsImageOf, IsInDoubt}
 use Rattle.lift_keeper.proofs.Guarding.{ok_four, append_leaves, append_keeps, in_doubt_of, guards_then, answers_then, now_after, by_disk_alone, disk_calls, append_stops, adding_stops}
 use Rattle.std.proofs.lemmas.List.{length-map}
-use Rattle.lift_base.specs.History.{record_of}
+use Rattle.lift_base.specs.declared.history.Record.TheVariants.{Entry as EntryRecord}
 use Rattle.lift_base.specs.declared.history.Shape.{Shape}
 use Rattle.lift_journal.specs.Layout.{Picks, bodies}
 use Rattle.lift_keeper.proofs.store.store.Goals as goal
@@ -65,6 +65,6 @@ returns-clause-stops g c =
     let honest_new = c.append.ensures.runs.honest.1 honest_mid in
     let keeps = then.keeps honest_mid in
     adding_stops plan journal.shape.half journal.is_second journal.used register batch old mid new c.len.result middle.shape.half middle.is_second middle.used
-    (count ∙ ap length kept ∙ length-map batch record_of) (ap (λ (s : Shape). s.half) c.make_room.ensures.shape) room.second room.used room.made.calls (disk_calls c.append.result mid new is c.append.ensures.told)
+    (count ∙ ap length kept ∙ length-map batch EntryRecord) (ap (λ (s : Shape). s.half) c.make_room.ensures.shape) room.second room.used room.made.calls (disk_calls c.append.result mid new is c.append.ensures.told)
     (append_stops plan middle.shape middle.is_second middle.used register mid then batch records kept fit new honest_mid honest_new c.requires.entries picks (g.met.D.Disk.may_lose after.device)
     (c.append.ensures.stops is honest_mid inert_mid keeps.batches keeps.holds)))
