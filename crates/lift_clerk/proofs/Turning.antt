@@ -1,18 +1,25 @@
 -- A turn, of its scan, its commit and its answers.
 use Rattle.std.proofs.Common.{◌≡◌, ◌⊎◌, ⊎_elim, ◌<◌, Bool, true, false, List, [], ◌∷◌, All, length, refl, sym, ap, ◌∙◌, subst, arith}
+use Rattle.std.specs.Prelude.{Ok, Err}
 use Rattle.std.proofs.lemmas.List.{length-map}
 use Rattle.atomic_table.specs.Seated.{TableId}
 use Rattle.lift_base.specs.declared.history.Entry.{Entry}
 use Rattle.lift_base.specs.declared.command.Reply.{Reply}
 use Rattle.lift_building.specs.Plan.{Plan}
-use Rattle.lift_register.specs.Register.{register_of}
+use Rattle.lift_disk.specs.Disk.{DiskState}
+use Rattle.lift_register.specs.Register.{RegisterState, register_of}
 use Rattle.lift_desk.specs.Words.{IsReply}
 use Rattle.lift_desk.specs.Seats.{ClerkPlace, IsClerkOf, OwesNothing}
 use Rattle.lift_policy.specs.declared.command.Command.{Command}
 use Rattle.lift_policy.specs.Eligible.{Choice}
 use Rattle.lift_policy.specs.Run.{Run}
 use Rattle.lift_policy.specs.Step.{State}
+use Rattle.lift_keeper.specs.declared.fault.KeeperFault.{KeeperFault}
+use Rattle.lift_keeper.specs.Commits.{Commits, CommitsTo}
 use Rattle.lift_keeper.specs.Keeper.{KeeperView}
+use Rattle.lift_keeper.specs.Writer.{WriterView}
+use Rattle.lift_keeper.specs.lemmas.Committed.{under_ok, under_err}
+use Rattle.lift_clerk.specs.declared.counts.Counts.{Counts}
 use Rattle.lift_clerk.specs.declared.scan.Answer.{Answer}
 use Rattle.lift_clerk.specs.Visits.{Visit, commands_of, served, Serves}
 use Rattle.lift_clerk.specs.Clerk.{ClerkState}
@@ -113,3 +120,30 @@ broken_turn desk choice old new seat answers between seated scans stored in_rang
       run = (told_unknown answers commands many, ap (λ k. k.state) same ∙ rests);
       rests = same ∙ same_keeper between old.keeper rests writer;
     }
+
+-- what the scan accepted was committed
+module _ {D : Type 0} (state : D → DiskState) (old : WriterView D) (between after : KeeperView D) (register : RegisterState) (writer : between.writer ≡ old)
+    (shown : register ≡ between.state.register) (ahead : between.writer.is_broken ≡ false → register ≡ register_of between.writer.register between.state.batch) where
+  pub committed : (counts : Counts) → counts.accepted ≡ length between.state.batch → after.state ≡ record between.state { batch = [] }
+      → Commits {D = D} {T = Unit {0}} state between.writer between.state.batch after.writer (Ok tt)
+      → CommitsTo {D = D} {T = Counts} state old counts.accepted after.state.register after.writer (Ok counts)
+  committed counts accepted begins c =
+      subst (λ (w : WriterView D). CommitsTo {D = D} {T = Counts} state w counts.accepted after.state.register after.writer (Ok counts)) writer
+      (record {
+        batch = between.state.batch;
+        counted = accepted;
+        leads = λ whole. ap (λ (s : State). s.register) begins ∙ sym shown ∙ ahead whole;
+        is = under_ok state between.writer between.state.batch after.writer tt counts c;
+      })
+
+  pub not_committed : (fault : KeeperFault) → after.state ≡ between.state
+      → Commits {D = D} {T = Unit {0}} state between.writer between.state.batch after.writer (Err fault)
+      → CommitsTo {D = D} {T = Counts} state old (length after.state.batch) after.state.register after.writer (Err fault)
+  not_committed fault same c =
+      subst (λ (w : WriterView D). CommitsTo {D = D} {T = Counts} state w (length after.state.batch) after.state.register after.writer (Err fault)) writer
+      (record {
+        batch = between.state.batch;
+        counted = ap (λ (s : State). length s.batch) same;
+        leads = λ whole. ap (λ (s : State). s.register) same ∙ sym shown ∙ ahead whole;
+        is = under_err state between.writer between.state.batch after.writer fault c;
+      })

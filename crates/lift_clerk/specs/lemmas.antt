@@ -7,4 +7,5 @@ pub mod Words
 pub mod Asked
 pub mod Turned
 pub mod Reopened
+pub mod Committed
 pub mod Groups

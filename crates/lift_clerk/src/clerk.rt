@@ -1,23 +1,14 @@
 //! The clerk: its seats at the desk, its keeper, and its turns.
 
-ghost use Rattle.std.specs.Prelude.{◌≡◌, ◌<◌, ◌++◌, ◌⊎◌, ◌↔◌, [], length, true, false, Ok, Err};
-ghost use Rattle.std.specs.Prelude.{IfOk, IfErr, OnOk, OnErr};
-ghost use Rattle.lift_disk.specs.Disk.{LeavesNow, LeavesOnly, RunsOn};
-ghost use Rattle.lift_register.specs.Register.{register_of};
+ghost use Rattle.std.specs.Prelude.{◌≡◌, ◌⊎◌, [], true, Err, IfOk, OnOk, OnErr};
 ghost use Rattle.lift_desk.specs.Rule.{IsInOrder};
 ghost use Rattle.lift_desk.specs.Seats.{IsClerkOf, IsSeatOf, OwesNothing, seat_with, view_at};
 ghost use Rattle.lift_desk.specs.Steps.{with_told_answers, lists_of};
 ghost use Rattle.lift_decider.specs.Decider.{starting};
-ghost use Rattle.lift_journal.specs.Calls.{opening_of};
-ghost use Rattle.lift_journal.specs.Steps.{Makes};
-ghost use Rattle.lift_journal.specs.Told.{NoneFails};
-ghost use Rattle.lift_keeper.specs.Calls.{StopsOpening};
-ghost use Rattle.lift_keeper.specs.Images.{IsImageOf, IsInDoubt};
-ghost use Rattle.lift_keeper.specs.Reopening.{Reopens, RefusesReopening, FailsBy};
-ghost use Rattle.lift_keeper.specs.Writer.{StopsCommit, commit_calls, commit_writes, commit_used};
-ghost use Rattle.lift_keeper.specs.Writer.{commit_second};
+ghost use Rattle.lift_keeper.specs.Commits.{CommitsTo};
+ghost use Rattle.lift_keeper.specs.Recovers.{Recovers};
 ghost use Rattle.lift_clerk.specs.Clerk.{IsClerk, IsToldAt};
-ghost use Rattle.lift_clerk.specs.Turn.{IsTurn, IsFailedTurn, IsBrokenTurn, IsEither, entries_in};
+ghost use Rattle.lift_clerk.specs.Turn.{IsTurn, IsFailedTurn, IsBrokenTurn, entries_in};
 
 use crate::counts::Counts;
 use crate::scan::{Answer, answer_all, scan};
@@ -123,80 +114,13 @@ impl<'d, 'b, D: Disk, P: Policy + Drop> Clerk<'d, 'b, D, P> {
         ensures fails { result ≡ Err (KeeperFault.Journal JournalFault.Disk)
             → IsFailedTurn (P.chooses self.old.policy) self.old self.new }
         ensures rests { self.old.keeper.writer.is_broken ≡ true → IsBrokenTurn self.old self.new }
-
-        // A crash at any moment of the call leaves the register that was safe before it, or that
-        // with this turn's entries.
-        ensures any_moment { self.old.keeper.writer.is_broken ≡ false
-            → LeavesOnly (D.state self.old.keeper.writer.device)
-            (D.state self.new.keeper.writer.device)
-            (IsEither self.old.keeper.writer.plan self.old.keeper.writer.register
-            self.new.keeper.state.register) }
-        // What was answered is safe: every crash from now on leaves it.
-        ensures acknowledged { OnOk result
-            (LeavesNow (D.state self.new.keeper.writer.device)
-            (IsImageOf self.old.keeper.writer.plan self.new.keeper.state.register)) }
-        ensures register { OnOk result (self.new.keeper.writer.register
-            ≡ self.new.keeper.state.register) }
-        ensures in_doubt { result ≡ Err (KeeperFault.Journal JournalFault.Disk)
-            → LeavesNow (D.state self.new.keeper.writer.device)
-            (IsInDoubt self.old.keeper.writer.plan self.old.keeper.writer.register
-            self.new.keeper.writer.doubt) }
-
-        ensures broken { (result ≡ Err (KeeperFault.Journal JournalFault.Broken))
-            ↔ (self.old.keeper.writer.is_broken ≡ true) }
-        ensures causes { IfErr result (λ fault. (fault ≡ KeeperFault.Journal JournalFault.Disk)
-            ⊎ (fault ≡ KeeperFault.Journal JournalFault.Broken)) }
-        ensures failed { result ≡ Err (KeeperFault.Journal JournalFault.Disk)
-            → (D.state self.old.keeper.writer.device).failures
-            < (D.state self.new.keeper.writer.device).failures }
-        ensures breaks { OnErr result (self.new.keeper.writer.is_broken ≡ true) }
-        // Unknown is answered only where a call has failed since the last opening that succeeded.
-        ensures since { OnErr result (self.new.keeper.writer.opened
-            < (D.state self.new.keeper.writer.device).failures) }
-        ensures whole { OnOk result ((D.state self.new.keeper.writer.device).failures
-            ≡ (D.state self.old.keeper.writer.device).failures) }
-        ensures stays { OnOk result ((self.new.keeper.writer.is_broken ≡ false)
-            × (self.new.keeper.writer.doubt ≡ [])) }
-        ensures unmoved { OnErr result (self.new.keeper.writer.register
-            ≡ self.old.keeper.writer.register) }
+        // It commits what its scan accepted, which leads to the register that it shows.
+        ensures commits { CommitsTo D.state self.old.keeper.writer
+            (entries_in result self.new.keeper) self.new.keeper.state.register
+            self.new.keeper.writer result }
         ensures same { (self.new.desk ≡ self.old.desk) × (self.new.policy ≡ self.old.policy) }
         ensures seated { IsClerkOf self.new.desk self.new.seat }
         ensures answered { OwesNothing self.new.seat }
-        ensures kept { (self.new.keeper.writer.plan ≡ self.old.keeper.writer.plan)
-            × (self.new.keeper.writer.half ≡ self.old.keeper.writer.half)
-            × (self.new.keeper.writer.opened ≡ self.old.keeper.writer.opened) }
-
-        // How many calls it makes: those of one commit, none where nothing was accepted.
-        ensures runs { RunsOn (D.state self.old.keeper.writer.device)
-            (D.state self.new.keeper.writer.device) }
-        ensures made { Makes result
-            (commit_calls self.old.keeper.writer.register self.old.keeper.writer.used
-            self.old.keeper.writer.half (entries_in result self.new.keeper))
-            (commit_writes self.old.keeper.writer.register self.old.keeper.writer.used
-            self.old.keeper.writer.half (entries_in result self.new.keeper))
-            (D.state self.old.keeper.writer.device) (D.state self.new.keeper.writer.device) }
-        ensures used { IfOk result (λ counts. self.new.keeper.writer.used
-            ≡ commit_used self.old.keeper.writer.register self.old.keeper.writer.used
-            self.old.keeper.writer.half counts.accepted) }
-        ensures second { IfOk result (λ counts. self.new.keeper.writer.is_second
-            ≡ commit_second self.old.keeper.writer.is_second self.old.keeper.writer.used
-            self.old.keeper.writer.half counts.accepted) }
-        ensures told_ok { OnOk result
-            (NoneFails (D.state self.old.keeper.writer.device)
-            (D.state self.new.keeper.writer.device)) }
-        ensures told { IfErr result (λ fault.
-            FailsBy fault (D.state self.old.keeper.writer.device)
-            (D.state self.new.keeper.writer.device)) }
-
-        // Where a device stopped it that changes no byte in a failed call, the number of calls says
-        // what each cut leaves.
-        ensures stops { result ≡ Err (KeeperFault.Journal JournalFault.Disk)
-            → (D.state self.old.keeper.writer.device).is_honest
-            → (D.state self.old.keeper.writer.device).is_inert
-            → StopsCommit self.old.keeper.writer.plan self.old.keeper.writer.half
-            self.old.keeper.writer.is_second self.old.keeper.writer.used
-            self.old.keeper.writer.register self.new.keeper.writer.doubt
-            (D.state self.old.keeper.writer.device) (D.state self.new.keeper.writer.device) }
     {
         scan(
             self.desk,
@@ -216,7 +140,6 @@ impl<'d, 'b, D: Disk, P: Policy + Drop> Clerk<'d, 'b, D, P> {
                 Ok(counts)
             }
             Err(fault) => {
-                let _failed = self.keeper.is_broken();
                 answer_all(self.desk, &mut self.seat, &self.answers, false);
                 Err(fault)
             }
@@ -230,52 +153,11 @@ impl<'d, 'b, D: Disk, P: Policy + Drop> Clerk<'d, 'b, D, P> {
     pub fn reopen(&mut self) -> Result<(), KeeperFault>
         ensures same { (self.new.desk ≡ self.old.desk) × (self.new.seat ≡ self.old.seat)
             × (self.new.policy ≡ self.old.policy) }
-        ensures opens { OnOk result
-            (Reopens self.old.keeper.writer.plan (D.state self.old.keeper.writer.device)
-            (D.state self.new.keeper.writer.device)
-            self.new.keeper.writer.register self.new.keeper.writer.half
-            self.new.keeper.writer.is_second self.new.keeper.writer.used) }
+        ensures recovers { Recovers
+            D.state self.old.keeper.writer self.new.keeper.writer result }
         ensures state { OnOk result (self.new.keeper.state
             ≡ starting self.new.keeper.writer.register) }
-        ensures one_of { OnOk result ((D.state self.old.keeper.writer.device).is_honest
-            → (self.new.keeper.writer.register ≡ self.old.keeper.writer.register)
-            ⊎ (self.new.keeper.writer.register
-            ≡ register_of self.old.keeper.writer.register self.old.keeper.writer.doubt)) }
-        // A crash at any moment of the call leaves the register that was safe before it, or that
-        // with the batch in doubt.
-        ensures any_moment { LeavesOnly (D.state self.old.keeper.writer.device)
-            (D.state self.new.keeper.writer.device)
-            (IsInDoubt self.old.keeper.writer.plan self.old.keeper.writer.register
-            self.old.keeper.writer.doubt) }
-        ensures whole { OnOk result ((self.new.keeper.writer.is_broken ≡ false)
-            × (self.new.keeper.writer.doubt ≡ [])) }
-        ensures opened { OnOk result (self.new.keeper.writer.opened
-            ≡ (D.state self.new.keeper.writer.device).failures) }
-        ensures refused { IfErr result (λ fault.
-            RefusesReopening self.old.keeper.writer.plan (D.state self.old.keeper.writer.device)
-            (D.state self.new.keeper.writer.device) fault) }
-        ensures good { IfErr result (λ fault. (D.state self.old.keeper.writer.device).is_honest
-            → fault ≡ KeeperFault.Journal JournalFault.Disk) }
-        ensures breaks { result ≡ Err (KeeperFault.Journal JournalFault.Disk)
-            → self.new.keeper.writer.is_broken ≡ true }
-        ensures stays { IfErr result (λ fault. (fault ≡ KeeperFault.Journal JournalFault.Disk)
-            ⊎ (self.new.keeper.writer.is_broken ≡ self.old.keeper.writer.is_broken)) }
-        ensures unmoved { OnErr result ((self.new.keeper.state ≡ self.old.keeper.state)
-            × (self.new.keeper.writer.register ≡ self.old.keeper.writer.register)
-            × (self.new.keeper.writer.doubt ≡ self.old.keeper.writer.doubt)
-            × (self.new.keeper.writer.opened ≡ self.old.keeper.writer.opened)) }
-        ensures place { OnErr result ((self.new.keeper.writer.half ≡ self.old.keeper.writer.half)
-            × (self.new.keeper.writer.is_second ≡ self.old.keeper.writer.is_second)
-            × (self.new.keeper.writer.used ≡ self.old.keeper.writer.used)) }
-        ensures plan { self.new.keeper.writer.plan ≡ self.old.keeper.writer.plan }
-        // The opening of its journal, and no other call; where it is refused, as far as that came.
-        ensures calls { OnOk result ((D.state self.new.keeper.writer.device).trace
-            ≡ (D.state self.old.keeper.writer.device).trace ++ opening_of
-            self.new.keeper.writer.half self.new.keeper.writer.is_second
-            self.new.keeper.writer.used) }
-        ensures calls_before { IfErr result (λ fault.
-            StopsOpening fault (D.state self.old.keeper.writer.device)
-            (D.state self.new.keeper.writer.device)) }
+        ensures unmoved { OnErr result (self.new.keeper.state ≡ self.old.keeper.state) }
     {
         self.keeper.reopen()
     }

@@ -7,4 +7,6 @@ pub mod Writer
 pub mod Reopening
 pub mod Keeper
 pub mod Calls
+pub mod Commits
+pub mod Recovers
 pub mod lemmas

@@ -2,7 +2,7 @@
 
 ghost use Rattle.std.specs.Prelude.{◌≡◌, ◌<◌, ◌≤◌, ◌+◌, ◌++◌, ◌⊎◌, ◌↔◌, [], length, true, false, Ok};
 ghost use Rattle.std.specs.Prelude.{Err, IfOk, IfErr, OnOk, OnErr};
-ghost use Rattle.lift_disk.specs.Disk.{LeavesNow, LeavesOnly, RunsOn};
+ghost use Rattle.lift_disk.specs.Disk.{LeavesNow};
 ghost use Rattle.lift_register.specs.Register.{register_of};
 ghost use Rattle.lift_register.specs.WellFormed.{IsWellFormed};
 ghost use Rattle.lift_register.specs.Belongs.{BelongsTo};
@@ -10,14 +10,12 @@ ghost use Rattle.lift_register.specs.Balanced.{IsBalanced};
 ghost use Rattle.lift_policy.specs.View.{positions_of, AreSchedulesOf};
 ghost use Rattle.lift_policy.specs.Step.{Step, view_of};
 ghost use Rattle.lift_decider.specs.Decider.{starting, IsPossible};
-ghost use Rattle.lift_journal.specs.Steps.{Makes};
-ghost use Rattle.lift_journal.specs.Told.{NoneFails};
+ghost use Rattle.lift_keeper.specs.Commits.{Commits};
 ghost use Rattle.lift_keeper.specs.Images.{IsImageOf, IsImageIn, IsInDoubt};
-ghost use Rattle.lift_keeper.specs.Reopening.{Reopens, RefusesReopening, FailsBy};
+ghost use Rattle.lift_keeper.specs.Recovers.{Recovers};
+ghost use Rattle.lift_keeper.specs.Reopening.{Reopens, RefusesReopening};
 ghost use Rattle.lift_journal.specs.Calls.{opening_of};
 ghost use Rattle.lift_keeper.specs.Calls.{StopsOpening};
-ghost use Rattle.lift_keeper.specs.Writer.{StopsCommit, commit_calls, commit_writes, commit_used};
-ghost use Rattle.lift_keeper.specs.Writer.{commit_second};
 
 use crate::copies::copy_of;
 use crate::fault::KeeperFault;
@@ -26,7 +24,6 @@ use lift_base::{Body, Number, Reply, Terminal};
 use lift_building::Building;
 use lift_decider::Decider;
 use lift_disk::{Arm, Disk};
-use lift_journal::JournalFault;
 use lift_policy::{Policy, View, decisions_keep};
 use lift_register::Register;
 use lift_stops::Schedule;
@@ -184,69 +181,12 @@ impl<'b, D: Disk> Keeper<'b, D> {
 
     /// Makes the batch safe, and begins another.
     pub fn commit(&mut self) -> Result<(), KeeperFault>
-        // A crash at any moment of the call leaves the register that was safe before it, or that
-        // with the batch.
-        ensures any_moment { self.old.writer.is_broken ≡ false
-            → LeavesOnly (D.state self.old.writer.device) (D.state self.new.writer.device)
-            (IsInDoubt self.old.writer.plan self.old.writer.register self.old.state.batch) }
-        ensures acknowledged { OnOk result
-            (LeavesNow (D.state self.new.writer.device)
-            (IsImageOf self.old.writer.plan self.old.state.register)) }
+        ensures commits { Commits
+            D.state self.old.writer self.old.state.batch self.new.writer result }
+        // What is safe at Ok is what it shows.
         ensures register { OnOk result (self.new.writer.register ≡ self.old.state.register) }
         ensures begins { OnOk result (self.new.state ≡ record self.old.state { batch = [] }) }
-        ensures in_doubt { result ≡ Err (KeeperFault.Journal JournalFault.Disk)
-            → LeavesNow (D.state self.new.writer.device)
-            (IsInDoubt self.old.writer.plan self.old.writer.register self.old.state.batch) }
-
-        ensures broken { (result ≡ Err (KeeperFault.Journal JournalFault.Broken))
-            ↔ (self.old.writer.is_broken ≡ true) }
-        ensures rests { self.old.writer.is_broken ≡ true → self.new ≡ self.old }
-        ensures empty { self.old.writer.is_broken ≡ false → self.old.state.batch ≡ []
-            → (result ≡ Ok tt) × (self.new ≡ self.old) }
-        ensures causes { IfErr result (λ fault. (fault ≡ KeeperFault.Journal JournalFault.Disk)
-            ⊎ (fault ≡ KeeperFault.Journal JournalFault.Broken)) }
-        ensures failed { result ≡ Err (KeeperFault.Journal JournalFault.Disk)
-            → (D.state self.old.writer.device).failures
-            < (D.state self.new.writer.device).failures }
-        ensures breaks { result ≡ Err (KeeperFault.Journal JournalFault.Disk)
-            → (self.new.writer.is_broken ≡ true) × (self.new.writer.doubt ≡ self.old.state.batch) }
-        ensures unmoved { OnErr result ((self.new.state ≡ self.old.state)
-            × (self.new.writer.register ≡ self.old.writer.register)) }
-        ensures whole { OnOk result ((D.state self.new.writer.device).failures
-            ≡ (D.state self.old.writer.device).failures) }
-        ensures stays { OnOk result ((self.new.writer.is_broken ≡ false)
-            × (self.new.writer.doubt ≡ [])) }
-        ensures same { (self.new.writer.plan ≡ self.old.writer.plan)
-            × (self.new.writer.half ≡ self.old.writer.half)
-            × (self.new.writer.opened ≡ self.old.writer.opened) }
-
-        // How many calls it makes: none for no entries, else those of an append, and of a
-        // checkpoint where room is wanted.
-        ensures runs { RunsOn (D.state self.old.writer.device) (D.state self.new.writer.device) }
-        ensures made { Makes result
-            (commit_calls self.old.writer.register self.old.writer.used self.old.writer.half
-            (length self.old.state.batch))
-            (commit_writes self.old.writer.register self.old.writer.used self.old.writer.half
-            (length self.old.state.batch)) (D.state self.old.writer.device)
-            (D.state self.new.writer.device) }
-        ensures used { OnOk result (self.new.writer.used
-            ≡ commit_used self.old.writer.register self.old.writer.used self.old.writer.half
-            (length self.old.state.batch)) }
-        ensures second { OnOk result (self.new.writer.is_second
-            ≡ commit_second self.old.writer.is_second self.old.writer.used self.old.writer.half
-            (length self.old.state.batch)) }
-        ensures told_ok { OnOk result
-            (NoneFails (D.state self.old.writer.device) (D.state self.new.writer.device)) }
-        ensures told { IfErr result (λ fault.
-            FailsBy fault (D.state self.old.writer.device) (D.state self.new.writer.device)) }
-
-        // Where a device stopped it that changes no byte in a failed call, the number of calls says
-        // what each cut leaves.
-        ensures stops { result ≡ Err (KeeperFault.Journal JournalFault.Disk)
-            → (D.state self.old.writer.device).is_honest → (D.state self.old.writer.device).is_inert
-            → StopsCommit self.old.writer.plan self.old.writer.half self.old.writer.is_second
-            self.old.writer.used self.old.writer.register self.old.state.batch
-            (D.state self.old.writer.device) (D.state self.new.writer.device) }
+        ensures unmoved { OnErr result (self.new.state ≡ self.old.state) }
     {
         self.writer.commit(self.decider.batch())?;
         self.decider.clear_batch();
@@ -258,47 +198,9 @@ impl<'b, D: Disk> Keeper<'b, D> {
     /// refusal leaves it as it was, but that a failed call leaves it broken: a later batch goes
     /// where it would have gone before.
     pub fn reopen(&mut self) -> Result<(), KeeperFault>
-        ensures opens { OnOk result
-            (Reopens self.old.writer.plan (D.state self.old.writer.device)
-            (D.state self.new.writer.device) self.new.writer.register self.new.writer.half
-            self.new.writer.is_second self.new.writer.used) }
+        ensures recovers { Recovers D.state self.old.writer self.new.writer result }
         ensures state { OnOk result (self.new.state ≡ starting self.new.writer.register) }
-        ensures one_of { OnOk result ((D.state self.old.writer.device).is_honest
-            → (self.new.writer.register ≡ self.old.writer.register)
-            ⊎ (self.new.writer.register
-            ≡ register_of self.old.writer.register self.old.writer.doubt)) }
-        // A crash at any moment of the call leaves the register that was safe before it, or that
-        // with the batch in doubt.
-        ensures any_moment { LeavesOnly (D.state self.old.writer.device)
-            (D.state self.new.writer.device)
-            (IsInDoubt self.old.writer.plan self.old.writer.register self.old.writer.doubt) }
-        ensures whole { OnOk result ((self.new.writer.is_broken ≡ false)
-            × (self.new.writer.doubt ≡ [])) }
-        ensures opened { OnOk result (self.new.writer.opened
-            ≡ (D.state self.new.writer.device).failures) }
-        ensures refused { IfErr result (λ fault.
-            RefusesReopening self.old.writer.plan (D.state self.old.writer.device)
-            (D.state self.new.writer.device) fault) }
-        ensures good { IfErr result (λ fault. (D.state self.old.writer.device).is_honest
-            → fault ≡ KeeperFault.Journal JournalFault.Disk) }
-        ensures breaks { result ≡ Err (KeeperFault.Journal JournalFault.Disk)
-            → self.new.writer.is_broken ≡ true }
-        ensures stays { IfErr result (λ fault. (fault ≡ KeeperFault.Journal JournalFault.Disk)
-            ⊎ (self.new.writer.is_broken ≡ self.old.writer.is_broken)) }
-        ensures unmoved { OnErr result ((self.new.state ≡ self.old.state)
-            × (self.new.writer.register ≡ self.old.writer.register)
-            × (self.new.writer.doubt ≡ self.old.writer.doubt)
-            × (self.new.writer.opened ≡ self.old.writer.opened)) }
-        ensures place { OnErr result ((self.new.writer.half ≡ self.old.writer.half)
-            × (self.new.writer.is_second ≡ self.old.writer.is_second)
-            × (self.new.writer.used ≡ self.old.writer.used)) }
-        ensures plan { self.new.writer.plan ≡ self.old.writer.plan }
-        ensures calls { OnOk result ((D.state self.new.writer.device).trace
-            ≡ (D.state self.old.writer.device).trace ++ opening_of
-            self.new.writer.half self.new.writer.is_second self.new.writer.used) }
-        ensures calls_before { IfErr result (λ fault.
-            StopsOpening fault (D.state self.old.writer.device)
-            (D.state self.new.writer.device)) }
+        ensures unmoved { OnErr result (self.new.state ≡ self.old.state) }
     {
         self.writer.reopen()?;
         let building = self.decider.building();

@@ -1,21 +1,19 @@
 //! The safe register, and the journal that it is safe in.
 
-ghost use Rattle.std.specs.Prelude.{◌≡◌, ◌<◌, ◌++◌, ◌⊎◌, ◌↔◌, [], length, true, false, Ok, Err};
+ghost use Rattle.std.specs.Prelude.{◌≡◌, ◌<◌, ◌++◌, ◌⊎◌, [], true, false};
 ghost use Rattle.std.specs.Prelude.{IfOk, IfErr, OnOk, OnErr};
-ghost use Rattle.lift_disk.specs.Disk.{LeavesNow, LeavesOnly, MayLeave, RunsOn};
-ghost use Rattle.lift_register.specs.Register.{register_of};
+ghost use Rattle.lift_disk.specs.Disk.{LeavesNow};
 ghost use Rattle.lift_register.specs.Fits.{FitFrom};
 ghost use Rattle.lift_register.specs.Belongs.{BelongsTo};
 ghost use Rattle.lift_register.specs.Balanced.{IsBalanced};
 ghost use Rattle.lift_register.specs.WellFormed.{IsWellFormed};
-ghost use Rattle.lift_journal.specs.Steps.{Makes};
-ghost use Rattle.lift_journal.specs.Told.{NoneFails};
+ghost use Rattle.lift_keeper.specs.Commits.{Commits};
 ghost use Rattle.lift_keeper.specs.Images.{IsImageOf, IsImageIn, IsInDoubt};
-ghost use Rattle.lift_keeper.specs.Reopening.{Reopens, RefusesReopening, FailsBy};
+ghost use Rattle.lift_keeper.specs.Recovers.{Recovers};
+ghost use Rattle.lift_keeper.specs.Reopening.{Reopens, RefusesReopening};
 ghost use Rattle.lift_journal.specs.Calls.{opening_of};
 ghost use Rattle.lift_keeper.specs.Calls.{StopsOpening};
-ghost use Rattle.lift_keeper.specs.Writer.{Guards, StopsCommit, commit_calls, commit_writes};
-ghost use Rattle.lift_keeper.specs.Writer.{commit_used, commit_second};
+ghost use Rattle.lift_keeper.specs.Writer.{Guards};
 
 use crate::copies::{apply_all, put_records};
 use crate::fault::KeeperFault;
@@ -145,63 +143,7 @@ impl<'b, D: Disk> Writer<'b, D> {
     pub fn commit(&mut self, batch: &ArrayVec<Entry, 63>) -> Result<(), KeeperFault>
         requires fits { self.old.is_broken ≡ false
             → FitFrom self.old.plan self.old.register batch.now.items }
-
-        // A crash at any moment of the call leaves the register that was safe before it, or that
-        // with this batch.
-        ensures any_moment { self.old.is_broken ≡ false
-            → LeavesOnly (D.state self.old.device) (D.state self.new.device)
-            (IsInDoubt self.old.plan self.old.register batch.now.items) }
-        ensures acknowledged { OnOk result
-            (LeavesNow (D.state self.new.device)
-            (IsImageOf self.old.plan (register_of self.old.register batch.now.items))) }
-        ensures register { OnOk result (self.new.register
-            ≡ register_of self.old.register batch.now.items) }
-        ensures in_doubt { result ≡ Err (KeeperFault.Journal JournalFault.Disk)
-            → LeavesNow (D.state self.new.device)
-            (IsInDoubt self.old.plan self.old.register batch.now.items) }
-
-        ensures broken { (result ≡ Err (KeeperFault.Journal JournalFault.Broken))
-            ↔ (self.old.is_broken ≡ true) }
-        ensures rests { self.old.is_broken ≡ true → self.new ≡ self.old }
-        ensures empty { self.old.is_broken ≡ false → batch.now.items ≡ []
-            → (result ≡ Ok tt) × (self.new ≡ self.old) }
-        ensures causes { IfErr result (λ fault. (fault ≡ KeeperFault.Journal JournalFault.Disk)
-            ⊎ (fault ≡ KeeperFault.Journal JournalFault.Broken)) }
-        ensures failed { result ≡ Err (KeeperFault.Journal JournalFault.Disk)
-            → (D.state self.old.device).failures < (D.state self.new.device).failures }
-        ensures breaks { result ≡ Err (KeeperFault.Journal JournalFault.Disk)
-            → (self.new.is_broken ≡ true) × (self.new.doubt ≡ batch.now.items) }
-        ensures unmoved { OnErr result (self.new.register ≡ self.old.register) }
-        ensures whole { OnOk result
-            (((D.state self.new.device).failures ≡ (D.state self.old.device).failures)) }
-        ensures stays { OnOk result ((self.new.is_broken ≡ false) × (self.new.doubt ≡ [])) }
-        ensures same { (self.new.plan ≡ self.old.plan) × (self.new.half ≡ self.old.half)
-            × (self.new.opened ≡ self.old.opened) }
-
-        // How many calls it makes: none for no entries, else those of an append, and of a
-        // checkpoint where room is wanted.
-        ensures runs { RunsOn (D.state self.old.device) (D.state self.new.device) }
-        ensures made { Makes result
-            (commit_calls self.old.register self.old.used self.old.half (length batch.now.items))
-            (commit_writes self.old.register self.old.used self.old.half (length batch.now.items))
-            (D.state self.old.device) (D.state self.new.device) }
-        ensures used { OnOk result (self.new.used
-            ≡ commit_used self.old.register self.old.used self.old.half (length batch.now.items)) }
-        ensures second { OnOk result (self.new.is_second
-            ≡ commit_second self.old.is_second self.old.used self.old.half
-            (length batch.now.items)) }
-        ensures told_ok { OnOk result
-            (NoneFails (D.state self.old.device) (D.state self.new.device)) }
-        ensures told { IfErr result (λ fault.
-            FailsBy fault (D.state self.old.device) (D.state self.new.device)) }
-
-        // Where a device stopped it that changes no byte in a failed call, the number of calls says
-        // what each cut leaves.
-        ensures stops { result ≡ Err (KeeperFault.Journal JournalFault.Disk)
-            → (D.state self.old.device).is_honest → (D.state self.old.device).is_inert
-            → StopsCommit self.old.plan self.old.half self.old.is_second self.old.used
-            self.old.register batch.now.items (D.state self.old.device)
-            (D.state self.new.device) }
+        ensures commits { Commits D.state self.old batch.now.items self.new result }
     {
         if self.is_broken {
             return Err(KeeperFault::Journal(JournalFault::Broken));
@@ -228,38 +170,7 @@ impl<'b, D: Disk> Writer<'b, D> {
     /// refusal leaves it as it was, but that a failed call leaves it broken: a later batch goes
     /// where it would have gone before.
     pub fn reopen(&mut self) -> Result<(), KeeperFault>
-        ensures opens { OnOk result
-            (Reopens self.old.plan (D.state self.old.device)
-            (D.state self.new.device) self.new.register self.new.half self.new.is_second
-            self.new.used) }
-        ensures one_of { OnOk result ((D.state self.old.device).is_honest
-            → (self.new.register ≡ self.old.register)
-            ⊎ (self.new.register ≡ register_of self.old.register self.old.doubt)) }
-        // A crash at any moment of the call leaves the register that was safe before it, or that
-        // with the batch in doubt.
-        ensures any_moment { LeavesOnly (D.state self.old.device) (D.state self.new.device)
-            (IsInDoubt self.old.plan self.old.register self.old.doubt) }
-        ensures whole { OnOk result ((self.new.is_broken ≡ false) × (self.new.doubt ≡ [])) }
-        ensures opened { OnOk result (self.new.opened ≡ (D.state self.new.device).failures) }
-        ensures refused { IfErr result (λ fault.
-            RefusesReopening self.old.plan (D.state self.old.device)
-            (D.state self.new.device) fault) }
-        ensures good { IfErr result (λ fault. (D.state self.old.device).is_honest
-            → fault ≡ KeeperFault.Journal JournalFault.Disk) }
-        ensures breaks { result ≡ Err (KeeperFault.Journal JournalFault.Disk)
-            → self.new.is_broken ≡ true }
-        ensures stays { IfErr result (λ fault. (fault ≡ KeeperFault.Journal JournalFault.Disk)
-            ⊎ (self.new.is_broken ≡ self.old.is_broken)) }
-        ensures unmoved { OnErr result ((self.new.register ≡ self.old.register)
-            × (self.new.doubt ≡ self.old.doubt) × (self.new.opened ≡ self.old.opened)) }
-        ensures place { OnErr result ((self.new.half ≡ self.old.half)
-            × (self.new.is_second ≡ self.old.is_second) × (self.new.used ≡ self.old.used)) }
-        ensures plan { self.new.plan ≡ self.old.plan }
-        ensures calls { OnOk result ((D.state self.new.device).trace
-            ≡ (D.state self.old.device).trace
-            ++ opening_of self.new.half self.new.is_second self.new.used) }
-        ensures calls_before { IfErr result (λ fault.
-            StopsOpening fault (D.state self.old.device) (D.state self.new.device)) }
+        ensures recovers { Recovers D.state self.old self.new result }
     {
         match reopened(&mut self.journal, self.building) {
             Ok(register) => {

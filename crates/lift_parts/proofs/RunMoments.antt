@@ -4,7 +4,7 @@ use Rattle.std.specs.Prelude.{Result}
 use Rattle.std.proofs.lemmas.List.{append-nil, length-append}
 use Rattle.lift_base.specs.declared.history.Entry.{Entry}
 use Rattle.lift_building.specs.Plan.{Plan}
-use Rattle.lift_disk.specs.Disk.{DiskState, Image}
+use Rattle.lift_disk.specs.Disk.{DiskState, Image, LeavesOnly}
 use Rattle.lift_disk.specs.lemmas.Moments.{leaves_weaker}
 use Rattle.lift_register.specs.Register.{RegisterState}
 use Rattle.lift_keeper.specs.Images.{IsImageOf, IsInDoubt}
@@ -17,11 +17,12 @@ use Rattle.lift_clerk.specs.Machine.{BeginsAfterCrash, kept_of}
 use Rattle.lift_clerk.specs.Clerk.{ClerkState}
 use Rattle.lift_clerk.specs.History.{History, BeginsOver, ShowsGiven, ShowsEither}
 use Rattle.lift_clerk.specs.lemmas.Asked.{not_both}
+use Rattle.lift_clerk.specs.lemmas.Committed.{either_moment}
 use Rattle.lift_parts.specs.declared.counts.FlushCounts.{FlushCounts}
 use Rattle.lift_parts.specs.Batch.{BatchState}
 use Rattle.lift_parts.specs.Line.{Begins, ReceivesOne}
 use Rattle.lift_parts.specs.Allocator.{AllocatorState}
-use Rattle.lift_parts.specs.Flusher.{FlusherState, Answered}
+use Rattle.lift_parts.specs.Flusher.{FlusherState, Answered, entries_between}
 use Rattle.lift_parts.specs.Turns.{AllocatorTurns, NoMore, OneMore, HandSent, FlusherTurns, NoFlush, OneFlush, IsFlush}
 use Rattle.lift_parts.specs.Laws.{RelayLaws}
 use Rattle.lift_parts.specs.Tie.{entries_of, ReceivesSent}
@@ -110,6 +111,9 @@ module _ {D P : Type 0} (laws : RelayLaws) (recovery : BeginsAfterCrash D P) (ch
     abbrev Stands : Type 0
     Stands = TurnStands chooses a f g h safe given (state g.writer.device) (state h.writer.device)
 
+    moment : LeavesOnly (state g.writer.device) (state h.writer.device) (IsEither g.writer.plan g.writer.register h.end.register)
+    moment = either_moment state g.writer (entries_between g.end h.end) h.end.register h.writer answer flush.commits was
+
     -- up to the turn
     rest : Begins g.end.received whole → (y c : AllocatorState P) → From y c → length g.end.received ≤ long c → Near c (length g.end.received) → Begins (all_of c) whole → Advances chooses c f g safe given
     rest front y c k le near here = both D laws chooses any state choice a f is_choice safe given start whole y c k f g None first refl more le near here front
@@ -135,12 +139,12 @@ module _ {D P : Type 0} (laws : RelayLaws) (recovery : BeginsAfterCrash D P) (ch
               (ShowsEither g.writer.plan (safe ++ p.more) (entries_of (batch ∷ [])) (given ++ p.told))
               (λ honest left either. subst (λ (l : List Entry). ShowsEither g.writer.plan (safe ++ p.more) l (given ++ p.told) left) (sym (append-nil batch.entries))
               (shows_either g.writer.plan (safe ++ p.more) batch.entries (given ++ p.told) left either (show m.now p sent left either)))
-              (flush.any_moment was);
+              moment;
           cuts = leaves_weaker (state g.writer.device) (state h.writer.device) (IsEither g.writer.plan g.writer.register h.end.register)
               (GoesOnEither D P chooses g.writer.plan (safe ++ p.more) (entries_of (batch ∷ [])) (given ++ p.told))
               (λ honest left either. subst (λ (l : List Entry). GoesOnEither D P chooses g.writer.plan (safe ++ p.more) l (given ++ p.told) left) (sym (append-nil batch.entries))
               (λ clerk over. goes_on_either chooses clerk (safe ++ p.more) batch.entries (given ++ p.told) either (goes m.now p sent left either clerk over)))
-              (flush.any_moment was);
+              moment;
         }
 
     by_step : Step g h → Meets (length h.end.received) → Stands
@@ -162,13 +166,13 @@ module _ {D P : Type 0} (laws : RelayLaws) (recovery : BeginsAfterCrash D P) (ch
               (λ honest left either.
               inl (crashes_show laws chooses any m.now g p.past.words (safe ++ p.more) (given ++ p.told) left p.past.history
               (inl (one_of g.writer.plan g.writer.register h.end.register left register either))))
-              (flush.any_moment was);
+              moment;
           cuts = leaves_weaker (state g.writer.device) (state h.writer.device) (IsEither g.writer.plan g.writer.register h.end.register)
               (GoesOnEither D P chooses g.writer.plan (safe ++ p.more) [] (given ++ p.told))
               (λ honest left either clerk over.
               inl (cuts_go_on laws recovery chooses any m.now g clerk p.past.words (safe ++ p.more) (given ++ p.told) left p.past.history
               (inl (one_of g.writer.plan g.writer.register h.end.register left register either)) over))
-              (flush.any_moment was);
+              moment;
         }
       where
         one_of : (plan : Plan) (old new : RegisterState) (left : Image) → new ≡ old → IsEither plan old new left → IsImageOf plan old left
@@ -203,13 +207,13 @@ module _ {D P : Type 0} (laws : RelayLaws) (recovery : BeginsAfterCrash D P) (ch
           (λ honest left doubt.
           shows_either g.writer.plan (safe ++ p.more) g.writer.doubt (given ++ p.told) left doubt
           (crashes_show laws chooses any m.now g p.past.words (safe ++ p.more) (given ++ p.told) left p.past.history doubt))
-          (flush.while_broken was);
+          (flush.commits.is.while_broken was);
       cuts = leaves_weaker (state g.writer.device) (state h.writer.device) (IsInDoubt g.writer.plan g.writer.register g.writer.doubt)
           (GoesOnEither D P chooses g.writer.plan (safe ++ p.more) g.writer.doubt (given ++ p.told))
           (λ honest left doubt clerk over.
           goes_on_either chooses clerk (safe ++ p.more) g.writer.doubt (given ++ p.told) doubt
           (cuts_go_on laws recovery chooses any m.now g clerk p.past.words (safe ++ p.more) (given ++ p.told) left p.past.history doubt over))
-          (flush.while_broken was);
+          (flush.commits.is.while_broken was);
     }
 
     up_to : Begins g.end.received whole → (y c : AllocatorState P) → From y c → length g.end.received ≤ long c → Near c (length g.end.received) → Begins (all_of c) whole → Advances chooses c f g safe given

@@ -14,6 +14,7 @@ use Rattle.lift_policy.specs.declared.command.Command.{Command}
 use Rattle.lift_keeper.specs.declared.fault.KeeperFault.{KeeperFault}
 use Rattle.lift_keeper.specs.declared.fault.KeeperFault.TheVariants.{Journal}
 use Rattle.lift_keeper.specs.Writer.{WriterView}
+use Rattle.lift_keeper.specs.lemmas.Committed.{safe_register}
 use Rattle.lift_world.specs.declared.event.Taken.{Taken as Held}
 use Rattle.lift_world.specs.Next.{unknown_to}
 use Rattle.lift_world.specs.Policies.{RunsAreAny}
@@ -24,7 +25,7 @@ use Rattle.lift_parts.specs.declared.counts.FlushCounts.{FlushCounts}
 use Rattle.lift_parts.specs.Batch.{BatchState, commands_in}
 use Rattle.lift_parts.specs.Line.{Begins, ReceivesOne}
 use Rattle.lift_parts.specs.Allocator.{AllocatorState, IsAllocation, IsFullTurn, IsScanTurn}
-use Rattle.lift_parts.specs.Flusher.{FlusherState, IsEmptyTurn, Answered}
+use Rattle.lift_parts.specs.Flusher.{FlusherState, IsEmptyTurn, Answered, entries_between}
 use Rattle.lift_parts.specs.Turns.{AllocatorTurns, NoMore, OneMore, HandSent, IsSending, FlusherTurns, NoFlush, OneFlush, IsFlush}
 use Rattle.lift_parts.specs.Laws.{RelayLaws}
 use Rattle.lift_parts.specs.Tie.{held_as, command_of, entries_of, ReceivesSent, Flushes, FlushFails, FlushesBroken}
@@ -88,14 +89,15 @@ module _ {D : Type 0} (state : D → DiskState) (f g : FlusherState D) where
   err_step : (fault : KeeperFault) → IsFlush state f g (Err fault) → (fault ≡ Journal Disk) ⊎ (fault ≡ Journal Broken) → Step f g
   err_step fault k (inl is) =
       let r : Result FlushCounts KeeperFault = Err fault in
-      NotMade ((fails_of f g k.kept.0 r (ap (λ (x : KeeperFault). Err x) is) k.turns k.broken k.breaks k.unmoved).1)
+      NotMade ((fails_of f g k.commits.is.same.0 r (ap (λ (x : KeeperFault). Err x) is) k.turns k.commits.is.broken k.commits.is.breaks k.commits.is.unmoved).1)
   err_step fault k (inr is) =
       let r : Result FlushCounts KeeperFault = Err fault in
-      broken_step (rests_of f g k.kept.0 r (ap (λ (x : KeeperFault). Err x) is) k.turns k.broken k.rests)
+      broken_step (rests_of f g k.commits.is.same.0 r (ap (λ (x : KeeperFault). Err x) is) k.turns k.commits.is.broken k.commits.is.rests)
 
   pub step_of : (answer : Result FlushCounts KeeperFault) → IsFlush state f g answer → Step f g
-  step_of (Ok counts) k = ok_step counts (flushes_of f g k.kept.0 _ (Ok counts) k.turns k.broken k.register k.whole)
-  step_of (Err fault) k = err_step fault k k.causes
+  step_of (Ok counts) k = ok_step counts (flushes_of f g k.commits.is.same.0 (Ok counts) k.turns k.commits.is.broken
+      (safe_register state f.writer (entries_between f.end g.end) g.end.register g.writer (Ok counts) k.commits) k.commits.is.stays)
+  step_of (Err fault) k = err_step fault k k.commits.is.causes
 
 -- ---- what turns add
 unknown_commands : (taken : List Taken) → map command_of (map unknown_to (map held_as taken)) ≡ commands_in taken

@@ -6,6 +6,7 @@ pub mod Noted
 pub mod Scanned
 pub mod Allocated
 pub mod Flushed
+pub mod Turned
 pub mod Ran
 pub mod Pasts
 pub mod Crosses

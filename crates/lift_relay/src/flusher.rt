@@ -1,22 +1,15 @@
 //! The part that makes batches safe and answers.
 
-ghost use Rattle.std.specs.Prelude.{◌≡◌, ℕ, List, ◌<◌, ◌⊎◌, ◌↔◌, [], length, true, false, Ok, Err};
-ghost use Rattle.std.specs.Prelude.{IfOk, IfErr, OnOk, OnErr};
-ghost use Rattle.lift_disk.specs.Disk.{LeavesNow, LeavesOnly, RunsOn};
+ghost use Rattle.std.specs.Prelude.{◌≡◌, ℕ, List, [], ◌<◌, ◌⊎◌, ◌↔◌, length, true, false, IfOk};
 ghost use Rattle.lift_desk.specs.Seats.{IsClerkOf, IsNoteOf, OwesNothing, Says, view_at};
-ghost use Rattle.lift_journal.specs.Steps.{Makes};
-ghost use Rattle.lift_journal.specs.Told.{NoneFails};
-ghost use Rattle.lift_keeper.specs.Images.{IsImageOf, IsInDoubt};
-ghost use Rattle.lift_keeper.specs.Reopening.{FailsBy};
-ghost use Rattle.lift_keeper.specs.Writer.{StopsCommit, commit_calls, commit_writes, commit_used};
-ghost use Rattle.lift_keeper.specs.Writer.{commit_second};
-ghost use Rattle.lift_clerk.specs.Turn.{IsEither};
+ghost use Rattle.lift_keeper.specs.Commits.{Commits};
 ghost use Rattle.lift_clerk.specs.Visits.{Visit};
 ghost use Rattle.lift_parts.specs.Batch.{BatchState, turns_behind, turns_with};
 ghost use Rattle.lift_parts.specs.Queued.{Queued};
 ghost use Rattle.lift_parts.specs.Parts.{AreOfOne};
-ghost use Rattle.lift_parts.specs.Flusher.{IsFlusher, AnswersOne, Answered, IsSettled, IsEmptyTurn};
-ghost use Rattle.lift_parts.specs.Flusher.{IsBatchTurn, entries_between};
+ghost use Rattle.lift_parts.specs.Flusher.{IsFlusher, AnswersOne, Answered, IsSettled};
+ghost use Rattle.lift_parts.specs.Flusher.{IsBatchTurn};
+ghost use Rattle.lift_parts.specs.Turns.{IsFlush};
 
 use crate::allocator::Allocator;
 use crate::batch::Batch;
@@ -26,7 +19,6 @@ use arrayvec::ArrayVec;
 use lift_base::{Reply, Terminal};
 use lift_desk::{ClerkSeat, Desk};
 use lift_disk::Disk;
-use lift_journal::JournalFault;
 use lift_keeper::{KeeperFault, Writer};
 use lift_parts::{FlushCounts, Taken};
 use lift_policy::Policy;
@@ -118,13 +110,18 @@ fn owes(desk: &Desk, seat: &ClerkSeat) -> bool
     false
 }
 
-// What a crash leaves while the writer is broken, which makes no call.
-fn resting<D: Disk>(writer: &Writer<'_, D>)
-    ensures { writer.now.is_broken ≡ true
-        → LeavesOnly (D.state writer.now.device) (D.state writer.now.device)
-        (IsInDoubt writer.now.plan writer.now.register writer.now.doubt) }
+/// The commit of a turn that received no batch.
+fn commit_nothing<D: Disk>(writer: &mut Writer<'_, D>) -> Result<FlushCounts, KeeperFault>
+    ensures commits { Commits D.state writer.old [] writer.new result }
+    ensures counts { IfOk result (λ counts. counts ≡ record { batches = 0; answers = 0 }) }
 {
-    let _register = writer.register();
+    match writer.commit(&ArrayVec::new()) {
+        Ok(()) => Ok(FlushCounts {
+            batches: 0,
+            answers: 0,
+        }),
+        Err(fault) => Err(fault),
+    }
 }
 
 impl<'d, 'b, D: Disk> Flusher<'d, 'b, D> {
@@ -251,98 +248,16 @@ impl<'d, 'b, D: Disk> Flusher<'d, 'b, D> {
     /// `Journal(Disk)` where a call of the device failed, `Journal(Broken)` while it is broken,
     /// also where the line was empty.
     pub fn turn<R: Wait>(&mut self, rt: &R) -> Result<FlushCounts, KeeperFault>
-        ensures turns { IsEmptyTurn self.old self.new result
-            ⊎ ((batch : BatchState) × IsBatchTurn self.old self.new batch result) }
-
-        // A crash at any moment of the call leaves the register that was safe before it, or that
-        // with the batch received.
-        ensures any_moment { self.old.writer.is_broken ≡ false
-            → LeavesOnly (D.state self.old.writer.device) (D.state self.new.writer.device)
-            (IsEither self.old.writer.plan self.old.writer.register self.new.end.register) }
-        // A broken one makes no call: a crash leaves what was safe before the fault, or that with
-        // the batch in doubt.
-        ensures while_broken { self.old.writer.is_broken ≡ true
-            → LeavesOnly (D.state self.old.writer.device) (D.state self.new.writer.device)
-            (IsInDoubt self.old.writer.plan self.old.writer.register self.old.writer.doubt) }
-        // What was answered is safe: every crash from now on leaves it.
-        ensures acknowledged { OnOk result
-            (LeavesNow (D.state self.new.writer.device)
-            (IsImageOf self.old.writer.plan self.new.end.register)) }
-        ensures register { OnOk result (self.new.writer.register ≡ self.new.end.register) }
-        ensures in_doubt { result ≡ Err (KeeperFault.Journal JournalFault.Disk)
-            → LeavesNow (D.state self.new.writer.device)
-            (IsInDoubt self.old.writer.plan self.old.writer.register self.new.writer.doubt) }
-
-        ensures broken { (result ≡ Err (KeeperFault.Journal JournalFault.Broken))
-            ↔ (self.old.writer.is_broken ≡ true) }
-        ensures causes { IfErr result (λ fault. (fault ≡ KeeperFault.Journal JournalFault.Disk)
-            ⊎ (fault ≡ KeeperFault.Journal JournalFault.Broken)) }
-        ensures failed { result ≡ Err (KeeperFault.Journal JournalFault.Disk)
-            → (D.state self.old.writer.device).failures
-            < (D.state self.new.writer.device).failures }
-        ensures rests { self.old.writer.is_broken ≡ true → self.new.writer ≡ self.old.writer }
-        ensures breaks { OnErr result (self.new.writer.is_broken ≡ true) }
-        // Unknown is answered only where a call has failed since the last opening that succeeded.
-        ensures since { OnErr result (self.new.writer.opened
-            < (D.state self.new.writer.device).failures) }
-        ensures unmoved { OnErr result (self.new.writer.register ≡ self.old.writer.register) }
-        ensures whole { OnOk result
-            (((D.state self.new.writer.device).failures ≡ (D.state self.old.writer.device).failures)
-            × (self.new.writer.is_broken ≡ false) × (self.new.writer.doubt ≡ [])) }
-        ensures kept { (self.new.writer.plan ≡ self.old.writer.plan)
-            × (self.new.writer.half ≡ self.old.writer.half)
-            × (self.new.writer.opened ≡ self.old.writer.opened) }
-        ensures same { (self.new.desk ≡ self.old.desk) × (self.new.end.line ≡ self.old.end.line) }
+        ensures flushes { IsFlush D.state self.old self.new result }
         // A batch that it was told of, it receives.
         ensures finds { length self.old.end.received < length self.old.end.known
             → (batch : BatchState) × IsBatchTurn self.old self.new batch result }
-
-        // How many calls it makes: those of one commit, none where the batch has no entries and
-        // where none was received.
-        ensures runs { RunsOn (D.state self.old.writer.device) (D.state self.new.writer.device) }
-        ensures made { Makes result
-            (commit_calls self.old.writer.register self.old.writer.used self.old.writer.half
-            (entries_between self.old.end self.new.end))
-            (commit_writes self.old.writer.register self.old.writer.used self.old.writer.half
-            (entries_between self.old.end self.new.end))
-            (D.state self.old.writer.device) (D.state self.new.writer.device) }
-        ensures used { OnOk result (self.new.writer.used
-            ≡ commit_used self.old.writer.register self.old.writer.used self.old.writer.half
-            (entries_between self.old.end self.new.end)) }
-        ensures second { OnOk result (self.new.writer.is_second
-            ≡ commit_second self.old.writer.is_second self.old.writer.used self.old.writer.half
-            (entries_between self.old.end self.new.end)) }
-        ensures told_ok { OnOk result
-            (NoneFails (D.state self.old.writer.device) (D.state self.new.writer.device)) }
-        ensures told { IfErr result (λ fault.
-            FailsBy fault (D.state self.old.writer.device) (D.state self.new.writer.device)) }
-
-        // Where a device stopped it that changes no byte in a failed call, the number of calls says
-        // what each cut leaves.
-        ensures stops { result ≡ Err (KeeperFault.Journal JournalFault.Disk)
-            → (D.state self.old.writer.device).is_honest → (D.state self.old.writer.device).is_inert
-            → StopsCommit self.old.writer.plan self.old.writer.half self.old.writer.is_second
-            self.old.writer.used
-            self.old.writer.register self.new.writer.doubt (D.state self.old.writer.device)
-            (D.state self.new.writer.device) }
     {
-        resting(&self.writer);
         let batch = match self.end.receive(rt) {
             Some(batch) => batch,
-            None => {
-                let _register = self.writer.register();
-                if self.writer.is_broken() {
-                    return Err(KeeperFault::Journal(JournalFault::Broken));
-                }
-                return Ok(FlushCounts {
-                    batches: 0,
-                    answers: 0,
-                });
-            }
+            None => return commit_nothing(&mut self.writer),
         };
         let committed = self.writer.commit(batch.entries());
-        let _register = self.writer.register();
-        let _broken = self.writer.is_broken();
         match committed {
             Ok(()) => {
                 let answers = answer_all(self.desk, &mut self.seat, batch, true);

@@ -61,15 +61,15 @@ module _ {D : Type 0} (f g : FlusherState D) (same_plan : g.writer.plan ≡ f.wr
   rest_turn (inl e) was same = inl e
   rest_turn (inr t) was same = inr (t.0, record { turn = t.1; was_broken = was; rests = same })
 
-  pub flushes_of : (X : Type 0) (result : Result FlushCounts KeeperFault) → Turn f g result
+  pub flushes_of : (result : Result FlushCounts KeeperFault) → Turn f g result
       → ((result ≡ Err (Journal Broken)) ↔ (f.writer.is_broken ≡ true))
       → OnOk result (g.writer.register ≡ g.end.register)
-      → OnOk result (X × (g.writer.is_broken ≡ false) × (g.writer.doubt ≡ []))
+      → OnOk result ((g.writer.is_broken ≡ false) × (g.writer.doubt ≡ []))
       → IfOk result (λ counts. IsEmptyTurn f g (Ok counts)
       ⊎ ((batch : BatchState) × Flushes f g batch counts))
-  flushes_of X (Ok counts) t broken register whole =
-      ok_turn counts t broken register whole.1 whole.2
-  flushes_of X (Err fault) t broken register whole = tt
+  flushes_of (Ok counts) t broken register whole =
+      ok_turn counts t broken register whole.0 whole.1
+  flushes_of (Err fault) t broken register whole = tt
 
   pub fails_of : (result : Result FlushCounts KeeperFault) → result ≡ Err (Journal Disk)
       → Turn f g result → ((result ≡ Err (Journal Broken)) ↔ (f.writer.is_broken ≡ true))

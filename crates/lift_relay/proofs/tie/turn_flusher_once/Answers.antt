@@ -1,11 +1,21 @@
+use Rattle.lift_keeper.specs.lemmas.Committed.{safe_register}
+use Rattle.lift_parts.specs.Flusher.{entries_between}
 use Rattle.lift_parts.specs.lemmas.TiedTurns.{flushes_of, fails_of, rests_of}
 use Rattle.lift_relay.proofs.tie.turn_flusher_once.Goals as goal
 
 pub returns-clause-flushes : goal.returns-clause-flushes
-returns-clause-flushes g c = let e = c.turn.ensures in flushes_of c.args.flusher.now c.turn.new.self e.kept.0 _ c.turn.result e.turns e.broken e.register e.whole
+returns-clause-flushes g c =
+    let f = c.args.flusher.now in
+    let after = c.turn.new.self in
+    let e = c.turn.ensures.flushes in
+    flushes_of f after e.commits.is.same.0 c.turn.result e.turns e.commits.is.broken (safe_register g.D.Disk.state f.writer (entries_between f.end after.end) after.end.register after.writer c.turn.result e.commits) e.commits.is.stays
 
 pub returns-clause-fails : goal.returns-clause-fails
-returns-clause-fails g c is = let e = c.turn.ensures in fails_of c.args.flusher.now c.turn.new.self e.kept.0 c.turn.result is e.turns e.broken e.breaks e.unmoved
+returns-clause-fails g c is =
+    let e = c.turn.ensures.flushes in
+    fails_of c.args.flusher.now c.turn.new.self e.commits.is.same.0 c.turn.result is e.turns e.commits.is.broken e.commits.is.breaks e.commits.is.unmoved
 
 pub returns-clause-rests : goal.returns-clause-rests
-returns-clause-rests g c is = let e = c.turn.ensures in rests_of c.args.flusher.now c.turn.new.self e.kept.0 c.turn.result is e.turns e.broken e.rests
+returns-clause-rests g c is =
+    let e = c.turn.ensures.flushes in
+    rests_of c.args.flusher.now c.turn.new.self e.commits.is.same.0 c.turn.result is e.turns e.commits.is.broken e.commits.is.rests

@@ -1,15 +1,17 @@
-use Rattle.std.proofs.Common.{◌≡◌, ⊎_elim, inl, inr, true, false, sym, ap, ◌∙◌, subst}
-use Rattle.std.specs.Prelude.{Err}
+use Rattle.std.proofs.Common.{◌≡◌, inl, inr, true, false, length, sym, ap, ◌∙◌, subst}
+use Rattle.std.specs.Prelude.{Ok, Err}
 use Rattle.lift_register.specs.Register.{register_of}
 use Rattle.lift_policy.specs.Step.{State}
 use Rattle.lift_journal.specs.declared.fault.JournalFault.TheVariants.{Disk}
 use Rattle.lift_keeper.specs.declared.fault.KeeperFault.TheVariants.{Journal}
+use Rattle.lift_keeper.specs.Commits.{CommitsTo}
 use Rattle.lift_keeper.specs.Keeper.{KeeperView}
 use Rattle.lift_keeper.specs.Writer.{WriterView}
+use Rattle.lift_clerk.specs.declared.counts.Counts.{Counts}
 use Rattle.lift_clerk.specs.Clerk.{ClerkState}
 use Rattle.lift_clerk.specs.Turn.{IsFailedTurn, IsBrokenTurn}
 use Rattle.lift_clerk.specs.Scanning.{replies_told}
-use Rattle.lift_clerk.proofs.Turning.{serves_all, serves_rest, is_whole, failed_turn, broken_turn}
+use Rattle.lift_clerk.proofs.Turning.{serves_all, serves_rest, is_whole, same_keeper, failed_turn, broken_turn, committed, not_committed}
 use Rattle.lift_clerk.proofs.clerk.Clerk.turn.Goals as goal
 
 pub returns-in-Ok-clause-answered : goal.returns-in-Ok-clause-answered
@@ -49,9 +51,24 @@ invariant_of-self-in-Err g c =
     record {
       seated = c.answer_all-in-Err.ensures.seated;
       answered = serves_rest s.seat c.answer_all-in-Err.new.seat scans.visits (replies_told false answers) serves c.self.invariant.answered;
-      settled = inr (⊎_elim (λ of_disk. (c.in-Err.ensures.breaks (ap Err of_disk)).0)
-          (λ of_broken. (let was = c.in-Err.ensures.broken.0 (ap Err of_broken) in ap (λ (k : KeeperView g.row.D.Denot). k.writer.is_broken) (c.in-Err.ensures.rests was) ∙ was)) c.in-Err.ensures.causes);
+      settled = inr c.in-Err.ensures.commits.breaks;
     }
+
+pub returns-in-Ok-clause-commits : goal.returns-in-Ok-clause-commits
+returns-in-Ok-clause-commits g c =
+    let after = c.commit.new.self in
+    let shown = c.register-shown in
+    let counts : Counts = record { taken = c.len.result; accepted = c.pending.result } in
+    subst (λ (v : ClerkState g.row.D.Denot g.row.P.Denot). CommitsTo {D = g.row.D.Denot} {T = Counts} g.D.Disk.state v.keeper.writer c.pending.result after.state.register after.writer (Ok counts)) c.self.view_is
+    (committed g.D.Disk.state c.self.inside.keeper.writer c.scan.new.keeper after shown.result.now c.scan.ensures.writer shown.ensures.value shown.ensures.ahead counts c.pending.ensures.value c.in-Ok.ensures.begins c.in-Ok.ensures.commits)
+
+pub returns-in-Err-clause-commits : goal.returns-in-Err-clause-commits
+returns-in-Err-clause-commits g c =
+    let after = c.commit.new.self in
+    let shown = c.register-shown in
+    let fault = c.in-Err.fault in
+    subst (λ (v : ClerkState g.row.D.Denot g.row.P.Denot). CommitsTo {D = g.row.D.Denot} {T = Counts} g.D.Disk.state v.keeper.writer (length after.state.batch) after.state.register after.writer (Err fault)) c.self.view_is
+    (not_committed g.D.Disk.state c.self.inside.keeper.writer c.scan.new.keeper after shown.result.now c.scan.ensures.writer shown.ensures.value shown.ensures.ahead fault c.in-Err.ensures.unmoved c.in-Err.ensures.commits)
 
 pub returns-in-Err-clause-fails : goal.returns-in-Err-clause-fails
 returns-in-Err-clause-fails g c = λ of_disk.
@@ -60,7 +77,7 @@ returns-in-Err-clause-fails g c = λ of_disk.
     let answers = c.scan.new.answers.items in
     let between = c.scan.new.keeper in
     let writer = c.scan.ensures.writer in
-    let commit = c.in-Err.ensures in
+    let commit = c.in-Err.ensures.commits in
     let old : ClerkState g.row.D.Denot g.row.P.Denot = record { desk = s.desk.now; seat = s.seat; keeper = s.keeper; policy = s.policy } in
     let new : ClerkState g.row.D.Denot g.row.P.Denot = record { desk = s.desk.now; seat = c.answer_all-in-Err.new.seat; keeper = c.commit.new.self; policy = s.policy } in
     let fault : c.in-Err.fault ≡ Journal Disk = cc in
@@ -69,9 +86,9 @@ returns-in-Err-clause-fails g c = λ of_disk.
     subst (λ (v : ClerkState g.row.D.Denot g.row.P.Denot). IsFailedTurn (g.P.Policy.chooses v.policy) v new) c.self.view_is
     (failed_turn s.desk.now (g.P.Policy.chooses s.policy) old new c.scan.new.seat between.state answers c.self.invariant.seated scans (c.answer_all-in-Err.ensures.stored s.seat scans.visits scans.scanned) c.answer_all-in-Err.ensures.in_range c.self.invariant.settled
     (sym (ap (λ (w : WriterView g.row.D.Denot). w.is_broken) writer) ∙ whole)
-    commit.unmoved.0
-    (λ none. let ok = (commit.empty whole none).0 in absurd (cc))
-    (commit.breaks (ap Err fault)).1
+    c.in-Err.ensures.unmoved
+    (λ none. let no = (commit.empty whole none).0 in cc)
+    (commit.doubts (ap Err fault))
     (sym shown.value ∙ shown.ahead whole ∙ ap (λ (w : WriterView g.row.D.Denot). register_of w.register between.state.batch) writer))
 
 pub returns-in-Err-clause-rests : goal.returns-in-Err-clause-rests
@@ -86,4 +103,4 @@ returns-in-Err-clause-rests g c = λ was.
     let broken : s.keeper.writer.is_broken ≡ true = ap (λ (v : ClerkState g.row.D.Denot g.row.P.Denot). v.keeper.writer.is_broken) c.self.view_is ∙ was in
     subst (λ (v : ClerkState g.row.D.Denot g.row.P.Denot). IsBrokenTurn v new) c.self.view_is
     (broken_turn s.desk.now (g.P.Policy.chooses s.policy) old new c.scan.new.seat answers between c.self.invariant.seated scans (c.answer_all-in-Err.ensures.stored s.seat scans.visits scans.scanned) c.answer_all-in-Err.ensures.in_range
-    broken writer (c.in-Err.ensures.rests (ap (λ (w : WriterView g.row.D.Denot). w.is_broken) writer ∙ broken)))
+    broken writer (same_keeper c.commit.new.self between c.in-Err.ensures.unmoved (c.in-Err.ensures.commits.rests (ap (λ (w : WriterView g.row.D.Denot). w.is_broken) writer ∙ broken))))

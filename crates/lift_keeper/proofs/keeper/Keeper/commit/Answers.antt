@@ -12,11 +12,11 @@ invariant_of-self-2 g c =
     let after = c.commit.new.self in
     let sealed = c.clear_batch.new.self in
     let kept = c.clear_batch.ensures in
-    let whole = not_true writer.is_broken (λ was. cc (c.commit.ensures.broken.1 was, c.in_ok-commit.was)) in
+    let whole = not_true writer.is_broken (λ was. cc (c.commit.ensures.commits.broken.1 was, c.in_ok-commit.was)) in
     let batch = c.batch.ensures.value in
-    let is : after.register ≡ register_of writer.register decider.state.batch = c.in_ok-commit.ensures.register ∙ ap (register_of writer.register) batch in
+    let is : after.register ≡ register_of writer.register decider.state.batch = c.in_ok-commit.ensures.commits.register ∙ ap (register_of writer.register) batch in
     settled_keeper after.plan sealed.state sealed.plan after.register after.is_broken
-    (ap (λ (d : DeciderState). d.plan) kept ∙ c.self.invariant.of_building ∙ sym c.commit.ensures.same.0)
+    (ap (λ (d : DeciderState). d.plan) kept ∙ c.self.invariant.of_building ∙ sym c.commit.ensures.commits.same.0)
     (ap (λ (d : DeciderState). d.state.batch) kept)
     (subst (λ (r : RegisterState). register_of r [] ≡ r) (sym is) (nothing_behind writer.register decider.state.batch))
     (λ _. ap (λ (d : DeciderState). d.state.register) kept ∙ c.self.invariant.shows whole ∙ sym is)

@@ -8,7 +8,7 @@ invariant_of-self-2 g c =
     let writer = c.reopen.new.self in
     let made = c.of-self-inside.result in
     settled_keeper writer.plan made.state made.plan writer.register writer.is_broken
-    (ap (λ (d : DeciderState). d.plan) c.of-self-inside.ensures ∙ c.building-building.ensures ∙ c.self.invariant.of_building ∙ sym c.reopen.ensures.plan)
+    (ap (λ (d : DeciderState). d.plan) c.of-self-inside.ensures ∙ c.building-building.ensures ∙ c.self.invariant.of_building ∙ sym c.reopen.ensures.recovers.plan)
     (ap (λ (d : DeciderState). d.state.batch) c.of-self-inside.ensures)
     (nothing_more writer.register c.register.result.now c.register.ensures.value c.register.ensures.lawful)
     (λ _. ap (λ (d : DeciderState). d.state.register) c.of-self-inside.ensures ∙ c.copy_of.ensures.value ∙ c.register.ensures.value)

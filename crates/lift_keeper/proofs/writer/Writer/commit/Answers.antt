@@ -1,4 +1,4 @@
-use Rattle.std.proofs.Common.{◌≡◌, List, true, false, refl, sym, subst, arith}
+use Rattle.std.proofs.Common.{rules, ◌≡◌, List, true, false, refl, sym, subst, arith}
 use Rattle.lift_base.specs.declared.history.Entry.{Entry}
 use Rattle.lift_disk.specs.Disk.{LeavesNow}
 use Rattle.lift_register.specs.Register.{register_of}
@@ -15,41 +15,42 @@ put_records-requires g c =
     let fit = subst (λ (v : WriterView g.row.D.Denot). v.is_broken ≡ false → FitFrom v.plan v.register c.args.batch.now.items) (sym c.self.view_is) c.requires.fits in
     record { lawful = all_lawful c.self.inside.building.now c.self.inside.register c.args.batch.now.items (fit c.if-self.false) }
 
-pub returns-then-is_empty-clause-register : goal.returns-then-is_empty-clause-register
-returns-then-is_empty-clause-register g c =
-    subst (λ (v : WriterView g.row.D.Denot). v.register ≡ register_of v.register c.args.batch.now.items) c.self.view_is
-    (none_more c.self.inside.register c.args.batch.now.items c.self.invariant.lawful (nothing_in c.args.batch.now.items (c.if-is_empty.ensures)))
+pub returns-then-is_empty : goal.returns-then-is_empty
+returns-then-is_empty g c =
+    let w = c.self.inside in
+    let batch = c.args.batch.now.items in
+    let none = nothing_in batch (c.if-is_empty.ensures) in
+    let register = subst (λ (v : WriterView g.row.D.Denot). v.register ≡ register_of v.register batch) c.self.view_is (none_more w.register batch c.self.invariant.lawful none) in
+    let acknowledged = subst (λ (v : WriterView g.row.D.Denot). LeavesNow (g.D.Disk.state v.device) (IsImageOf v.plan (register_of v.register batch))) c.self.view_is
+    (none_acknowledged w.building.now w.register batch (g.D.Disk.state w.journal.device) c.self.invariant.lawful none
+    (safe_of w.building.now w.journal w.register w.doubt.value.items (g.D.Disk.state w.opened.value.device).failures w.is_broken (g.D.Disk.state w.journal.device) c.self.invariant c.if-self.false)) in
+    search rules
 
-pub returns-then-is_empty-clause-acknowledged : goal.returns-then-is_empty-clause-acknowledged
-returns-then-is_empty-clause-acknowledged g c =
-    subst (λ (v : WriterView g.row.D.Denot). LeavesNow (g.D.Disk.state v.device) (IsImageOf v.plan (register_of v.register c.args.batch.now.items))) c.self.view_is
-    (none_acknowledged c.self.inside.building.now c.self.inside.register c.args.batch.now.items (g.D.Disk.state c.self.inside.journal.device) c.self.invariant.lawful (nothing_in c.args.batch.now.items (c.if-is_empty.ensures))
-    (safe_of c.self.inside.building.now c.self.inside.journal c.self.inside.register c.self.inside.doubt.value.items (g.D.Disk.state c.self.inside.opened.value.device).failures c.self.inside.is_broken
-    (g.D.Disk.state c.self.inside.journal.device) c.self.invariant c.if-self.false))
-
-pub returns-in-Ok-clause-acknowledged : goal.returns-in-Ok-clause-acknowledged
-returns-in-Ok-clause-acknowledged g c =
+pub returns-in-Ok : goal.returns-in-Ok
+returns-in-Ok g c =
     let w = c.self.inside in
     let batch = c.args.batch.now.items in
     let old = g.D.Disk.state w.journal.device in
     let new = g.D.Disk.state c.store.new.journal.device in
     let guards = guards_of w.building.now w.journal w.register w.doubt.value.items (g.D.Disk.state w.opened.value.device).failures w.is_broken old c.self.invariant c.if-self.false in
     let fit = subst (λ (v : WriterView g.row.D.Denot). v.is_broken ≡ false → FitFrom v.plan v.register batch) (sym c.self.view_is) c.requires.fits in
-    subst (λ (v : WriterView g.row.D.Denot). LeavesNow new (IsImageOf v.plan (register_of v.register batch))) c.self.view_is
+    let acknowledged = subst (λ (v : WriterView g.row.D.Denot). LeavesNow new (IsImageOf v.plan (register_of v.register batch))) c.self.view_is
     (keeps_safe w.building.now c.store.new.journal.shape c.store.new.journal.is_second c.store.new.journal.used (register_of w.register batch) new
-    (c.in-Ok.ensures.keeps w.building.now batch c.put_records.ensures.kept (fit c.if-self.false) guards))
+    (c.in-Ok.ensures.keeps w.building.now batch c.put_records.ensures.kept (fit c.if-self.false) guards)) in
+    search rules
 
-pub returns-in-Err-clause-in_doubt : goal.returns-in-Err-clause-in_doubt
-returns-in-Err-clause-in_doubt g c _ =
+pub returns-in-Err : goal.returns-in-Err
+returns-in-Err g c =
     let w = c.self.inside in
     let batch = c.args.batch.now.items in
     let old = g.D.Disk.state w.journal.device in
     let new = g.D.Disk.state c.store.new.journal.device in
     let guards = guards_of w.building.now w.journal w.register w.doubt.value.items (g.D.Disk.state w.opened.value.device).failures w.is_broken old c.self.invariant c.if-self.false in
     let fit = subst (λ (v : WriterView g.row.D.Denot). v.is_broken ≡ false → FitFrom v.plan v.register batch) (sym c.self.view_is) c.requires.fits in
-    subst (λ (v : WriterView g.row.D.Denot). LeavesNow new (IsInDoubt v.plan v.register batch)) c.self.view_is
+    let in_doubt = subst (λ (v : WriterView g.row.D.Denot). LeavesNow new (IsInDoubt v.plan v.register batch)) c.self.view_is
     (now_after old new (IsInDoubt w.building.now w.register batch)
-    (c.store.ensures.any_moment w.building.now batch c.put_records.ensures.kept (fit c.if-self.false) guards) (g.met.D.Disk.counts_now c.store.new.journal.device))
+    (c.store.ensures.any_moment w.building.now batch c.put_records.ensures.kept (fit c.if-self.false) guards) (g.met.D.Disk.counts_now c.store.new.journal.device)) in
+    search rules
 
 pub invariant_of-self-in-Err : goal.invariant_of-self-in-Err
 invariant_of-self-in-Err g c =

@@ -1,4 +1,4 @@
-use Rattle.std.proofs.Common.{◌≡◌, ◌⊎◌, ◌∙◌, ⊎_elim, refl, subst}
+use Rattle.std.proofs.Common.{rules, ◌≡◌, ◌⊎◌, ◌∙◌, ⊎_elim, refl, subst}
 use Rattle.lift_journal.specs.declared.fault.JournalFault.TheVariants.{Disk}
 use Rattle.lift_keeper.specs.declared.fault.KeeperFault.TheVariants.{Journal}
 use Rattle.lift_disk.specs.Disk.{LeavesOnly}
@@ -21,29 +21,24 @@ invariant_of-self-else-is_of_disk g c =
     (g.met.D.Disk.counts_now c.reopened.new.journal.device) (λ is. cc (c.is_of_disk.ensures.1 is, c.if-is_of_disk.false))
     (λ whole. ⊎_elim (λ is. absurd (cc (c.is_of_disk.ensures.1 is, c.if-is_of_disk.false))) (λ same. same ∙ c.self.invariant.whole whole) c.in-Err.ensures.stays)
 
-pub returns-in-Ok-clause-one_of : goal.returns-in-Ok-clause-one_of
-returns-in-Ok-clause-one_of g c =
-    subst (λ (v : WriterView g.row.D.Denot). (g.D.Disk.state v.device).is_honest → (c.in-Ok.register ≡ v.register) ⊎ (c.in-Ok.register ≡ register_of v.register v.doubt)) c.self.view_is
-    (reopened_one c.self.inside.building.now c.self.inside.journal c.self.inside.register c.self.inside.doubt.value.items (g.D.Disk.state c.self.inside.opened.value.device).failures c.self.inside.is_broken
-    (g.D.Disk.state c.self.inside.journal.device) c.self.invariant (g.D.Disk.state c.reopened.new.journal.device) c.in-Ok.register c.reopened.new.journal.shape.half c.reopened.new.journal.is_second c.reopened.new.journal.used c.in-Ok.ensures.opens)
-
-pub returns-else-is_of_disk-clause-good : goal.returns-else-is_of_disk-clause-good
-returns-else-is_of_disk-clause-good g c =
+pub returns-in-Ok : goal.returns-in-Ok
+returns-in-Ok g c =
     let w = c.self.inside in
-    subst (λ (v : WriterView g.row.D.Denot). (g.D.Disk.state v.device).is_honest → c.in-Err.fault ≡ Journal Disk) c.self.view_is
+    let new = g.D.Disk.state c.reopened.new.journal.device in
+    let one_of = subst (λ (v : WriterView g.row.D.Denot). (g.D.Disk.state v.device).is_honest → (c.in-Ok.register ≡ v.register) ⊎ (c.in-Ok.register ≡ register_of v.register v.doubt)) c.self.view_is
+    (reopened_one w.building.now w.journal w.register w.doubt.value.items (g.D.Disk.state w.opened.value.device).failures w.is_broken
+    (g.D.Disk.state w.journal.device) c.self.invariant new c.in-Ok.register c.reopened.new.journal.shape.half c.reopened.new.journal.is_second c.reopened.new.journal.used c.in-Ok.ensures.opens) in
+    let any_moment = subst (λ (v : WriterView g.row.D.Denot). LeavesOnly (g.D.Disk.state v.device) new (IsInDoubt v.plan v.register v.doubt)) c.self.view_is
+    (opening_leaves w.building.now w.journal w.register w.doubt.value.items (g.D.Disk.state w.opened.value.device).failures w.is_broken (g.D.Disk.state w.journal.device) c.self.invariant new c.in-Ok.ensures.opens.moments) in
+    search rules
+
+pub returns-else-is_of_disk : goal.returns-else-is_of_disk
+returns-else-is_of_disk g c =
+    let w = c.self.inside in
+    let new = g.D.Disk.state c.reopened.new.journal.device in
+    let good = subst (λ (v : WriterView g.row.D.Denot). (g.D.Disk.state v.device).is_honest → c.in-Err.fault ≡ Journal Disk) c.self.view_is
     (refused_good w.building.now w.journal w.register w.doubt.value.items (g.D.Disk.state w.opened.value.device).failures w.is_broken (g.D.Disk.state w.journal.device) c.self.invariant
-    (g.D.Disk.state c.reopened.new.journal.device) c.in-Err.fault c.in-Err.ensures.refused (g.met.D.Disk.counts_now c.reopened.new.journal.device))
-
-pub returns-in-Ok-clause-any_moment : goal.returns-in-Ok-clause-any_moment
-returns-in-Ok-clause-any_moment g c =
-    let w = c.self.inside in
-    let new = g.D.Disk.state c.reopened.new.journal.device in
-    subst (λ (v : WriterView g.row.D.Denot). LeavesOnly (g.D.Disk.state v.device) new (IsInDoubt v.plan v.register v.doubt)) c.self.view_is
-    (opening_leaves w.building.now w.journal w.register w.doubt.value.items (g.D.Disk.state w.opened.value.device).failures w.is_broken (g.D.Disk.state w.journal.device) c.self.invariant new c.in-Ok.ensures.opens.moments)
-
-pub returns-else-is_of_disk-clause-any_moment : goal.returns-else-is_of_disk-clause-any_moment
-returns-else-is_of_disk-clause-any_moment g c =
-    let w = c.self.inside in
-    let new = g.D.Disk.state c.reopened.new.journal.device in
-    subst (λ (v : WriterView g.row.D.Denot). LeavesOnly (g.D.Disk.state v.device) new (IsInDoubt v.plan v.register v.doubt)) c.self.view_is
-    (opening_leaves w.building.now w.journal w.register w.doubt.value.items (g.D.Disk.state w.opened.value.device).failures w.is_broken (g.D.Disk.state w.journal.device) c.self.invariant new c.in-Err.ensures.refused.moments)
+    new c.in-Err.fault c.in-Err.ensures.refused (g.met.D.Disk.counts_now c.reopened.new.journal.device)) in
+    let any_moment = subst (λ (v : WriterView g.row.D.Denot). LeavesOnly (g.D.Disk.state v.device) new (IsInDoubt v.plan v.register v.doubt)) c.self.view_is
+    (opening_leaves w.building.now w.journal w.register w.doubt.value.items (g.D.Disk.state w.opened.value.device).failures w.is_broken (g.D.Disk.state w.journal.device) c.self.invariant new c.in-Err.ensures.refused.moments) in
+    search rules

@@ -1,0 +1,57 @@
+-- What a turn's commit gives of the moments within it, and of the machine's turns.
+use Rattle.std.proofs.Common.{◌≡◌, ℕ, false, sym, subst}
+use Rattle.std.specs.Prelude.{Result, Ok, Err, IfOk}
+use Rattle.lift_disk.specs.Disk.{DiskState, LeavesOnly}
+use Rattle.lift_register.specs.Register.{RegisterState}
+use Rattle.lift_policy.specs.Eligible.{Choice}
+use Rattle.lift_journal.specs.declared.fault.JournalFault.TheVariants.{Disk}
+use Rattle.lift_keeper.specs.declared.fault.KeeperFault.{KeeperFault}
+use Rattle.lift_keeper.specs.declared.fault.KeeperFault.TheVariants.{Journal}
+use Rattle.lift_keeper.specs.Commits.{CommitsTo}
+use Rattle.lift_keeper.specs.Writer.{WriterView}
+use Rattle.lift_keeper.specs.lemmas.Committed.{safe_register, whole_before}
+use Rattle.lift_clerk.specs.declared.counts.Counts.{Counts}
+use Rattle.lift_clerk.specs.Clerk.{ClerkState}
+use Rattle.lift_clerk.specs.Machine.{Turns, Fails}
+use Rattle.lift_clerk.specs.Turn.{IsTurn, IsFailedTurn, IsEither, entries_in}
+
+pub either_moment : {D T : Type 0} (state : D → DiskState) (old : WriterView D) (count : ℕ)
+    (register : RegisterState) (new : WriterView D) (result : Result T KeeperFault)
+    → CommitsTo state old count register new result → old.is_broken ≡ false
+    → LeavesOnly (state old.device) (state new.device) (IsEither old.plan old.register register)
+either_moment state old count register new result c whole =
+    subst (λ (r : RegisterState).
+    LeavesOnly (state old.device) (state new.device) (IsEither old.plan old.register r))
+    (sym (c.leads whole)) (c.is.any_moment whole)
+
+-- what a turn's contract gives of the machine's turns
+module _ {D P : Type 0} (state : D → DiskState) (choice : Choice) (before after : ClerkState D P) where
+  pub turns_of : (result : Result Counts KeeperFault)
+      → CommitsTo state before.keeper.writer (entries_in result after.keeper)
+      after.keeper.state.register after.keeper.writer result
+      → IfOk result (IsTurn choice before after) → IfOk result (Turns choice before after)
+  turns_of (Ok counts) c turn = record {
+    turn = turn;
+    was_whole = whole_before state before.keeper.writer c.batch after.keeper.writer (Ok counts) c.is
+        (λ is. absurd (cc));
+    is_whole = c.is.stays.0;
+    no_doubt = c.is.stays.1;
+    safe = safe_register state before.keeper.writer counts.accepted after.keeper.state.register
+        after.keeper.writer (Ok counts) c;
+    same_plan = c.is.same.0;
+  }
+  turns_of (Err fault) c turn = tt
+
+  pub fails_of : (result : Result Counts KeeperFault)
+      → CommitsTo state before.keeper.writer (entries_in result after.keeper)
+      after.keeper.state.register after.keeper.writer result
+      → result ≡ Err (Journal Disk) → IsFailedTurn choice before after → Fails choice before after
+  fails_of (Ok counts) c is turn = absurd (cc)
+  fails_of (Err fault) c is turn = record {
+    turn = turn;
+    was_whole = whole_before state before.keeper.writer c.batch after.keeper.writer (Err fault) c.is
+        (λ other. absurd (cc));
+    breaks = c.is.breaks;
+    same_register = c.is.unmoved;
+    same_plan = c.is.same.0;
+  }
