@@ -14,3 +14,5 @@ mod files;
 mod memory;
 #[cfg(test)]
 mod noted;
+#[cfg(test)]
+mod pieces;
