@@ -10,3 +10,4 @@ pub mod Turned
 pub mod Ran
 pub mod Pasts
 pub mod Crosses
+pub mod Draining

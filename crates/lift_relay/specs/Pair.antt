@@ -18,6 +18,16 @@ abbrev pub ComesFrom : {P : Type 0} → Choice → AllocatorState P → Allocati
 ComesFrom choice old (Idle now) = now ≡ old
 ComesFrom choice old (Ran now) = AllocatorTurns choice old now
 
+-- this, where the part had its turns
+abbrev pub IfRan : {P : Type 0} → Type 0 → Allocating P → Type 0
+IfRan closed (Idle now) = Unit {0}
+IfRan closed (Ran now) = closed
+
+-- this, where both parts had theirs
+abbrev pub IfDone : Type 0 → Turned → Type 0
+IfDone closed Refused = Unit {0}
+IfDone closed (Done first) = closed
+
 -- no thread could be made, and both parts are as they were; or each has had its turns
 abbrev pub HaveTurned : {D P : Type 0} → Choice → (D → DiskState) → AllocatorState P
     → AllocatorState P → FlusherState D → FlusherState D → Turned → Type 0

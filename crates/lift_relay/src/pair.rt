@@ -1,15 +1,16 @@
 //! Both parts on two threads.
 
-ghost use Rattle.std.specs.Prelude.{◌≡◌, ◌≢◌, List, [], length, true, Some, None, Result};
+ghost use Rattle.std.specs.Prelude.{◌≡◌, ◌≢◌, List, [], length, true, false, Some, None, Result};
 ghost use Rattle.lift_base.specs.declared.history.Entry.{Entry};
 ghost use Rattle.lift_keeper.specs.declared.fault.KeeperFault.{KeeperFault};
 ghost use Rattle.lift_world.specs.declared.event.Taken.{Taken};
 ghost use Rattle.lift_parts.specs.declared.counts.FlushCounts.{FlushCounts};
 ghost use Rattle.lift_parts.specs.Queued.{Queued};
 ghost use Rattle.lift_parts.specs.Parts.{AreOfOne};
-ghost use Rattle.lift_parts.specs.Turns.{AllocatorTurns, FlusherTurns, IsFlush, first_of};
+ghost use Rattle.lift_parts.specs.Turns.{AllocatorTurns, FlusherTurns, IsFlush, IsSending};
+ghost use Rattle.lift_parts.specs.Turns.{first_of};
 ghost use Rattle.lift_relay.specs.Pair.{ComesFrom};
-ghost use Rattle.lift_relay.specs.Pair.{HaveTurned, IsRun, HaveRun};
+ghost use Rattle.lift_relay.specs.Pair.{HaveTurned, IfDone, IfRan, IsRun, HaveRun};
 ghost use Rattle.lift_parts.specs.Turns.{IsSameAllocator, IsSameFlusher};
 ghost use Rattle.lift_parts.specs.Runs.{HasPast, Advances};
 
@@ -30,8 +31,12 @@ use std::thread::{Promise, SpawnError, Threads};
 /// in place of turning for nothing. What a run sends and receives behind the last turn of both is
 /// not told.
 pub trait Gate {
+    // What it tells where it doesn't go on.
+    ghost closed: { Self → Type 0 } = { λ _. Unit {0} };
+
     /// It is asked between turns, by both threads.
-    fn go_on(&self) -> bool;
+    fn go_on(&self) -> bool
+        ensures { result ≡ false → closed self.now };
 
     /// The allocator's turn sent nothing, and has nothing in hand. The next one looks at what was
     /// asked before this returns.
@@ -85,7 +90,8 @@ fn allocate<R: Wait, G: Gate, P: Policy + Drop>(
     allocator: &mut Allocator<'_, '_, P>,
     gate: &G,
 )
-    ensures { AllocatorTurns (P.chooses allocator.old.policy) allocator.old allocator.new }
+    ensures turns { AllocatorTurns (P.chooses allocator.old.policy) allocator.old allocator.new }
+    ensures closed { G.closed gate.now }
 {
     for _ in rt.forever() {
         if !gate.go_on() {
@@ -134,7 +140,8 @@ fn flush<R: Wait, G: Gate, D: Disk>(
     flusher: &mut Flusher<'_, '_, D>,
     gate: &G,
 ) -> Option<KeeperFault>
-    ensures { FlusherTurns D.state flusher.old None flusher.new result }
+    ensures turns { FlusherTurns D.state flusher.old None flusher.new result }
+    ensures closed { G.closed gate.now }
 {
     let mut first = None;
     for _ in rt.forever() {
@@ -159,6 +166,8 @@ fn drain<R: Wait, D: Disk, P: Policy + Drop>(
     ensures allocator { AllocatorTurns
         (P.chooses allocator.old.policy) allocator.old allocator.new }
     ensures flusher { FlusherTurns D.state flusher.old first flusher.new result }
+    // It takes nothing.
+    ensures sends { IsSending allocator.old allocator.new }
     ensures nothing_in_hand { allocator.new.hand ≡ [] }
     ensures all_received { length allocator.new.end.sent ≡ length flusher.new.end.received }
 {
@@ -195,7 +204,8 @@ fn allocate_if<'d, 'b, R: Wait, G: Gate, P: Policy + Drop>(
     mut allocator: Allocator<'d, 'b, P>,
     gate: &G,
 ) -> Allocating<'d, 'b, P>
-    ensures { ComesFrom (P.chooses allocator.entry.policy) allocator.entry result }
+    ensures comes { ComesFrom (P.chooses allocator.entry.policy) allocator.entry result }
+    ensures closed { IfRan (G.closed gate.now) result }
 {
     if !may_run.load(Ordering::SeqCst) {
         return Allocating::Idle(allocator);
@@ -226,8 +236,9 @@ where
     G: Gate + Sync,
     D: Disk + Drop,
     P: Policy + Drop + Send,
-    ensures { HaveTurned (P.chooses allocator.entry.policy) D.state allocator.entry result.0
+    ensures turned { HaveTurned (P.chooses allocator.entry.policy) D.state allocator.entry result.0
         flusher.entry result.1 result.2 }
+    ensures closed { IfDone (G.closed gate.now) result.2 }
 {
     let may_run = AtomicBool::new(true);
     let flag = &may_run;
@@ -235,12 +246,14 @@ where
         thread::scope_env(),
         rt,
         move |scope| -> (Allocator<P>, Flusher<D>, Turned)
-            ensures { HaveTurned (P.chooses allocator.entry.policy) D.state allocator.entry result.0
-                flusher.entry result.1 result.2 }
+            ensures turned { HaveTurned (P.chooses allocator.entry.policy) D.state
+                allocator.entry result.0 flusher.entry result.1 result.2 }
+            ensures closed { IfDone (G.closed gate.entry.now) result.2 }
         {
             let promise = OfPart(Snapshot::of(&allocator));
             let work = move || -> Allocating<P>
-                ensures { ComesFrom (P.chooses allocator.entry.policy) allocator.entry result }
+                ensures comes { ComesFrom (P.chooses allocator.entry.policy) allocator.entry result }
+                ensures closed { IfRan (G.closed gate.entry.now) result }
             { allocate_if(rt, flag, allocator, gate) };
             match scope.spawn_with(promise, work) {
                 Ok(child) => {
@@ -276,8 +289,9 @@ where
     G: Gate + Sync,
     D: Disk + Drop,
     P: Policy + Drop + Send,
-    ensures { IsRun (P.chooses allocator.entry.policy) D.state allocator.entry result.0
+    ensures ran { IsRun (P.chooses allocator.entry.policy) D.state allocator.entry result.0
         flusher.entry result.1 result.2 }
+    ensures closed { result.2 ≢ Some RunFault.Spawn → G.closed gate.now }
 {
     let (mut allocator, mut flusher, turned) = turn_both(rt, allocator, flusher, gate);
     match turned {
@@ -316,6 +330,8 @@ where
     ensures ran { result ≢ Some RunFault.Spawn
         → HaveRun (P.chooses allocator.old.policy) D.state allocator.old allocator.new flusher.old
         flusher.new result }
+    // It ends only once the gate has said not to go on, or where no thread could be made.
+    ensures closed { result ≢ Some RunFault.Spawn → G.closed gate.now }
     ensures broken { (fault : KeeperFault) → result ≡ Some (RunFault.Keeper fault)
         → flusher.new.writer.is_broken ≡ true }
     ensures same_allocator { IsSameAllocator allocator.old allocator.new }
@@ -341,8 +357,9 @@ where
             Flusher<D>,
             Option<RunFault>,
         )
-            ensures { IsRun (P.chooses allocator.entry.policy) D.state allocator.entry result.0
+            ensures ran { IsRun (P.chooses allocator.entry.policy) D.state allocator.entry result.0
                 flusher.entry result.1 result.2 }
+            ensures closed { result.2 ≢ Some RunFault.Spawn → G.closed gate.entry.now }
         { run_owned(rt, allocator, flusher, gate) },
     );
     flusher.compare(allocator);

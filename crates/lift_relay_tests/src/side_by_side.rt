@@ -122,15 +122,41 @@ impl<'a> Disk for Holding<'a> {
     }
 }
 
-/// Goes on until it is closed.
+/// Goes on until it is closed, and keeps how far it was told that both parts are.
 #[derive(Drop)]
 struct Open<'a> {
     closed: &'a AtomicU64,
+    sent: AtomicU64,
+    flushed: AtomicU64,
+}
+
+impl<'a> Open<'a> {
+    fn new(closed: &'a AtomicU64) -> Self {
+        Open {
+            closed,
+            sent: AtomicU64::new(0),
+            flushed: AtomicU64::new(0),
+        }
+    }
+
+    /// Whether it was last told of so many batches, sent and flushed.
+    fn was_told_of(&self, batches: u64) -> bool {
+        self.sent.load(Ordering::SeqCst) == batches
+            && self.flushed.load(Ordering::SeqCst) == batches
+    }
 }
 
 impl<'a> Gate for Open<'a> {
     fn go_on(&self) -> bool {
         self.closed.load(Ordering::SeqCst) == 0
+    }
+
+    fn has_sent<R: Wait>(&self, _rt: &R, count: u64) {
+        self.sent.store(count, Ordering::SeqCst);
+    }
+
+    fn has_flushed<R: Wait>(&self, _rt: &R, count: u64) {
+        self.flushed.store(count, Ordering::SeqCst);
     }
 }
 
@@ -183,12 +209,10 @@ fn second_batch_is_decided_while_the_first_is_synced(rt: HostRuntime) -> Result<
     let mut relay = Relay::begin(rt.alloc(), &desk, clerk, disk, &building, policy)?;
     placed(&rt, &mut terminals, &mut relay);
     shared.armed.store(1, Ordering::SeqCst);
-    let gate = Open {
-        closed: &shared.closed,
-    };
+    let gate = Open::new(&shared.closed);
     let (heard, fault) = thread::join(&rt, || kiosks(terminals, &shared), || relay.run(&rt, &gate));
     assert!(rt; fault.is_none() && shared.held.load(Ordering::SeqCst) == 1);
-    assert!(rt; relay.sent() == 3 && relay.received() == 3);
+    assert!(rt; relay.sent() == 3 && relay.received() == 3 && gate.was_told_of(3));
     assert!(rt; matches!(heard, (Some(Reply::Car(_)), Some(Reply::Car(_)))));
     assert!(rt; relay.open_calls() == Some(2));
     Ok(())
@@ -221,7 +245,7 @@ fn a_run_goes_on_behind_a_fault(rt: HostRuntime) -> Result<(), Fail> {
     let mut relay = Relay::of(rt.alloc(), clerk)?;
     placed(&rt, &mut terminals, &mut relay);
     let closed = AtomicU64::new(0);
-    let gate = Open { closed: &closed };
+    let gate = Open::new(&closed);
     let (heard, fault) = thread::join(
         &rt,
         || are_unknown(terminals, &closed),
@@ -229,7 +253,7 @@ fn a_run_goes_on_behind_a_fault(rt: HostRuntime) -> Result<(), Fail> {
     );
     let failed = KeeperFault::Journal(JournalFault::Disk);
     assert!(rt; heard && fault == Some(RunFault::Keeper(failed)));
-    assert!(rt; relay.sent() == 4 && relay.received() == 4);
+    assert!(rt; relay.sent() == 4 && relay.received() == 4 && gate.was_told_of(4));
     assert!(rt; relay.rejoined().is_ok());
     Ok(())
 }

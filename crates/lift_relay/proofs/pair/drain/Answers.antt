@@ -1,12 +1,13 @@
-use Rattle.std.proofs.Common.{sym, subst}
+use Rattle.std.proofs.Common.{◌≡◌, true, inl, refl, sym, subst, rules}
 use Rattle.lift_parts.specs.Allocator.{AllocatorState}
-use Rattle.lift_parts.specs.Turns.{AllocatorTurns, NoMore, NoFlush, OneFlush}
+use Rattle.lift_parts.specs.Turns.{AllocatorTurns, NoMore, NoFlush, OneFlush, IsSending}
 use Rattle.lift_parts.specs.lemmas.Paired.{sending_more}
+use Rattle.lift_relay.proofs.Draining.{sent_on, sends_on}
 use Rattle.lift_relay.proofs.pair.drain.Goals.{in-None, in-Some+then-is_sent+then-sent-received}
 use Rattle.lift_relay.proofs.pair.drain.Goals as goal
 
 pub loop-init : goal.loop-init
-loop-init g c = record { allocator = NoMore; flusher = NoFlush }
+loop-init g c = record { allocator = NoMore; sends = inl refl; flusher = NoFlush }
 
 pub loop-preserved : goal.loop-preserved
 loop-preserved g c =
@@ -15,6 +16,8 @@ loop-preserved g c =
     record {
       allocator = sending_more (g.P.Policy.chooses c.args.allocator.now.policy) c.args.allocator.now c.loop.allocator c.send_hand-is_sent.new.self c.send_hand-is_sent.result
           i.allocator e.sent e.same e.line (λ no. (e.full no).0);
+      sends = sends_on c.args.allocator.now c.loop.allocator c.send_hand-is_sent.new.self c.send_hand-is_sent.result i.sends
+          (λ is. record { sent = (e.sent is).1; line = e.line; same = e.same is }) (λ no. (e.full no).0);
       flusher = OneFlush i.flusher c.flush_once.ensures.1 c.flush_once.ensures.2;
     }
 
@@ -28,4 +31,17 @@ returns-clause-allocator g c =
       | in-Some+then-is_sent+then-sent-received w ↦ let s = w.send_hand-is_sent in
           subst to (sym w.allocator-is) (sending_more choice c.args.allocator.now c.loop.allocator s.new.self s.result
           i.allocator s.ensures.sent s.ensures.same s.ensures.line (λ no. (s.ensures.full no).0))
+    ]
+
+pub returns-clause-sends : goal.returns-clause-sends
+returns-clause-sends g c =
+    let i = c.loop.invariant in
+    let a = c.args.allocator.now in
+    let sends = λ (b : AllocatorState g.row.P.Denot). IsSending a b in
+    elim c.match-next.branch [
+      | in-None w ↦ search rules
+      | in-Some+then-is_sent+then-sent-received w ↦ let s = w.send_hand-is_sent in
+          let goes : s.result ≡ true = search rules in
+          subst sends (sym w.allocator-is) (sent_on a c.loop.allocator s.new.self i.sends
+          (record { sent = (s.ensures.sent goes).1; line = s.ensures.line; same = s.ensures.same goes }))
     ]

@@ -5,15 +5,15 @@ use Rattle.lift_relay.proofs.Ran.{have_run}
 use Rattle.lift_relay.proofs.pair.run_owned.Goals.{in-Some, in-None}
 use Rattle.lift_relay.proofs.pair.run_owned.Goals as goal
 
-pub returns-after-drain : goal.returns-after-drain
-returns-after-drain g c =
+pub returns-after-drain-clause-ran : goal.returns-after-drain-clause-ran
+returns-after-drain-clause-ran g c =
     let chooses = g.P.Policy.chooses in
     let state = g.D.Disk.state in
     let both = c.turn_both-allocator in
     let drained = c.drain in
     let a = c.args.allocator in
     let f = c.args.flusher in
-    let turned = subst (λ (t : Turned). HaveTurned (chooses a.policy) state a both.result.0 f both.result.1 t) c.in-Done.is both.ensures in
+    let turned = subst (λ (t : Turned). HaveTurned (chooses a.policy) state a both.result.0 f both.result.1 t) c.in-Done.is both.ensures.turned in
     let is : c.match-drain.fault ≡ fault_of drained.result =
     elim c.match-drain.branch [
       | in-Some w ↦ w.fault-is ∙ ap fault_of (sym w.in-Some.is)

@@ -19,17 +19,24 @@ none_made {P} choice a b is = subst (λ (x : AllocatorState P). AllocatorTurns c
 pub returns-in-Idle : goal.returns-in-Idle
 returns-in-Idle g c =
     let kept : c.in-Ok.child.promise.0.value ≡ c.captures.allocator = search rules in
-    (none_made (g.P.Policy.chooses c.captures.allocator.policy) c.captures.allocator c.in-Idle.allocator (c.in-Idle.ensures ∙ kept), c.flush-first.ensures)
+    record {
+      turned = (none_made (g.P.Policy.chooses c.captures.allocator.policy) c.captures.allocator c.in-Idle.allocator (c.in-Idle.ensures ∙ kept), c.flush-first.ensures.turns);
+      closed = c.flush-first.ensures.closed;
+    }
 
 pub returns-in-Idle-2 : goal.returns-in-Idle-2
 returns-in-Idle-2 g c =
     let back : c.in-Err.refused.value.2 ≡ c.captures.allocator = search rules in
-    (c.in-Idle-2.ensures ∙ back, refl)
+    record { turned = (c.in-Idle-2.ensures.comes ∙ back, refl); closed = tt }
 
 pub returns-in-Ran-2 : goal.returns-in-Ran-2
 returns-in-Ran-2 g c =
     let back : c.in-Err.refused.value.2 ≡ c.captures.allocator = search rules in
-    (subst (λ (a : AllocatorState g.row.P.Denot). AllocatorTurns (g.P.Policy.chooses a.policy) a c.in-Ran-2.allocator) back c.in-Ran-2.ensures, NoFlush)
+    let gate : c.in-Err.refused.value.3 ≡ c.captures.gate = search rules in
+    record {
+      turned = (subst (λ (a : AllocatorState g.row.P.Denot). AllocatorTurns (g.P.Policy.chooses a.policy) a c.in-Ran-2.allocator) back c.in-Ran-2.ensures.comes, NoFlush);
+      closed = subst (λ x. g.G.Gate.closed x.now) gate c.in-Ran-2.ensures.closed;
+    }
 
 -- what the thread's closure captures
 captures_send : (ν : Sym) (A B C D : RattleType) → IsSend A → IsSend B → IsSend C → IsSend D → IsSend (TupleAt ν (A ∷ B ∷ C ∷ D ∷ []))
