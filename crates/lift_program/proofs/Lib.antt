@@ -1,3 +1,4 @@
+mod Asked
 mod Commands
 mod Rows
 mod Stages

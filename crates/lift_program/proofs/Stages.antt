@@ -18,8 +18,9 @@ use Rattle.lift_disk.specs.Files.{file_state_of}
 use Rattle.lift_disk.specs.declared.file.FileDisk.{FileDisk}
 use Rattle.lift_program.specs.Ends.{IsFileFault, IsFormatFault, IsMadeWith, IsReplayFault, IsReportOfFault, IsServeFault, IsShowFault, IsShowingFault}
 use Rattle.lift_program.specs.Faults.{of_building}
-use Rattle.lift_program.specs.Showing.{IsOpeningFault, ShowsFront}
+use Rattle.lift_program.specs.Showing.{IsOpeningFault, ShowsFront, ShowsPart}
 use Rattle.lift_program.specs.Stages.{HasBuilding, HasKeeperOf, HasNoKeeperOf, IsBuildingFault, IsKeeperFault, OpensJournal, ReadsBuilding, most_text}
+use Rattle.lift_program.proofs.Writing.{part_shown}
 use Rattle.lift_program.specs.declared.fault.Fault.{Fault}
 use Rattle.lift_program.specs.declared.fault.Fault.TheVariants.{Building, Journal, File, Memory, Network, Thread}
 use Rattle.lift_program.specs.declared.fault.Role.TheVariants.{Building as OfBuilding, Image as OfImage, Input, Output}
@@ -152,6 +153,22 @@ showing_shows plan opened left before after (File Output) has uncalled unhurt is
 showing_shows plan opened left before after Memory has uncalled unhurt is refused front = tt
 showing_shows plan opened left before after Network has uncalled unhurt is refused front = absurd is
 showing_shows plan opened left before after Thread has uncalled unhurt is refused front = absurd is
+
+-- what was written of a journal on an image whose showing is undone
+pub showing_part : (plan : Plan) (text : List ℕ) (opened left : FileDisk) (before after : Option (List ℕ)) (fault : Fault) → IsTextOf text plan
+    → (file_state_of opened).calls ≡ 0 → (file_state_of opened).failures ≡ 0 → IsShowingFault fault → IsReportOfFault fault before after
+    → (IsFileFault Output fault → ShowsFront plan (file_state_of opened) (file_state_of left) before after) → ShowsPart before after
+showing_part plan text opened left before after (Building fault) described uncalled unhurt is written front = absurd is
+showing_part plan text opened left before after (Journal fault) described uncalled unhurt is written front = inl written
+showing_part plan text opened left before after (File OfBuilding) described uncalled unhurt is written front = absurd is
+showing_part plan text opened left before after (File OfImage) described uncalled unhurt is written front = absurd is
+showing_part plan text opened left before after (File Input) described uncalled unhurt is written front = absurd is
+showing_part plan text opened left before after (File Output) described uncalled unhurt is written front =
+    part_shown plan text opened left before after described uncalled unhurt (front (inl refl))
+showing_part plan text opened left before after Memory described uncalled unhurt is written front =
+    part_shown plan text opened left before after described uncalled unhurt (front (inr refl))
+showing_part plan text opened left before after Network described uncalled unhurt is written front = absurd is
+showing_part plan text opened left before after Thread described uncalled unhurt is written front = absurd is
 
 -- a script that couldn't be read has no report
 pub replay_report : (fault : Fault) (before after : Option (List ℕ)) → IsReplayFault fault → (fault ≡ File Input → after ≡ before) → IsReportOfFault fault before after

@@ -1,26 +1,49 @@
 -- What stays written, and what was said.
-use Rattle.std.proofs.Common.{◌≡◌, Option, Some, None, List, [], ◌++◌, length, take, ℕ, refl, sym, subst, arith, ◌∙◌}
+use Rattle.std.proofs.Common.{◌≡◌, Option, List, [], length, ℕ, sym, subst, inr, arith}
 use Rattle.std.specs.Io.KnownBytes.{Appends, Keeps}
+use Rattle.std.proofs.KnownBytes.{Appends-kept, Appends-nil}
 use Rattle.std.proofs.lemmas.List.{append-nil, take_all}
+use Rattle.lift_building.specs.Describes.{IsTextOf}
+use Rattle.lift_building.specs.Plan.{Plan}
+use Rattle.lift_disk.specs.Files.{file_state_of}
+use Rattle.lift_disk.specs.declared.file.FileDisk.{FileDisk}
+use Rattle.lift_replay.specs.Replaying.{ReportsFront, ReportsInput}
+use Rattle.lift_replay.specs.Report.{register_text}
+use Rattle.lift_replay.specs.declared.lines.Verdict.{Verdict}
 use Rattle.lift_program.specs.Ends.{SaysFront, serving_text}
-
--- what was appended stays appended where a flush keeps it
-pub kept_behind : (old mid new : Option (List ℕ)) (bytes : List ℕ) → Appends old mid bytes → Keeps mid new → Appends old new bytes
-kept_behind None mid new bytes appends keeps = tt
-kept_behind (Some xs) None new bytes appends keeps = absurd appends
-kept_behind (Some xs) (Some ys) None bytes appends keeps = absurd keeps
-kept_behind (Some xs) (Some ys) (Some zs) bytes appends keeps = keeps ∙ appends
-
-appends_nothing : (written : Option (List ℕ)) → Appends written written []
-appends_nothing None = tt
-appends_nothing (Some xs) = sym (append-nil xs)
+use Rattle.lift_program.specs.Showing.{Shows, ShowsFront, ShowsFrontOfFile, ShowsPart}
 
 -- where nothing was written, nothing of the port was
 pub nothing_said : (port : ℕ) (written : Option (List ℕ)) → SaysFront port written written
-nothing_said port written = (0, appends_nothing written)
+nothing_said port written = (0, Appends-nil written)
 
 -- all of it is a front of it
 pub said_front : (port : ℕ) (old new : Option (List ℕ)) → Appends old new (serving_text port) → SaysFront port old new
 said_front port old new said =
     let text : List ℕ = serving_text port in
     (length text, subst (Appends old new) (sym (take_all (length text) text (omega arith))) said)
+
+-- the report of an input stays its report where a flush keeps it
+pub kept_report : (input old mid new : Option (List ℕ)) (verdict : Verdict) → ReportsInput input old mid verdict → Keeps mid new → ReportsInput input old new verdict
+kept_report input old mid new verdict told keeps = (told.0, told.1, (told.2.0, told.2.1, Appends-kept old mid new told.2.0 told.2.2 keeps))
+
+-- all of a report is a front of it
+pub report_front : (input old new : Option (List ℕ)) (verdict : Verdict) → ReportsInput input old new verdict → ReportsFront input old new
+report_front input old new verdict told = (told.0, told.1, (told.2.0, verdict, told.2.1, (told.2.0, ([], append-nil told.2.0), told.2.2)))
+
+-- all lines of a register are a front of them
+pub shown_front : (plan : Plan) (opened left : FileDisk) (old new : Option (List ℕ)) → Shows plan (file_state_of opened) (file_state_of left) old new
+    → ShowsFront plan (file_state_of opened) (file_state_of left) old new
+shown_front plan opened left old new shows =
+    let text : List ℕ = register_text shows.register in
+    record {
+      register = shows.register;
+      recovers = shows.recovers;
+      count = length text;
+      written = subst (Appends old new) (sym (take_all (length text) text (omega arith))) shows.written;
+    }
+
+pub part_shown : (plan : Plan) (text : List ℕ) (opened left : FileDisk) (old new : Option (List ℕ)) → IsTextOf text plan → (file_state_of opened).calls ≡ 0
+    → (file_state_of opened).failures ≡ 0 → ShowsFront plan (file_state_of opened) (file_state_of left) old new → ShowsPart old new
+part_shown plan text opened left old new described uncalled unhurt front =
+    inr (record { text = text; plan = plan; described = described; opened = opened; uncalled = uncalled; unhurt = unhurt; left = left; front = front })

@@ -12,16 +12,14 @@ use Rattle.lift_disk.specs.declared.file.FileDisk.{FileDisk}
 use Rattle.lift_journal.specs.Calls.{format_calls}
 use Rattle.lift_journal.specs.declared.fault.JournalFault.TheVariants.{Disk}
 use Rattle.lift_keeper.specs.declared.fault.KeeperFault.TheVariants.{Journal as OfJournal}
-use Rattle.lift_replay.specs.declared.lines.Verdict.{Verdict}
 use Rattle.lift_replay.specs.declared.lines.Verdict.TheVariants.{Good, Bad}
-use Rattle.lift_replay.specs.Replaying.{Writes}
-use Rattle.lift_replay.specs.Replaying.{IsReport as IsScriptReport}
+use Rattle.lift_replay.specs.Replaying.{ReportsFront, ReportsInput}
 use Rattle.lift_program.specs.Faults.{fault_text, usage_text}
 use Rattle.lift_program.specs.Output.{IsTold}
 use Rattle.lift_program.specs.Serving.{IsServing}
 use Rattle.lift_program.specs.Images.{image_state_of}
 use Rattle.lift_program.specs.declared.image.ImageDisk.{ImageDisk}
-use Rattle.lift_program.specs.Showing.{IsShown, IsOpeningFault}
+use Rattle.lift_program.specs.Showing.{IsShown, IsOpeningFault, ShowsPart}
 use Rattle.lift_program.specs.Stages.{HasBuilding, HasNoBuilding, OpensJournal, OpensNoJournal}
 use Rattle.lift_program.specs.Stages.{ReadsBuilding, ReadsJournal}
 use Rattle.lift_program.specs.Words.{Asks}
@@ -179,13 +177,6 @@ IsServedFor (Show image building) port fault = ⊥
 IsServedFor (Serve image building asked sessions policy) port fault =
     (port ≡ asked) × IsServing policy fault
 
--- it asks for no report
-abbrev pub IsUnwritten : Request → Type 0
-IsUnwritten Replay = ⊥
-IsUnwritten (Format image building half) = Unit {0}
-IsUnwritten (Show image building) = ⊥
-IsUnwritten (Serve image building port sessions policy) = ⊥
-
 -- what a request may come to
 abbrev pub IsEndFor : Request → End → Type 0
 IsEndFor request (Replayed verdict) = request ≡ Replay
@@ -203,20 +194,25 @@ serving_text port = codes "serving " ++ decimal port ++ 10 ∷ []
 abbrev pub SaysFront : ℕ → (before after : Option (List ℕ)) → Type 0
 SaysFront port before after = (count : ℕ) × Appends before after (take count (serving_text port))
 
--- where a port is to be served nothing is written but what says so
-abbrev pub WritesFor : Request → (before after : Option (List ℕ)) → Type 0
-WritesFor Replay before after = Unit {0}
-WritesFor (Format image building half) before after = Unit {0}
-WritesFor (Show image building) before after = Unit {0}
-WritesFor (Serve image building port sessions policy) before after = SaysFront port before after
+-- What is written for a request, however it ends: for a script a front of the report of the input;
+-- for a journal that is made nothing; for one that is shown a front of its open calls; for a
+-- serving a front of what says so.
+abbrev pub WritesFor : (input : Option (List ℕ)) → Request → (before after : Option (List ℕ))
+    → Type 0
+WritesFor input Replay before after = ReportsFront input before after
+WritesFor input (Format image building half) before after = after ≡ before
+WritesFor input (Show image building) before after = ShowsPart before after
+WritesFor input (Serve image building port sessions policy) before after =
+    SaysFront port before after
 
 -- What these words come to: an end of what they ask for; want of memory for them, with nothing
 -- written; or, where they ask for nothing, other words.
-abbrev pub IsEndOf : List Text → (before after : Option (List ℕ)) → End → Type 0
-IsEndOf words before after OtherWords = (request : Request) → Asks words request → ⊥
-IsEndOf words before after end = ((end ≡ Failed Memory) × (after ≡ before))
+abbrev pub IsEndOf : (input : Option (List ℕ)) → List Text → (before after : Option (List ℕ)) → End
+    → Type 0
+IsEndOf input words before after OtherWords = (request : Request) → Asks words request → ⊥
+IsEndOf input words before after end = ((end ≡ Failed Memory) × (after ≡ before))
     ⊎ ((request : Request) × Asks words request × IsEndFor request end
-    × WritesFor request before after)
+    × WritesFor input request before after)
 
 -- What was written of a fault: nothing of a building's, an image's, a journal's, or the port's.
 abbrev pub IsReportOfFault : Fault → (before after : Option (List ℕ)) → Type 0
@@ -230,29 +226,24 @@ IsReportOfFault Memory before after = Unit {0}
 IsReportOfFault Network before after = after ≡ before
 IsReportOfFault Thread before after = Unit {0}
 
--- what was written is the report of a script, with this verdict
-abbrev pub IsReplayed : Verdict → (before after : Option (List ℕ)) → Type 0
-IsReplayed verdict before after =
-    (bytes : List ℕ) × Writes (IsScriptReport bytes) before after verdict
+-- what was written, by the end: of a script the report of the input, and of a journal that was
+-- shown its open calls
+abbrev pub IsReport : (input : Option (List ℕ)) → End → (before after : Option (List ℕ)) → Type 0
+IsReport input (Replayed verdict) before after = ReportsInput input before after verdict
+IsReport input (Formatted disk) before after = after ≡ before
+IsReport input (Shown disk) before after = IsShown disk before after
+IsReport input (Served port fault) before after = Appends before after (serving_text port)
+IsReport input (Failed fault) before after = IsReportOfFault fault before after
+IsReport input OtherWords before after = after ≡ before
 
--- what was written, by the end: of a script its report, and of a journal that was shown its open
--- calls
-abbrev pub IsReport : End → (before after : Option (List ℕ)) → Type 0
-IsReport (Replayed verdict) before after = IsReplayed verdict before after
-IsReport (Formatted disk) before after = after ≡ before
-IsReport (Shown disk) before after = IsShown disk before after
-IsReport (Served port fault) before after = Appends before after (serving_text port)
-IsReport (Failed fault) before after = IsReportOfFault fault before after
-IsReport OtherWords before after = after ≡ before
-
--- the status of an end that these words come to, with its report, and whose line was told, if it
--- has one
+-- the status of an end that these words come to over this input, with its report, and whose line
+-- was told, if it has one
 pub record IsStatusFor {E : Type 0} (contents : E
-    → Option (List ℕ)) (words : List Text) (before after : Option (List ℕ))
+    → Option (List ℕ)) (words : List Text) (input before after : Option (List ℕ))
     (old new : OutputState E) (status : ℕ) : Type 0 where
   pub end : End
-  pub is_end : IsEndOf words before after end
-  pub reported : IsReport end before after
+  pub is_end : IsEndOf input words before after end
+  pub reported : IsReport input end before after
   pub is_status : status ≡ status_of end
   pub told : IfSome (line_of end) (IsTold contents old new)
   pub quiet : line_of end ≡ None → new ≡ old

@@ -1,5 +1,5 @@
 -- The open calls of a group, begun again from its image.
-use Rattle.std.specs.Prelude.{ℕ, ◌≡◌, Bool, List, take, Option}
+use Rattle.std.specs.Prelude.{ℕ, ◌≡◌, ◌⊎◌, Bool, List, take, Option}
 use Rattle.std.specs.Io.KnownBytes.{Appends}
 use Rattle.lift_building.specs.Describes.{IsTextOf}
 use Rattle.lift_building.specs.Plan.{Plan}
@@ -42,6 +42,22 @@ pub record ShowsFront (plan : Plan) (old new : DiskState)
   pub recovers : Recovers plan old new register
   pub count : ℕ
   pub written : Appends before after (take count (register_text register))
+
+-- A front of them was, of a journal in a file that was opened, and of a building that a text
+-- describes.
+pub record ShowsFrontOfFile (before after : Option (List ℕ)) : Type 0 where
+  pub text : List ℕ
+  pub plan : Plan
+  pub described : IsTextOf text plan
+  pub opened : FileDisk
+  pub uncalled : (file_state_of opened).calls ≡ 0
+  pub unhurt : (file_state_of opened).failures ≡ 0
+  pub left : FileDisk
+  pub front : ShowsFront plan (file_state_of opened) (file_state_of left) before after
+
+-- nothing was written, or such a front
+abbrev pub ShowsPart : (before after : Option (List ℕ)) → Type 0
+ShowsPart before after = (after ≡ before) ⊎ ShowsFrontOfFile before after
 
 -- The open calls of the journal on the device were written, of a building that a text describes.
 -- From the opening of the file on no call failed, and none was a write.

@@ -1,6 +1,7 @@
 -- How far a command came that is over a building and an image: its faults are looked for in this
 -- order, the building's file, its text, the image's file, the journal, the port.
-use Rattle.std.specs.Prelude.{ℕ, ◌≡◌, ◌≤◌, false, List, length}
+use Rattle.std.specs.Prelude.{ℕ, ◌≡◌, ◌≤◌, false, List, length, Option}
+use Rattle.std.specs.Io.KnownBytes.{Consumes}
 use Rattle.lift_building.specs.Describes.{IsTextOf}
 use Rattle.lift_building.specs.Gives.{IsFirstFault}
 use Rattle.lift_building.specs.Plan.{Plan}
@@ -24,6 +25,11 @@ use Rattle.lift_program.specs.declared.fault.Role.TheVariants.{Image as OfImage,
 -- a building's text has so many bytes at most
 abbrev pub most_text : ℕ
 most_text = 1048576
+
+-- so many bytes were taken from the reader
+abbrev pub TakesAll : {R : Type 0} → ℕ → (R → Option (List ℕ)) → (old new : R) → Type 0
+TakesAll count remaining old new = (bytes : List ℕ) × (length bytes ≡ count)
+    × Consumes (remaining old) (remaining new) bytes
 
 -- a text within the bound was read, and it describes this building
 pub record HasBuilding (plan : Plan) : Type 0 where

@@ -1,11 +1,12 @@
 //! The files that the commands name: buildings, and the images of journals.
 
-ghost use Rattle.std.specs.Prelude.{◌≡◌, ◌≤◌, ◌+◌, [], IfOk, IfErr, IfSome, false, length, vec_len};
+ghost use Rattle.std.specs.Prelude.{◌≡◌, ◌≤◌, ◌+◌, ◌⊎◌, [], IfOk, IfErr, IfSome, OnOk, false, length};
+ghost use Rattle.std.specs.Prelude.{vec_len};
 ghost use Rattle.lift_disk.specs.Files.{file_state_of};
 ghost use Rattle.lift_replay.specs.Reading.{TakesUpTo};
-ghost use Rattle.lift_program.specs.Ends.{IsFileFault};
+ghost use Rattle.lift_program.specs.Ends.{IsFileFault, IsUnread};
 ghost use Rattle.lift_program.specs.Stages.{HasBuilding, HasKeeperOf, IsBuildingFault};
-ghost use Rattle.lift_program.specs.Stages.{IsKeeperFault, most_text};
+ghost use Rattle.lift_program.specs.Stages.{IsKeeperFault, TakesAll, most_text};
 ghost use Rattle.lift_program.specs.declared.fault.Role.TheVariants.{Building as OfBuilding};
 ghost use Rattle.lift_program.specs.declared.fault.Role.TheVariants.{Image as OfImage};
 
@@ -43,6 +44,12 @@ fn bytes_of<R: Read + Drop>(alloc: Global, reader: &mut Counted<R>) -> Result<Ve
     ensures taken { TakesUpTo (most_text + 1) R.remaining reader.old.reader reader.new.reader }
     ensures few_calls { reader.new.calls ≤ 2097152 }
     ensures fault { IfErr result (IsFileFault OfBuilding) }
+    // The file is refused where it couldn't be read, or where it held a byte too many; memory is
+    // wanting only where no call failed.
+    ensures refused { result ≡ Err (Fault.File OfBuilding) → IsUnread reader.new
+        ⊎ TakesAll (most_text + 1) R.remaining reader.old.reader reader.new.reader }
+    ensures wanting { result ≡ Err Fault.Memory → reader.new.failed ≡ false }
+    ensures unfailed { OnOk result (reader.new.failed ≡ false) }
 {
     match read_all(alloc, reader, MOST_BYTES, MOST_CALLS) {
         Ok(bytes) => {

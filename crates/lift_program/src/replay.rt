@@ -1,10 +1,10 @@
 //! The carrying out of a script.
 
-ghost use Rattle.std.specs.Prelude.{◌≡◌, true, false, IfOk, IfErr};
+ghost use Rattle.std.specs.Prelude.{◌≡◌, true, false, IfOk, IfErr, OnErr};
 ghost use Rattle.lift_replay.specs.Reading.{IsRead};
-ghost use Rattle.lift_replay.specs.Replaying.{ReportsInput};
+ghost use Rattle.lift_replay.specs.Replaying.{ReportsFront, ReportsInput};
 ghost use Rattle.lift_program.specs.declared.fault.Role.TheVariants.{Input, Output};
-ghost use Rattle.lift_program.specs.Ends.{IsReplayFault, IsReplayed, IsUnread};
+ghost use Rattle.lift_program.specs.Ends.{IsReplayFault, IsUnread};
 
 use crate::fault::{Fault, Role};
 use lift_base::text::Counted;
@@ -22,13 +22,14 @@ pub fn replay<R: Read + Drop, W: Write>(
     requires unhurt { input.old.failed ≡ false }
     requires before_end { input.old.ended ≡ false }
     ensures good { result ≡ Ok Verdict.Good → input.new.ended ≡ true }
-    // What was written is the report of the script, and the verdict is that of it: of the reader's
-    // input, where that is known.
+    // What was written is the report of the reader's input, and the verdict is that of it; else it
+    // is a front of it.
     ensures report { IfOk result (λ verdict.
         ReportsInput (R.remaining input.old.reader) (W.contents writer.old)
         (W.contents writer.new) verdict) }
-    ensures told { IfOk result (λ verdict.
-        IsReplayed verdict (W.contents writer.old) (W.contents writer.new)) }
+    ensures front { OnErr result
+        (ReportsFront (R.remaining input.old.reader) (W.contents writer.old)
+        (W.contents writer.new)) }
     ensures fault { IfErr result IsReplayFault }
     ensures unread { result ≡ Err (Fault.File Input) → IsUnread input.new }
     ensures unwritten { result ≡ Err (Fault.File Input)

@@ -7,7 +7,7 @@ ghost use Rattle.lift_keeper.specs.declared.fault.KeeperFault.{KeeperFault as Re
 ghost use Rattle.lift_replay.specs.Report.{register_text};
 ghost use Rattle.lift_program.specs.Ends.{IsFileFault, IsReportOfFault, IsShowFault};
 ghost use Rattle.lift_program.specs.Ends.{IsShowingFault};
-ghost use Rattle.lift_program.specs.Showing.{IsShown, Shows, ShowsFront};
+ghost use Rattle.lift_program.specs.Showing.{IsShown, Shows, ShowsFront, ShowsPart};
 ghost use Rattle.lift_program.specs.declared.fault.Fault.TheVariants.{Journal as OfJournal};
 ghost use Rattle.lift_program.specs.declared.fault.Role.TheVariants.{Output};
 
@@ -88,6 +88,7 @@ pub fn show<F: Files<File = File>, W: Write>(
 ) -> Result<FileDisk, Fault>
     ensures shown { IfOk result (λ disk.
         IsShown disk (W.contents writer.old) (W.contents writer.new)) }
+    ensures only { ShowsPart (W.contents writer.old) (W.contents writer.new) }
     ensures fault { IfErr result IsShowFault }
     ensures report { IfErr result (λ fault.
         IsReportOfFault fault (W.contents writer.old) (W.contents writer.new)) }

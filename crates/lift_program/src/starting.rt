@@ -6,10 +6,9 @@ ghost use Rattle.lift_replay.specs.Reading.{IsRead};
 ghost use Rattle.lift_replay.specs.declared.lines.Verdict.TheVariants.{Good};
 ghost use Rattle.lift_program.specs.declared.fault.Role.TheVariants.{Input, Output};
 ghost use Rattle.lift_program.specs.Ends.{IsEndFor, IsEndOf, IsReport, IsStatusFor, IsUnread};
-ghost use Rattle.lift_program.specs.Ends.{IsUnwritten, WritesFor, line_of};
+ghost use Rattle.lift_program.specs.Ends.{WritesFor, line_of};
 ghost use Rattle.lift_program.specs.Output.{IsTold};
 ghost use Rattle.lift_program.specs.Words.{Asks, IsInRange};
-ghost use Rattle.lift_program.specs.declared.words.Request.{Request as Wanted};
 ghost use Rattle.lift_program.specs.declared.words.Request.TheVariants.{Replay};
 
 use crate::end::End;
@@ -46,9 +45,10 @@ fn done<
     requires unhurt { input.old.failed ≡ false }
     requires before_end { input.old.ended ≡ false }
     ensures end { IsEndFor request.entry result }
-    ensures only { WritesFor request.entry (W.contents writer.old) (W.contents writer.new) }
-    ensures report { IsReport result (W.contents writer.old) (W.contents writer.new) }
-    ensures unwritten { IsUnwritten request.entry → W.contents writer.new ≡ W.contents writer.old }
+    ensures only { WritesFor (R.remaining input.old.reader) request.entry
+        (W.contents writer.old) (W.contents writer.new) }
+    ensures report { IsReport (R.remaining input.old.reader) result (W.contents writer.old)
+        (W.contents writer.new) }
     ensures good { result ≡ End.Replayed Good → input.new.ended ≡ true }
     ensures unread { result ≡ End.Failed (Fault.File Input) → IsUnread input.new }
     ensures read { request.entry ≡ Replay → result ≡ End.Failed (Fault.File Output)
@@ -123,19 +123,16 @@ fn carry_out<
     requires fresh { input.old.calls ≡ 0 }
     requires unhurt { input.old.failed ≡ false }
     requires before_end { input.old.ended ≡ false }
-    // It ends as the words ask, and where they ask for serving nothing is written but what says so,
-    ensures end { IsEndOf (map S.text words.now) (W.contents writer.old)
-        (W.contents writer.new) result }
+    // It ends as the words ask, and nothing is written but a front of what they ask for,
+    ensures end { IsEndOf (R.remaining input.old.reader) (map S.text words.now)
+        (W.contents writer.old) (W.contents writer.new) result }
     // a fault and other words are told by their line,
     ensures told { IfSome (line_of result) (IsTold E.contents errors.old errors.new) }
     // and what was done tells nothing.
     ensures quiet { line_of result ≡ None → errors.new ≡ errors.old }
-    // A script's report is what it says, and a journal's are its open calls.
-    ensures report { IsReport result (W.contents writer.old) (W.contents writer.new) }
-    // Nothing is reported where neither was asked for.
-    ensures unwritten { ((request : Wanted) → Asks (map S.text words.now) request
-        → IsUnwritten request)
-        → W.contents writer.new ≡ W.contents writer.old }
+    // A script's report is that of the input, and a journal's are its open calls.
+    ensures report { IsReport (R.remaining input.old.reader) result (W.contents writer.old)
+        (W.contents writer.new) }
     // A good script was read to its end,
     ensures good { result ≡ End.Replayed Good → input.new.ended ≡ true }
     // one that is undone for the standard input could not be read,
@@ -168,13 +165,9 @@ pub fn start<
     W: Write,
     E: Write + Drop,
 >(rt: &F, alloc: Global, words: &[S], reader: R, writer: &mut W, errors: &mut Watched<E>) -> u8
-    // It is the status of an end that the words come to, with its report, and which is told,
-    ensures status { IsStatusFor E.contents (map S.text words.now) (W.contents writer.old)
-        (W.contents writer.new) errors.old errors.new result }
-    // and nothing is reported where neither a replay nor a journal's open calls were asked for.
-    ensures unwritten { ((request : Wanted) → Asks (map S.text words.now) request
-        → IsUnwritten request)
-        → W.contents writer.new ≡ W.contents writer.old }
+    // It is the status of an end that the words come to, with its report, and which is told.
+    ensures status { IsStatusFor E.contents (map S.text words.now) (R.remaining reader)
+        (W.contents writer.old) (W.contents writer.new) errors.old errors.new result }
 {
     let mut input = Counted::new(reader);
     let end = carry_out(rt, alloc, words, &mut input, writer, errors);

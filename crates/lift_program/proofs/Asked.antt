@@ -1,0 +1,23 @@
+-- What words come to.
+use Rattle.std.proofs.Common.{◌≡◌, ℕ, Option, List, refl, inl, inr}
+use Rattle.clap.specs.Words.{Text}
+use Rattle.lift_program.specs.Ends.{IsEndFor, IsEndOf, WritesFor}
+use Rattle.lift_program.specs.Words.{Asks}
+use Rattle.lift_program.specs.declared.end.End.{End}
+use Rattle.lift_program.specs.declared.end.End.TheVariants.{Replayed, Formatted, Shown, Served, Failed, OtherWords}
+use Rattle.lift_program.specs.declared.fault.Fault.TheVariants.{Memory}
+use Rattle.lift_program.specs.declared.words.Request.{Request}
+
+-- an end of what the words ask for
+pub asked_end : (input : Option (List ℕ)) (words : List Text) (before after : Option (List ℕ)) (end : End) (request : Request) → Asks words request → IsEndFor request end
+    → WritesFor input request before after → IsEndOf input words before after end
+asked_end input words before after (Replayed verdict) request asks is writes = inr (request, asks, is, writes)
+asked_end input words before after (Formatted disk) request asks is writes = inr (request, asks, is, writes)
+asked_end input words before after (Shown disk) request asks is writes = inr (request, asks, is, writes)
+asked_end input words before after (Served port fault) request asks is writes = inr (request, asks, is, writes)
+asked_end input words before after (Failed fault) request asks is writes = inr (request, asks, is, writes)
+asked_end input words before after OtherWords request asks is writes = absurd is
+
+-- memory was wanting for the words
+pub unread_words : (input : Option (List ℕ)) (words : List Text) (written : Option (List ℕ)) → IsEndOf input words written written (Failed Memory)
+unread_words input words written = inl (refl, refl)

@@ -1,0 +1,21 @@
+use Rattle.std.proofs.Common.{◌≡◌, ap, map, subst}
+use Rattle.lift_base.specs.Input.{InputState}
+use Rattle.lift_program.specs.Ends.{IsEndOf, IsReport}
+use Rattle.lift_program.proofs.starting.start.Goals as goal
+
+pub returns : goal.returns
+returns g c =
+    let words = map g.S.AsStr.text c.args.words.now in
+    let before = g.W.Write.contents c.args.writer.now in
+    let after = g.W.Write.contents c.carry_out-end.new.writer in
+    let same : c.new-input.result.reader ≡ c.args.reader = ap (λ (input : InputState g.row.R.Denot). input.reader) c.new-input.ensures in
+    record {
+      status = record {
+        end = c.carry_out-end.result;
+        is_end = subst (λ r. IsEndOf (g.R.Read.remaining r) words before after c.carry_out-end.result) same c.carry_out-end.ensures.end;
+        reported = subst (λ r. IsReport (g.R.Read.remaining r) c.carry_out-end.result before after) same c.carry_out-end.ensures.report;
+        is_status = c.status.ensures;
+        told = c.carry_out-end.ensures.told;
+        quiet = c.carry_out-end.ensures.quiet;
+      };
+    }
