@@ -1,52 +1,27 @@
 //! Drives of cars.
-use crate::served::{Served, floor, number, only_seat, open, stop};
-use lift_base::{Body, Dir, Letter, Number, Position, Reason, Reply, Stop};
-use lift_car::{Car, DriveEnd, Ending, ModelCar, drive};
-use lift_desk::{AskRefusal, DeskParts};
+use crate::served::{Asked, Served, Told, floor, number, only_seat, open};
+use lift_base::{Body, Dir, Position, Reason, Stop};
+use lift_car::{Car, Ending, ModelCar, drive};
+use lift_desk::DeskParts;
 use lift_kiosk::{Limits, Port};
 use std::alloc::{AllocError, Global};
 use std::cell::Cell;
 use std::test::Fail;
 
-/// A model car with the places that it was sent to, each with how many asks its port had stored
-/// until then.
+/// Where a car was sent, and how many asks its port had been given until then.
+#[derive(Clone, Copy, PartialEq, Eq)]
+struct Halt {
+    asks: usize,
+    floor: u8,
+    dir: Dir,
+}
+
+/// A model car with its halts.
 #[derive(Drop)]
 struct Recorder<'a> {
     car: ModelCar,
     asks: &'a Cell<usize>,
-    stops: Vec<(usize, Position)>,
-}
-
-/// A port that counts the asks that it stores, where its car sees them.
-#[derive(Drop)]
-struct Counting<'d, 'a> {
-    port: Served<'d>,
-    asks: &'a Cell<usize>,
-}
-
-impl<'d, 'a> Port for Counting<'d, 'a> {
-    ghost use Rattle.lift_kiosk.specs.Desk.{port_view, place_of};
-
-    ghost view = { λ c. port_view c.port.port.seat.view c.port.port.rests };
-
-    ghost place = { λ c. place_of c.port.port };
-
-    fn pending(&self) -> Option<Number> {
-        self.port.pending()
-    }
-
-    fn ask(&mut self, number: Number, body: Body) -> Result<(), AskRefusal> {
-        self.asks.set(self.asks.get().saturating_add(1));
-        self.port.ask(number, body)
-    }
-
-    fn hear(&mut self) -> Option<Reply> {
-        self.port.hear()
-    }
-
-    fn rest(&mut self) {
-        self.port.rest();
-    }
+    halts: Vec<Halt>,
 }
 
 impl Car for Recorder<'_> {
@@ -62,178 +37,240 @@ impl Car for Recorder<'_> {
 
     fn go(&mut self, stop: Stop) {
         self.car.go(stop);
-        let _kept = self.stops.push((self.asks.get(), self.car.tell()));
+        let at = self.car.tell();
+        let _kept = self.halts.push(Halt {
+            asks: self.asks.get(),
+            floor: at.floor.get(),
+            dir: at.dir,
+        });
     }
 }
 
-#[derive(Drop)]
+/// Drives of one car, one after another, and what has to come of them.
+#[derive(Clone, Copy)]
 struct Trip {
-    stops: Vec<(usize, Position)>,
-    position: Position,
-    end: DriveEnd,
-    taken: Vec<(Number, Body)>,
+    replies: &'static [Told],
+    /// The clerk looks only after so many rests.
+    idle: u32,
+    /// Whether stop 3 at floor 1, up, was asked before.
+    is_asked: bool,
+    /// The floor where the car begins, up.
+    begins: u8,
+    /// The last number that is known to be in.
+    last: u32,
+    /// So many asks may be made by each drive.
+    lines: u32,
+    /// How each drive ends, and the last number then.
+    ends: &'static [(Ending, u32)],
+    asked: &'static [Asked],
+    halts: &'static [Halt],
+    /// The floor where the car ends.
+    rests: u8,
 }
 
-/// At this floor, going up.
-fn place(at: u8) -> Position {
-    Position {
-        floor: floor(at),
-        dir: Dir::Up,
-    }
-}
+/// Two looks for each answer, and nothing is asked before.
+const TRIP: Trip = Trip {
+    replies: &[],
+    idle: 0,
+    is_asked: false,
+    begins: 0,
+    last: 0,
+    lines: 9,
+    ends: &[],
+    asked: &[],
+    halts: &[],
+    rests: 0,
+};
 
-/// A stop for those who go down.
-fn next() -> Option<Stop> {
-    Some(stop(3, Dir::Down))
-}
-
-fn limits(lines: u32) -> Limits {
-    Limits {
-        lines,
+/// How a drive with two looks for each answer ends, and the last number then.
+fn drive_once(car: &mut Recorder, port: &mut Served, trip: &Trip) -> (Ending, u32) {
+    let limits = Limits {
+        lines: trip.lines,
         looks: 2,
         reads: 0,
+    };
+    let end = drive(car, port, number(trip.last), limits);
+    (end.end, end.last.get())
+}
+
+/// Whether each drive ends as it has to.
+fn end_so(car: &mut Recorder, port: &mut Served, trip: &Trip) -> bool {
+    for wanted in trip.ends {
+        if drive_once(car, port, trip) != *wanted {
+            return false;
+        }
     }
+    true
 }
 
-/// A drive of a car at floor 0, up, whose asks get these replies.
-fn driven(alloc: Global, replies: &[Reply], last: u32, lines: u32) -> Result<Trip, AllocError> {
-    let asks = Cell::new(0usize);
-    counted_drive(alloc, replies, last, lines, &asks)
-}
-
-fn counted_drive(
-    alloc: Global,
-    replies: &[Reply],
-    last: u32,
-    lines: u32,
-    asks: &Cell<usize>,
-) -> Result<Trip, AllocError> {
+fn comes_out(alloc: Global, trip: &Trip) -> Result<bool, AllocError> {
     let DeskParts {
         desk,
         mut seats,
         clerk,
     } = open(alloc)?;
     let seat = only_seat(&desk, &mut seats);
-    let served = Served::new(alloc, &desk, seat, clerk, replies, 0);
-    let mut port = Counting { port: served, asks };
-    let mut car = Recorder {
-        car: ModelCar { position: place(0) },
-        asks,
-        stops: Vec::new(alloc),
+    let asks = Cell::new(0);
+    let mut port = Served::new(alloc, &desk, seat, clerk, trip.replies, trip.idle, &asks);
+    if trip.is_asked {
+        let _stored = port.ask(number(3), Body::Stop(floor(1), Dir::Up));
+    }
+    let position = Position {
+        floor: floor(trip.begins),
+        dir: Dir::Up,
     };
-    let end = drive(&mut car, &mut port, number(last), limits(lines));
-    let Recorder {
-        car,
-        asks: _,
-        stops,
-    } = car;
-    Ok(Trip {
-        stops,
-        position: car.position,
-        end,
-        taken: port.port.into_taken(),
-    })
+    let mut car = Recorder {
+        car: ModelCar { position },
+        asks: &asks,
+        halts: Vec::new(alloc),
+    };
+    let is_end = end_so(&mut car, &mut port, trip);
+    let is_there = car.car.position.floor.get() == trip.rests;
+    let is_way = car.halts.as_slice() == trip.halts && port.taken.as_slice() == trip.asked;
+    Ok(is_end && is_there && is_way)
 }
 
-/// The car takes its passengers at floor 0 to floor 5, and is idle there. It goes to each stop
-/// before it reports it: to the first behind its first ask, to the second behind its second.
-#[test]
-fn car_makes_its_stops(rt: HostRuntime) -> Result<(), Fail> {
-    let driven = driven(
-        rt.alloc(),
-        &[
-            Reply::Placed(Some(stop(0, Dir::Up))),
-            Reply::Stopped(Some(stop(5, Dir::Up))),
-            Reply::Stopped(None),
-            Reply::Placed(None),
+fn successes(alloc: Global, trips: &[Trip]) -> Result<usize, AllocError> {
+    for (place, trip) in trips.iter().enumerate() {
+        if !comes_out(alloc, trip)? {
+            return Ok(place);
+        }
+    }
+    Ok(trips.len())
+}
+
+/// A stop at floor 3 for those who go down.
+const NEXT: Option<(u8, Dir)> = Some((3, Dir::Down));
+
+/// It is gone to behind the first ask.
+const HALT: Halt = Halt {
+    asks: 1,
+    floor: 3,
+    dir: Dir::Down,
+};
+
+/// It is gone to again behind the second ask.
+const AGAIN: Halt = Halt { asks: 2, ..HALT };
+
+const PLACE: Asked = Asked::Place(0, 0, Dir::Up);
+
+const TRIPS: [Trip; 10] = [
+    // The car takes its passengers at floor 0 to floor 5, and is idle there. It goes to each stop
+    // before it reports it: to the first behind its first ask, to the second behind its second.
+    Trip {
+        replies: &[
+            Told::Placed(Some((0, Dir::Up))),
+            Told::Stopped(Some((5, Dir::Up))),
+            Told::Stopped(None),
+            Told::Placed(None),
         ],
-        0,
-        4,
-    )?;
-    assert!(rt; driven.stops.as_slice() == [(1, place(0)), (2, place(5))].as_slice());
-    let asks = [
-        (number(0), Body::Place(floor(0), Dir::Up)),
-        (number(1), Body::Stop(floor(0), Dir::Up)),
-        (number(2), Body::Stop(floor(5), Dir::Up)),
-        (number(0), Body::Place(floor(5), Dir::Up)),
-    ];
-    assert!(rt; driven.taken.as_slice() == asks.as_slice());
-    assert!(rt; driven.end.end == Ending::Limit && driven.end.last == number(2));
-    assert!(rt; driven.position.floor == floor(5) && driven.position.dir == Dir::Up);
-    Ok(())
-}
+        lines: 4,
+        ends: &[(Ending::Limit, 2)],
+        asked: &[
+            PLACE,
+            Asked::Stop(1, 0, Dir::Up),
+            Asked::Stop(2, 5, Dir::Up),
+            Asked::Place(0, 5, Dir::Up),
+        ],
+        halts: &[
+            Halt {
+                asks: 1,
+                floor: 0,
+                dir: Dir::Up,
+            },
+            Halt {
+                asks: 2,
+                floor: 5,
+                dir: Dir::Up,
+            },
+        ],
+        rests: 5,
+        ..TRIP
+    },
+    // a refusal and Unknown end a drive at once
+    Trip {
+        replies: &[Told::Placed(NEXT), Told::Refused(Reason::NotServed)],
+        last: 4,
+        ends: &[(Ending::Refused(Reason::NotServed), 4)],
+        asked: &[PLACE, Asked::Stop(5, 3, Dir::Down)],
+        halts: &[HALT],
+        rests: 3,
+        ..TRIP
+    },
+    Trip {
+        replies: &[Told::Placed(NEXT), Told::Unknown],
+        last: 4,
+        ends: &[(Ending::Unknown, 4)],
+        asked: &[PLACE, Asked::Stop(5, 3, Dir::Down)],
+        halts: &[HALT],
+        rests: 3,
+        ..TRIP
+    },
+    Trip {
+        replies: &[Told::Unknown, Told::Unknown],
+        ends: &[(Ending::Unknown, 0)],
+        asked: &[PLACE],
+        ..TRIP
+    },
+    // a drive ends where no number is left for its stop, and after all asks that it may make
+    Trip {
+        replies: &[Told::Placed(NEXT), Told::Stopped(NEXT)],
+        last: 16_777_214,
+        ends: &[(Ending::Limit, 16_777_215)],
+        asked: &[PLACE, Asked::Stop(16_777_215, 3, Dir::Down)],
+        halts: &[HALT, AGAIN],
+        rests: 3,
+        ..TRIP
+    },
+    Trip {
+        replies: &[Told::Placed(NEXT), Told::Unknown],
+        last: 16_777_215,
+        ends: &[(Ending::Limit, 16_777_215)],
+        asked: &[PLACE],
+        halts: &[HALT],
+        rests: 3,
+        ..TRIP
+    },
+    Trip {
+        replies: &[Told::Placed(NEXT), Told::Stopped(NEXT)],
+        lines: 2,
+        ends: &[(Ending::Limit, 1)],
+        asked: &[PLACE, Asked::Stop(1, 3, Dir::Down)],
+        halts: &[HALT, AGAIN],
+        rests: 3,
+        ..TRIP
+    },
+    Trip {
+        replies: &[Told::Car(0), Told::Placed(None)],
+        lines: 2,
+        ends: &[(Ending::Limit, 0)],
+        asked: &[PLACE, PLACE],
+        ..TRIP
+    },
+    Trip {
+        replies: &[Told::Unknown, Told::Unknown],
+        lines: 0,
+        ends: &[(Ending::Limit, 0)],
+        ..TRIP
+    },
+    // no answer in time; the next drive brings it in, and does not go to its stop
+    Trip {
+        replies: &[Told::Stopped(Some((7, Dir::Up))), Told::Placed(None)],
+        idle: 2,
+        is_asked: true,
+        begins: 1,
+        last: 2,
+        lines: 1,
+        ends: &[(Ending::Late, 2), (Ending::Limit, 3)],
+        asked: &[Asked::Stop(3, 1, Dir::Up), Asked::Place(0, 1, Dir::Up)],
+        rests: 1,
+        ..TRIP
+    },
+];
 
-/// The answers, the last number and the asks allowed; how the drive ends, the last number then, and
-/// how many asks it made.
-type Row = ([Reply; 2], u32, u32, Ending, u32, usize);
-
-fn ends_so(alloc: Global, row: &Row) -> Result<bool, Fail> {
-    let (replies, last, lines, end, number_then, asks) = row;
-    let driven = driven(alloc, replies, *last, *lines)?;
-    let is_end = driven.end.end == *end && driven.end.last == number(*number_then);
-    Ok(is_end && driven.taken.len() == *asks)
-}
-
-/// A refusal and Unknown end a drive at once.
+/// Stops, refusals, limits, and an answer that comes late.
 #[test]
-fn answers_end_a_drive(rt: HostRuntime) -> Result<(), Fail> {
-    let refused = Reply::Refused(Reason::NotServed);
-    let not_served = Ending::Refused(Reason::NotServed);
-    let placed = Reply::Placed(next());
-    let table: [Row; 3] = [
-        ([placed, refused], 4, 9, not_served, 4, 2),
-        ([placed, Reply::Unknown], 4, 9, Ending::Unknown, 4, 2),
-        (
-            [Reply::Unknown, Reply::Unknown],
-            0,
-            9,
-            Ending::Unknown,
-            0,
-            1,
-        ),
-    ];
-    for row in &table {
-        assert!(rt; ends_so(rt.alloc(), row)?);
-    }
-    Ok(())
-}
-
-/// A drive ends where no number is left for its stop, and after all asks that it may make.
-#[test]
-fn limits_end_a_drive(rt: HostRuntime) -> Result<(), Fail> {
-    let (most, limit) = (16_777_215, Ending::Limit);
-    let (placed, stopped) = (Reply::Placed(next()), Reply::Stopped(next()));
-    let (car, idle) = (Reply::Car(Letter::default()), Reply::Placed(None));
-    let table: [Row; 5] = [
-        ([placed, stopped], most - 1, 9, limit, most, 2),
-        ([placed, Reply::Unknown], most, 9, limit, most, 1),
-        ([placed, stopped], 0, 2, limit, 1, 2),
-        ([car, idle], 0, 2, limit, 0, 2),
-        ([Reply::Unknown, Reply::Unknown], 0, 0, limit, 0, 0),
-    ];
-    for row in &table {
-        assert!(rt; ends_so(rt.alloc(), row)?);
-    }
-    Ok(())
-}
-
-/// No answer in time; the next drive brings it in, and does not go to its stop.
-#[test]
-fn late_answers_are_brought_in(rt: HostRuntime) -> Result<(), Fail> {
-    let DeskParts {
-        desk,
-        mut seats,
-        clerk,
-    } = open(rt.alloc())?;
-    let seat = only_seat(&desk, &mut seats);
-    let replies = [Reply::Stopped(Some(stop(7, Dir::Up))), Reply::Placed(None)];
-    let mut port = Served::new(rt.alloc(), &desk, seat, clerk, &replies, 2);
-    assert!(rt; port.ask(number(3), Body::Stop(floor(1), Dir::Up)).is_ok());
-    let mut car = ModelCar { position: place(1) };
-    let end = drive(&mut car, &mut port, number(2), limits(1));
-    assert!(rt; end.end == Ending::Late && end.last == number(2));
-    let end = drive(&mut car, &mut port, number(2), limits(1));
-    assert!(rt; end.end == Ending::Limit && end.last == number(3));
-    assert!(rt; car.position.floor == floor(1));
+fn cars_are_driven(rt: HostRuntime) -> Result<(), Fail> {
+    assert_eq!(rt; successes(rt.alloc(), &TRIPS)?, TRIPS.len());
     Ok(())
 }

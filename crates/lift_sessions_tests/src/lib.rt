@@ -14,3 +14,5 @@ mod kiosks;
 mod served;
 #[cfg(test)]
 mod streams;
+#[cfg(test)]
+mod visits;

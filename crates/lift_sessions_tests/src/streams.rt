@@ -6,45 +6,47 @@ fn fault() -> io::Error {
     io::Error::from(io::ErrorKind::TimedOut)
 }
 
-/// Gives this text again and again, a byte at each call, and fails at one call.
+/// Gives this text, a byte at each call, and fails at one call.
 #[derive(Drop)]
-pub struct Endless<'t> {
-    pub text: &'t [u8],
+pub(crate) struct Slow {
+    /// So many letters C come before the text.
+    pub filling: usize,
+    pub text: &'static [u8],
     pub given: usize,
+    /// Whether the text comes again and again.
+    pub is_endless: bool,
     /// So many calls succeed before one fails.
     pub calls: u64,
 }
 
-impl Read for Endless<'_> {
+impl Read for Slow {
     fn read(&mut self, buf: &mut [u8]) -> io::Result<usize> {
         if self.calls == 0 {
             return Err(fault());
         }
         self.calls -= 1;
-        if buf.is_empty() {
-            return Ok(0);
+        if self.filling > 0 && !buf.is_empty() {
+            self.filling -= 1;
+            buf[0] = b'C';
+            return Ok(1);
+        }
+        if self.is_endless && self.given >= self.text.len() {
+            self.given = 0;
         }
         match self.text.get(self.given) {
-            Some(byte) => {
+            Some(byte) if !buf.is_empty() => {
                 buf[0] = *byte;
                 self.given += 1;
                 Ok(1)
             }
-            None => match self.text {
-                [first, ..] => {
-                    buf[0] = *first;
-                    self.given = 1;
-                    Ok(1)
-                }
-                [] => Ok(0),
-            },
+            _ => Ok(0),
         }
     }
 }
 
 /// Takes so many bytes, two at most in a call, and then fails or takes nothing.
 #[derive(Drop)]
-pub struct Narrow {
+pub(crate) struct Narrow {
     pub taken: Vec<u8>,
     pub room: usize,
     pub fails: bool,
