@@ -1,8 +1,8 @@
 /* Clients that ask and wait for the answer, all in one thread, for tools/bench-serve.
 
-   bench-load PORT lift KIOSKS CARS SECONDS    kiosks call, cars go where they are sent; prints two rows, letters and stops
-   bench-load PORT redis CLIENTS SECONDS       clients set a key each; prints one row
-   bench-load PORT greet COUNT KIOSKS          connections one after another, each greeted; prints nothing
+   bench-load PORT lift KIOSKS CARS SECONDS FLOORS    kiosks call, cars go where they are sent; prints two rows, letters and stops
+   bench-load PORT redis CLIENTS SECONDS              clients set a key each; prints one row
+   bench-load PORT greet COUNT KIOSKS                 connections one after another, each greeted; prints nothing
 
    A row: how many answers, how many refusals among the rest, p50 and p99 of the waiting times in microseconds.
    An answer that is none of those that may come ends it with status 1. */
@@ -18,7 +18,7 @@
 #include <time.h>
 #include <unistd.h>
 
-enum { FLOORS = 40, IDLE_US = 10000, MOST = 1 << 24 };
+enum { IDLE_US = 10000, MOST = 1 << 24 };
 enum role { KIOSK, CAR, SETTER };
 
 struct client {
@@ -39,6 +39,7 @@ struct row {
 };
 
 static struct row rows[3];
+static int floors = 1;
 
 static double now(void) {
     struct timespec time;
@@ -79,9 +80,9 @@ static void record(enum role role, double took) {
 
 static void ask(struct client *client) {
     char text[64];
-    int own = client->index % FLOORS;
+    int own = client->index % floors;
     if (client->role == KIOSK) {
-        snprintf(text, sizeof text, "CALL %ld %d\n", client->number, (own + 1 + (int)(client->number % (FLOORS - 1))) % FLOORS);
+        snprintf(text, sizeof text, "CALL %ld %d\n", client->number, (own + 1 + (int)(client->number % (floors - 1))) % floors);
     } else if (client->role == SETTER) {
         snprintf(text, sizeof text, "SET k%d %ld\r\n", client->index, client->number);
     } else if (client->is_stop) {
@@ -145,7 +146,7 @@ static void hear(struct client *client) {
 static void begin(struct client *client, int epoll, int port, enum role role, int index) {
     char line[64];
     struct epoll_event event = {.events = EPOLLIN, .data.ptr = client};
-    *client = (struct client){.socket = connected(port), .role = role, .index = index, .number = 1, .floor = index, .up = 1};
+    *client = (struct client){.socket = connected(port), .role = role, .index = index, .number = 1, .floor = index % floors, .up = 1};
     if (role != SETTER) {
         snprintf(line, sizeof line, role == KIOSK ? "KIOSK %d\n" : "CAR %c\n", role == KIOSK ? index : 'A' + index);
         say(client->socket, line);
@@ -202,6 +203,10 @@ int main(int count, char **words) {
         return 0;
     }
     int is_lift = strcmp(words[2], "lift") == 0, cars = is_lift ? atoi(words[4]) : 0, epoll = epoll_create1(0);
+    if (is_lift) {
+        if (count < 7) fail("words:", "PORT lift KIOSKS CARS SECONDS FLOORS");
+        floors = atoi(words[6]);
+    }
     struct client *clients = calloc(first + cars, sizeof *clients);
     for (int i = 0; i < 3; i++) rows[i].delays = malloc(MOST * sizeof(float));
     for (int i = 0; i < cars; i++) begin(&clients[i], epoll, port, CAR, i);

@@ -11,12 +11,12 @@ use crate::connections::Ticket;
 use crate::first_line::terminal_of;
 use crate::held::Held;
 use crate::lobby::{Absent, Lobby, Missing, NoSeat, Returned, Vacancy};
+use crate::pace::AskBell;
 use lift_base::Terminal;
 use lift_base::text::{Counted, Watched};
 use lift_kiosk::{End, Line, NoLine, read_line};
 use std::io::{Read, Write};
 use std::sync::{Mutex, Wait};
-use std::thread::Parker;
 use std::time::Clock;
 
 /// The calls of the reader for a first line.
@@ -101,7 +101,7 @@ pub fn attend<'d, R: Wait + Clock, I: Read + Drop, O: Write + Drop>(
     rt: &R,
     lobby: &Mutex<Lobby<'d>>,
     ticket: Ticket,
-    bell: &Parker,
+    bell: &AskBell,
     cars: u8,
     kiosks: u8,
     reader: &mut Counted<I>,

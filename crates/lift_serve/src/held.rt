@@ -6,6 +6,7 @@ ghost use Rattle.lift_desk.specs.Seats.{IsSeatOf};
 ghost use Rattle.lift_kiosk.specs.Lines.{source_of};
 ghost use Rattle.lift_serve.specs.Visits.{IsNewSeat, Visits};
 
+use crate::pace::AskBell;
 use crate::pager::Pager;
 use crate::port::RestingPort;
 use lift_base::Terminal;
@@ -16,7 +17,6 @@ use lift_kiosk::{DeskPort, End, Kiosk, LastLetter, Limits, SessionEnd, converse}
 use std::io::{Read, Write};
 use std::marker::Model;
 use std::sync::Wait;
-use std::thread::Parker;
 use std::time::Clock;
 
 /// What a session of a connection may use at most.
@@ -85,7 +85,7 @@ impl<'d> Held<'d> {
     fn visit_as_kiosk<R: Wait + Clock, I: Read + Drop, O: Write + Drop>(
         self,
         rt: &R,
-        bell: &Parker,
+        bell: &AskBell,
         reader: &mut Counted<I>,
         writer: &mut Watched<O>,
     ) -> (Held<'d>, End)
@@ -122,7 +122,7 @@ impl<'d> Held<'d> {
     fn visit_as_car<R: Wait + Clock, I: Read + Drop, O: Write + Drop>(
         self,
         rt: &R,
-        bell: &Parker,
+        bell: &AskBell,
         reader: &mut Counted<I>,
         writer: &mut Watched<O>,
     ) -> (Held<'d>, End)
@@ -159,7 +159,7 @@ impl<'d> Held<'d> {
     pub fn visit<R: Wait + Clock, I: Read + Drop, O: Write + Drop>(
         self,
         rt: &R,
-        bell: &Parker,
+        bell: &AskBell,
         reader: &mut Counted<I>,
         writer: &mut Watched<O>,
     ) -> (Held<'d>, End)

@@ -15,13 +15,14 @@ mod relaying;
 mod rests;
 mod seating;
 mod serving;
+mod waking;
 
 pub use attending::{Outcome, attend};
 pub use connections::Ticket;
 pub use first_line::terminal_of;
 pub use held::Held;
 pub use lobby::{Absent, Lobby, Missing, NoSeat, Returned, Vacancy};
-pub use pace::{Bells, Pace};
+pub use pace::{AskBell, Bells, Pace};
 pub use pager::Pager;
 pub use port::RestingPort;
 pub use relaying::{Parts, run_parts, turn_rejoined};

@@ -11,33 +11,111 @@ use std::time::Duration;
 /// with it before.
 const AHEAD_MS: u64 = 1;
 
-/// What wakes the two threads: the allocator's waits for asks, or for the flusher to go on; the
-/// flusher's waits for batches.
+/// So many sessions the flusher wakes behind a batch. Each wakes another behind what it writes.
+const FIRST_WOKEN: u64 = 2;
+
+/// The allocator doesn't wait for asks.
+const NOT_WAITING: u64 = u64::MAX;
+
+/// What is rung behind each ask. It wakes the allocator once as many have asked as that waits for.
 #[derive(Drop)]
-pub struct Bells {
-    asks: Parker,
-    room: Parker,
-    batches: Parker,
+pub struct AskBell {
+    parker: Parker,
+    /// How many have asked since the last scan began, or some more.
+    asked: AtomicU64,
+    enough: AtomicU64,
 }
 
-impl Bells {
-    /// None is rung.
-    pub fn new() -> Bells {
+impl AskBell {
+    /// Nobody has asked.
+    pub fn new() -> AskBell {
+        AskBell {
+            parker: Parker::new(),
+            asked: AtomicU64::new(0),
+            enough: AtomicU64::new(NOT_WAITING),
+        }
+    }
+
+    /// A terminal's ask is stored.
+    pub fn ring(&self) {
+        let asked = self.asked.fetch_add(1, Ordering::SeqCst).saturating_add(1);
+        if asked >= self.enough.load(Ordering::SeqCst) {
+            self.parker.unpark();
+        }
+    }
+
+    /// What was asked before is found by a scan.
+    fn scan_begins(&self) {
+        self.asked.store(0, Ordering::SeqCst);
+    }
+
+    /// From here on so many asks wake the allocator. Whether they are still to come.
+    fn wants(&self, enough: u64) -> bool {
+        self.enough.store(enough, Ordering::SeqCst);
+        self.asked.load(Ordering::SeqCst) < enough
+    }
+
+    fn wants_none(&self) {
+        self.enough.store(NOT_WAITING, Ordering::SeqCst);
+    }
+
+    /// Where the allocator waits, one ask is enough.
+    fn one_is_enough(&self) {
+        if self.enough.load(Ordering::SeqCst) != NOT_WAITING && !self.wants(1) {
+            self.parker.unpark();
+        }
+    }
+}
+
+/// What wakes the threads of a serving: the allocator's waits for asks, or for the flusher to go
+/// on; the flusher's for batches; a session's, at its terminal's pager, for its answer.
+#[derive(Drop)]
+pub struct Bells<'s> {
+    asks: AskBell,
+    room: Parker,
+    batches: Parker,
+    pagers: &'s [Pager],
+    flushed: AtomicU64,
+}
+
+impl<'s> Bells<'s> {
+    /// None is rung, and nothing was flushed.
+    pub fn new(pagers: &'s [Pager]) -> Self {
         Bells {
-            asks: Parker::new(),
+            asks: AskBell::new(),
             room: Parker::new(),
             batches: Parker::new(),
+            pagers,
+            flushed: AtomicU64::new(0),
         }
     }
 
     /// To be rung behind each ask.
-    pub fn asks(&self) -> &Parker {
+    pub fn asks(&self) -> &AskBell {
         &self.asks
     }
 
-    /// Wakes both threads, whatever they wait for.
+    /// Wakes one session whose answer is stored, if one is left.
+    pub fn wake_one(&self) {
+        let flushed = self.flushed.load(Ordering::SeqCst);
+        for pager in self.pagers {
+            if pager.is_flushed(flushed) {
+                return;
+            }
+        }
+    }
+
+    /// Wakes all sessions whose answers are stored.
+    fn wake_answered(&self) {
+        let flushed = self.flushed.load(Ordering::SeqCst);
+        for pager in self.pagers {
+            pager.is_flushed(flushed);
+        }
+    }
+
+    /// Wakes the two threads of the parts, whatever they wait for.
     pub fn ring_all(&self) {
-        self.asks.unpark();
+        self.asks.parker.unpark();
         self.room.unpark();
         self.batches.unpark();
     }
@@ -47,62 +125,74 @@ impl Bells {
 /// to do waits until it is woken, and each terminal's pager is told how far its ask is.
 #[derive(Drop)]
 pub struct Pace<'s> {
-    bells: &'s Bells,
-    pagers: &'s [Pager],
+    bells: &'s Bells<'s>,
     closing: &'s AtomicU64,
     sent: AtomicU64,
-    flushed: AtomicU64,
+    /// How many asks the last scan was begun for, and the one before it.
+    last: AtomicU64,
+    before: AtomicU64,
 }
 
 impl<'s> Pace<'s> {
     /// Of a line on which nothing was sent.
-    pub fn new(bells: &'s Bells, pagers: &'s [Pager], closing: &'s AtomicU64) -> Self {
+    pub fn new(bells: &'s Bells<'s>, closing: &'s AtomicU64) -> Self {
         Pace {
             bells,
-            pagers,
             closing,
             sent: AtomicU64::new(0),
-            flushed: AtomicU64::new(0),
+            last: AtomicU64::new(0),
+            before: AtomicU64::new(0),
         }
     }
 
     /// What was asked before a scan is in the batch that the scan sends.
     fn scan_begins(&self) {
+        self.bells.asks.scan_begins();
         let batch = self.sent.load(Ordering::SeqCst).saturating_add(1);
-        for pager in self.pagers {
-            pager.scan_begins(batch);
+        let mut asked = 0u64;
+        for pager in self.bells.pagers {
+            if pager.scan_begins(batch) {
+                asked = asked.saturating_add(1);
+            }
         }
-    }
-
-    /// Wakes the sessions whose answers are stored.
-    fn page(&self) {
-        let flushed = self.flushed.load(Ordering::SeqCst);
-        for pager in self.pagers {
-            pager.is_flushed(flushed);
+        if asked > 0 {
+            let last = self.last.load(Ordering::SeqCst);
+            self.before.store(last, Ordering::SeqCst);
+            self.last.store(asked, Ordering::SeqCst);
         }
     }
 
     /// Whether no more than so many batches are still to be flushed.
     fn is_behind(&self, sent: u64, batches: u64) -> bool {
-        sent <= self.flushed.load(Ordering::SeqCst).saturating_add(batches)
+        sent <= self
+            .bells
+            .flushed
+            .load(Ordering::SeqCst)
+            .saturating_add(batches)
     }
 
-    /// Waits until the flusher has nothing in hand, or has had one batch in hand for a while. A
-    /// batch that is decided later is fuller, and whoever is in it waits for one batch less.
+    /// Waits until the flusher has one batch in hand at most.
     fn wait_for_room<R: Wait>(&self, rt: &R, sent: u64) {
-        let room = &self.bells.room;
-        // A ring that was left over ends no wait.
-        room.park_timeout(rt, Duration::from_millis(0));
         for _ in rt.forever() {
             if self.is_behind(sent, 1) || !self.go_on() {
                 break;
             }
-            room.park(rt);
-            self.page();
+            self.bells.room.park(rt);
         }
-        if !self.is_behind(sent, 0) && self.go_on() {
-            room.park_timeout(rt, Duration::from_millis(AHEAD_MS));
+    }
+
+    /// Waits until as many have asked as were in the larger of the last two batches, or the flusher
+    /// has nothing in hand and one has asked, or for a while. A batch that is decided later is
+    /// fuller, and whoever is in it waits for one batch less.
+    fn wait_for_asks<R: Wait>(&self, rt: &R, sent: u64) {
+        let asks = &self.bells.asks;
+        let last = self.last.load(Ordering::SeqCst);
+        let enough = last.max(self.before.load(Ordering::SeqCst));
+        if asks.wants(enough) && !self.is_behind(sent, 0) && self.go_on() {
+            asks.parker
+                .park_timeout(rt, Duration::from_millis(AHEAD_MS));
         }
+        asks.wants_none();
     }
 }
 
@@ -112,15 +202,20 @@ impl<'s> Gate for Pace<'s> {
     }
 
     fn allocator_idles<R: Wait>(&self, rt: &R) {
-        self.bells.asks.park(rt);
+        let asks = &self.bells.asks;
+        if asks.wants(1) {
+            asks.parker.park(rt);
+        }
+        asks.wants_none();
         self.scan_begins();
     }
 
     fn has_sent<R: Wait>(&self, rt: &R, count: u64) {
         self.sent.store(count, Ordering::SeqCst);
         self.bells.batches.unpark();
-        self.page();
         self.wait_for_room(rt, count);
+        self.bells.wake_answered();
+        self.wait_for_asks(rt, count);
         self.scan_begins();
     }
 
@@ -129,15 +224,12 @@ impl<'s> Gate for Pace<'s> {
     }
 
     fn has_flushed<R: Wait>(&self, _rt: &R, count: u64) {
-        self.flushed.store(count, Ordering::SeqCst);
-        // Whoever is answered may ask again before the next batch is decided, which is fuller then.
-        // One that was decided ahead comes first: the allocator wakes the others.
-        for pager in self.pagers {
-            if self.sent.load(Ordering::SeqCst) > count {
-                break;
-            }
-            pager.is_flushed(count);
-        }
+        self.bells.flushed.store(count, Ordering::SeqCst);
+        // What was asked meanwhile is decided while sessions wake.
         self.bells.room.unpark();
+        self.bells.asks.one_is_enough();
+        for _ in 0..FIRST_WOKEN {
+            self.bells.wake_one();
+        }
     }
 }

@@ -66,21 +66,23 @@ impl Pager {
         self.stage.store(IDLE, Ordering::SeqCst);
     }
 
-    /// A scan begins, which finds what was asked before, and sends it in this batch.
-    pub fn scan_begins(&self, batch: u64) {
-        self.goes_on(ASKED, batch.saturating_add(IN_BATCH));
+    /// A scan begins, which finds what was asked before, and sends it in this batch. Whether the
+    /// terminal had asked.
+    pub fn scan_begins(&self, batch: u64) -> bool {
+        self.goes_on(ASKED, batch.saturating_add(IN_BATCH))
     }
 
     /// So many batches are flushed: all that was in them is answered. A session that rests for its
-    /// answer wakes.
-    pub fn is_flushed(&self, batches: u64) {
+    /// answer wakes. Whether this woke it.
+    pub fn is_flushed(&self, batches: u64) -> bool {
         let stage = self.stage.load(Ordering::SeqCst);
-        if stage > IN_BATCH
+        let is_answered = stage > IN_BATCH
             && stage <= batches.saturating_add(IN_BATCH)
-            && self.goes_on(stage, ANSWERED)
-        {
+            && self.goes_on(stage, ANSWERED);
+        if is_answered {
             self.parker.unpark();
         }
+        is_answered
     }
 
     /// Rests for a millisecond. Nothing ends that earlier but the terminal's own answer, once: the

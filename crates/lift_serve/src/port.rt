@@ -2,13 +2,13 @@
 
 ghost use Rattle.std.specs.Prelude.{◌≡◌};
 
+use crate::pace::AskBell;
 use crate::pager::Pager;
 use crate::rests::Rests;
 use lift_base::{Body, Number, Reply};
 use lift_desk::AskRefusal;
 use lift_kiosk::{DeskPort, Port};
 use std::sync::Wait;
-use std::thread::Parker;
 use std::time::Clock;
 
 /// A terminal's port at the desk. Behind each ask it wakes the clerk, and it rests by sleeping for
@@ -18,13 +18,13 @@ pub struct RestingPort<'d, 'r, R: Wait + Clock> {
     port: DeskPort<'d>,
     rests: Rests,
     rt: &'r R,
-    bell: &'r Parker,
+    bell: &'r AskBell,
     pager: &'r Pager,
 }
 
 impl<'d, 'r, R: Wait + Clock> RestingPort<'d, 'r, R> {
     /// The port, with the runtime that it sleeps by, the clerk's bell and its terminal's pager.
-    pub fn new(port: DeskPort<'d>, rt: &'r R, bell: &'r Parker, pager: &'r Pager) -> Self
+    pub fn new(port: DeskPort<'d>, rt: &'r R, bell: &'r AskBell, pager: &'r Pager) -> Self
         ensures port { result.port ≡ port.entry }
         ensures rests { result.rests ≡ 0 }
     {
@@ -67,7 +67,7 @@ impl<'d, 'r, R: Wait + Clock> Port for RestingPort<'d, 'r, R> {
         let outcome = self.port.ask(number, body);
         if outcome.is_ok() {
             self.pager.asked();
-            self.bell.unpark();
+            self.bell.ring();
         }
         outcome
     }

@@ -17,6 +17,7 @@ use crate::pace::{Bells, Pace};
 use crate::pager::Pager;
 use crate::relaying::{Parts, run_parts, turn_rejoined, unrun};
 use crate::seating::{lobby_of, new_pagers};
+use crate::waking::WakingWriter;
 use lift_base::text::{Counted, Watched};
 use lift_clerk::Clerk;
 use lift_desk::{Desk, DeskParts, Seat};
@@ -80,7 +81,7 @@ struct Shared<'a, 'd> {
     cars: u8,
     kiosks: u8,
     lobby: &'a Mutex<Lobby<'d>>,
-    bells: &'a Bells,
+    bells: &'a Bells<'a>,
     closing: &'a AtomicU64,
     connections: &'a Mutex<Connections>,
     lack: &'a Mutex<Option<Lack>>,
@@ -188,7 +189,7 @@ fn speak<R: Wait + Clock>(
         return Err(Lack::Memory);
     };
     let mut reader = Counted::new(ahead);
-    let mut writer = Watched::new(stream);
+    let mut writer = Watched::new(WakingWriter::new(stream, shared.bells));
     let _outcome = attend(
         rt,
         shared.lobby,
@@ -351,7 +352,6 @@ fn run<'d, 'b, R: Threads + Wait + Clock + Sync, D: Disk + Drop, P: Policy + Dro
     alloc: Global,
     listener: &TcpListener,
     shared: Shared<'_, '_>,
-    pagers: &[Pager],
     clerk: Clerk<'d, 'b, D, P>,
 ) -> Result<(Clerk<'d, 'b, D, P>, Option<Lack>), Clerk<'d, 'b, D, P>>
     ensures ran { IfOk result (λ ran.
@@ -366,7 +366,7 @@ fn run<'d, 'b, R: Threads + Wait + Clock + Sync, D: Disk + Drop, P: Policy + Dro
                 flusher,
                 fault: None,
             };
-            let pace = Pace::new(shared.bells, pagers, shared.closing);
+            let pace = Pace::new(shared.bells, shared.closing);
             let ran = run_beside(rt, alloc, listener, shared, &pace, parts);
             let own = undone_by(ran.fault);
             Ok((turn_rejoined(ran.allocator, ran.flusher), own))
@@ -407,7 +407,7 @@ fn serve_from<'d, 'b, R: Threads + Wait + Clock + Sync, D: Disk + Drop, P: Polic
     let lobby = Mutex::new(lobby);
     let connections = Mutex::new(connections);
     let lack = Mutex::new(None);
-    let bells = Bells::new();
+    let bells = Bells::new(pagers);
     let closing = AtomicU64::new(0);
     let shared = Shared {
         cars: building.cars(),
@@ -418,7 +418,7 @@ fn serve_from<'d, 'b, R: Threads + Wait + Clock + Sync, D: Disk + Drop, P: Polic
         connections: &connections,
         lack: &lack,
     };
-    match run(rt, alloc, listener, shared, pagers, clerk) {
+    match run(rt, alloc, listener, shared, clerk) {
         Ok((clerk, own)) => {
             let (_seat, keeper, _policy) = clerk.into_parts();
             Served {
