@@ -168,14 +168,9 @@ pub enum Record {
     /// An open call of a checkpoint.
     Row(Row),
     /// The last command of a terminal at a checkpoint.
-    Last {
-        terminal: Terminal,
-        last: Last,
-    },
+    Last { terminal: Terminal, last: Last },
     /// How many calls were done at a checkpoint, which this ends.
-    Done {
-        count: u32,
-    },
+    Done { count: u32 },
 }
 
 /// The blank of a list with fixed room.

@@ -161,7 +161,10 @@ fn each_sector_is_read_as_itself(rt: HostRuntime) -> Result<(), Fail> {
         for leap in [1u8, 39, 7, 17] {
             let mut sector = 0u8;
             for _ in 0..40 {
-                assert!(rt; get(&mut disk, u32::from(sector)) == Some(sector), "{sector}");
+                assert!(rt;
+                    get(&mut disk, u32::from(sector)) == Some(sector),
+                    "{sector}"
+                );
                 sector = sector.saturating_add(leap) % 40;
             }
         }

@@ -30,13 +30,15 @@ pub fn is_lawful(record: &Record) -> bool
     ensures { IsTrue result ↔ IsLawful «record».now }
 {
     match *record {
-        Record::Entry(Entry::Allot {
-            kiosk,
-            number,
-            from,
-            to,
-            ..
-        }) => is_lawful_call(kiosk, number, from, to),
+        Record::Entry(
+            Entry::Allot {
+                kiosk,
+                number,
+                from,
+                to,
+                ..
+            },
+        ) => is_lawful_call(kiosk, number, from, to),
         Record::Entry(Entry::Stop { number, .. }) => number.get() >= 1,
         Record::Row(row) => is_lawful_call(row.kiosk, row.number, row.from, row.to),
         Record::Last { terminal, ref last } => match &last.content {
@@ -163,23 +165,27 @@ fn spell(version: Version, record: &Record) -> [u8; 16]
     ensures typed { IsTyped «record».now }
 {
     match *record {
-        Record::Entry(Entry::Allot {
-            kiosk,
-            number,
-            from,
-            to,
-            car,
-            party,
-        }) => {
+        Record::Entry(
+            Entry::Allot {
+                kiosk,
+                number,
+                from,
+                to,
+                car,
+                party,
+            },
+        ) => {
             let content = call_bytes(version, from, to, car, party, false);
             record_to_bytes(1, kiosk.get(), content, number.get())
         }
-        Record::Entry(Entry::Stop {
-            car,
-            number,
-            floor,
-            dir,
-        }) => record_to_bytes(2, car.get(), stop_bytes(floor, dir), number.get()),
+        Record::Entry(
+            Entry::Stop {
+                car,
+                number,
+                floor,
+                dir,
+            },
+        ) => record_to_bytes(2, car.get(), stop_bytes(floor, dir), number.get()),
         Record::Row(row) => {
             let content = call_bytes(version, row.from, row.to, row.car, row.party, row.aboard);
             record_to_bytes(4, row.kiosk.get(), content, row.number.get())

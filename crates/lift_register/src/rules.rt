@@ -93,23 +93,27 @@ pub fn note_ranges(record: &Record)
     ensures { IsTyped «record».now }
 {
     match record {
-        Record::Entry(Entry::Allot {
-            kiosk,
-            number,
-            from,
-            to,
-            car,
-            party,
-        }) => {
+        Record::Entry(
+            Entry::Allot {
+                kiosk,
+                number,
+                from,
+                to,
+                car,
+                party,
+            },
+        ) => {
             note_command(*kiosk, *number);
             note_call(*from, *to, *car, *party);
         }
-        Record::Entry(Entry::Stop {
-            car,
-            number,
-            floor,
-            ..
-        }) => {
+        Record::Entry(
+            Entry::Stop {
+                car,
+                number,
+                floor,
+                ..
+            },
+        ) => {
             note_command(Terminal::of_car(*car), *number);
             prove!(car.get() <= 15 && floor.get() <= 63);
         }

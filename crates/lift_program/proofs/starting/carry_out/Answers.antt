@@ -12,10 +12,10 @@ returns-clause-end g c =
     let words = map g.S.AsStr.text c.args.words.now in
     let before = g.W.Write.contents c.args.writer.now in
     elim c.match-request_of.branch [
-      in-Ok-Some w ↦ subst (IsEndOf input words before (g.W.Write.contents c.match-request_of.writer)) (sym w.end-is)
+      | in-Ok-Some w ↦ subst (IsEndOf input words before (g.W.Write.contents c.match-request_of.writer)) (sym w.end-is)
           (subst (λ v. IsEndOf input words before (g.W.Write.contents v) w.done-end.result) (sym w.writer-is)
           (asked_end input words before _ w.done-end.result w.in-Ok-Some.request (search rules) w.done-end.ensures.end w.done-end.ensures.only))
-    | in-Ok-None w ↦ subst (IsEndOf input words before (g.W.Write.contents c.match-request_of.writer)) (sym w.end-is) (search rules)
-    | in-Err w ↦ subst (IsEndOf input words before (g.W.Write.contents c.match-request_of.writer)) (sym w.end-is)
+      | in-Ok-None w ↦ subst (IsEndOf input words before (g.W.Write.contents c.match-request_of.writer)) (sym w.end-is) (search rules)
+      | in-Err w ↦ subst (IsEndOf input words before (g.W.Write.contents c.match-request_of.writer)) (sym w.end-is)
           (search rules)
     ]
