@@ -1,6 +1,5 @@
 -- What a car's lines ask for, and which answers it keeps.
 use Rattle.std.specs.Prelude.{ℕ, ◌≡◌, ◌<◌, ◌≤◌, List, [], ◌∷◌, codes, length, Option, Some, None}
-use Rattle.std.specs.Prelude.{nat_lt, if◌then◌else◌}
 use Rattle.std.specs.Fmt.{decimal}
 use Rattle.lift_base.specs.Text.{AreWords, dir_text}
 use Rattle.lift_base.specs.declared.travel.Dir.{Dir}
@@ -10,6 +9,7 @@ use Rattle.lift_base.specs.declared.command.Reply.TheVariants.{Car, Stopped, Pla
 use Rattle.lift_base.specs.declared.command.Reply.TheVariants.{Unknown}
 use Rattle.lift_desk.specs.declared.words.Ask.{Ask}
 use Rattle.lift_car.specs.declared.lines.Move.{Move}
+use Rattle.lift_kiosk.specs.Session.{later}
 use Rattle.lift_kiosk.specs.declared.terms.LastLetter.{LastLetter}
 use Rattle.lift_kiosk.specs.declared.dialect.Wanted.{Wanted}
 use Rattle.lift_kiosk.specs.declared.dialect.Wanted.TheVariants.{Ask as Asks, NoFloor}
@@ -55,8 +55,7 @@ WantsMove line NoFloor = (move : Move) × SpellsMove line move × (64 ≤ move.f
 -- A stop is kept where its number is above the last one's.
 abbrev pub keeps_stop : LastLetter → ℕ → Reply → LastLetter
 keeps_stop last number (Car car) = last
-keeps_stop last number (Stopped next) =
-    if nat_lt last.number number then record { number = number; letter = None } else last
+keeps_stop last number (Stopped next) = later last number None
 keeps_stop last number (Placed next) = last
 keeps_stop last number (Refused reason) = last
 keeps_stop last number Unknown = last

@@ -1,10 +1,9 @@
 //! What a car says in its sessions.
 
-ghost use Rattle.std.specs.Prelude.{◌≡◌, ◌≢◌, ℕ, ◌<◌, ◌≤◌, ◌+◌, ◌^◌, List, map, IfSome, IfNone};
-ghost use Rattle.std.specs.Prelude.{None, true, ◌∷◌, [], codes};
+ghost use Rattle.std.specs.Prelude.{◌≡◌, ℕ, ◌<◌, ◌^◌, List, map, IfSome, IfNone, ◌∷◌, codes};
 ghost use Rattle.lift_base.specs.Output.{sink_of};
 ghost use Rattle.lift_kiosk.specs.Lines.{source_of};
-ghost use Rattle.lift_kiosk.specs.Session.{IsSession, standing};
+ghost use Rattle.lift_kiosk.specs.Session.{Converses, standing};
 ghost use Rattle.lift_kiosk.specs.declared.dialect.Wanted.{Wanted as WantedValue};
 ghost use Rattle.lift_car.specs.declared.lines.Move.{Move as MoveValue};
 ghost use Rattle.lift_car.specs.Lines.{WantsMove, SpellsMove, IsMove, keeps_stop, stop_numbered};
@@ -140,16 +139,7 @@ impl Dialect for CarLines {
 
     fn keep(last: &LastLetter, number: Number, reply: &Reply) -> LastLetter {
         match reply {
-            Reply::Stopped(_) => {
-                if number.get() > last.number.get() {
-                    LastLetter {
-                        number,
-                        letter: None,
-                    }
-                } else {
-                    *last
-                }
-            }
+            Reply::Stopped(_) => last.or_later(number, None),
             _ => *last,
         }
     }
@@ -174,20 +164,12 @@ pub fn session<R: Read + Drop, W: Write + Drop, P: Port>(
     last: Number,
     limits: Limits,
 ) -> CarEnd
-    ensures session { IsSession WantsMove keeps_stop limits result.end
+    ensures converses { Converses WantsMove keeps_stop limits result.end
         (standing (stop_numbered last) (P.view port.old) (source_of R.remaining reader.old)
         (sink_of W.contents writer.old))
         (standing (stop_numbered result.last) (P.view port.new) (source_of R.remaining reader.new)
         (sink_of W.contents writer.new)) }
-    ensures calls { reader.new.calls ≤ reader.old.calls + limits.reads }
     ensures stays { P.place port.new ≡ P.place port.old }
-    ensures late { result.end ≡ End.Late → ((P.view port.new).pending ≢ None)
-        × ((P.view port.old).looks + limits.looks ≤ (P.view port.new).looks) }
-    ensures spent { result.end ≡ End.Spent
-        → ((P.view port.new).spent ≡ true) × ((P.view port.new).pending ≡ None) }
-    ensures closed { result.end ≡ End.Closed → reader.new.ended ≡ true }
-    ensures unwritten { result.end ≡ End.WriteFault → writer.new.failed ≡ true }
-    ensures failed { result.end ≡ End.ReadFault → reader.new.failed ≡ true }
 {
     let last = LastLetter {
         number: last,

@@ -1,12 +1,12 @@
 -- What a kiosk's lines ask for, and which answers it keeps.
-use Rattle.std.specs.Prelude.{ℕ, ◌≡◌, ◌<◌, ◌≤◌, List, ◌∷◌, codes, length, Some, nat_lt}
-use Rattle.std.specs.Prelude.{if◌then◌else◌}
+use Rattle.std.specs.Prelude.{ℕ, ◌≡◌, ◌<◌, ◌≤◌, List, ◌∷◌, codes, length, Some}
 use Rattle.std.specs.Fmt.{decimal}
 use Rattle.lift_base.specs.Text.{AreWords, ArePartyWords}
 use Rattle.lift_base.specs.declared.command.Body.TheVariants.{Call}
 use Rattle.lift_base.specs.declared.command.Reply.{Reply}
 use Rattle.lift_base.specs.declared.command.Reply.TheVariants.{Car, Stopped, Placed, Refused}
 use Rattle.lift_base.specs.declared.command.Reply.TheVariants.{Unknown}
+use Rattle.lift_kiosk.specs.Session.{later}
 use Rattle.lift_kiosk.specs.declared.terms.LastLetter.{LastLetter}
 use Rattle.lift_kiosk.specs.declared.dialect.Wanted.{Wanted}
 use Rattle.lift_kiosk.specs.declared.dialect.Wanted.TheVariants.{Ask as Asks, NoFloor}
@@ -36,8 +36,7 @@ WantsCall line NoFloor = (number floor party : ℕ) × SpellsCall line number fl
 
 -- A letter is kept where its number is above the last one's.
 abbrev pub keeps_letter : LastLetter → ℕ → Reply → LastLetter
-keeps_letter last number (Car car) =
-    if nat_lt last.number number then record { number = number; letter = Some car } else last
+keeps_letter last number (Car car) = later last number (Some car)
 keeps_letter last number (Stopped next) = last
 keeps_letter last number (Placed next) = last
 keeps_letter last number (Refused reason) = last

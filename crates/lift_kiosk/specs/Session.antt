@@ -1,7 +1,8 @@
 -- A session: lines in, what the port gives, lines out. What a kind of terminal means by its lines
 -- (`wants`), and which replies become its last command (`keeps`), are the kind's own.
-use Rattle.std.specs.Prelude.{◌≡◌, ◌≢◌, ℕ, ◌+◌, ◌<◌, ◌⊎◌, true, List, [], ◌∷◌, ◌++◌, codes, length}
-use Rattle.std.specs.Prelude.{Option, Some, None}
+use Rattle.std.specs.Prelude.{◌≡◌, ◌≢◌, ℕ, ◌+◌, ◌<◌, ◌≤◌, ◌⊎◌, true, List, [], ◌∷◌, ◌++◌, codes}
+use Rattle.std.specs.Prelude.{length}
+use Rattle.std.specs.Prelude.{Option, Some, None, nat_lt, if◌then◌else◌}
 use Rattle.std.specs.Fmt.{decimal}
 use Rattle.std.specs.Str.Lines.{strip_carriage_return}
 use Rattle.lift_base.specs.Text.{letter_text, reply_text}
@@ -33,6 +34,11 @@ pub record Standing : Type 0 where
 
 abbrev pub standing : LastLetter → PortView → Source → Sink → Standing
 standing last port source sink = record { last = last; port = port; source = source; sink = sink }
+
+-- this command where its number is above the last one's, or else the last one
+abbrev pub later : LastLetter → ℕ → Option ℕ → LastLetter
+later last number letter =
+    if nat_lt last.number number then record { number = number; letter = letter } else last
 
 -- the last command, as the greeting tells it
 abbrev pub letter_part : Option ℕ → List ℕ
@@ -231,3 +237,18 @@ abbrev pub IsSession : (wants : List ℕ → Wanted → Type 0)
     → Type 0
 IsSession wants keeps limits end before after = EndsAtOnce keeps limits end before after
     ⊎ EndsBehind wants keeps limits end before after
+
+-- A session, and what its end tells. It called the reader as often as the limits say at most. One
+-- that ends late awaits an answer and has made all looks for it; one that ends spent has no turn
+-- left; one that ends closed found the reader's end; behind a fault a call of the reader or of the
+-- writer had failed.
+pub record Converses (wants : List ℕ → Wanted → Type 0) (keeps : LastLetter → ℕ → Reply
+    → LastLetter) (limits : Limits) (end : End) (before after : Standing) : Type 0 where
+  pub session : IsSession wants keeps limits end before after
+  pub calls : after.source.calls ≤ before.source.calls + limits.reads
+  pub late : end ≡ Late → (after.port.pending ≢ None)
+      × (before.port.looks + limits.looks ≤ after.port.looks)
+  pub spent : end ≡ Spent → (after.port.spent ≡ true) × (after.port.pending ≡ None)
+  pub closed : end ≡ Closed → after.source.ended ≡ true
+  pub unwritten : end ≡ WriteFault → after.sink.failed ≡ true
+  pub failed : end ≡ ReadFault → after.source.failed ≡ true

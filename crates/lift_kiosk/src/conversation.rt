@@ -1,12 +1,12 @@
 //! A session, whatever kind of terminal speaks in it.
 
-ghost use Rattle.std.specs.Prelude.{◌≡◌, ◌≢◌, ℕ, List, ◌+◌, ◌≤◌, ◌<◌, ◌^◌, OnOk, IfErr, IfSome};
-ghost use Rattle.std.specs.Prelude.{IfNone, Err, None, true};
+ghost use Rattle.std.specs.Prelude.{◌≡◌, ℕ, List, ◌+◌, ◌≤◌, ◌<◌, ◌^◌, OnOk, IfErr, IfSome};
+ghost use Rattle.std.specs.Prelude.{IfNone, Err, None};
 ghost use Rattle.std.specs.Str.Lines.{strip_carriage_return};
 ghost use Rattle.lift_base.specs.Output.{sink_of};
 ghost use Rattle.lift_kiosk.specs.Lines.{Keeps65, source_of, IsEndWithoutLine};
 ghost use Rattle.lift_kiosk.specs.Session.{Means, PortDid, GoesOn, EndsWith, Answers, LastStep};
-ghost use Rattle.lift_kiosk.specs.Session.{EndsLines, IsSession, standing, last_after, last_opened};
+ghost use Rattle.lift_kiosk.specs.Session.{Converses, EndsLines, standing, last_after, last_opened};
 ghost use Rattle.lift_kiosk.specs.declared.outcome.Outcome.{Outcome as OutcomeValue};
 
 use crate::dialect::{Dialect, Wanted};
@@ -157,20 +157,12 @@ pub fn converse<T: Dialect, R: Read + Drop, W: Write + Drop, P: Port>(
     last: LastLetter,
     limits: Limits,
 ) -> SessionEnd
-    ensures session { IsSession T.wants T.keeps limits result.end
+    ensures converses { Converses T.wants T.keeps limits result.end
         (standing last (P.view port.old) (source_of R.remaining reader.old)
         (sink_of W.contents writer.old))
         (standing result.last (P.view port.new) (source_of R.remaining reader.new)
         (sink_of W.contents writer.new)) }
-    ensures calls { reader.new.calls ≤ reader.old.calls + limits.reads }
     ensures stays { P.place port.new ≡ P.place port.old }
-    ensures late { result.end ≡ End.Late → ((P.view port.new).pending ≢ None)
-        × ((P.view port.old).looks + limits.looks ≤ (P.view port.new).looks) }
-    ensures spent { result.end ≡ End.Spent
-        → ((P.view port.new).spent ≡ true) × ((P.view port.new).pending ≡ None) }
-    ensures closed { result.end ≡ End.Closed → reader.new.ended ≡ true }
-    ensures unwritten { result.end ≡ End.WriteFault → writer.new.failed ≡ true }
-    ensures failed { result.end ≡ End.ReadFault → reader.new.failed ≡ true }
 {
     let opening = bring_in(port, limits.looks);
     let mut last = last_behind_opening::<T>(&last, &opening);

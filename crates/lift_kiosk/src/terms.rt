@@ -1,5 +1,8 @@
 //! What a session begins with, and how it ends.
 
+ghost use Rattle.std.specs.Prelude.{◌≡◌};
+ghost use Rattle.lift_kiosk.specs.Session.{later};
+
 use lift_base::{Letter, Number};
 
 /// The last command of a terminal that is known to be in: its number, and for a kiosk the letter
@@ -8,6 +11,19 @@ use lift_base::{Letter, Number};
 pub struct LastLetter {
     pub number: Number,
     pub letter: Option<Letter>,
+}
+
+impl LastLetter {
+    /// The command of this number and letter where its number is above this one's, or else this one.
+    pub fn or_later(&self, number: Number, letter: Option<Letter>) -> LastLetter
+        ensures { result ≡ later self.now number letter }
+    {
+        if number.get() > self.number.get() {
+            LastLetter { number, letter }
+        } else {
+            *self
+        }
+    }
 }
 
 /// What a session may use at most.

@@ -16,7 +16,9 @@ use Rattle.lift_kiosk.specs.declared.outcome.Outcome.TheVariants.{Malformed, Off
 use Rattle.lift_kiosk.specs.declared.outcome.Outcome.TheVariants.{NotAnswered, Refused}
 use Rattle.lift_desk.specs.declared.words.Ask.{Ask}
 use Rattle.lift_kiosk.specs.Port.{PortView}
+use Rattle.lift_base.specs.Output.{Takes}
 use Rattle.lift_kiosk.specs.Session.{Standing, PortDid, PortOpened, Run, LastStep, EndsLines}
+use Rattle.lift_kiosk.specs.Session.{Opens, opening_line, Converses}
 
 -- no line takes looks back
 pub looks_grow : (looks : ℕ) (before : PortView) (outcome : Outcome) (after : PortView)
@@ -156,3 +158,35 @@ unwritten_lines wants keeps limits calls end before after lines failed =
       | inr step ↦ (let last = subst (λ e.
           LastStep wants keeps limits calls e lines.answered after) failed step.1 in last.4.failed)
     ]
+
+-- what lines behind a greeting tell of the whole session
+pub behind_greeting : (wants : List ℕ → Wanted → Type 0) (keeps : LastLetter → ℕ → Reply
+    → LastLetter) (limits : Limits) (end : End) (opening : Opening)
+    (before greeted after : Standing)
+    → Opens keeps limits opening before greeted
+    → Takes (opening_line greeted.last opening) before.sink greeted.sink
+    → opening ≢ StillWaits
+    → EndsLines wants keeps limits (before.source.calls + limits.reads) end greeted after
+    → after.source.calls ≤ before.source.calls + limits.reads
+    → Converses wants keeps limits end before after
+behind_greeting wants keeps limits end opening before greeted after opens greets ready lines
+    within =
+    let calls : ℕ = before.source.calls + limits.reads in
+    record {
+      session = inr
+          (record {
+            opening = opening;
+            greeted = greeted;
+            opens = opens;
+            greets = greets;
+            ready = ready;
+            lines = lines;
+          });
+      calls = within;
+      late = late_lines wants keeps limits calls end opening before.port greeted after opens.port
+          lines;
+      spent = spent_lines wants keeps limits calls end greeted after lines;
+      closed = closed_lines wants keeps limits calls end greeted after lines;
+      unwritten = unwritten_lines wants keeps limits calls end greeted after lines;
+      failed = failed_lines wants keeps limits calls end greeted after lines;
+    }

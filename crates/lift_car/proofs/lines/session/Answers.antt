@@ -2,5 +2,15 @@ use Rattle.std.proofs.Common.{refl}
 use Rattle.lift_car.proofs.Letters.{number_alone}
 use Rattle.lift_car.proofs.lines.session.Goals as goal
 
-pub returns-clause-session : goal.returns-clause-session
-returns-clause-session g c = number_alone c.args.limits c.converse-last.result.end _ _ c.converse-last.ensures.session refl
+pub returns-clause-converses : goal.returns-clause-converses
+returns-clause-converses g c =
+    let told = c.converse-last.ensures.converses in
+    record {
+      session = number_alone c.args.limits c.converse-last.result.end _ _ told.session refl;
+      calls = told.calls;
+      late = told.late;
+      spent = told.spent;
+      closed = told.closed;
+      unwritten = told.unwritten;
+      failed = told.failed;
+    }

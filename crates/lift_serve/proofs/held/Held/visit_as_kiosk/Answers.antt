@@ -14,7 +14,7 @@ invariant_of-result g c =
     let mid : DeskPortState = c.converse-last.new.port.port in
     let new = c.new-port.ensures.port ∙ c.new.ensures in
     let is = c.into_seat-seat.ensures.seat ∙ ap (λ (p : DeskPortState). p.seat) c.into_port.ensures in
-    let visit = kiosk_visit c.self.inside.seat.terminal c.converse-last.result.end _ _ (omega (arith, ap (λ (h : HeldState). h.seat.terminal) c.self.view_is, c.requires)) c.converse-last.ensures.session in
+    let visit = kiosk_visit c.self.inside.seat.terminal c.converse-last.result.end _ _ (omega (arith, ap (λ (h : HeldState). h.seat.terminal) c.self.view_is, c.requires)) c.converse-last.ensures.converses.session in
     let made = made_visit held c.converse-last.result.last c.into_seat-seat.result c.converse-last.result.end
     (source_of g.I.Read.remaining c.args.reader.now) (source_of g.I.Read.remaining c.converse-last.new.reader)
     (sink_of g.O.Write.contents c.args.writer.now) (sink_of g.O.Write.contents c.converse-last.new.writer) first mid
@@ -32,7 +32,7 @@ returns g c =
     let mid : DeskPortState = c.converse-last.new.port.port in
     let new = c.new-port.ensures.port ∙ c.new.ensures in
     let is = c.into_seat-seat.ensures.seat ∙ ap (λ (p : DeskPortState). p.seat) c.into_port.ensures in
-    let visit = kiosk_visit c.self.inside.seat.terminal c.converse-last.result.end _ _ (omega (arith, ap (λ (h : HeldState). h.seat.terminal) c.self.view_is, c.requires)) c.converse-last.ensures.session in
+    let visit = kiosk_visit c.self.inside.seat.terminal c.converse-last.result.end _ _ (omega (arith, ap (λ (h : HeldState). h.seat.terminal) c.self.view_is, c.requires)) c.converse-last.ensures.converses.session in
     let made = made_visit held c.converse-last.result.last c.into_seat-seat.result c.converse-last.result.end
     (source_of g.I.Read.remaining c.args.reader.now) (source_of g.I.Read.remaining c.converse-last.new.reader)
     (sink_of g.O.Write.contents c.args.writer.now) (sink_of g.O.Write.contents c.converse-last.new.writer) first mid
