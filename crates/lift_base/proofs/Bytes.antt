@@ -1,6 +1,6 @@
 -- What was written so far is a front of the bytes.
 use Rattle.std.proofs.Common.{◌≡◌, ℕ, ◌+◌, ◌-◌, ◌≤◌, List, length, take, drop, ap, subst, arith, length-drop}
-use Rattle.std.specs.Prelude.{Option}
+use Rattle.std.specs.Prelude.{Option, Result, Ok, Err, IfErr}
 use Rattle.std.specs.Io.KnownBytes.{Appends}
 use Rattle.std.proofs.Math.Seq.{take-add}
 use Rattle.std.proofs.lemmas.List.{take_all}
@@ -20,3 +20,8 @@ front_grows old mid new bytes written count first second =
 
 pub front_within : (bytes : List ℕ) (written count : ℕ) → written ≤ length bytes → count ≤ length (rest_of bytes written) → written + count ≤ length bytes
 front_within bytes written count le more = omega (arith, ap length (rest_is bytes written), length-drop written bytes, more)
+
+-- a count that a fault came with is some count
+pub so_many : {T F : Type 0} (result : Result T F) (holds : F → ℕ → Type 0) (calls : ℕ) → IfErr result (λ fault. holds fault calls) → IfErr result (λ fault. (some : ℕ) × holds fault some)
+so_many (Ok value) holds calls told = tt
+so_many (Err fault) holds calls told = (calls, told)

@@ -1,5 +1,6 @@
 -- What a writer took.
-use Rattle.std.specs.Prelude.{ℕ, ◌≡◌, ◌<◌, ◌≤◌, ◌+◌, Bool, true, Option, List, length, take}
+use Rattle.std.specs.Prelude.{ℕ, zero, suc, ◌≡◌, ◌<◌, ◌≤◌, ◌+◌, ◌⊎◌, Bool, true, Option, Some, None}
+use Rattle.std.specs.Prelude.{List, length, take, drop}
 use Rattle.std.specs.Io.KnownBytes.{Appends}
 
 -- a writer with what was seen of its calls
@@ -41,3 +42,28 @@ pub record TakesFront (count : ℕ) (bytes : List ℕ) (before after : Sink) : T
   pub calls : CallsUpToFault count before.calls after.calls
   pub failed : after.failed ≡ true
   pub written : Appends before.written after.written (take count bytes)
+
+-- So many calls of a writer took so many of these bytes, one behind the other, and each took one at
+-- least.
+abbrev pub Wrote : {W : Type 0} → (gives : W → List ℕ → Option ℕ → W → Type 0) → (calls : ℕ)
+    → (bytes : List ℕ) → (written : ℕ) → (before after : W) → Type 0
+Wrote gives zero bytes written before after = (written ≡ 0) × (after ≡ before)
+Wrote {W} gives (suc calls) bytes written before after =
+    (between : W) × (earlier : ℕ) × (count : ℕ) × Wrote gives calls bytes earlier before between
+    × gives between (drop earlier bytes) (Some count) after × (0 < count)
+    × (written ≡ earlier + count)
+
+-- such calls took all of these bytes, and there were no others
+abbrev pub WroteAll : {W : Type 0} → (gives : W → List ℕ → Option ℕ → W → Type 0)
+    → (bytes : List ℕ) → (first last : ℕ) → (before after : W) → Type 0
+WroteAll gives bytes first last before after =
+    (calls : ℕ) × Wrote gives calls bytes (length bytes) before after × (last ≡ first + calls)
+
+-- such calls took so many of these bytes, then one failed or took nothing, and there were no others
+abbrev pub WroteUpToFault : {W : Type 0} → (gives : W → List ℕ → Option ℕ → W → Type 0)
+    → (bytes : List ℕ) → (written : ℕ) → (first last : ℕ) → (before after : W) → Type 0
+WroteUpToFault {W} gives bytes written first last before after =
+    (calls : ℕ) × (between : W) × Wrote gives calls bytes written before between
+    × (gives between (drop written bytes) None after
+    ⊎ gives between (drop written bytes) (Some 0) after)
+    × (last ≡ first + calls + 1)

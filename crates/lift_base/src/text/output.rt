@@ -1,12 +1,38 @@
 //! What is written, up to the byte.
 
-ghost use Rattle.std.specs.Prelude.{◌≡◌, ◌<◌, ℕ, List, ◌++◌, length, take, false, OnOk, IfErr};
-ghost use Rattle.std.specs.Io.KnownBytes.{Appends};
+ghost use Rattle.std.specs.Prelude.{◌≡◌, ◌<◌, ◌≤◌, ℕ, List, Option, length, take, false, OnOk};
+ghost use Rattle.std.specs.Prelude.{IfErr, IfSome, IfNone, ⊤};
+ghost use Rattle.std.specs.Io.KnownBytes.{Appends, Keeps};
 ghost use Rattle.lift_base.specs.Output.{Takes, TakesFront, CallsForAll, CallsUpToFault, sink_of};
+ghost use Rattle.lift_base.specs.Output.{WroteAll, WroteUpToFault};
 
 use crate::count::ProofCount;
 use std::io::Write;
 use std::marker::Model;
+
+/// A writer whose calls are told: each step from one state to the next is a call of it.
+pub trait Outlet: Write {
+    ghost gives: { Self → List ℕ → Option ℕ → Self → Type 0 };
+
+    /// One call of the writer: how many bytes it took, none where it failed.
+    fn take(&mut self, bytes: &[u8]) -> Option<usize>
+        ensures gives { gives self.old bytes.now result self.new }
+        ensures bound { IfSome result (λ count. count ≤ length bytes.now) }
+        ensures bytes { IfSome result (λ count.
+            Appends (Self.contents self.old) (Self.contents self.new) (take count bytes.now)) }
+        ensures keeps { IfNone result (Keeps (Self.contents self.old) (Self.contents self.new)) };
+}
+
+impl<W: Write> Outlet for W {
+    ghost gives = { λ _ _ _ _. ⊤ };
+
+    fn take(&mut self, bytes: &[u8]) -> Option<usize> {
+        match self.write(bytes) {
+            Ok(count) => Some(count),
+            Err(_) => None,
+        }
+    }
+}
 
 /// A writer took no more.
 #[derive(Clone, Copy, PartialEq, Eq)]
@@ -16,7 +42,7 @@ pub struct WriteFault {
 }
 
 /// Writes all of the bytes, or as many as the fault says. The writer's calls are counted.
-fn put_counted<W: Write>(
+fn put_counted<W: Outlet>(
     writer: &mut W,
     calls: &mut ProofCount,
     bytes: &[u8],
@@ -28,25 +54,33 @@ fn put_counted<W: Write>(
     ensures calls { OnOk result (CallsForAll (length bytes.now) calls.old.count calls.new.count) }
     ensures calls_so_far { IfErr result (λ fault.
         CallsUpToFault fault.written calls.old.count calls.new.count) }
+    ensures each { OnOk result (WroteAll W.gives bytes.now
+        calls.old.count calls.new.count writer.old writer.new) }
+    ensures each_so_far { IfErr result (λ fault. WroteUpToFault W.gives bytes.now fault.written
+        calls.old.count calls.new.count writer.old writer.new) }
 {
     let mut written = 0usize;
     while written < bytes.len() {
         *calls = ProofCount::next(calls);
-        match writer.write(&bytes[written..]) {
-            Ok(0) => return Err(WriteFault { written }),
-            Ok(count) => written += count,
-            Err(_) => return Err(WriteFault { written }),
+        match writer.take(&bytes[written..]) {
+            Some(0) => return Err(WriteFault { written }),
+            Some(count) => written += count,
+            None => return Err(WriteFault { written }),
         }
     }
     Ok(())
 }
 
 /// Writes all of the bytes, or as many as the fault says.
-pub fn put_all<W: Write>(writer: &mut W, bytes: &[u8]) -> Result<(), WriteFault>
+pub fn put_all<W: Outlet>(writer: &mut W, bytes: &[u8]) -> Result<(), WriteFault>
     ensures ok { OnOk result (Appends (W.contents writer.old) (W.contents writer.new) bytes.now) }
     ensures front { IfErr result (λ fault.
         Appends (W.contents writer.old) (W.contents writer.new) (take fault.written bytes.now)) }
     ensures within { IfErr result (λ fault. fault.written < length bytes.now) }
+    ensures each { OnOk result ((calls : ℕ)
+        × WroteAll W.gives bytes.now 0 calls writer.old writer.new) }
+    ensures each_so_far { IfErr result (λ fault. (calls : ℕ)
+        × WroteUpToFault W.gives bytes.now fault.written 0 calls writer.old writer.new) }
 {
     put_counted(writer, &mut ProofCount::new(), bytes)
 }
@@ -100,7 +134,7 @@ impl<W: Drop> Watched<W> {
     }
 }
 
-impl<W: Write + Drop> Watched<W> {
+impl<W: Outlet + Drop> Watched<W> {
     /// Writes all of the bytes, or, where a call fails or takes nothing, as many as the fault says.
     pub fn put(&mut self, bytes: &[u8]) -> Result<(), WriteFault>
         ensures ok { OnOk result
@@ -108,6 +142,10 @@ impl<W: Write + Drop> Watched<W> {
         ensures front { IfErr result (λ fault.
             TakesFront fault.written bytes.now (sink_of W.contents self.old)
             (sink_of W.contents self.new)) }
+        ensures each { OnOk result (WroteAll W.gives bytes.now
+            self.old.calls self.new.calls self.old.writer self.new.writer) }
+        ensures each_so_far { IfErr result (λ fault. WroteUpToFault W.gives bytes.now fault.written
+            self.old.calls self.new.calls self.old.writer self.new.writer) }
     {
         let outcome = put_counted(&mut self.writer, &mut self.calls, bytes);
         if outcome.is_err() {
