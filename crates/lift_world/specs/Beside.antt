@@ -1,7 +1,8 @@
 -- Terminals ask and hear at any moment: their events pass through whatever the controller does.
 use Rattle.lift_base.specs.declared.command.Body.{Body}
-use Rattle.std.specs.Prelude.{ℕ, ◌≡◌, Bool, true, false, not, List, [], ◌∷◌, ◌++◌, filter, Some}
-use Rattle.std.specs.Prelude.{unwrap_or}
+use Rattle.std.specs.Prelude.{ℕ, ◌≡◌, ◌≢◌, Bool, true, false, not, List, [], ◌∷◌, ◌++◌, filter, Some}
+use Rattle.std.specs.Prelude.{Option, unwrap_or}
+use Rattle.lift_world.specs.declared.event.Kept.{Kept}
 use Rattle.lift_policy.specs.declared.command.Command.{Command}
 use Rattle.lift_world.specs.declared.event.Answer.{Answer}
 use Rattle.lift_world.specs.declared.event.Event.{Event}
@@ -55,13 +56,34 @@ StandBeside w asked heard (Cut kept ∷ events) = ⊥
 StandBeside w asked heard (event ∷ events) =
     StandBeside (unwrap_or (next w event) w) asked heard events
 
--- So stands whatever a terminal can do now.
+-- So stands whatever a terminal can do now, and whatever the controller does but a cut, however many
+-- events stand behind it.
 pub record TerminalsStandBeside (w : World) : Type 0 where
+  pub takes_on : (asked : List Command) (heard : List Answer) (terminal : ℕ) (letter : Option ℕ)
+      (events : List Event) → filter (asks terminal) asked ≡ filter (asks terminal) w.asked
+      → StandBeside (unwrap_or (next w (Take terminal letter)) w) asked heard events
+      → StandBeside w asked heard (Take terminal letter ∷ events)
   pub asks : (terminal number : ℕ) (body : Body) (after : World)
       → next w (Ask terminal number body) ≡ Some after
       → StandBeside w w.asked w.heard (Ask terminal number body ∷ [])
   pub hears : (terminal : ℕ) (after : World) → next w (Hear terminal) ≡ Some after
       → StandBeside w w.asked w.heard (Hear terminal ∷ [])
+  pub nothing : (asked : List Command) (heard : List Answer) → StandBeside w asked heard []
+  pub asks_on : (asked : List Command) (heard : List Answer) (terminal number : ℕ) (body : Body)
+      (events : List Event) (after : World)
+      → next (with_words w asked heard) (Ask terminal number body) ≡ Some after
+      → StandBeside w after.asked after.heard events
+      → StandBeside w asked heard (Ask terminal number body ∷ events)
+  pub hears_on : (asked : List Command) (heard : List Answer) (terminal : ℕ) (events : List Event)
+      (after : World) → next (with_words w asked heard) (Hear terminal) ≡ Some after
+      → StandBeside w after.asked after.heard events
+      → StandBeside w asked heard (Hear terminal ∷ events)
+  pub goes_on : (asked : List Command) (heard : List Answer) (event : Event) (events : List Event)
+      → is_of_terminals event ≡ false
+      → ((terminal : ℕ) (letter : Option ℕ) → event ≢ Take terminal letter)
+      → ((kept : Kept) → event ≢ Cut kept)
+      → StandBeside (unwrap_or (next w event) w) asked heard events
+      → StandBeside w asked heard (event ∷ events)
 
 -- All of it is possible. It leaves what the terminals' events leave in the world that the
 -- controller's events made, and that world but for what was asked and heard.

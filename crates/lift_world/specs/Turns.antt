@@ -2,6 +2,7 @@
 use Rattle.std.specs.Prelude.{ℕ, ◌≡◌, ◌≢◌, ◌≤◌, ◌<◌, ◌==◌, ◌+◌, true, if◌then◌else◌, List, [], ◌∷◌}
 use Rattle.std.specs.Prelude.{◌++◌, length, map, take, replicate, Option, Some, None, IsTrue}
 use Rattle.std.specs.List.{AllByRecursion}
+use Rattle.lift_base.specs.declared.travel.Position.{Position}
 use Rattle.lift_base.specs.declared.command.Reply.{Reply}
 use Rattle.lift_building.specs.Plan.{Plan}
 use Rattle.lift_policy.specs.Eligible.{any_eligible}
@@ -73,6 +74,17 @@ pub record IsAtRest (w : World) : Type 0 where
   pub nothing_due : w.due ≡ []
   pub all_sealed : w.sealed ≡ length w.accepted
   pub all_safe : w.safe ≡ length w.accepted
+
+-- a group over an empty journal: nothing was accepted, asked, answered or heard, no car has told its
+-- position, and nothing was ever given
+pub record IsFresh (building : Plan) (w : World) : Type 0 where
+  pub same_building : w.building ≡ building
+  pub nothing_accepted : w.accepted ≡ []
+  pub no_car_placed : AllByRecursion (λ (p : Option Position). p ≡ None) w.positions
+  pub nothing_asked : w.asked ≡ []
+  pub nothing_answered : w.answered ≡ []
+  pub nothing_heard : w.heard ≡ []
+  pub nothing_given : w.given ≡ []
 
 -- the device calls of a batch up to a phase, where it has so many writes before its first sync
 abbrev pub calls_to : ℕ → Phase → List Event

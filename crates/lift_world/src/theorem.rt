@@ -1,6 +1,6 @@
 //! What holds of the machine.
 ghost use Rattle.std.specs.Prelude.{ℕ, ◌≡◌, ◌≢◌, ◌<◌, ◌≤◌, ◌⊎◌, ◌↔◌, false, List, filter, Contains};
-ghost use Rattle.std.specs.Prelude.{IsTrue};
+ghost use Rattle.std.specs.Prelude.{IsTrue, ◌||◌, [], ◌∷◌, map, Some};
 ghost use Rattle.std.specs.List.{AllByRecursion};
 ghost use Rattle.lift_base.specs.declared.travel.Dir.{Dir};
 ghost use Rattle.lift_base.specs.declared.travel.Position.{Position};
@@ -15,9 +15,12 @@ ghost use Rattle.lift_register.specs.Status.{Done};
 ghost use Rattle.lift_stops.specs.StopList.{stop_list, is_halt_of, halts_of};
 ghost use Rattle.lift_policy.specs.Step.{State};
 ghost use Rattle.lift_policy.specs.declared.command.Command.{Command};
-ghost use Rattle.lift_world.specs.Next.{run};
+ghost use Rattle.lift_world.specs.Next.{run, next, goes};
 ghost use Rattle.lift_world.specs.declared.event.Kept.{Kept};
-ghost use Rattle.lift_world.specs.declared.event.Event.TheVariants.{Ask, Cut, Reopen};
+ghost use Rattle.lift_world.specs.declared.event.Event.TheVariants.{Ask, Cut, Reopen, Pull, Fold};
+ghost use Rattle.lift_world.specs.declared.event.Event.TheVariants.{Body as BodyWrite, FirstSync};
+ghost use Rattle.lift_world.specs.declared.event.Event.TheVariants.{Gate, SecondSync, Answer, Fault};
+ghost use Rattle.lift_world.specs.declared.event.Phase.TheVariants.{Writing, GateWritten};
 ghost use Rattle.lift_world.specs.Headline.{RecoversPrefix, RecoversAcknowledged, RecoversLetters};
 ghost use Rattle.lift_world.specs.Headline.{RecoversFitting, HearsInOrder, SealsAccepted};
 ghost use Rattle.lift_world.specs.Headline.{StoresGiven, QueuesFew, HoldsNothingWhileOff};
@@ -30,18 +33,19 @@ ghost use Rattle.lift_world.specs.Possible.{ReopensWhileQuiet};
 ghost use Rattle.lift_world.specs.Possible.{AsksOnceHeard, HearsTheNext, TakesNeedLooks, Seals};
 ghost use Rattle.lift_world.specs.Possible.{PullsInTurn, CallsInOrder, AnswersDue, AnswersOnlyDue};
 ghost use Rattle.lift_world.specs.Possible.{GivenStays, FillsSectors, AcknowledgesReplies};
-ghost use Rattle.lift_world.specs.Possible.{StoresTheReply, ReopeningsUnplace};
+ghost use Rattle.lift_world.specs.Possible.{StoresTheReply, ReopeningsUnplace, is_device_call};
 ghost use Rattle.lift_world.specs.Asking.{AsksStand};
 ghost use Rattle.lift_world.specs.Beside.{GoesAreRuns, RunsJoin, TerminalsPass};
-ghost use Rattle.lift_world.specs.Beside.{TerminalsStandBeside};
+ghost use Rattle.lift_world.specs.Beside.{TerminalsStandBeside, is_of_terminals};
 ghost use Rattle.lift_world.specs.Relay.{IsQueueInOrder, AllocationsAreEvents, FullQueueWaits};
 ghost use Rattle.lift_world.specs.Relay.{FlushesAreEvents, FailedFlushesAreEvents};
 ghost use Rattle.lift_world.specs.Relay.{BrokenFlushesAreEvents, TurnsMeet, PartsMeet};
 ghost use Rattle.lift_world.specs.Relay.{FlusherPassesScans, FlusherComesFirst, FlusherPassesSeals};
+ghost use Rattle.lift_world.specs.Relay.{is_flushers};
 ghost use Rattle.lift_world.specs.Among.{FlusherMightComeFirst, FlusherGoesAmong};
 ghost use Rattle.lift_world.specs.Among.{PossibleStandAmong, AsksStandAtOnce, AsksStandOn};
 ghost use Rattle.lift_world.specs.Among.{LooksFindAsks, SealsAloneQueue, ScansGoAmong};
-ghost use Rattle.lift_world.specs.Among.{AllocationsGoAmong};
+ghost use Rattle.lift_world.specs.Among.{AllocationsGoAmong, Look, LooksStand};
 ghost use Rattle.lift_world.specs.Stays.{StaysBetweenScans, StaysBetweenFlushes};
 ghost use Rattle.lift_world.specs.Stays.{StaysBrokenBetween, StaysInOrder, HearsOnInOrder};
 ghost use Rattle.lift_world.specs.Stays.{AsksOnOneByOne, RestsInOrder};
@@ -52,16 +56,17 @@ ghost use Rattle.lift_world.specs.Due.{DueOnceSafe};
 ghost use Rattle.lift_world.specs.Faults.{FaultsLeaveDoubt, OnlyFaultsBreak, UnknownAfterFault};
 ghost use Rattle.lift_world.specs.Faults.{UnknownOverReopening};
 ghost use Rattle.lift_world.specs.Faults.{goes_on};
-ghost use Rattle.lift_world.specs.Tie.{TakesAreSteps, StepsAreTakes, LooksAreTakes};
+ghost use Rattle.lift_world.specs.Tie.{TakesAreSteps, StepsAreTakes, LooksAreTakes, Finds};
 ghost use Rattle.lift_world.specs.Turns.{HasRun, RunsAreTakes, TurnsAreRuns, FailuresAreRuns};
 ghost use Rattle.lift_world.specs.Turns.{BrokenTurnsAreRuns, BrokenTurnsChangeNothing};
+ghost use Rattle.lift_world.specs.Turns.{IsFresh, MayFailIn};
 ghost use Rattle.lift_world.specs.Turns.{IsAtRest, TurnsEndAtRest, FailuresEndAtRest};
 ghost use Rattle.lift_world.specs.Turns.{BrokenTurnsEndAtRest, ReopeningsEndAtRest, CutsEndAtRest};
 ghost use Rattle.lift_world.specs.Turns.{RunningReopeningsEndAtRest, FailedReopeningsEndAtRest};
 ghost use Rattle.lift_world.specs.Headline.{FliesNothingWhileIdle, ReopensInPlace, IsOpenWith};
 ghost use Rattle.lift_world.specs.Headline.{IsDone, StillNames};
 ghost use Rattle.lift_world.specs.Outcomes.{OutcomesStay, GatesOfferBatches, SyncsKeepBatches};
-ghost use Rattle.lift_world.specs.Outcomes.{ReopeningsKeepOne};
+ghost use Rattle.lift_world.specs.Outcomes.{ReopeningsKeepOne, moves_outcomes};
 ghost use Rattle.lift_world.specs.Short.{HoldsFewEntries};
 
 use crate::event::Event;
@@ -183,6 +188,7 @@ pub fn turns_are_events()
 /// is broken at rest, and the next one leaves what it would have left.
 pub fn turns_end_at_rest()
     ensures start { (building : Plan) → IsAtRest (start building) }
+    ensures fresh { (building : Plan) → IsFresh building (start building) }
     ensures turns { (w : World) → TurnsEndAtRest w }
     ensures failures { (w : World) → FailuresEndAtRest w }
     ensures broken_turns { (w : World) → BrokenTurnsEndAtRest w }
@@ -326,6 +332,31 @@ pub fn definitions_are_exact()
         → IsOfTerminal event }
     ensures going_on { (event : Event) → IsTrue (goes_on event)
         ↔ (((kept : Kept) → event ≢ Cut kept) × ((kept : Kept) → event ≢ Reopen kept)) }
+{}
+
+/// What the premises of these laws hold of: in which phases a device call of a batch may fail; which
+/// events are device calls, which are a flusher's, and which leave the outcomes; and which looks
+/// stand.
+pub fn premises_are_exact()
+    ensures fails_writing { (writes n : ℕ) → MayFailIn writes (Writing n) ↔ (n ≤ writes) }
+    ensures fails_gate { (writes : ℕ) → MayFailIn writes GateWritten }
+    ensures device_calls { AllByRecursion (λ (e : Event). IsTrue (is_device_call e))
+        (Fold ∷ BodyWrite ∷ FirstSync ∷ Gate ∷ SecondSync ∷ []) }
+    ensures flushers { (terminal : ℕ) → AllByRecursion (λ (e : Event). IsTrue (is_flushers e))
+        (Pull ∷ Fold ∷ BodyWrite ∷ FirstSync ∷ Gate ∷ SecondSync ∷ Answer terminal ∷ Fault
+        ∷ []) }
+    ensures outcomes_stay { (event : Event) → event ≢ Gate → event ≢ SecondSync
+        → ((kept : Kept) → event ≢ Reopen kept) → moves_outcomes event ≡ false }
+    ensures no_looks { (w : World) → LooksStand w [] w }
+    ensures looks { (w last : World) (look : Look) (looks : List Look)
+        → LooksStand w (look ∷ looks) last
+        ↔ ((there : World)
+        × AllByRecursion (λ (e : Event). IsTrue (is_of_terminals e || is_flushers e)) look.before
+        × (goes look.before w ≡ Some there)
+        × Finds there look.command.terminal look.command
+        × AllByRecursion (λ (d : Command). d.terminal ≢ look.command.terminal)
+        (map (λ (l : Look). l.command) looks)
+        × LooksStand there looks last) }
 {}
 
 /// Each event that the types hold meets the premises on asks.

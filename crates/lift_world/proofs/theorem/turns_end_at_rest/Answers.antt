@@ -1,4 +1,7 @@
 use Rattle.lift_world.proofs.Resting.{start_rests, turns_rest, failures_rest, broken_turns_rest, reopenings_rest, cuts_rest, running_reopenings_rest, failed_reopenings_rest}
+use Rattle.std.proofs.Common.{ℕ, ◌≡◌, Option, None, zero, suc, replicate, refl}
+use Rattle.std.specs.List.{AllByRecursion}
+use Rattle.lift_base.specs.declared.travel.Position.{Position}
 use Rattle.lift_world.proofs.theorem.turns_end_at_rest.Goals as goal
 
 pub returns-clause-start : goal.returns-clause-start
@@ -24,3 +27,18 @@ returns-clause-running_reopenings c w = running_reopenings_rest w
 
 pub returns-clause-failed_reopenings : goal.returns-clause-failed_reopenings
 returns-clause-failed_reopenings c w = failed_reopenings_rest w
+
+none_placed : (n : ℕ) → AllByRecursion (λ (p : Option Position). p ≡ None) (replicate n None)
+none_placed zero = tt
+none_placed (suc n) = (refl, none_placed n)
+
+pub returns-clause-fresh : goal.returns-clause-fresh
+returns-clause-fresh c building = record {
+  same_building = refl;
+  nothing_accepted = refl;
+  no_car_placed = none_placed 16;
+  nothing_asked = refl;
+  nothing_answered = refl;
+  nothing_heard = refl;
+  nothing_given = refl;
+}
