@@ -1,6 +1,8 @@
 use Rattle.std.specs.Prelude.{ℕ, ◌≤◌, ◌==◌, ◌&&◌, List, [], ◌∷◌, nat_lt, if◌then◌else◌}
 use Rattle.lift_base.specs.declared.travel.Dir.{Dir}
 use Rattle.lift_base.specs.declared.travel.Dir.TheVariants.{Up, Down}
+use Rattle.lift_base.specs.declared.history.Content.{Content}
+use Rattle.lift_base.specs.declared.history.Content.TheVariants.{Letter, Stopped}
 use Rattle.lift_base.specs.declared.history.Entry.{Entry}
 use Rattle.lift_base.specs.declared.history.Entry.TheVariants.{Allot, Stop}
 use Rattle.lift_base.specs.declared.history.Row.{Row}
@@ -17,6 +19,11 @@ terminal_of (Stop car number floor dir) = car
 abbrev pub number_of : Entry → ℕ
 number_of (Allot kiosk number from to car party) = number
 number_of (Stop car number floor dir) = number
+
+-- what that command said, with the letter that a call was answered
+abbrev pub content_of : Entry → Content
+content_of (Allot kiosk number from to car party) = Letter from to car party
+content_of (Stop car number floor dir) = Stopped floor dir
 
 -- a call goes up where its goal is above the floor that it starts from, else down
 abbrev pub dir_of : ℕ → ℕ → Dir

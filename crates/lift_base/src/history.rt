@@ -4,6 +4,7 @@ ghost use Rattle.std.specs.Option.{option_to_list};
 ghost use Rattle.lift_base.specs.declared.history.Content.{Content as ContentValue};
 ghost use Rattle.lift_base.specs.declared.history.Entry.{Entry as EntryValue};
 ghost use Rattle.lift_base.specs.History.{dir_of, row_after, IsWithinLimits};
+ghost use Rattle.lift_base.specs.History.{terminal_of, number_of, content_of};
 
 use crate::checked::{Floor, Letter, Number, Party, Terminal};
 use crate::travel::{Dir, Stop};
@@ -27,6 +28,52 @@ pub enum Entry {
         floor: Floor,
         dir: Dir,
     },
+}
+
+impl Entry {
+    /// The terminal whose command this is: the kiosk of a call, the car of a stop.
+    pub fn terminal(&self) -> Terminal
+        ensures { result ≡ terminal_of self.now }
+    {
+        match *self {
+            Entry::Allot { kiosk, .. } => kiosk,
+            Entry::Stop { car, .. } => Terminal::of_car(car),
+        }
+    }
+
+    /// This command as the last one of its terminal.
+    pub fn kept(&self) -> Last
+        ensures number { result.number ≡ number_of self.now }
+        ensures content { result.content ≡ content_of self.now }
+    {
+        match *self {
+            Entry::Allot {
+                number,
+                from,
+                to,
+                car,
+                party,
+                ..
+            } => Last {
+                number,
+                content: Content::Letter {
+                    from,
+                    to,
+                    car,
+                    party,
+                },
+            },
+            Entry::Stop {
+                number,
+                floor,
+                dir,
+                ..
+            } => Last {
+                number,
+                content: Content::Stopped { floor, dir },
+            },
+        }
+    }
 }
 
 /// The blank of a list with fixed room.

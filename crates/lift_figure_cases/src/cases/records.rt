@@ -155,35 +155,12 @@ fn push_call(
 }
 
 fn push_entry(text: &mut String, entry: &Entry) -> Result<(), AllocError> {
-    match *entry {
-        Entry::Allot {
-            kiosk,
-            number,
-            from,
-            to,
-            car,
-            party,
-        } => {
-            text.push_str("allot ")?;
-            let content = Content::Letter {
-                from,
-                to,
-                car,
-                party,
-            };
-            push_call(text, kiosk, number, &content)
-        }
-        Entry::Stop {
-            car,
-            number,
-            floor,
-            dir,
-        } => {
-            text.push_str("stop ")?;
-            let content = Content::Stopped { floor, dir };
-            push_call(text, Terminal::of_car(car), number, &content)
-        }
-    }
+    text.push_str(match entry {
+        Entry::Allot { .. } => "allot ",
+        Entry::Stop { .. } => "stop ",
+    })?;
+    let last = entry.kept();
+    push_call(text, entry.terminal(), last.number, &last.content)
 }
 
 /// The record as the words that name it.
