@@ -1,4 +1,5 @@
 //! A fixed list of changes of a schedule, each compared with the same made from nothing.
+use crate::numbers::Numbers;
 use crate::trip::{costs_in, plain_costs, row_of, schedule_with};
 use arrayvec::ArrayVec;
 use lift_base::{Dir, Floor, Party, Position, Row, Stop};
@@ -6,43 +7,19 @@ use lift_building::Building;
 use lift_cost::{NewCall, etd, etd_of};
 use lift_stops::{Schedule, next_stop, stop_list};
 
-/// A fixed list of numbers below 65,536.
-#[derive(Drop)]
-struct Numbers {
-    seed: u32,
+fn next_floor(numbers: &mut Numbers) -> u8 {
+    (numbers.next() % 10) as u8
 }
 
-impl Numbers {
-    fn next(&mut self) -> u32 {
-        self.seed = self
-            .seed
-            .wrapping_mul(1_664_525)
-            .wrapping_add(1_013_904_223);
-        self.seed >> 16
-    }
-
-    fn floor(&mut self) -> u8 {
-        (self.next() % 10) as u8
-    }
-
-    fn dir(&mut self) -> Dir {
-        if self.next() % 2 == 0 {
-            Dir::Up
-        } else {
-            Dir::Down
-        }
-    }
-
-    /// A call between two floors that differ.
-    fn call(&mut self) -> NewCall {
-        let from = self.next() % 10;
-        let to = (from + self.next() % 9 + 1) % 10;
-        let persons = self.next() % 15 + 1;
-        NewCall {
-            from: Floor::new(from as u8).unwrap_or_default(),
-            to: Floor::new(to as u8).unwrap_or_default(),
-            party: Party::new(persons as u8).unwrap_or_default(),
-        }
+/// A call between two floors that differ.
+fn next_call(numbers: &mut Numbers) -> NewCall {
+    let from = numbers.next() % 10;
+    let to = (from + numbers.next() % 9 + 1) % 10;
+    let persons = numbers.next() % 15 + 1;
+    NewCall {
+        from: Floor::new(from as u8).unwrap_or_default(),
+        to: Floor::new(to as u8).unwrap_or_default(),
+        party: Party::new(persons as u8).unwrap_or_default(),
     }
 }
 
@@ -131,23 +108,29 @@ pub(crate) fn are_changes_as_from_nothing(building: &Building, count: u32, seed:
     for _ in 0..count {
         let kind = numbers.next() % 8;
         if kind < 4 && rows.len() < 32 && schedule.rows().len() <= 32 {
-            let row = &row_of(&numbers.call(), false);
+            let row = &row_of(&next_call(&mut numbers), false);
             schedule.insert(*row);
             rows.push(*row);
         } else if kind < 7 {
-            number = numbers.floor();
+            number = next_floor(&mut numbers);
             dir = numbers.dir();
             schedule.serve(stop_at(number, dir));
             rows = rows_after(&rows, number, dir);
         } else {
-            number = numbers.floor();
+            number = next_floor(&mut numbers);
             dir = numbers.dir();
             schedule.replace_position(at(number, dir));
         }
         let position = at(number, dir);
-        let more = row_of(&numbers.call(), false);
+        let more = row_of(&next_call(&mut numbers), false);
         if !are_halts_same(&schedule, &rows, &position, &more)
-            || !are_costs_same(building, &schedule, &rows, &position, &numbers.call())
+            || !are_costs_same(
+                building,
+                &schedule,
+                &rows,
+                &position,
+                &next_call(&mut numbers),
+            )
         {
             return false;
         }

@@ -4,8 +4,9 @@ ghost use Rattle.std.specs.Prelude.{◌<◌};
 ghost use Rattle.lift_policy.specs.View.{IsViewIn};
 
 use crate::group::ask;
+use crate::numbers::Numbers;
 use crate::trip::schedule_with;
-use lift_base::{Body, Dir, Floor, Letter, Number, Party, Position, Reply, Row, Stop, Terminal};
+use lift_base::{Body, Floor, Letter, Number, Party, Position, Reply, Row, Stop, Terminal};
 use lift_building::Building;
 use lift_cost::{NewCall, total_cost};
 use lift_decider::Decider;
@@ -130,49 +131,25 @@ pub(crate) fn are_as_from_nothing(building: &Building, view: &View, count: usize
     true
 }
 
-/// A fixed list of numbers below 65,536.
-#[derive(Drop)]
-struct Numbers {
-    seed: u32,
-}
-
-impl Numbers {
-    fn next(&mut self) -> u32 {
-        self.seed = self
-            .seed
-            .wrapping_mul(1_664_525)
-            .wrapping_add(1_013_904_223);
-        self.seed >> 16
-    }
-
-    fn dir(&mut self) -> Dir {
-        if self.next() % 2 == 0 {
-            Dir::Up
-        } else {
-            Dir::Down
+/// Half are calls of the two kiosks; the others tell of the first three cars: of two each a
+/// stop where the car goes next, and one of a stop and a place anywhere.
+fn next_command(numbers: &mut Numbers, decider: &Decider) -> (Terminal, Body) {
+    let kind = numbers.next() % 8;
+    let car = letter(numbers.next() % 3);
+    let (at, dir) = (floor(numbers.next() % 10), numbers.dir());
+    let told = match kind {
+        0..=3 => {
+            let party = Party::new((numbers.next() % 3 + 1) as u8).unwrap_or_default();
+            return (kiosk(kind % 2), Body::Call(at, party));
         }
-    }
-
-    /// Half are calls of the two kiosks; the others tell of the first three cars: of two each a
-    /// stop where the car goes next, and one of a stop and a place anywhere.
-    fn command(&mut self, decider: &Decider) -> (Terminal, Body) {
-        let kind = self.next() % 8;
-        let car = letter(self.next() % 3);
-        let (at, dir) = (floor(self.next() % 10), self.dir());
-        let told = match kind {
-            0..=3 => {
-                let party = Party::new((self.next() % 3 + 1) as u8).unwrap_or_default();
-                return (kiosk(kind % 2), Body::Call(at, party));
-            }
-            4 | 5 => match next_of(decider, car) {
-                Some(stop) => Body::Stop(stop.floor, stop.dir),
-                None => Body::Stop(at, dir),
-            },
-            6 => Body::Stop(at, dir),
-            _ => Body::Place(at, dir),
-        };
-        (Terminal::of_car(car), told)
-    }
+        4 | 5 => match next_of(decider, car) {
+            Some(stop) => Body::Stop(stop.floor, stop.dir),
+            None => Body::Stop(at, dir),
+        },
+        6 => Body::Stop(at, dir),
+        _ => Body::Place(at, dir),
+    };
+    (Terminal::of_car(car), told)
 }
 
 /// Where a car goes next, by the rules, from nothing.
@@ -222,7 +199,7 @@ pub(crate) fn are_commands_as_from_nothing(decider: &mut Decider, count: u32, se
     let mut positions = [None; 3];
     let mut most = 0;
     for _ in 0..count {
-        let (terminal, body) = numbers.command(decider);
+        let (terminal, body) = next_command(&mut numbers, decider);
         let reply = ask_next(decider, terminal, &body);
         if let Some(position) = told(&reply, &body) {
             match positions.get_mut(usize::from(terminal.get())) {

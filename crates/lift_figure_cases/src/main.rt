@@ -9,6 +9,7 @@ mod events;
 mod figures;
 mod group;
 mod highest;
+mod numbers;
 mod registers;
 mod trip;
 
