@@ -4,6 +4,7 @@ ghost use Rattle.lift_register.specs.Fits.{IsPossibleCall, IsPossibleStop, IsPos
 ghost use Rattle.lift_register.specs.Fits.{persons_of};
 ghost use Rattle.lift_base.specs.Records.{IsTypedCommand, IsTypedCall, IsTypedContent, IsTyped};
 ghost use Rattle.lift_base.specs.Records.{IsLawfulLast};
+ghost use Rattle.lift_base.specs.declared.history.Record.{Record as RecordValue};
 
 use lift_base::{Content, Entry, Floor, Last, Letter, Number, Party, Record, Row, Terminal};
 use lift_building::Building;
@@ -88,35 +89,24 @@ fn note_content(content: &Content)
     }
 }
 
+fn note_entry(entry: &Entry)
+    ensures { IsTyped (RecordValue.Entry entry.now) }
+{
+    let last = entry.kept();
+    note_command(entry.terminal(), last.number);
+    note_content(&last.content);
+    match entry {
+        Entry::Allot { .. } => {}
+        Entry::Stop { car, .. } => prove!(car.get() <= 15),
+    }
+}
+
 /// Tells the proof, and nobody else, that each part of a record is in its type's range.
 pub fn note_ranges(record: &Record)
     ensures { IsTyped «record».now }
 {
     match record {
-        Record::Entry(
-            Entry::Allot {
-                kiosk,
-                number,
-                from,
-                to,
-                car,
-                party,
-            },
-        ) => {
-            note_command(*kiosk, *number);
-            note_call(*from, *to, *car, *party);
-        }
-        Record::Entry(
-            Entry::Stop {
-                car,
-                number,
-                floor,
-                ..
-            },
-        ) => {
-            note_command(Terminal::of_car(*car), *number);
-            prove!(car.get() <= 15 && floor.get() <= 63);
-        }
+        Record::Entry(entry) => note_entry(entry),
         Record::Row(row) => {
             note_command(row.kiosk, row.number);
             note_call(row.from, row.to, row.car, row.party);
