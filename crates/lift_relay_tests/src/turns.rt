@@ -18,6 +18,7 @@ use std::process::Abort;
 use std::sync::Wait;
 use std::sync::atomic::{AtomicU64, Ordering};
 use std::test::Fail;
+use std::thread::Threads;
 
 const ONE: Result<FlushCounts, KeeperFault> = Ok(FlushCounts {
     batches: 1,
@@ -69,12 +70,13 @@ fn five_batches<R: Wait + Abort, D: Disk + Drop>(
     assert!(rt; relay.allocate(rt) == counts(0, 0) && relay.has_batch_in_hand());
 }
 
-/// The parts of a clerk over a device whose sixth call fails.
+/// The parts of a clerk over a device that fails this call, none where it is 0.
 fn failing<'d, 'b>(
     alloc: Global,
     desk: &'d Desk,
     seat: ClerkSeat,
     building: &'b Building,
+    call: u32,
 ) -> Result<Relay<'d, 'b, FlakyDisk, Etd>, Fail>
     requires clerk { IsClerkOf desk.now seat }
     requires owes { OwesNothing seat }
@@ -82,7 +84,7 @@ fn failing<'d, 'b>(
     let disk = FlakyDisk::new(formatted(alloc, building)?);
     let keeper = Keeper::open(disk, building).ok().ok_or("refused")?;
     let mut clerk = Clerk::new(desk, seat, keeper, Etd);
-    clerk.arm(6);
+    clerk.arm(call);
     Relay::of(alloc, clerk)
 }
 
@@ -141,7 +143,7 @@ fn a_fault_between(rt: HostRuntime) -> Result<(), Fail> {
     let building = group(rt.alloc())?;
     let DeskParts { desk, seats, clerk } = open(rt.alloc())?;
     let mut terminals = Terminals::of(&desk, seats);
-    let mut relay = failing(rt.alloc(), &desk, clerk, &building)?;
+    let mut relay = failing(rt.alloc(), &desk, clerk, &building, 6)?;
     five_batches(&rt, &mut terminals, &mut relay);
     assert!(rt; relay.flush(&rt) == ONE);
     sends_the_fifth(&rt, &mut relay);
@@ -176,34 +178,61 @@ fn a_batch_in_the_line_keeps_the_parts_apart(rt: HostRuntime) -> Result<(), Fail
     Ok(())
 }
 
-/// A run through a gate that is closed turns nothing, and drains what is in hand and in the line.
-/// What the parts tell each other before it changes nothing.
-#[test]
-fn a_closed_gate_drains(rt: HostRuntime) -> Result<(), Fail> {
-    let building = group(rt.alloc())?;
-    let DeskParts { desk, seats, clerk } = open(rt.alloc())?;
+/// What a run through a closed gate comes to, over a device that fails one call, or none by 0.
+#[derive(Drop)]
+struct Drain {
+    failing_call: u32,
+    /// Whether the parts tell each other before it.
+    tells: bool,
+    fault: Option<RunFault>,
+    answers: (Option<Reply>, Option<Reply>, Option<Reply>),
+}
+
+/// Drains five batches. Without a fault all calls are in; with one the parts join too.
+fn drains<R: Threads + Wait + Abort + Sync>(
+    rt: &R,
+    alloc: Global,
+    drain: Drain,
+) -> Result<(), Fail> {
+    let building = group(alloc)?;
+    let DeskParts { desk, seats, clerk } = open(alloc)?;
     let mut terminals = Terminals::of(&desk, seats);
-    let disk = formatted(rt.alloc(), &building)?;
-    let mut relay = Relay::begin(rt.alloc(), &desk, clerk, disk, &building, Etd)?;
-    five_batches(&rt, &mut terminals, &mut relay);
-    relay.tell();
-    assert!(rt; relay.run(&rt, &Closed).is_none());
+    let mut relay = failing(alloc, &desk, clerk, &building, drain.failing_call)?;
+    five_batches(rt, &mut terminals, &mut relay);
+    if drain.tells {
+        relay.tell();
+    }
+    assert!(rt; relay.run(rt, &Closed) == drain.fault);
     assert!(rt; relay.sent() == 5 && relay.received() == 5 && !relay.has_batch_in_hand());
-    assert!(rt; heard(&mut terminals) == (car(0), car(1), car(0)));
-    assert!(rt; relay.open_calls() == Some(3));
+    assert!(rt; heard(&mut terminals) == drain.answers);
+    let open_calls = relay.open_calls();
+    assert!(rt; open_calls == Some(3) || (drain.fault.is_some() && open_calls.is_some()));
     Ok(())
 }
 
-/// The same over a device whose sixth call fails: the first fault is told, and the parts join.
+/// A run through a gate that is closed turns nothing, and drains what is in hand and in the line.
+/// What the parts tell each other before it changes nothing. Behind a fault it goes on, and tells
+/// the first one.
 #[test]
-fn a_drain_goes_on_behind_a_fault(rt: HostRuntime) -> Result<(), Fail> {
-    let building = group(rt.alloc())?;
-    let DeskParts { desk, seats, clerk } = open(rt.alloc())?;
-    let mut terminals = Terminals::of(&desk, seats);
-    let mut relay = failing(rt.alloc(), &desk, clerk, &building)?;
-    five_batches(&rt, &mut terminals, &mut relay);
-    assert!(rt; relay.run(&rt, &Closed) == Some(RunFault::Keeper(FAILED)));
-    assert!(rt; heard(&mut terminals) == (car(0), Some(Reply::Unknown), Some(Reply::Unknown)));
-    assert!(rt; relay.rejoined().is_ok());
-    Ok(())
+fn a_closed_gate_drains(rt: HostRuntime) -> Result<(), Fail> {
+    drains(
+        &rt,
+        rt.alloc(),
+        Drain {
+            failing_call: 0,
+            tells: true,
+            fault: None,
+            answers: (car(0), car(1), car(0)),
+        },
+    )?;
+    drains(
+        &rt,
+        rt.alloc(),
+        Drain {
+            failing_call: 6,
+            tells: false,
+            fault: Some(RunFault::Keeper(FAILED)),
+            answers: (car(0), Some(Reply::Unknown), Some(Reply::Unknown)),
+        },
+    )
 }
