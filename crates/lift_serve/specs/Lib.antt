@@ -3,4 +3,5 @@ pub mod FirstLine
 pub mod Lobby
 pub mod Open
 pub mod Relaying
+pub mod Rung
 pub mod Visits

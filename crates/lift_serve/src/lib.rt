@@ -13,6 +13,7 @@ mod pager;
 mod port;
 mod relaying;
 mod rests;
+mod rung;
 mod seating;
 mod serving;
 mod waking;

@@ -1,25 +1,29 @@
 //! A seat's port that wakes the clerk, and sleeps between two looks.
 
 ghost use Rattle.std.specs.Prelude.{◌≡◌};
+ghost use Rattle.lift_serve.specs.Rung.{asks_at};
 
 use crate::pace::AskBell;
 use crate::pager::Pager;
 use crate::rests::Rests;
+use crate::rung::Rung;
 use lift_base::{Body, Number, Reply};
 use lift_desk::AskRefusal;
 use lift_kiosk::{DeskPort, Port};
 use std::sync::Wait;
 use std::time::Clock;
 
-/// A terminal's port at the desk. Behind each ask it wakes the clerk, and it rests by sleeping for
-/// a millisecond, or until its answer is stored.
+/// A terminal's port at the desk. It wakes the clerk behind each ask, once that is stored, and it
+/// rests by sleeping for a millisecond, or until its answer is stored.
 #[derive(Drop)]
 pub struct RestingPort<'d, 'r, R: Wait + Clock> {
     port: DeskPort<'d>,
     rests: Rests,
+    rung: Rung<'d>,
     rt: &'r R,
     bell: &'r AskBell,
     pager: &'r Pager,
+    ghost rung_for_each: { rung ≡ asks_at port },
 }
 
 impl<'d, 'r, R: Wait + Clock> RestingPort<'d, 'r, R> {
@@ -28,9 +32,11 @@ impl<'d, 'r, R: Wait + Clock> RestingPort<'d, 'r, R> {
         ensures port { result.port ≡ port.entry }
         ensures rests { result.rests ≡ 0 }
     {
+        let rung = Rung::of(&port);
         RestingPort {
             port,
             rests: Rests::new(),
+            rung,
             rt,
             bell,
             pager,
@@ -44,6 +50,7 @@ impl<'d, 'r, R: Wait + Clock> RestingPort<'d, 'r, R> {
         let RestingPort {
             port,
             rests: _,
+            rung: _,
             rt: _,
             bell: _,
             pager: _,
@@ -66,8 +73,7 @@ impl<'d, 'r, R: Wait + Clock> Port for RestingPort<'d, 'r, R> {
     fn ask(&mut self, number: Number, body: Body) -> Result<(), AskRefusal> {
         let outcome = self.port.ask(number, body);
         if outcome.is_ok() {
-            self.pager.asked();
-            self.bell.ring();
+            self.rung.ring(self.bell, self.pager, &self.port);
         }
         outcome
     }
