@@ -2,7 +2,7 @@
 use Rattle.std.proofs.Common.{◌≡◌, ◌⊎◌, not, false, ◌≤◌, ◌+◌, inl, inr, true, nat_lt, cond, ◌++◌, [], ◌∷◌, ℕ, zero, suc, List, length, take, refl, sym, ◌∙◌, ap, arith, Result, Ok, Err, length-append}
 use Rattle.std.specs.Prelude.{IsErrAnd, IfOk}
 use Rattle.std.proofs.lemmas.Result.{err_from_is_err_and}
-use Rattle.std.proofs.lemmas.List.{take-append-le, append_assoc, append-nil}
+use Rattle.std.proofs.lemmas.List.{take-append-le, append_assoc, append-nil, append_cancel_left}
 use Rattle.std.proofs.Math.Seq.{take-append-add}
 use Rattle.lift_disk.specs.Disk.{DiskState, Image}
 use Rattle.lift_disk.specs.Trace.{Access, Records}
@@ -73,6 +73,15 @@ pub rows_then : (old mid new : DiskState) (first a b next : ℕ) → next ≡ fi
 rows_then old mid new first a b next at was is =
     is ∙ ap (λ n. mid.trace ++ reads_from n b) at ∙ ap (λ (l : List Access). l ++ reads_from (first + a) b) was ∙ append_assoc old.trace (reads_from first a) (reads_from (first + a) b)
     ∙ ap (λ (l : List Access). old.trace ++ l) (sym (reads-append first a b))
+
+length-reads : (first count : ℕ) → length (reads_from first count) ≡ count
+length-reads first zero = refl
+length-reads first (suc count) = ap suc (length-reads (first + 1) count)
+
+-- two counts of the same reads
+pub rows_same : (before : List Access) (first one two : ℕ) → before ++ reads_from first one ≡ before ++ reads_from first two → one ≡ two
+rows_same before first one two same =
+    sym (length-reads first one) ∙ ap length (append_cancel_left before (reads_from first one) (reads_from first two) same) ∙ length-reads first two
 
 pub row_then : (old mid new : DiskState) (first a next most end : ℕ) → next ≡ first + a → mid.trace ≡ old.trace ++ reads_from first a → HasRead next most end mid new → HasRead first (a + most) end old new
 row_then old mid new first a next most end at was row = (a + row.0, omega (arith, row.1), omega (arith, at, row.2), rows_then old mid new first a row.0 next at was row.3)

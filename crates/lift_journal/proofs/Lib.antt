@@ -19,3 +19,4 @@ pub mod Picking
 pub mod Checkpoints
 pub mod Replacing
 pub mod Ending
+pub mod Showing

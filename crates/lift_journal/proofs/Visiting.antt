@@ -1,6 +1,7 @@
 -- What was shown to a visitor on the way along a chain.
 use Rattle.std.proofs.Common.{◌≡◌, ◌<◌, ◌≤◌, ◌+◌, ◌-◌, ℕ, List, [], ◌∷◌, ◌++◌, None, length, All, refl, sym, ◌∙◌, ap, subst, arith, add-zero}
 use Rattle.std.proofs.lemmas.List.Elements.{All-append, All-from_recursion}
+use Rattle.std.proofs.lemmas.List.{append_assoc}
 use Rattle.lift_base.specs.declared.history.Record.{Record}
 use Rattle.lift_record.specs.declared.version.Version.TheVariants.{One}
 use Rattle.lift_record.specs.Version.{version_number}
@@ -11,7 +12,12 @@ use Rattle.lift_journal.specs.Seen.{batch_of}
 use Rattle.lift_journal.specs.declared.batch.Stored.{Stored}
 use Rattle.lift_journal.specs.declared.walk.Front.{Front}
 use Rattle.lift_journal.specs.Fronts.{Passes, passed}
-use Rattle.lift_journal.specs.Visits.{TakesAll, IsSized, HasTaken}
+use Rattle.lift_journal.specs.Visits.{TakesAll, IsSized, HasTaken, TakesBefore}
+use Rattle.lift_disk.specs.Disk.{DiskState, Image}
+use Rattle.lift_disk.specs.Trace.{Access}
+use Rattle.lift_journal.specs.Calls.{reads_from}
+use Rattle.lift_journal.specs.declared.fault.JournalFault.{JournalFault}
+use Rattle.lift_journal.specs.declared.fault.JournalFault.TheVariants.{Disk, NotFormatted, Damaged, Full, Broken}
 use Rattle.lift_journal.specs.lemmas.Chains.{used_more}
 use Rattle.lift_journal.specs.lemmas.Orders.{front_push, version_push, last_push}
 
@@ -83,3 +89,23 @@ module _ {V : Type 0} (takes : V → List Record → V → Type 0) where
     few = some;
     taken = same;
   }
+
+-- a half that was refused, told from before these calls
+pub before_then : {V : Type 0} (takes : V → List Record → V → Type 0) (fault : JournalFault) (first rest : List Access) (start end : ℕ) (image other : Image) (old mid new : DiskState) (v w : V)
+    → mid.trace ≡ old.trace ++ first → other ≡ image → TakesBefore takes fault rest start end other mid new v w → TakesBefore takes fault (first ++ rest) start end image old new v w
+before_then takes Disk first rest start end image other old mid new v w at same taken =
+    let here = subst (λ (l : Image). TakesBefore takes Disk rest start end l mid new v w) same taken in
+    let reads : List Access = reads_from start (here.gate - start + here.more) in
+    record {
+      gate = here.gate;
+      more = here.more;
+      batches = here.batches;
+      reached = here.reached;
+      made = here.made ∙ ap (λ (l : List Access). l ++ (rest ++ reads)) at ∙ append_assoc old.trace first (rest ++ reads) ∙ ap (λ (l : List Access). old.trace ++ l) (sym (append_assoc first rest reads));
+      unfinished = here.unfinished;
+      taken = here.taken;
+    }
+before_then takes (Damaged sector) first rest start end image other old mid new v w at same taken = subst (λ (l : Image). TakesBefore takes (Damaged sector) rest start end l mid new v w) same taken
+before_then takes NotFormatted first rest start end image other old mid new v w at same taken = taken
+before_then takes Full first rest start end image other old mid new v w at same taken = taken
+before_then takes Broken first rest start end image other old mid new v w at same taken = taken

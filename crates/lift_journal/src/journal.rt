@@ -20,7 +20,7 @@ ghost use Rattle.lift_journal.specs.Calls.{opening_calls, opening_of};
 ghost use Rattle.lift_journal.specs.Calls.{reads_from, StopsIn, HasRead, HasReadAt};
 ghost use Rattle.lift_journal.specs.Behind.{RefusedBehind};
 ghost use Rattle.lift_journal.specs.Fronts.{IsOfCursor};
-ghost use Rattle.lift_journal.specs.Visits.{TakesAll, HasTaken};
+ghost use Rattle.lift_journal.specs.Visits.{TakesAll, HasTaken, ShownBefore};
 
 use crate::body::{body_count, put_body, sectors_of};
 use crate::checkpoint::{batches_for, other_half, write_checkpoint};
@@ -209,6 +209,9 @@ impl<D: Disk> Journal<D> {
             → TakesAll V.takes visitor.old batches visitor.new) }
         // Of any device, and where it is refused: batches that may begin a chain.
         ensures shown_some { HasTaken V.takes 1000000 visitor.old visitor.new }
+        // Where it is refused, of an honest device: just the batches before what refuses it.
+        ensures shown_before { IfErr result (λ err. ShownBefore V.takes err.1
+            (D.state disk) (D.state err.0) visitor.old visitor.new) }
     {
         let mut device = disk;
         match find_place(&mut device, visitor) {
@@ -591,6 +594,9 @@ impl<D: Disk> Journal<D> {
             → TakesAll V.takes visitor.old batches visitor.new) }
         // Of any device, and where it is refused: batches that may begin a chain.
         ensures shown_some { HasTaken V.takes 1000000 visitor.old visitor.new }
+        // Where it is refused, of an honest device: just the batches before what refuses it.
+        ensures shown_before { IfErr result (λ fault. ShownBefore V.takes fault
+            (D.state self.old.device) (D.state self.new.device) visitor.old visitor.new) }
     {
         let device = Snapshot::of(&self.device);
         match find_place(&mut self.device, visitor) {

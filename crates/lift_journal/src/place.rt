@@ -11,7 +11,7 @@ ghost use Rattle.lift_journal.specs.Walk.{IsDamagedAt};
 ghost use Rattle.lift_journal.specs.Opening.{RefusedFor};
 ghost use Rattle.lift_journal.specs.Fronts.{IsOfChain, IsOfStamp};
 ghost use Rattle.lift_journal.specs.Told.{NoneFails};
-ghost use Rattle.lift_journal.specs.Visits.{TakesAll, HasTaken};
+ghost use Rattle.lift_journal.specs.Visits.{TakesAll, HasTaken, TakesBefore, ShownBefore};
 ghost use Rattle.lift_disk.specs.Trace.Access.{Read};
 ghost use Rattle.lift_journal.specs.Calls.{reads_from, opening_calls};
 ghost use Rattle.lift_journal.specs.Behind.{StampBehind, EndsInHalf, RefusedBehind};
@@ -97,6 +97,12 @@ fn place_of<D: Disk, V: Visitor>(
         → Holds place.shape batches (D.state disk.old).image
         → TakesAll V.takes visitor.old batches visitor.new) }
     ensures shown_some { HasTaken V.takes 1000000 visitor.old visitor.new }
+    ensures shown_before { IfErr result (λ fault. ((fault ≡ JournalFault.Disk)
+        × ((D.state disk.new).trace ≡ (D.state disk.old).trace) × (visitor.new ≡ visitor.old))
+        ⊎ ((D.state disk.old).is_honest → IsSynced (D.state disk.old)
+        → TakesBefore V.takes fault (Read 0 ∷ []) (start_of shape.half (D.state disk.old).image)
+        (start_of shape.half (D.state disk.old).image + shape.half) (D.state disk.old).image
+        (D.state disk.old) (D.state disk.new) visitor.old visitor.new)) }
 {
     let Ok(is_second) = read_mark(disk, 0) else {
         return Err(JournalFault::Disk);
@@ -136,6 +142,8 @@ pub fn find_place<D: Disk, V: Visitor>(disk: &mut D, visitor: &mut V) -> Result<
         → Holds place.shape batches (D.state disk.new).image
         → TakesAll V.takes visitor.old batches visitor.new) }
     ensures shown_some { HasTaken V.takes 1000000 visitor.old visitor.new }
+    ensures shown_before { IfErr result (λ fault. ShownBefore V.takes fault
+        (D.state disk.old) (D.state disk.new) visitor.old visitor.new) }
 {
     if settle(disk).is_err() {
         return Err(JournalFault::Disk);

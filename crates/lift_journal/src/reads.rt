@@ -3,7 +3,8 @@ ghost use Rattle.std.specs.Prelude.{◌≡◌, ◌≤◌, ◌<◌, ◌+◌, ◌-
 ghost use Rattle.std.specs.Prelude.{OnOk, OnErr, IfOk, IfSome, true, false};
 ghost use Rattle.lift_disk.specs.Disk.{IsSynced};
 ghost use Rattle.lift_record.specs.Header.{IsHeaderSpelling};
-ghost use Rattle.lift_journal.specs.Layout.{sector_at, is_marked, bodies};
+ghost use Rattle.lift_journal.specs.Layout.{sector_at, is_marked, bodies, Batch as BatchValue, size_of};
+ghost use Rattle.lift_journal.specs.Walk.{IsBatchAt};
 ghost use Rattle.lift_disk.specs.Trace.{Records};
 ghost use Rattle.lift_disk.specs.Trace.Access.{Sync};
 ghost use Rattle.lift_journal.specs.Calls.{HasRead, HasReadAt, reads_from};
@@ -62,6 +63,7 @@ fn read_second<D: Disk>(disk: &mut D, sector: u32, is_wanted: bool) -> Result<[u
     ensures read { OnOk result ((D.state disk.new).trace ≡ (D.state disk.old).trace
         ++ reads_from sector (if is_wanted then 1 else 0)) }
     ensures unread { OnErr result ((D.state disk.new).trace ≡ (D.state disk.old).trace) }
+    ensures wanted { OnErr result (is_wanted ≡ true) }
 {
     if !is_wanted {
         return Ok([0; 512]);
@@ -87,6 +89,9 @@ fn read_rest<D: Disk>(
         → ShowsBody (D.state disk.old).image gate end header.number found) }
     ensures row { OnOk result (HasRead (gate + 2) 1 end (D.state disk.old) (D.state disk.new)) }
     ensures unread { OnErr result (HasRead (gate + 2) 0 end (D.state disk.old) (D.state disk.new)) }
+    ensures unfinished { OnErr result ((D.state disk.old).is_honest → IsSynced (D.state disk.old)
+        → sector_at (D.state disk.old).image (gate + 1) ≡ first.now → (batch : BatchValue)
+        → IsBatchAt (D.state disk.old).image gate end header.number batch → size_of batch ≡ 2) }
     ensures whole { IfOk result (λ found. IfSome found (λ stored.
         (D.state disk.new).trace ≡ (D.state disk.old).trace
         ++ reads_from (gate + 2) (bodies (length stored.records.items) - 1))) }
@@ -123,6 +128,9 @@ fn read_body<D: Disk>(
         → ShowsBody (D.state disk.old).image gate end number found) }
     ensures row { OnOk result (HasRead (gate + 1) 2 end (D.state disk.old) (D.state disk.new)) }
     ensures unread { OnErr result (HasRead (gate + 1) 1 end (D.state disk.old) (D.state disk.new)) }
+    ensures unfinished { OnErr result ((D.state disk.old).is_honest → IsSynced (D.state disk.old)
+        → (batch : BatchValue) → IsBatchAt (D.state disk.old).image gate end number batch
+        → HasRead (gate + 1) (size_of batch - 1) end (D.state disk.old) (D.state disk.new)) }
     ensures whole { IfOk result (λ found. IfSome found (λ stored.
         (D.state disk.new).trace ≡ (D.state disk.old).trace
         ++ reads_from (gate + 1) (bodies (length stored.records.items)))) }
@@ -171,6 +179,10 @@ pub fn look<D: Disk>(disk: &mut D, gate: u32, end: u32, number: u32) -> Result<A
     ensures damaged { IfOk result (λ at. at ≡ AtGate.Damaged
         → HasReadAt gate end (D.state disk.old) (D.state disk.new)) }
     ensures unread { OnErr result (HasRead gate 2 end (D.state disk.old) (D.state disk.new)) }
+    // not all sectors of a batch
+    ensures unfinished { OnErr result ((D.state disk.old).is_honest → IsSynced (D.state disk.old)
+        → (batch : BatchValue) → IsBatchAt (D.state disk.old).image gate end number batch
+        → HasRead gate (size_of batch) end (D.state disk.old) (D.state disk.new)) }
     ensures whole { IfOk result (λ at. (stored : _) → at ≡ AtGate.Batch stored
         → (D.state disk.new).trace ≡ (D.state disk.old).trace
         ++ reads_from gate (1 + bodies (length stored.records.items))) }

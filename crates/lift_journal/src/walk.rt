@@ -9,7 +9,7 @@ ghost use Rattle.lift_journal.specs.Behind.{EndsIn};
 ghost use Rattle.lift_journal.specs.Walk.{EndsAt, IsDamagedAt};
 ghost use Rattle.lift_journal.specs.Fronts.{Passes, passed, IsOfChain};
 ghost use Rattle.lift_journal.specs.Layout.{Batch, IsChain};
-ghost use Rattle.lift_journal.specs.Visits.{TakesAll, HasTaken};
+ghost use Rattle.lift_journal.specs.Visits.{TakesAll, HasTaken, TakesBefore};
 
 use crate::batch::Stored;
 use crate::body::body_count;
@@ -96,6 +96,10 @@ pub fn walk<D: Disk, V: Visitor>(
         → IsChain batches 1 (take (end - start) (drop start (D.state disk.old).image))
         → TakesAll V.takes visitor.old batches visitor.new) }
     ensures shown_some { HasTaken V.takes (end - start) visitor.old visitor.new }
+    ensures shown_before { IfErr result (λ fault. (D.state disk.old).is_honest
+        → IsSynced (D.state disk.old)
+        → TakesBefore V.takes fault [] start end (D.state disk.old).image (D.state disk.old)
+        (D.state disk.new) visitor.old visitor.new) }
 {
     let mut front = Front::at(start);
     loop {

@@ -14,6 +14,7 @@ use Rattle.lift_journal.specs.Behind.{RefusedBehind}
 use Rattle.lift_journal.proofs.Following.{all_then, if_ok_weaker}
 use Rattle.lift_journal.proofs.Ending.{image_stays, stamp_behind, half_behind}
 use Rattle.lift_journal.proofs.Visiting.{taken_none}
+use Rattle.lift_journal.proofs.Showing.{stamp_shown, half_shown}
 use Rattle.std.proofs.lemmas.List.{append-nil}
 use Rattle.lift_journal.proofs.place.find_place.Goals as goal
 
@@ -148,3 +149,36 @@ returns-clause-shown g c =
     let synced = (c.in-Ok.ensures.examines.ok.kept honest_mid (safe honest)).synced in
     all honest_read synced batches (subst (λ (l : Image). Holds place.shape batches l) (sym (image_stays read new c.place_of.ensures.examines.only honest_read synced)) holds)))
     c.place_of.ensures.shown
+
+pub returns-then-is_err-clause-shown_before : goal.returns-then-is_err-clause-shown_before
+returns-then-is_err-clause-shown_before g c =
+    let old = g.D.Disk.state c.args.disk.now in
+    let new = g.D.Disk.state c.settle.new.disk in
+    let same = open_err c.settle.result (new.trace ≡ old.trace) (sym c.is_err.ensures.value ∙ c.if-is_err.true) c.settle.ensures.recorded.err in
+    inl (record { count = 0; some_left = omega arith; made = same ∙ sym (append-nil old.trace) }, refl)
+
+pub returns-in-Err-clause-shown_before : goal.returns-in-Err-clause-shown_before
+returns-in-Err-clause-shown_before g c =
+    let old = g.D.Disk.state c.args.disk.now in
+    let mid = g.D.Disk.state c.settle.new.disk in
+    let new = g.D.Disk.state c.read_shape.new.disk in
+    let synced = open_ok c.settle.result (mid.trace ≡ old.trace ++ Sync ∷ []) (sym c.is_err.ensures.value ∙ c.if-is_err.false) c.settle.ensures.recorded.ok in
+    stamp_shown g.V.Visitor.takes c.in-Err.fault old mid new c.args.visitor.now synced c.in-Err.ensures.behind
+
+pub returns-clause-shown_before : goal.returns-clause-shown_before
+returns-clause-shown_before g c =
+    let old = g.D.Disk.state c.args.disk.now in
+    let mid = g.D.Disk.state c.settle.new.disk in
+    let read = g.D.Disk.state c.read_shape.new.disk in
+    let new = g.D.Disk.state c.place_of.new.disk in
+    let first = c.settle.ensures.looks.only in
+    let second = c.read_shape.ensures.examines.only in
+    let synced = open_ok c.settle.result (mid.trace ≡ old.trace ++ Sync ∷ []) (sym c.is_err.ensures.value ∙ c.if-is_err.false) c.settle.ensures.recorded.ok in
+    let safe : old.is_honest → IsSynced mid = open_ok c.settle.result (old.is_honest → IsSynced mid) (sym c.is_err.ensures.value ∙ c.if-is_err.false) c.settle.ensures.synced in
+    let traced : read.trace ≡ old.trace ++ Sync ∷ Read 1 ∷ [] = all_then old mid read (Sync ∷ []) (Read 1 ∷ []) synced c.in-Ok.ensures.read in
+    if_err_weaker c.place_of.result _ _
+    (λ fault _ both. half_shown g.V.Visitor.takes fault old read new c.in-Ok.shape c.args.visitor.now c.place_of.new.visitor both.0 traced c.place_of.ensures.examines.only
+    (λ honest. (let honest_mid = first.runs.honest.1 honest in
+    let kept = c.in-Ok.ensures.examines.ok.kept honest_mid (safe honest) in
+    (second.runs.honest.1 honest_mid, kept.synced, subst (λ (l : Image). IsStamped c.in-Ok.shape l) (sym kept.same) (c.in-Ok.ensures.stamped.2 honest_mid (safe honest))))) both.1)
+    (if_err_both c.place_of.result IsOfChain _ c.place_of.ensures.causes c.place_of.ensures.shown_before)

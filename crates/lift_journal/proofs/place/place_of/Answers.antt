@@ -1,9 +1,12 @@
 use Rattle.lift_journal.specs.lemmas.Looking.{reads_then, well_then, cause_then}
-use Rattle.std.proofs.Common.{◌≡◌, ◌⊎◌, ◌+◌, ◌-◌, [], ◌∷◌, inl, inr, refl, arith}
+use Rattle.std.proofs.Common.{◌≡◌, ◌⊎◌, ◌+◌, ◌-◌, [], ◌∷◌, inl, inr, refl, subst, sym, ap, ◌∙◌, arith}
 use Rattle.lift_disk.specs.Trace.Access.{Read}
 use Rattle.lift_journal.proofs.Following.{all_then}
 use Rattle.lift_journal.proofs.Ending.{ends_then}
-use Rattle.lift_journal.proofs.Visiting.{taken_none, taken_weaker}
+use Rattle.std.specs.Prelude.{Bool, ℕ, if◌then◌else◌}
+use Rattle.lift_journal.specs.Visits.{TakesBefore}
+use Rattle.lift_journal.specs.Layout.{start_of}
+use Rattle.lift_journal.proofs.Visiting.{taken_none, taken_weaker, before_then}
 use Rattle.lift_disk.specs.Disk.{IsSynced}
 use Rattle.lift_journal.proofs.place.place_of.Goals.{then-is_second, else-is_second}
 use Rattle.lift_journal.proofs.place.place_of.Goals as goal
@@ -67,3 +70,26 @@ returns-in-Err-clause-shown_some g c =
 
 pub returns-in_default-clause-shown_some : goal.returns-in_default-clause-shown_some
 returns-in_default-clause-shown_some g c = taken_none g.V.Visitor.takes 1000000 c.args.visitor.now c.args.visitor.now (omega arith) refl
+
+pub returns-in-Err-clause-shown_before : goal.returns-in-Err-clause-shown_before
+returns-in-Err-clause-shown_before g c =
+    let old = g.D.Disk.state c.args.disk.now in
+    let mid = g.D.Disk.state c.read_mark.new.disk in
+    let new = g.D.Disk.state c.walk.new.disk in
+    let start = c.if-is_second.start in
+    let half = c.args.shape.half in
+    let takes = g.V.Visitor.takes in
+    inr (λ honest synced.
+    (let kept = c.in-Ok.ensures.looks.ok.kept honest synced in
+    let begin : Bool → ℕ = λ b. if b then half + 2 else 2 in
+    let marked = c.in-Ok.ensures.gives honest synced in
+    let start_is : start ≡ start_of half old.image = elim c.if-is_second.branch [
+      | then-is_second w ↦ w.start-is ∙ sym (ap begin (marked ∙ w.if-is_second.true))
+      | else-is_second w ↦ w.start-is ∙ sym (ap begin (marked ∙ w.if-is_second.false))
+    ] in
+    subst (λ n. TakesBefore takes c.in-Err.fault (Read 0 ∷ []) n (n + half) old.image old new c.args.visitor.now c.walk.new.visitor) start_is
+    (before_then takes c.in-Err.fault (Read 0 ∷ []) [] start (start + half) old.image mid.image old mid new c.args.visitor.now c.walk.new.visitor c.in-Ok.ensures.read kept.same
+    (c.in-Err.ensures.shown_before (c.read_mark.ensures.looks.only.runs.honest.1 honest) kept.synced))))
+
+pub returns-in_default-clause-shown_before : goal.returns-in_default-clause-shown_before
+returns-in_default-clause-shown_before g c = inl (refl, c.in_default.ensures.unread, refl)

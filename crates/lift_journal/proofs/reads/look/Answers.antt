@@ -1,5 +1,9 @@
 use Rattle.lift_journal.specs.lemmas.Looking.{reads_then, well_then, failed_then}
-use Rattle.std.proofs.Common.{◌+◌, arith}
+use Rattle.std.proofs.Common.{◌+◌, ◌-◌, length, sym, subst, arith}
+use Rattle.lift_disk.specs.Disk.{Image}
+use Rattle.lift_journal.specs.Layout.{size_of}
+use Rattle.lift_journal.specs.Walk.{IsBatchAt}
+use Rattle.lift_journal.proofs.Seeing.{bodies_few}
 use Rattle.lift_journal.proofs.Following.{row_then, rows_then}
 use Rattle.lift_journal.proofs.reads.look.Goals as goal
 
@@ -50,3 +54,14 @@ pub returns-in-Err-clause-unread : goal.returns-in-Err-clause-unread
 returns-in-Err-clause-unread g c =
     row_then (g.D.Disk.state c.args.disk.now) (g.D.Disk.state c.read_mark.new.disk) (g.D.Disk.state c.read_body.new.disk) c.args.gate 1 (c.args.gate + 1) 1 c.args.end (omega arith)
     c.in_ok-read_mark.ensures.read c.in-Err.ensures.unread
+
+pub returns-in-Err-clause-unfinished : goal.returns-in-Err-clause-unfinished
+returns-in-Err-clause-unfinished g c honest synced batch there =
+    let old = g.D.Disk.state c.args.disk.now in
+    let mid = g.D.Disk.state c.read_mark.new.disk in
+    let new = g.D.Disk.state c.read_body.new.disk in
+    let kept = c.in_ok-read_mark.ensures.looks.ok.kept honest synced in
+    let there_now = subst (λ (l : Image). IsBatchAt l c.args.gate c.args.end c.args.number batch) (sym kept.same) there in
+    let behind = c.in-Err.ensures.unfinished (c.read_mark.ensures.looks.only.runs.honest.1 honest) kept.synced batch there_now in
+    let row = row_then old mid new c.args.gate 1 (c.args.gate + 1) (size_of batch - 1) c.args.end (omega arith) c.in_ok-read_mark.ensures.read behind in
+    (row.0, omega (arith, row.1, bodies_few (length batch.records)), row.2, row.3)

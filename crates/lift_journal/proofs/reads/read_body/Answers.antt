@@ -1,5 +1,9 @@
-use Rattle.std.proofs.Common.{◌≡◌, ◌+◌, length, refl, arith}
-use Rattle.lift_journal.specs.lemmas.Looking.{looks_then, ok_weaker, err_weaker}
+use Rattle.std.proofs.Common.{◌≡◌, ◌+◌, ◌-◌, length, refl, sym, subst, arith}
+use Rattle.lift_disk.specs.Disk.{Image}
+use Rattle.lift_journal.specs.Layout.{sector_at, size_of}
+use Rattle.lift_journal.specs.Walk.{IsBatchAt}
+use Rattle.lift_journal.specs.Calls.{HasRead}
+use Rattle.lift_journal.specs.lemmas.Looking.{looks_then, ok_weaker, err_weaker, both_on_err}
 use Rattle.lift_journal.proofs.Seeing.{no_header}
 use Rattle.lift_journal.proofs.Following.{row_then}
 use Rattle.lift_journal.proofs.reads.read_body.Goals as goal
@@ -29,3 +33,20 @@ pub returns-in-Some-clause-unread : goal.returns-in-Some-clause-unread
 returns-in-Some-clause-unread g c =
     err_weaker c.read_rest.result _ _ (λ row. row_then (g.D.Disk.state c.args.disk.now) (g.D.Disk.state c.read_sector.new.disk) (g.D.Disk.state c.read_rest.new.disk)
     (c.args.gate + 1) 1 (c.args.gate + 2) 0 c.args.end (omega arith) c.in_ok-first.ensures.read row) c.read_rest.ensures.unread
+
+pub returns-in-Some-clause-unfinished : goal.returns-in-Some-clause-unfinished
+returns-in-Some-clause-unfinished g c =
+    let old = g.D.Disk.state c.args.disk.now in
+    let mid = g.D.Disk.state c.read_sector.new.disk in
+    let new = g.D.Disk.state c.read_rest.new.disk in
+    let gate = c.args.gate in
+    let end = c.args.end in
+    err_weaker c.read_rest.result _ _ (λ both honest synced batch there.
+    (let kept = c.in_ok-first.ensures.looks.ok.kept honest synced in
+    let numbered = ((c.in-Some.ensures c.in-Some.header).0 refl).1 in
+    let here = subst (λ (l : Image). sector_at l (gate + 1) ≡ c.in_ok-first.first) (sym kept.same) (c.in_ok-first.ensures.gives honest synced) in
+    let there_now = subst (λ (l : Image). IsBatchAt l gate end c.in-Some.header.number batch) (sym kept.same) (subst (λ n. IsBatchAt old.image gate end n batch) (sym numbered) there) in
+    let two = both.1 (c.read_sector.ensures.looks.only.runs.honest.1 honest) kept.synced here batch there_now in
+    let one : 1 + 0 ≡ size_of batch - 1 = omega (arith, two) in
+    subst (λ n. HasRead (gate + 1) n end old new) one (row_then old mid new (gate + 1) 1 (gate + 2) 0 end (omega arith) c.in_ok-first.ensures.read both.0)))
+    (both_on_err c.read_rest.result _ _ c.read_rest.ensures.unread c.read_rest.ensures.unfinished)

@@ -1,6 +1,8 @@
-use Rattle.std.proofs.Common.{◌≡◌, length, nat_eq, refl, ◌∙◌, ap, arith}
-use Rattle.lift_journal.specs.Layout.{Batch}
-use Rattle.lift_journal.proofs.Seeing.{no_next, batch_there, no_records}
+use Rattle.std.proofs.Common.{◌≡◌, length, nat_eq, true, refl, sym, ◌∙◌, ap, arith, ◌+◌}
+use Rattle.std.proofs.lemmas.Bool.{eqb-true}
+use Rattle.lift_journal.specs.Layout.{Batch, bodies}
+use Rattle.lift_journal.specs.lemmas.Looking.{err_any}
+use Rattle.lift_journal.proofs.Seeing.{no_next, batch_there, no_records, same_count}
 use Rattle.lift_journal.proofs.reads.read_rest.Goals as goal
 
 pub returns-then-bodies-end-clause-seen : goal.returns-then-bodies-end-clause-seen
@@ -34,3 +36,13 @@ returns-in-None-clause-seen g c honest synced is =
     (λ one. c.in_ok-second.ensures.zeros (ap (λ k. nat_eq k 2) (few ∙ one)))
     (omega (arith, c.if-bodies-end.false, few, c.requires.below))
     c.in-None.ensures.none
+
+pub returns-in_err-second-clause-unfinished : goal.returns-in_err-second-clause-unfinished
+returns-in_err-second-clause-unfinished g c =
+    err_any c.from_residual.result _ (λ honest synced is batch there.
+    (let image = (g.D.Disk.state c.args.disk.now).image in
+    let whole : length image ≡ (g.D.Disk.state c.args.disk.now).size = g.met.D.Disk.whole c.args.disk.now honest in
+    let count = same_count image c.args.gate c.args.end c.args.header.number c.args.first.now is c.told-first (omega (arith, whole, c.requires.inside)) c.args.header c.requires.header refl batch there in
+    let wanted : nat_eq c.body_count-bodies.result 2 ≡ true = c.in_err-second.ensures.wanted in
+    let two : c.body_count-bodies.result ≡ 2 = eqb-true c.body_count-bodies.result 2 wanted in
+    ap bodies (sym count) ∙ sym c.body_count-bodies.ensures ∙ two))

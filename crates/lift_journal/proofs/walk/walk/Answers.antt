@@ -1,5 +1,6 @@
 use Rattle.std.proofs.Common.{◌≡◌, ◌≤◌, ◌+◌, ◌-◌, ◌++◌, ◌∙◌, List, [], ◌∷◌, take, drop, length, refl, ap, sym, subst, arith}
-use Rattle.lift_journal.specs.Walk.{IsDamagedAt}
+use Rattle.lift_disk.specs.Disk.{Image}
+use Rattle.lift_journal.specs.Walk.{IsDamagedAt, IsBatchAt}
 use Rattle.lift_journal.specs.declared.walk.Front.{Front}
 use Rattle.lift_journal.specs.declared.reads.AtGate.TheVariants.{Closed, Batch, Damaged}
 use Rattle.lift_journal.proofs.Visiting.{more_shown, has_taken}
@@ -11,7 +12,7 @@ use Rattle.lift_journal.specs.lemmas.Looking.{reads_then, well_then, failed_then
 use Rattle.lift_journal.proofs.Seeing.{bodies_few}
 use Rattle.lift_journal.specs.Layout.{bodies, Batch as BatchValue}
 use Rattle.lift_journal.specs.Calls.{reads_from}
-use Rattle.lift_journal.proofs.Following.{rows_then}
+use Rattle.lift_journal.proofs.Following.{rows_then, rows_same}
 use Rattle.lift_journal.proofs.walk.walk.Goals as goal
 
 pub pass-requires-clause-room : goal.pass-requires-clause-room
@@ -279,3 +280,41 @@ returns-then-may_end-clause-shown_some g c =
 pub returns-then-not-pass-clause-shown_some : goal.returns-then-not-pass-clause-shown_some
 returns-then-not-pass-clause-shown_some g c =
     has_taken g.V.Visitor.takes c.args.visitor.now c.loop-front.visitor c.args.start c.args.end c.loop-front.front c.loop-front.invariant.batches c.loop-front.invariant.shown c.loop-front.invariant.below
+
+pub returns-in-Err-clause-shown_before : goal.returns-in-Err-clause-shown_before
+returns-in-Err-clause-shown_before g c honest synced =
+    let old = g.D.Disk.state c.args.disk.now in
+    let mid = g.D.Disk.state c.loop-front.disk in
+    let new = g.D.Disk.state c.look.new.disk in
+    let inv = c.loop-front.invariant in
+    let front = c.loop-front.front in
+    let row = c.in-Err.ensures.unread in
+    let at = inv.at honest synced in
+    let kept = inv.well.kept honest synced in
+    record {
+      gate = front.gate;
+      more = row.0;
+      batches = inv.batches;
+      reached = at.reached;
+      made = rows_then old mid new c.args.start (front.gate - c.args.start) row.0 front.gate (omega (arith, inv.low)) inv.trace row.3;
+      unfinished = λ batch there.
+          let here = subst (λ n. IsBatchAt old.image front.gate c.args.end n batch) (sym at.counts) there in
+          let few = c.in-Err.ensures.unfinished (inv.only.runs.honest.1 honest) kept.synced batch (subst (λ (l : Image). IsBatchAt l front.gate c.args.end front.number batch) (sym kept.same) here) in
+          omega (arith, few.1, rows_same mid.trace front.gate row.0 few.0 (sym row.3 ∙ few.3));
+      taken = inv.shown.taken;
+    }
+
+pub returns-in-Ok-Damaged-clause-shown_before : goal.returns-in-Ok-Damaged-clause-shown_before
+returns-in-Ok-Damaged-clause-shown_before g c honest synced =
+    let inv = c.loop-front.invariant in
+    (inv.batches, (inv.at honest synced).reached, inv.shown.taken)
+
+pub returns-in-Ok-Closed-clause-shown_before : goal.returns-in-Ok-Closed-clause-shown_before
+returns-in-Ok-Closed-clause-shown_before g c honest synced =
+    let inv = c.loop-front.invariant in
+    (inv.batches, (inv.at honest synced).reached, inv.shown.taken)
+
+pub returns-then-not-pass-clause-shown_before : goal.returns-then-not-pass-clause-shown_before
+returns-then-not-pass-clause-shown_before g c honest synced =
+    let inv = c.loop-front.invariant in
+    (inv.batches, (inv.at honest synced).reached, inv.shown.taken)
