@@ -3,10 +3,10 @@ ghost use Rattle.std.specs.Prelude.{◌≡◌, ◌≤◌, ◌<◌, ◌+◌, [], 
 ghost use Rattle.std.specs.Prelude.{OnOk, IfOk, IfSome, IfNone};
 ghost use Rattle.lift_disk.specs.Disk.{MayLeave};
 ghost use Rattle.lift_disk.specs.Runs.{CountsFault, HoldsRun, IsInRun, KeepsWrites, Opens, Rests};
-ghost use Rattle.lift_disk.specs.Runs.{left_with, left_without, run_loose, run_whole, waiting};
+ghost use Rattle.lift_disk.specs.Runs.{left_with, left_without, run_loose, run_whole};
 ghost use Rattle.lift_disk.specs.Runs.{with_run};
 
-use crate::runs::{MOST_AHEAD, RunDisk};
+use crate::runs::{Ahead, MOST_AHEAD, RunDisk};
 use crate::trace::{Made, ProofTrace};
 use crate::{Disk, DiskFault};
 use arrayvec::ArrayVec;
@@ -27,7 +27,7 @@ pub struct Buffered<R: RunDisk + Drop> {
     /// The first of the sectors that were read ahead, and how many.
     ahead_from: u32,
     ahead_count: usize,
-    ahead: [[u8; 512]; MOST_AHEAD],
+    ahead: Ahead,
     calls: ProofCount,
     writes: ProofCount,
     trace: ProofTrace,
@@ -40,7 +40,7 @@ pub struct Buffered<R: RunDisk + Drop> {
 }
 
 impl<R: RunDisk + Drop> Buffered<R> {
-    ghost use Rattle.lift_disk.specs.Below.{below, held_back};
+    ghost use Rattle.lift_disk.specs.Below.{as_written, below, held_back};
 
     /// A device of which nothing was read or written yet. It makes no call of the other one and
     /// announces nothing.
@@ -115,12 +115,9 @@ impl<R: RunDisk + Drop> Buffered<R> {
 
     /// Makes the writes that were held back, as one. Behind it none is, also where it fails.
     fn flush(&mut self) -> Result<(), DiskFault>
-        ensures rests { Rests (waiting
-            (R.state self.old.device) self.old.from self.old.pending.items)
-            (waiting (R.state self.new.device) self.new.from self.new.pending.items) }
+        ensures rests { Rests (as_written R.state self.old) (as_written R.state self.new) }
         ensures keeps { OnOk result
-            (KeepsWrites (waiting (R.state self.old.device) self.old.from self.old.pending.items)
-            (waiting (R.state self.new.device) self.new.from self.new.pending.items)) }
+            (KeepsWrites (as_written R.state self.old) (as_written R.state self.new)) }
         ensures none { self.new.pending.items ≡ [] }
         ensures forgets { self.new.ahead_count ≡ 0 }
         ensures faults { CountsFault result (R.state self.old.device) (R.state self.new.device) }
@@ -148,12 +145,9 @@ impl<R: RunDisk + Drop> Buffered<R> {
     /// Makes the sector the next behind those that are held back.
     fn make_room(&mut self, sector: u32) -> Result<(), DiskFault>
         requires { sector < (R.state self.old.device).size }
-        ensures opens { Opens sector
-            (waiting (R.state self.old.device) self.old.from self.old.pending.items)
-            (waiting (R.state self.new.device) self.new.from self.new.pending.items) }
+        ensures opens { Opens sector (as_written R.state self.old) (as_written R.state self.new) }
         ensures keeps { OnOk result
-            (KeepsWrites (waiting (R.state self.old.device) self.old.from self.old.pending.items)
-            (waiting (R.state self.new.device) self.new.from self.new.pending.items)) }
+            (KeepsWrites (as_written R.state self.old) (as_written R.state self.new)) }
         ensures next { OnOk result (self.new.from + length self.new.pending.items ≡ sector) }
         ensures room { OnOk result (length self.new.pending.items < 16) }
         ensures faults { CountsFault result (R.state self.old.device) (R.state self.new.device) }
@@ -172,12 +166,9 @@ impl<R: RunDisk + Drop> Buffered<R> {
     /// Reads 16 sectors from this one on, or as many as there are.
     fn look_ahead(&mut self, sector: u32) -> Result<(), DiskFault>
         requires { sector < (R.state self.old.device).size }
-        ensures rests { Rests (waiting
-            (R.state self.old.device) self.old.from self.old.pending.items)
-            (waiting (R.state self.new.device) self.new.from self.new.pending.items) }
+        ensures rests { Rests (as_written R.state self.old) (as_written R.state self.new) }
         ensures keeps { OnOk result
-            (KeepsWrites (waiting (R.state self.old.device) self.old.from self.old.pending.items)
-            (waiting (R.state self.new.device) self.new.from self.new.pending.items)) }
+            (KeepsWrites (as_written R.state self.old) (as_written R.state self.new)) }
         ensures gives { OnOk result ((R.state self.old.device).is_honest
             → slice_get (R.state self.new.device).image sector ≡ slice_get self.new.ahead 0) }
         ensures pending { (self.new.from ≡ self.old.from) × (self.new.pending ≡ self.old.pending) }
@@ -197,15 +188,11 @@ impl<R: RunDisk + Drop> Buffered<R> {
     /// The sector's bytes, as they are to be read.
     fn fetch(&mut self, sector: u32) -> Result<[u8; 512], DiskFault>
         requires { sector < (R.state self.old.device).size }
-        ensures rests { Rests (waiting
-            (R.state self.old.device) self.old.from self.old.pending.items)
-            (waiting (R.state self.new.device) self.new.from self.new.pending.items) }
+        ensures rests { Rests (as_written R.state self.old) (as_written R.state self.new) }
         ensures keeps { OnOk result
-            (KeepsWrites (waiting (R.state self.old.device) self.old.from self.old.pending.items)
-            (waiting (R.state self.new.device) self.new.from self.new.pending.items)) }
+            (KeepsWrites (as_written R.state self.old) (as_written R.state self.new)) }
         ensures gives { IfOk result (λ bytes. (R.state self.old.device).is_honest
-            → slice_get (waiting (R.state self.new.device) self.new.from
-            self.new.pending.items).image sector ≡ Some bytes) }
+            → slice_get (as_written R.state self.new).image sector ≡ Some bytes) }
         ensures faults { CountsFault result (R.state self.old.device) (R.state self.new.device) }
         ensures counts { (self.new.calls ≡ self.old.calls) × (self.new.writes ≡ self.old.writes) }
         ensures trace { self.new.trace ≡ self.old.trace }

@@ -1,14 +1,11 @@
 //! How many calls are left until one fails, where a device was armed. Each call of these stands for
 //! a call of the device.
-ghost use Rattle.std.specs.Prelude.{◌≡◌, ◌+◌, ◌<◌, ◌↔◌, ℕ, IsTrue};
-ghost use Rattle.lift_disk.specs.Faults.{AllAfter, OnlyLast, IfArmed};
+ghost use Rattle.lift_disk.specs.Faults.{AllAfter, OnlyLast, IsDue, StaysDue};
 
 /// Whether this call fails, as each one does once none is left to pass.
 pub(crate) fn is_blown(calls_left: &mut Option<u32>) -> bool
-    ensures now { (made : ℕ) → IsTrue result ↔ IfArmed AllAfter calls_left.old made (made + 1) }
-    ensures later { (made call : ℕ) → made + 1 < call
-        → IfArmed AllAfter calls_left.new (made + 1) call
-        ↔ IfArmed AllAfter calls_left.old made call }
+    ensures now { IsDue AllAfter calls_left.old result }
+    ensures later { StaysDue AllAfter calls_left.old calls_left.new }
 {
     match *calls_left {
         None => false,
@@ -22,10 +19,8 @@ pub(crate) fn is_blown(calls_left: &mut Option<u32>) -> bool
 
 /// Whether this call is the one that fails.
 pub(crate) fn is_due(calls_left: &mut Option<u32>) -> bool
-    ensures now { (made : ℕ) → IsTrue result ↔ IfArmed OnlyLast calls_left.old made (made + 1) }
-    ensures later { (made call : ℕ) → made + 1 < call
-        → IfArmed OnlyLast calls_left.new (made + 1) call
-        ↔ IfArmed OnlyLast calls_left.old made call }
+    ensures now { IsDue OnlyLast calls_left.old result }
+    ensures later { StaysDue OnlyLast calls_left.old calls_left.new }
 {
     match *calls_left {
         None | Some(0) => false,

@@ -9,7 +9,7 @@ ghost use Rattle.lift_disk.specs.FileCalls.FileCall.{SetLength, SyncAll};
 ghost use Rattle.lift_disk.specs.Traced.{calls_of, failures_of, making_of};
 
 use crate::buffered::Buffered;
-use crate::runs::{MOST_AHEAD, RunDisk};
+use crate::runs::{Ahead, RunDisk};
 use crate::sectors::{SECTOR_BYTES, SectorFile, offset_of};
 use crate::traced::TracedFile;
 use crate::{Disk, DiskFault};
@@ -151,12 +151,7 @@ impl RunDisk for FileDisk {
         self.device.announce(sector)
     }
 
-    fn read_run(
-        &mut self,
-        sector: u32,
-        count: usize,
-        buffer: &mut [[u8; 512]; MOST_AHEAD],
-    ) -> Result<(), DiskFault> {
+    fn read_run(&mut self, sector: u32, count: usize, buffer: &mut Ahead) -> Result<(), DiskFault> {
         self.device.read_run(sector, count, buffer)
     }
 

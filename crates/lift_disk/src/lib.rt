@@ -25,6 +25,6 @@ pub use flaky::FlakyDisk;
 pub use fuse::FuseDisk;
 pub use memory::MemDisk;
 pub use outcome::Outcome;
-pub use runs::{MOST_AHEAD, RunDisk};
+pub use runs::{Ahead, MOST_AHEAD, RunDisk};
 pub use sectors::SectorFile;
 pub use traced::TracedFile;

@@ -8,7 +8,7 @@ ghost use Rattle.lift_disk.specs.Memory.{IsFlagged, IsWithin, image_after, no_ot
 
 use crate::call::ProofHistory;
 use crate::record::{clear, copy_flagged, leave, no_flags, read_sectors, write_sectors, zeros};
-use crate::runs::{MOST_AHEAD, RunDisk};
+use crate::runs::{Ahead, RunDisk};
 use crate::span::Span;
 use crate::trace::{Made, ProofTrace};
 use crate::{Disk, DiskFault, Outcome};
@@ -87,36 +87,23 @@ impl MemDisk {
         }
     }
 
+    // The image becomes what a cut leaves, and time begins anew.
+    fn lose(&mut self, outcome: Outcome)
+        ensures image { IsLeftBy outcome (state_of self.old) (state_of self.new).image }
+        ensures cut { IsCut (state_of self.old) (state_of self.new) }
+    {
+        leave(outcome, &mut self.image, &self.synced, &self.loose);
+        self.history = ProofHistory::begin(&self.image);
+    }
+
     /// Cuts the power. It takes no memory; what a crash might have left before is no longer asked.
     pub fn cut(self, outcome: Outcome) -> MemDisk
         ensures image { IsLeftBy outcome (state_of self) (state_of result).image }
         ensures cut { IsCut (state_of self) (state_of result) }
     {
-        let MemDisk {
-            mut image,
-            synced,
-            loose,
-            span,
-            is_steady,
-            failures,
-            calls,
-            writes,
-            trace,
-            ..
-        } = self;
-        leave(outcome, &mut image, &synced, &loose);
-        MemDisk {
-            history: ProofHistory::begin(&image),
-            image,
-            synced,
-            loose,
-            span,
-            is_steady,
-            failures,
-            calls,
-            writes,
-            trace,
-        }
+        let mut left = self;
+        left.lose(outcome);
+        left
     }
 }
 
@@ -174,12 +161,7 @@ impl RunDisk for MemDisk {
         self.span = self.span.with(sector);
     }
 
-    fn read_run(
-        &mut self,
-        sector: u32,
-        count: usize,
-        buffer: &mut [[u8; 512]; MOST_AHEAD],
-    ) -> Result<(), DiskFault> {
+    fn read_run(&mut self, sector: u32, count: usize, buffer: &mut Ahead) -> Result<(), DiskFault> {
         self.calls = ProofCount::next(&self.calls);
         self.trace = self.trace.then(&Made::Read(u64::from(sector)));
         read_sectors(&self.image, sector as usize, count, buffer);

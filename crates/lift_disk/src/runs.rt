@@ -12,6 +12,9 @@ use crate::{Disk, DiskFault};
 /// At most so many sectors are read in one call.
 pub const MOST_AHEAD: usize = 16;
 
+/// Room for the sectors of one such read.
+pub type Ahead = [[u8; 512]; MOST_AHEAD];
+
 /// A device that also takes several neighbouring sectors in one call.
 pub trait RunDisk: Disk {
     /// Says that a sector is to be written. It is no call: from now on a crash may leave any bytes
@@ -21,12 +24,7 @@ pub trait RunDisk: Disk {
         ensures { Announces sector (Self.state self.old) (Self.state self.new) };
 
     /// Reads so many sectors from this one on. A failed read leaves the buffer open.
-    fn read_run(
-        &mut self,
-        sector: u32,
-        count: usize,
-        buffer: &mut [[u8; 512]; MOST_AHEAD],
-    ) -> Result<(), DiskFault>
+    fn read_run(&mut self, sector: u32, count: usize, buffer: &mut Ahead) -> Result<(), DiskFault>
         requires count { count ≤ 16 }
         requires inside { sector + count ≤ (Self.state self.old).size }
         ensures goes_on { GoesOn (Self.state self.old) (Self.state self.new) }

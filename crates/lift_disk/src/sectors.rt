@@ -7,7 +7,7 @@ ghost use Rattle.lift_disk.specs.FileCalls.FileCall.{Read as ReadBytes};
 ghost use Rattle.lift_disk.specs.FileCalls.{in_bytes, without_given};
 ghost use Rattle.lift_disk.specs.Traced.{calls_of, failures_of, making_of};
 
-use crate::runs::{MOST_AHEAD, RunDisk};
+use crate::runs::{Ahead, RunDisk};
 use crate::trace::{Made, ProofTrace};
 use crate::traced::TracedFile;
 use crate::{Disk, DiskFault};
@@ -124,12 +124,7 @@ impl<F: FileExt + OpenFile + Drop> Disk for SectorFile<F> {
 impl<F: FileExt + OpenFile + Drop> RunDisk for SectorFile<F> {
     fn announce(&mut self, _sector: u32) {}
 
-    fn read_run(
-        &mut self,
-        sector: u32,
-        count: usize,
-        buffer: &mut [[u8; 512]; MOST_AHEAD],
-    ) -> Result<(), DiskFault> {
+    fn read_run(&mut self, sector: u32, count: usize, buffer: &mut Ahead) -> Result<(), DiskFault> {
         self.calls = ProofCount::next(&self.calls);
         let bytes = buffer[..count].as_flattened_mut();
         if self.file.read(bytes, offset_of(sector)).is_err() {

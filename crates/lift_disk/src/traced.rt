@@ -1,5 +1,5 @@
 //! A file whose calls are listed.
-ghost use Rattle.std.specs.Prelude.{◌≡◌, [], ◌∷◌, IfOk};
+ghost use Rattle.std.specs.Prelude.{◌≡◌, ◌↔◌, [], ◌∷◌, IfOk, IsOk};
 ghost use Rattle.lift_disk.specs.FileCalls.{MakesCall};
 ghost use Rattle.lift_disk.specs.FileCalls.FileCall.{Read, Write, SyncData, SetLength, SyncAll};
 
@@ -54,6 +54,7 @@ impl TracedFile<File> {
 }
 
 impl<F: FileExt + OpenFile + Drop> TracedFile<F> {
+    ghost use Rattle.lift_disk.specs.Noted.{file_call_of};
     ghost use Rattle.lift_disk.specs.Traced.{calls_of, failures_of, making_of};
 
     /// A file that was opened to be read and written, and not called yet.
@@ -89,18 +90,33 @@ impl<F: FileExt + OpenFile + Drop> TracedFile<F> {
         Ok(self.file.metadata()?.len())
     }
 
+    /// Lists a call of the file that succeeded, or counts one that failed.
+    fn note(&mut self, outcome: io::Result<()>, called: &Called<'_>) -> Result<(), DiskFault>
+        ensures made { MakesCall result (file_call_of called.now) (calls_of self.old)
+            (calls_of self.new) (failures_of self.old) (failures_of self.new) }
+        ensures making { making_of self.new ≡ making_of self.old }
+        ensures told { IsOk result ↔ IsOk outcome }
+    {
+        match outcome {
+            Ok(()) => {
+                self.calls = self.calls.then(called);
+                Ok(())
+            }
+            Err(_) => {
+                self.failures = ProofCount::next(&self.failures);
+                Err(DiskFault)
+            }
+        }
+    }
+
     /// Reads so many bytes as the buffer has from this offset on.
     pub(crate) fn read(&mut self, buffer: &mut [u8], offset: u64) -> Result<(), DiskFault>
         ensures made { MakesCall result (Read offset buffer.new) (calls_of self.old)
             (calls_of self.new) (failures_of self.old) (failures_of self.new) }
         ensures making { making_of self.new ≡ making_of self.old }
     {
-        if self.file.read_exact_at(buffer, offset).is_err() {
-            self.failures = ProofCount::next(&self.failures);
-            return Err(DiskFault);
-        }
-        self.calls = self.calls.then(&Called::Read(offset, buffer));
-        Ok(())
+        let outcome = self.file.read_exact_at(buffer, offset);
+        self.note(outcome, &Called::Read(offset, buffer))
     }
 
     /// Writes these bytes from this offset on.
@@ -109,12 +125,8 @@ impl<F: FileExt + OpenFile + Drop> TracedFile<F> {
             (calls_of self.new) (failures_of self.old) (failures_of self.new) }
         ensures making { making_of self.new ≡ making_of self.old }
     {
-        if self.file.write_all_at(bytes, offset).is_err() {
-            self.failures = ProofCount::next(&self.failures);
-            return Err(DiskFault);
-        }
-        self.calls = self.calls.then(&Called::Write(offset, bytes));
-        Ok(())
+        let outcome = self.file.write_all_at(bytes, offset);
+        self.note(outcome, &Called::Write(offset, bytes))
     }
 
     /// By `fdatasync`: the bytes and what is needed to find them, without the file's times.
@@ -123,11 +135,7 @@ impl<F: FileExt + OpenFile + Drop> TracedFile<F> {
             (failures_of self.old) (failures_of self.new) }
         ensures making { making_of self.new ≡ making_of self.old }
     {
-        if self.file.sync_data().is_err() {
-            self.failures = ProofCount::next(&self.failures);
-            return Err(DiskFault);
-        }
-        self.calls = self.calls.then(&Called::SyncData);
-        Ok(())
+        let outcome = self.file.sync_data();
+        self.note(outcome, &Called::SyncData)
     }
 }
