@@ -171,14 +171,8 @@ struct PlainEtd;
 impl Policy for PlainEtd {
     ghost chooses = { λ _ _ _ _ eligible car. Contains eligible car };
 
-    fn choose(
-        &self,
-        building: &Building,
-        view: &View,
-        call: NewCall,
-        eligible: Eligible,
-    ) -> Letter {
-        let letters = eligible.letters();
+    fn choose(&self, building: &Building, view: &View, call: NewCall, among: Eligible) -> Letter {
+        let letters = among.letters();
         letters[least_plainly(building, view, &call, letters)]
     }
 

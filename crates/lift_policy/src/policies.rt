@@ -123,14 +123,8 @@ impl Measure for ShortestWait {
 impl Policy for Etd {
     ghost chooses = { λ _. IsEtdChoice };
 
-    fn choose(
-        &self,
-        building: &Building,
-        view: &View,
-        call: NewCall,
-        eligible: Eligible,
-    ) -> Letter {
-        pick(self, building, view, &call, &eligible)
+    fn choose(&self, building: &Building, view: &View, call: NewCall, among: Eligible) -> Letter {
+        pick(self, building, view, &call, &among)
     }
 
     ghost only_members = { λ policy plan view call eligible car h. h.member };
@@ -139,14 +133,8 @@ impl Policy for Etd {
 impl Policy for FewestOpen {
     ghost chooses = { λ _. IsFewestOpen };
 
-    fn choose(
-        &self,
-        building: &Building,
-        view: &View,
-        call: NewCall,
-        eligible: Eligible,
-    ) -> Letter {
-        pick(self, building, view, &call, &eligible)
+    fn choose(&self, building: &Building, view: &View, call: NewCall, among: Eligible) -> Letter {
+        pick(self, building, view, &call, &among)
     }
 
     ghost only_members = { λ policy plan view call eligible car h. h.member };
@@ -155,14 +143,8 @@ impl Policy for FewestOpen {
 impl Policy for ShortestWait {
     ghost chooses = { λ _. IsShortestWait };
 
-    fn choose(
-        &self,
-        building: &Building,
-        view: &View,
-        call: NewCall,
-        eligible: Eligible,
-    ) -> Letter {
-        pick(self, building, view, &call, &eligible)
+    fn choose(&self, building: &Building, view: &View, call: NewCall, among: Eligible) -> Letter {
+        pick(self, building, view, &call, &among)
     }
 
     ghost only_members = { λ policy plan view call eligible car h. h.member };

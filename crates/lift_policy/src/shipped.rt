@@ -27,17 +27,11 @@ pub enum Shipped {
 impl Policy for Shipped {
     ghost chooses = { IsShipped };
 
-    fn choose(
-        &self,
-        building: &Building,
-        view: &View,
-        call: NewCall,
-        eligible: Eligible,
-    ) -> Letter {
+    fn choose(&self, building: &Building, view: &View, call: NewCall, among: Eligible) -> Letter {
         match self {
-            Shipped::Etd(policy) => policy.choose(building, view, call, eligible),
-            Shipped::FewestOpen(policy) => policy.choose(building, view, call, eligible),
-            Shipped::ShortestWait(policy) => policy.choose(building, view, call, eligible),
+            Shipped::Etd(policy) => policy.choose(building, view, call, among),
+            Shipped::FewestOpen(policy) => policy.choose(building, view, call, among),
+            Shipped::ShortestWait(policy) => policy.choose(building, view, call, among),
         }
     }
 
