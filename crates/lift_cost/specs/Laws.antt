@@ -1,5 +1,5 @@
 -- What holds of the definitions of times, said without going along a list.
-use Rattle.std.specs.Prelude.{◌≡◌, ℕ, ◌+◌, ◌<◌, Bool, false, List, length, slice_index, slice_get}
+use Rattle.std.specs.Prelude.{◌≡◌, ℕ, ◌+◌, ◌<◌, false, List, length, slice_index, slice_get}
 use Rattle.std.specs.Prelude.{Some, sum_by}
 use Rattle.std.specs.List.{range_with_len}
 use Rattle.lift_base.specs.declared.travel.Halt.{Halt}

@@ -1,7 +1,7 @@
 //! Costs from nothing: the stop lists are made for each.
 
 ghost use Rattle.std.specs.Prelude.{◌≡◌, ◌+◌, ◌*◌, ◌<◌, ◌≤◌, length};
-ghost use Rattle.lift_cost.specs.Calls.{AreWithin};
+ghost use Rattle.lift_cost.specs.Calls.{AreWithin, IsWithin};
 ghost use Rattle.lift_cost.specs.Cost.{etd, total_etd, own_etd, with_call, total_cost, degradation};
 
 use crate::among::{added_among, etd_among};
@@ -26,10 +26,8 @@ pub fn etd(building: &Building, position: Position, rows: &[Row], row: &Row) -> 
 /// What a new call adds to the times of all passengers of a car, its own with them, and the time of
 /// its own.
 fn added(building: &Building, position: &Position, rows: &[Row], call: &NewCall) -> (u64, u64)
-    requires here { position.now.floor < building.now.floors }
+    requires within { IsWithin building.now.floors position.now call.now }
     requires calls { AreWithin building.now.floors rows.now }
-    requires from { call.now.from < building.now.floors }
-    requires to { call.now.to < building.now.floors }
     requires few { length rows.now ≤ 32 }
     ensures added { result.0 + total_etd building.now position.now rows.now
         ≡ total_etd building.now position.now (with_call rows.now call.now) }
@@ -45,10 +43,8 @@ fn added(building: &Building, position: &Position, rows: &[Row], call: &NewCall)
 /// What a new call adds to the times of all passengers of a car, its own with them: each call's
 /// time counts once for each of its persons.
 pub fn total_cost(building: &Building, position: Position, rows: &[Row], call: NewCall) -> u64
-    requires here { position.floor < building.now.floors }
+    requires within { IsWithin building.now.floors position call }
     requires calls { AreWithin building.now.floors rows.now }
-    requires from { call.from < building.now.floors }
-    requires to { call.to < building.now.floors }
     requires few { length rows.now ≤ 32 }
     ensures value { result ≡ total_cost building.now position rows.now call }
 
@@ -65,10 +61,8 @@ pub fn total_cost(building: &Building, position: Position, rows: &[Row], call: N
 
 /// What a new call adds to the times of the other passengers of a car.
 pub fn degradation(building: &Building, position: Position, rows: &[Row], call: NewCall) -> u64
-    requires here { position.floor < building.now.floors }
+    requires within { IsWithin building.now.floors position call }
     requires calls { AreWithin building.now.floors rows.now }
-    requires from { call.from < building.now.floors }
-    requires to { call.to < building.now.floors }
     requires few { length rows.now ≤ 32 }
     ensures value { result ≡ degradation building.now position rows.now call }
 

@@ -1,7 +1,7 @@
 //! Costs read from a car's schedule, which keeps its stop list.
 
 ghost use Rattle.std.specs.Prelude.{◌≡◌, ◌+◌, ◌*◌, ◌<◌, ◌≤◌, length};
-ghost use Rattle.lift_cost.specs.Calls.{AreWithin};
+ghost use Rattle.lift_cost.specs.Calls.{AreWithin, IsWithin};
 ghost use Rattle.lift_cost.specs.Cost.{etd, total_etd, own_etd, with_call, total_cost, degradation};
 
 use crate::among::{added_among, etd_among};
@@ -22,10 +22,8 @@ pub fn etd_of(building: &Building, schedule: &Schedule, row: &Row) -> u64
 /// What a new call adds to the times of all passengers of a car, its own with them, and the time of
 /// its own.
 fn added(building: &Building, schedule: &Schedule, call: &NewCall) -> (u64, u64)
-    requires here { schedule.now.position.floor < building.now.floors }
+    requires within { IsWithin building.now.floors schedule.now.position call.now }
     requires calls { AreWithin building.now.floors schedule.now.rows }
-    requires from { call.now.from < building.now.floors }
-    requires to { call.now.to < building.now.floors }
     requires few { length schedule.now.rows ≤ 32 }
     ensures added { result.0 + total_etd building.now schedule.now.position schedule.now.rows
         ≡ total_etd building.now schedule.now.position (with_call schedule.now.rows call.now) }
@@ -47,10 +45,8 @@ fn added(building: &Building, schedule: &Schedule, call: &NewCall) -> (u64, u64)
 /// What a new call adds to the times of all passengers of a car, its own with them: each call's
 /// time counts once for each of its persons.
 pub fn cost_of(building: &Building, schedule: &Schedule, call: NewCall) -> u64
-    requires here { schedule.now.position.floor < building.now.floors }
+    requires within { IsWithin building.now.floors schedule.now.position call }
     requires calls { AreWithin building.now.floors schedule.now.rows }
-    requires from { call.from < building.now.floors }
-    requires to { call.to < building.now.floors }
     requires few { length schedule.now.rows ≤ 32 }
     ensures value { result ≡ total_cost building.now schedule.now.position schedule.now.rows call }
 
@@ -67,10 +63,8 @@ pub fn cost_of(building: &Building, schedule: &Schedule, call: NewCall) -> u64
 
 /// What a new call adds to the times of the other passengers of a car.
 pub fn degradation_of(building: &Building, schedule: &Schedule, call: NewCall) -> u64
-    requires here { schedule.now.position.floor < building.now.floors }
+    requires within { IsWithin building.now.floors schedule.now.position call }
     requires calls { AreWithin building.now.floors schedule.now.rows }
-    requires from { call.from < building.now.floors }
-    requires to { call.to < building.now.floors }
     requires few { length schedule.now.rows ≤ 32 }
     ensures value { result ≡ degradation building.now schedule.now.position schedule.now.rows call }
 
