@@ -1,7 +1,7 @@
 -- A word of the desk: 20 bits of turn, 24 bits of number, and 20 bits that spell an ask or an
 -- answer.
 use Rattle.std.specs.Prelude.{◌≡◌, ℕ, ◌+◌, ◌*◌, ◌/◌, ◌%◌, ◌^◌, ◌<◌, ◌≤◌, List, [], ◌∷◌, Option}
-use Rattle.std.specs.Prelude.{Some, None}
+use Rattle.std.specs.Prelude.{Some, None, IfSome}
 use Rattle.lift_base.specs.declared.travel.Dir.{Dir}
 use Rattle.lift_base.specs.declared.travel.Dir.TheVariants.{Up, Down}
 use Rattle.lift_base.specs.declared.travel.Stop.{Stop as StopAt}
@@ -74,6 +74,12 @@ IsReply (Stopped next) = IsNext next
 IsReply (Placed next) = IsNext next
 IsReply (Refused reason) = Unit {0}
 IsReply Unknown = Unit {0}
+
+-- Reading undoes a spelling: what these bits spell is read, and what is read is what they spell.
+pub record ReadsBack {T : Type 0} (in_range : T → Type 0) (spelling : T → ℕ) (bits : ℕ)
+    (result : Option T) : Type 0 where
+  pub known : (value : T) → in_range value → bits ≡ spelling value → result ≡ Some value
+  pub spelled : IfSome result (λ value. (bits ≡ spelling value) × in_range value)
 
 -- the word spells an ask
 pub record IsAskWord (word : ℕ) : Type 0 where

@@ -7,7 +7,7 @@ ghost use Rattle.lift_base.specs.declared.travel.Dir.{Dir};
 ghost use Rattle.lift_desk.specs.declared.words.Ask.{Ask};
 ghost use Rattle.lift_desk.specs.Words.{turn_of, number_of, dir_bit, body_bits, ask_word};
 ghost use Rattle.lift_desk.specs.Words.{stop_bits, reply_bits, reply_word, IsBody, IsNext, IsReply};
-ghost use Rattle.lift_desk.specs.Words.{IsAskWord, IsReplyWord};
+ghost use Rattle.lift_desk.specs.Words.{IsAskWord, IsReplyWord, ReadsBack};
 ghost use Rattle.lift_desk.specs.Spelled.{IsAsk};
 
 use lift_base::{Body, Dir, Floor, Letter, Number, Party, Reason, Reply, Stop};
@@ -66,8 +66,7 @@ fn body_bits(body: &Body) -> u64
 
 // The body of these bits, which are then spelled in the one way.
 fn read_body(bits: u64) -> Option<Body>
-    ensures known { (body : Body) → IsBody body → bits ≡ body_bits body → result ≡ Some body }
-    ensures spelled { IfSome result (λ body. (bits ≡ body_bits body) × IsBody body) }
+    ensures { ReadsBack IsBody body_bits bits result }
 {
     let floor = Floor::new((bits % 64) as u8)?;
     let dir = read_dir(bits / DIRECTION % 2);
@@ -77,11 +76,7 @@ fn read_body(bits: u64) -> Option<Body>
         3 => Body::Place(floor, dir),
         _ => return None,
     };
-    if body_bits(&body) == bits {
-        Some(body)
-    } else {
-        None
-    }
+    (body_bits(&body) == bits).then_some(body)
 }
 
 /// The word of an ask: the turn, 1 to 1,048,575, in bits 63 to 44, the number in bits 43 to 20, and
@@ -126,8 +121,7 @@ fn stop_bits(next: &Option<Stop>) -> u64
 }
 
 fn read_stop(bits: u64) -> Option<Option<Stop>>
-    ensures known { (next : _) → IsNext next → bits ≡ stop_bits next → result ≡ Some next }
-    ensures spelled { IfSome result (λ next. bits ≡ stop_bits next) }
+    ensures { ReadsBack IsNext stop_bits bits result }
 {
     if bits == 0 {
         return Some(None);
@@ -135,11 +129,7 @@ fn read_stop(bits: u64) -> Option<Option<Stop>>
     let floor = Floor::new((bits % 64) as u8)?;
     let dir = read_dir(bits / DIRECTION % 2);
     let next = Some(Stop { floor, dir });
-    if stop_bits(&next) == bits {
-        Some(next)
-    } else {
-        None
-    }
+    (stop_bits(&next) == bits).then_some(next)
 }
 
 fn reply_bits(reply: &Reply) -> u64
@@ -157,9 +147,7 @@ fn reply_bits(reply: &Reply) -> u64
 }
 
 fn read_bits_of_reply(bits: u64) -> Option<Reply>
-    ensures known { (reply : Reply) → IsReply reply → bits ≡ reply_bits reply
-        → result ≡ Some reply }
-    ensures spelled { IfSome result (λ reply. (bits ≡ reply_bits reply) × IsReply reply) }
+    ensures { ReadsBack IsReply reply_bits bits result }
 {
     let argument = bits % CODE;
     let reply = match bits / CODE {
@@ -170,11 +158,7 @@ fn read_bits_of_reply(bits: u64) -> Option<Reply>
         5 => Reply::Unknown,
         _ => return None,
     };
-    if reply_bits(&reply) == bits {
-        Some(reply)
-    } else {
-        None
-    }
+    (reply_bits(&reply) == bits).then_some(reply)
 }
 
 /// The word of an answer to the ask with this turn, 1 to 1,048,575, and this number.
