@@ -159,33 +159,27 @@ fn last_bytes(version: Version, content: &Content) -> [u8; 5]
     }
 }
 
+/// The sixteen bytes of an entry: its kind, and then as those of the last command that it is.
+fn entry_bytes(version: Version, entry: &Entry) -> [u8; 16]
+    ensures bytes { result ≡ spelling_of version (RecordValue.Entry entry.now) }
+    ensures typed { IsTyped (RecordValue.Entry entry.now) }
+{
+    let last = entry.kept();
+    let content = last_bytes(version, &last.content);
+    let number = last.number.get();
+    match *entry {
+        Entry::Allot { kiosk, .. } => record_to_bytes(1, kiosk.get(), content, number),
+        Entry::Stop { car, .. } => record_to_bytes(2, car.get(), content, number),
+    }
+}
+
 /// The sixteen bytes of this record in this version, which may not be able to say it.
 fn spell(version: Version, record: &Record) -> [u8; 16]
     ensures bytes { result ≡ spelling_of version «record».now }
     ensures typed { IsTyped «record».now }
 {
     match *record {
-        Record::Entry(
-            Entry::Allot {
-                kiosk,
-                number,
-                from,
-                to,
-                car,
-                party,
-            },
-        ) => {
-            let content = call_bytes(version, from, to, car, party, false);
-            record_to_bytes(1, kiosk.get(), content, number.get())
-        }
-        Record::Entry(
-            Entry::Stop {
-                car,
-                number,
-                floor,
-                dir,
-            },
-        ) => record_to_bytes(2, car.get(), stop_bytes(floor, dir), number.get()),
+        Record::Entry(ref entry) => entry_bytes(version, entry),
         Record::Row(row) => {
             let content = call_bytes(version, row.from, row.to, row.car, row.party, row.aboard);
             record_to_bytes(4, row.kiosk.get(), content, row.number.get())
