@@ -1,5 +1,6 @@
 -- What a car's lines ask for, and which answers it keeps.
 use Rattle.std.specs.Prelude.{ℕ, ◌≡◌, ◌<◌, ◌≤◌, List, [], ◌∷◌, codes, length, Option, Some, None}
+use Rattle.std.specs.Prelude.{IfSome, IfNone}
 use Rattle.std.specs.Fmt.{decimal}
 use Rattle.lift_base.specs.Text.{AreWords, dir_text}
 use Rattle.lift_base.specs.declared.travel.Dir.{Dir}
@@ -30,6 +31,11 @@ pub record IsMove (words : List (List ℕ)) (move : Move) : Type 0 where
   pub spelled : words ≡ move_words move.number move.floor move.dir
   pub number_range : IsNumber move.number
   pub floor_range : move.floor < 1000
+
+-- the move that these words spell, and none where they spell none
+pub record ReadsMove (words : List (List ℕ)) (found : Option Move) : Type 0 where
+  pub some : IfSome found (IsMove words)
+  pub none : IfNone found ((move : Move) → IsMove words move → ⊥)
 
 -- a line of a session has at most 64 bytes, and this one spells a move
 pub record SpellsMove (line : List ℕ) (move : Move) : Type 0 where

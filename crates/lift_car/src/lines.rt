@@ -6,7 +6,8 @@ ghost use Rattle.lift_kiosk.specs.Lines.{source_of};
 ghost use Rattle.lift_kiosk.specs.Session.{Converses, standing};
 ghost use Rattle.lift_kiosk.specs.declared.dialect.Wanted.{Wanted as WantedValue};
 ghost use Rattle.lift_car.specs.declared.lines.Move.{Move as MoveValue};
-ghost use Rattle.lift_car.specs.Lines.{WantsMove, SpellsMove, IsMove, keeps_stop, stop_numbered};
+ghost use Rattle.lift_car.specs.Lines.{WantsMove, SpellsMove, IsMove, ReadsMove, keeps_stop};
+ghost use Rattle.lift_car.specs.Lines.{stop_numbered};
 
 use crate::terms::CarEnd;
 use lift_base::text::{Counted, Watched, dir_of_word, number_of_word, number_up_to};
@@ -26,10 +27,7 @@ struct Move {
 
 /// The place that the words behind PLACE spell.
 fn place_of(words: &[&str]) -> Option<Move>
-    ensures some { IfSome result (λ found.
-        IsMove (codes "PLACE" ∷ map (λ word. word.now) words.now) found) }
-    ensures none { IfNone result ((found : MoveValue)
-        → IsMove (codes "PLACE" ∷ map (λ word. word.now) words.now) found → ⊥) }
+    ensures { ReadsMove (codes "PLACE" ∷ map (λ word. word.now) words.now) result }
 {
     match words {
         [floor, dir] => {
@@ -47,10 +45,7 @@ fn place_of(words: &[&str]) -> Option<Move>
 
 /// The stop that the words behind STOP spell.
 fn stop_of(words: &[&str]) -> Option<Move>
-    ensures some { IfSome result (λ found.
-        IsMove (codes "STOP" ∷ map (λ word. word.now) words.now) found) }
-    ensures none { IfNone result ((found : MoveValue)
-        → IsMove (codes "STOP" ∷ map (λ word. word.now) words.now) found → ⊥) }
+    ensures { ReadsMove (codes "STOP" ∷ map (λ word. word.now) words.now) result }
 {
     match words {
         [number, floor, dir] => {
