@@ -15,7 +15,7 @@ use Rattle.lift_clerk.specs.declared.counts.Counts.{Counts}
 use Rattle.lift_clerk.specs.Clerk.{ClerkState}
 use Rattle.lift_clerk.specs.Turn.{IsBrokenTurn, IsEither}
 use Rattle.lift_clerk.specs.Machine.{Turns, Fails, kept_of}
-use Rattle.lift_clerk.specs.History.{History, ShowsGiven, ShowsEither, MomentsShow, TurnShows, FailureShows, BrokenTurnShows, CrashesShowGiven, CrashesInTurnsShowGiven, CrashesInFailuresShowGiven}
+use Rattle.lift_clerk.specs.History.{History, ShowsGiven, ShowsEither, MomentsShow, TurnShows, CrashesShowGiven, CrashesInTurnsShowGiven, CrashesInFailuresShowGiven}
 
 shows_either : {A B : Type 0} (plan : Plan) (safe batch : List Entry) (given : List Taken) (left : Image) (o : A ⊎ B) → ShowsGiven plan (kept_of safe batch o) given left
     → ShowsEither plan safe batch given left
@@ -59,25 +59,21 @@ module _ {D P : Type 0} (chooses : P → Choice) (before after : ClerkState D P)
       → (safe : List Entry) (given : List Taken) → History chooses before safe given → LeavesNow old (ShowsGiven plan safe given)
   whole_shows law whole e safe given h = λ honest left may. law before safe given left h (inl (whole e honest left may))
 
-  pub turn_shows : CrashesInTurnsShowGiven D P chooses → (result : Result Counts KeeperFault) → IfOk result (λ counts. Turns (chooses before.policy) before after counts)
+  pub turn_shows : CrashesInTurnsShowGiven D P chooses → (result : Result Counts KeeperFault)
       → (before.keeper.writer.is_broken ≡ false → LeavesOnly old new (IsEither plan before.keeper.writer.register after.keeper.state.register))
       → IfOk result (λ counts. TurnShows chooses before after counts old new)
-  turn_shows law (Ok counts) t moments = record {
-    turn = t;
-    moments = λ safe given h. leaves_weaker old new (IsEither plan before.keeper.writer.register after.keeper.state.register) (ShowsEither plan safe t.turn.decided.batch given)
-        (λ honest left either. shows_either plan safe t.turn.decided.batch given left either (law before after safe given counts left h t either)) (moments t.was_whole);
-  }
-  turn_shows law (Err fault) t moments = tt
+  turn_shows law (Ok counts) moments = λ t safe given h.
+      leaves_weaker old new (IsEither plan before.keeper.writer.register after.keeper.state.register) (ShowsEither plan safe t.turn.decided.batch given)
+      (λ honest left either. shows_either plan safe t.turn.decided.batch given left either (law before after safe given counts left h t either)) (moments t.was_whole)
+  turn_shows law (Err fault) moments = tt
 
   pub failure_shows : CrashesInFailuresShowGiven D P chooses → Fails (chooses before.policy) before after
       → (before.keeper.writer.is_broken ≡ false → LeavesOnly old new (IsEither plan before.keeper.writer.register after.keeper.state.register))
-      → FailureShows chooses before after old new
-  failure_shows law t moments = record {
-    turn = t;
-    moments = λ safe given h. leaves_weaker old new (IsEither plan before.keeper.writer.register after.keeper.state.register) (ShowsEither plan safe after.keeper.writer.doubt given)
-        (λ honest left either. subst (λ (batch : List Entry). ShowsEither plan safe batch given left) (sym t.turn.doubt)
-        (shows_either plan safe after.keeper.state.batch given left either (law before after safe given left h t either))) (moments t.was_whole);
-  }
+      → MomentsShow chooses before after.keeper.writer.doubt old new
+  failure_shows law t moments safe given h =
+      leaves_weaker old new (IsEither plan before.keeper.writer.register after.keeper.state.register) (ShowsEither plan safe after.keeper.writer.doubt given)
+      (λ honest left either. subst (λ (batch : List Entry). ShowsEither plan safe batch given left) (sym t.turn.doubt)
+      (shows_either plan safe after.keeper.state.batch given left either (law before after safe given left h t either))) (moments t.was_whole)
 
   pub reopening_shows : CrashesShowGiven D P chooses → LeavesOnly old new (IsInDoubt plan before.keeper.writer.register before.keeper.writer.doubt)
       → MomentsShow chooses before before.keeper.writer.doubt old new
@@ -86,14 +82,10 @@ module _ {D P : Type 0} (chooses : P → Choice) (before after : ClerkState D P)
       (λ honest left doubt. shows_either plan safe before.keeper.writer.doubt given left doubt (law before safe given left h doubt)) moments
 
 -- of a broken clerk the device had no call
-pub broken_turn_shows : {D P : Type 0} (chooses : P → Choice) (state : D → DiskState) (before after : ClerkState D P) → IsBrokenTurn before after → before.keeper.writer.is_broken ≡ true
+pub broken_turn_shows : {D P : Type 0} (chooses : P → Choice) (state : D → DiskState) (before after : ClerkState D P) → IsBrokenTurn before after
     → LeavesNoOther (state before.keeper.writer.device)
     → ((safe : List Entry) (given : List Taken) → History chooses before safe given → LeavesNow (state before.keeper.writer.device) (ShowsEither before.keeper.writer.plan safe before.keeper.writer.doubt given))
-    → BrokenTurnShows chooses before after (state before.keeper.writer.device) (state after.keeper.writer.device)
-broken_turn_shows {D} chooses state before after t was only now = record {
-  turn = t;
-  was_broken = was;
-  moments = λ safe given h.
-      let shown : Image → Type 0 = ShowsEither before.keeper.writer.plan safe before.keeper.writer.doubt given in
-      subst (λ (k : KeeperView D). LeavesOnly (state before.keeper.writer.device) (state k.writer.device) shown) (sym t.rests) (leaves_none (state before.keeper.writer.device) shown only (now safe given h));
-}
+    → MomentsShow chooses before before.keeper.writer.doubt (state before.keeper.writer.device) (state after.keeper.writer.device)
+broken_turn_shows {D} chooses state before after t only now safe given h =
+    let shown : Image → Type 0 = ShowsEither before.keeper.writer.plan safe before.keeper.writer.doubt given in
+    subst (λ (k : KeeperView D). LeavesOnly (state before.keeper.writer.device) (state k.writer.device) shown) (sym t.rests) (leaves_none (state before.keeper.writer.device) shown only (now safe given h))

@@ -190,19 +190,9 @@ MomentsShow chooses before batch old new = (safe : List Entry) (given : List Tak
     → History chooses before safe given
     → LeavesOnly old new (ShowsEither before.keeper.writer.plan safe batch given)
 
--- the turn, and its moments
-pub record TurnShows {D P : Type 0} (chooses : P
-    → Choice) (before after : ClerkState D P) (counts : Counts) (old new : DiskState) : Type 0 where
-  pub turn : Turns (chooses before.policy) before after counts
-  pub moments : MomentsShow chooses before turn.turn.decided.batch old new
-
-pub record FailureShows {D P : Type 0} (chooses : P
-    → Choice) (before after : ClerkState D P) (old new : DiskState) : Type 0 where
-  pub turn : Fails (chooses before.policy) before after
-  pub moments : MomentsShow chooses before after.keeper.writer.doubt old new
-
-pub record BrokenTurnShows {D P : Type 0} (chooses : P
-    → Choice) (before after : ClerkState D P) (old new : DiskState) : Type 0 where
-  pub turn : IsBrokenTurn before after
-  pub was_broken : before.keeper.writer.is_broken ≡ true
-  pub moments : MomentsShow chooses before before.keeper.writer.doubt old new
+-- So does each of its moments, of a turn that answers Ok.
+abbrev pub TurnShows : {D P : Type 0} → (P → Choice) → ClerkState D P → ClerkState D P → Counts
+    → DiskState → DiskState → Type 0
+TurnShows chooses before after counts old new =
+    (t : Turns (chooses before.policy) before after counts)
+    → MomentsShow chooses before t.turn.decided.batch old new

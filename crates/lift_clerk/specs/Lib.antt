@@ -3,6 +3,7 @@ pub mod Clerk
 pub mod Turn
 pub mod Scanning
 pub mod Machine
+pub mod Once
 pub mod Laws
 pub mod History
 pub mod Group

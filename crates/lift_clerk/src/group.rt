@@ -1,6 +1,6 @@
 //! What the machine of events is while a clerk and its terminals run.
 
-ghost use Rattle.std.specs.Prelude.{ℕ, ◌≡◌, ◌⊎◌, ◌↔◌, true, length, Err, IfOk, IfErr, OnOk, OnErr};
+ghost use Rattle.std.specs.Prelude.{ℕ, ◌≡◌, ◌↔◌, length, Err, IfOk, OnOk, OnErr};
 ghost use mathlib.Core.List.{IsPrefix};
 ghost use Rattle.lift_desk.specs.Seats.{IsSeatOf, IsToldAnswer, Waits};
 ghost use Rattle.lift_clerk.specs.Group.{AtSeat, Asks, Hears};
@@ -14,8 +14,7 @@ ghost use Rattle.lift_clerk.specs.Group.{PastsGoOnOverRefusals, PastsGoOnOverCut
 ghost use Rattle.lift_clerk.specs.Group.{PastsGoOnOverCutTurns, PastsGoOnOverCutFailures};
 ghost use Rattle.lift_clerk.specs.Group.{TurnGoesOn, FailureGoesOn, BrokenTurnGoesOn};
 ghost use Rattle.lift_clerk.specs.Past.{PastsAreRuns};
-ghost use Rattle.lift_clerk.specs.Turn.{IsBrokenTurn};
-ghost use Rattle.lift_clerk.specs.Machine.{Turns, Fails};
+ghost use Rattle.lift_clerk.specs.Once.{TurnsOnce};
 
 use crate::clerk::Clerk;
 use crate::counts::Counts;
@@ -90,17 +89,8 @@ pub fn pasts_are_runs<D: Disk, P: Policy>()
 pub fn turn_goes_on<D: Disk, P: Policy + Drop>(
     clerk: &mut Clerk<'_, '_, D, P>,
 ) -> Result<Counts, KeeperFault>
-    ensures turns { IfOk result (λ counts.
-        Turns (P.chooses clerk.old.policy) clerk.old clerk.new counts) }
-    ensures fails { result ≡ Err (KeeperFault.Journal JournalFault.Disk)
-        → Fails (P.chooses clerk.old.policy) clerk.old clerk.new }
-    ensures rests { result ≡ Err (KeeperFault.Journal JournalFault.Broken)
-        → IsBrokenTurn clerk.old clerk.new }
-    ensures broken { result ≡ Err (KeeperFault.Journal JournalFault.Broken)
-        → clerk.old.keeper.writer.is_broken ≡ true }
-    ensures causes { IfErr result (λ fault. (fault ≡ KeeperFault.Journal JournalFault.Disk)
-        ⊎ (fault ≡ KeeperFault.Journal JournalFault.Broken)) }
-    ensures kept { (clerk.new.desk ≡ clerk.old.desk) × (clerk.new.policy ≡ clerk.old.policy) }
+    ensures turn { TurnsOnce
+        D.state (P.chooses clerk.old.policy) clerk.old clerk.new result }
     ensures goes_on { IfOk result (λ counts. TurnGoesOn P.chooses clerk.old clerk.new counts) }
     ensures fails_on { result ≡ Err (KeeperFault.Journal JournalFault.Disk)
         → FailureGoesOn P.chooses clerk.old clerk.new }

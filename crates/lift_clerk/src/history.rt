@@ -1,7 +1,6 @@
 //! What every history of a group leads to, and what every crash then shows.
 
-ghost use Rattle.std.specs.Prelude.{◌≡◌, ◌++◌, ◌⊎◌, true, false, List, [], Err, IfOk, IfErr, OnOk};
-ghost use Rattle.std.specs.Prelude.{OnErr};
+ghost use Rattle.std.specs.Prelude.{◌≡◌, ◌++◌, false, List, [], Err, IfOk, IfErr};
 ghost use Rattle.lift_base.specs.declared.history.Entry.{Entry};
 ghost use Rattle.lift_disk.specs.Disk.{MayLeave, LeavesNow};
 ghost use Rattle.lift_register.specs.Register.{empty};
@@ -11,12 +10,12 @@ ghost use Rattle.lift_journal.specs.Calls.{opening_of};
 ghost use Rattle.lift_keeper.specs.Calls.{StopsOpening};
 ghost use Rattle.lift_keeper.specs.Reopening.{Reopens as Recovers, RefusesReopening};
 ghost use Rattle.lift_world.specs.declared.event.Taken.{Taken};
-ghost use Rattle.lift_clerk.specs.Machine.{Reopens, Stays};
+ghost use Rattle.lift_clerk.specs.Once.{TurnsOnce, ReopensOnce};
 ghost use Rattle.lift_clerk.specs.Laws.{CallLaws};
 ghost use Rattle.lift_clerk.specs.History.{History, HistoriesAreRuns, CrashesShowGiven};
 ghost use Rattle.lift_clerk.specs.History.{CrashesInTurnsShowGiven, CrashesInFailuresShowGiven};
 ghost use Rattle.lift_clerk.specs.History.{GoesOnOver, ShowsGiven, ShowsEither, MomentsShow};
-ghost use Rattle.lift_clerk.specs.History.{TurnShows, FailureShows, BrokenTurnShows};
+ghost use Rattle.lift_clerk.specs.History.{TurnShows};
 
 use crate::clerk::Clerk;
 use crate::counts::Counts;
@@ -125,20 +124,17 @@ pub fn crash_shows_letters<D: Disk, P: Policy + Drop>(clerk: &Clerk<'_, '_, D, P
 pub fn turn_shows_letters<D: Disk, P: Policy + Drop>(
     clerk: &mut Clerk<'_, '_, D, P>,
 ) -> Result<Counts, KeeperFault>
+    ensures turn { TurnsOnce
+        D.state (P.chooses clerk.old.policy) clerk.old clerk.new result }
     ensures turns { IfOk result (λ counts.
         TurnShows P.chooses clerk.old clerk.new counts (D.state clerk.old.keeper.writer.device)
         (D.state clerk.new.keeper.writer.device)) }
     ensures fails { result ≡ Err (KeeperFault.Journal JournalFault.Disk)
-        → FailureShows P.chooses clerk.old clerk.new (D.state clerk.old.keeper.writer.device)
-        (D.state clerk.new.keeper.writer.device) }
+        → MomentsShow P.chooses clerk.old clerk.new.keeper.writer.doubt
+        (D.state clerk.old.keeper.writer.device) (D.state clerk.new.keeper.writer.device) }
     ensures rests { result ≡ Err (KeeperFault.Journal JournalFault.Broken)
-        → BrokenTurnShows P.chooses clerk.old clerk.new (D.state clerk.old.keeper.writer.device)
-        (D.state clerk.new.keeper.writer.device) }
-    ensures broken { result ≡ Err (KeeperFault.Journal JournalFault.Broken)
-        → clerk.old.keeper.writer.is_broken ≡ true }
-    ensures causes { IfErr result (λ fault. (fault ≡ KeeperFault.Journal JournalFault.Disk)
-        ⊎ (fault ≡ KeeperFault.Journal JournalFault.Broken)) }
-    ensures kept { (clerk.new.desk ≡ clerk.old.desk) × (clerk.new.policy ≡ clerk.old.policy) }
+        → MomentsShow P.chooses clerk.old clerk.old.keeper.writer.doubt
+        (D.state clerk.old.keeper.writer.device) (D.state clerk.new.keeper.writer.device) }
 {
     histories_are_runs::<D, P>();
     crash_shows_letters(clerk);
@@ -149,18 +145,7 @@ pub fn turn_shows_letters<D: Disk, P: Policy + Drop>(
 pub fn reopening_shows_letters<D: Disk, P: Policy + Drop>(
     clerk: &mut Clerk<'_, '_, D, P>,
 ) -> Result<(), KeeperFault>
-    ensures opens { OnOk result ((D.state clerk.old.keeper.writer.device).is_honest
-        → Reopens clerk.old clerk.new) }
-    // It is refused for a failed call alone, where the device is honest.
-    ensures refused { IfErr result (λ fault.
-        RefusesReopening clerk.old.keeper.writer.plan (D.state clerk.old.keeper.writer.device)
-        (D.state clerk.new.keeper.writer.device) fault) }
-    ensures good { IfErr result (λ fault. (D.state clerk.old.keeper.writer.device).is_honest
-        → fault ≡ KeeperFault.Journal JournalFault.Disk) }
-    ensures stays { OnErr result (Stays clerk.old clerk.new) }
-    ensures same { OnErr result ((clerk.new.keeper.writer.is_broken ≡ true)
-        ⊎ (clerk.new.keeper.writer.is_broken ≡ clerk.old.keeper.writer.is_broken)) }
-    ensures kept { (clerk.new.desk ≡ clerk.old.desk) × (clerk.new.policy ≡ clerk.old.policy) }
+    ensures reopening { ReopensOnce D.state clerk.old clerk.new result }
     ensures moments { MomentsShow P.chooses clerk.old clerk.old.keeper.writer.doubt
         (D.state clerk.old.keeper.writer.device) (D.state clerk.new.keeper.writer.device) }
 {

@@ -1,10 +1,5 @@
 //! What the machine of events is while a clerk runs.
 
-ghost use Rattle.std.specs.Prelude.{◌≡◌, ◌⊎◌, true, false, Err, IfOk, IfErr, OnOk, OnErr};
-ghost use Rattle.lift_disk.specs.Disk.{LeavesOnly};
-ghost use Rattle.lift_keeper.specs.Images.{IsInDoubt};
-ghost use Rattle.lift_keeper.specs.Reopening.{RefusesReopening};
-ghost use Rattle.lift_clerk.specs.Turn.{IsBrokenTurn, IsEither};
 ghost use Rattle.lift_clerk.specs.Laws.{Laws};
 ghost use Rattle.lift_clerk.specs.Machine.{TurnsAreTurns, FailuresAreFailures};
 ghost use Rattle.lift_clerk.specs.Machine.{BrokenTurnsAreBroken, TerminalsKeepIt};
@@ -14,7 +9,8 @@ ghost use Rattle.lift_clerk.specs.Machine.{ReopeningsAreReopenings, FailedReopen
 ghost use Rattle.lift_clerk.specs.Machine.{NothingIsNoEvent, BeginsAtStart, BeginsAfterCut};
 ghost use Rattle.lift_clerk.specs.Machine.{CrashesAreCuts, CrashesWithinTurns};
 ghost use Rattle.lift_clerk.specs.Machine.{CrashesWithinFailures, CutsShowLetters};
-ghost use Rattle.lift_clerk.specs.Machine.{BeginsAfterCrash, Moves, Turns, Fails, Reopens, Stays};
+ghost use Rattle.lift_clerk.specs.Machine.{BeginsAfterCrash, Moves};
+ghost use Rattle.lift_clerk.specs.Once.{TurnsOnce, ReopensOnce};
 
 use crate::clerk::Clerk;
 use crate::counts::Counts;
@@ -92,26 +88,12 @@ pub fn told_asks_are_found<D: Disk, P: Policy>()
     ensures known { TellsMakeKnown D P }
 {}
 
-/// One turn, with what its contract gives of the machine's turns.
+/// One turn, and which turn of the machine it is.
 pub fn turn_once<D: Disk, P: Policy + Drop>(
     clerk: &mut Clerk<'_, '_, D, P>,
 ) -> Result<Counts, KeeperFault>
-    ensures turns { IfOk result (λ counts.
-        Turns (P.chooses clerk.old.policy) clerk.old clerk.new counts) }
-    ensures fails { result ≡ Err (KeeperFault.Journal JournalFault.Disk)
-        → Fails (P.chooses clerk.old.policy) clerk.old clerk.new }
-    ensures rests { result ≡ Err (KeeperFault.Journal JournalFault.Broken)
-        → IsBrokenTurn clerk.old clerk.new }
-    ensures broken { result ≡ Err (KeeperFault.Journal JournalFault.Broken)
-        → clerk.old.keeper.writer.is_broken ≡ true }
-    ensures causes { IfErr result (λ fault. (fault ≡ KeeperFault.Journal JournalFault.Disk)
-        ⊎ (fault ≡ KeeperFault.Journal JournalFault.Broken)) }
-    ensures kept { (clerk.new.desk ≡ clerk.old.desk) × (clerk.new.policy ≡ clerk.old.policy) }
-    ensures any_moment { clerk.old.keeper.writer.is_broken ≡ false
-        → LeavesOnly (D.state clerk.old.keeper.writer.device)
-        (D.state clerk.new.keeper.writer.device)
-        (IsEither clerk.old.keeper.writer.plan clerk.old.keeper.writer.register
-        clerk.new.keeper.state.register) }
+    ensures turn { TurnsOnce
+        D.state (P.chooses clerk.old.policy) clerk.old clerk.new result }
 {
     clerk.turn()
 }
@@ -120,22 +102,7 @@ pub fn turn_once<D: Disk, P: Policy + Drop>(
 pub fn reopen_once<D: Disk, P: Policy + Drop>(
     clerk: &mut Clerk<'_, '_, D, P>,
 ) -> Result<(), KeeperFault>
-    ensures opens { OnOk result ((D.state clerk.old.keeper.writer.device).is_honest
-        → Reopens clerk.old clerk.new) }
-    // It is refused for a failed call alone, where the device is honest.
-    ensures refused { IfErr result (λ fault.
-        RefusesReopening clerk.old.keeper.writer.plan (D.state clerk.old.keeper.writer.device)
-        (D.state clerk.new.keeper.writer.device) fault) }
-    ensures good { IfErr result (λ fault. (D.state clerk.old.keeper.writer.device).is_honest
-        → fault ≡ KeeperFault.Journal JournalFault.Disk) }
-    ensures stays { OnErr result (Stays clerk.old clerk.new) }
-    ensures same { OnErr result ((clerk.new.keeper.writer.is_broken ≡ true)
-        ⊎ (clerk.new.keeper.writer.is_broken ≡ clerk.old.keeper.writer.is_broken)) }
-    ensures kept { (clerk.new.desk ≡ clerk.old.desk) × (clerk.new.policy ≡ clerk.old.policy) }
-    ensures any_moment { LeavesOnly (D.state clerk.old.keeper.writer.device)
-        (D.state clerk.new.keeper.writer.device)
-        (IsInDoubt clerk.old.keeper.writer.plan clerk.old.keeper.writer.register
-        clerk.old.keeper.writer.doubt) }
+    ensures reopening { ReopensOnce D.state clerk.old clerk.new result }
 {
     clerk.reopen()
 }
@@ -146,17 +113,8 @@ pub fn reopen_once<D: Disk, P: Policy + Drop>(
 pub fn turn_moves_the_machine<D: Disk, P: Policy + Drop>(
     clerk: &mut Clerk<'_, '_, D, P>,
 ) -> Result<Counts, KeeperFault>
-    ensures turns { IfOk result (λ counts.
-        Turns (P.chooses clerk.old.policy) clerk.old clerk.new counts) }
-    ensures fails { result ≡ Err (KeeperFault.Journal JournalFault.Disk)
-        → Fails (P.chooses clerk.old.policy) clerk.old clerk.new }
-    ensures rests { result ≡ Err (KeeperFault.Journal JournalFault.Broken)
-        → IsBrokenTurn clerk.old clerk.new }
-    ensures broken { result ≡ Err (KeeperFault.Journal JournalFault.Broken)
-        → clerk.old.keeper.writer.is_broken ≡ true }
-    ensures causes { IfErr result (λ fault. (fault ≡ KeeperFault.Journal JournalFault.Disk)
-        ⊎ (fault ≡ KeeperFault.Journal JournalFault.Broken)) }
-    ensures kept { (clerk.new.desk ≡ clerk.old.desk) × (clerk.new.policy ≡ clerk.old.policy) }
+    ensures turn { TurnsOnce
+        D.state (P.chooses clerk.old.policy) clerk.old clerk.new result }
     ensures moves { Moves clerk.old clerk.new }
     ensures told { MovesWhereTold clerk.old clerk.new }
 {
@@ -169,18 +127,7 @@ pub fn turn_moves_the_machine<D: Disk, P: Policy + Drop>(
 pub fn reopening_moves_the_machine<D: Disk, P: Policy + Drop>(
     clerk: &mut Clerk<'_, '_, D, P>,
 ) -> Result<(), KeeperFault>
-    ensures opens { OnOk result ((D.state clerk.old.keeper.writer.device).is_honest
-        → Reopens clerk.old clerk.new) }
-    // It is refused for a failed call alone, where the device is honest.
-    ensures refused { IfErr result (λ fault.
-        RefusesReopening clerk.old.keeper.writer.plan (D.state clerk.old.keeper.writer.device)
-        (D.state clerk.new.keeper.writer.device) fault) }
-    ensures good { IfErr result (λ fault. (D.state clerk.old.keeper.writer.device).is_honest
-        → fault ≡ KeeperFault.Journal JournalFault.Disk) }
-    ensures stays { OnErr result (Stays clerk.old clerk.new) }
-    ensures same { OnErr result ((clerk.new.keeper.writer.is_broken ≡ true)
-        ⊎ (clerk.new.keeper.writer.is_broken ≡ clerk.old.keeper.writer.is_broken)) }
-    ensures kept { (clerk.new.desk ≡ clerk.old.desk) × (clerk.new.policy ≡ clerk.old.policy) }
+    ensures reopening { ReopensOnce D.state clerk.old clerk.new result }
     ensures moves { (D.state clerk.old.keeper.writer.device).is_honest → Moves clerk.old clerk.new }
 {
     reopenings_are_the_machines::<D, P>();

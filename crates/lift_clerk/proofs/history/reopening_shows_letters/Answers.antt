@@ -6,4 +6,4 @@ returns-clause-moments g c =
     let before = c.args.clerk.now in
     let after = c.reopen_once.new.clerk in
     reopening_shows g.P.Policy.chooses before after (g.D.Disk.state before.keeper.writer.device) (g.D.Disk.state after.keeper.writer.device) c.histories_are_runs.ensures.between
-    c.reopen_once.ensures.any_moment
+    c.reopen_once.ensures.reopening.recovers.any_moment

@@ -5,11 +5,11 @@ pub returns-clause-moves : goal.returns-clause-moves
 returns-clause-moves g c =
     let policy = c.args.clerk.now.policy in
     turn_moves c.args.clerk.now c.turn_once.new.clerk (g.P.Policy.chooses policy) (c.turns_are_the_machines.ensures.turns policy) (c.turns_are_the_machines.ensures.failures policy)
-    c.turns_are_the_machines.ensures.broken c.turn_once.result c.turn_once.ensures.turns c.turn_once.ensures.fails c.turn_once.ensures.rests c.turn_once.ensures.broken c.turn_once.ensures.causes
+    c.turns_are_the_machines.ensures.broken c.turn_once.result c.turn_once.ensures.turn.turns c.turn_once.ensures.turn.fails c.turn_once.ensures.turn.rests c.turn_once.ensures.turn.commits.is.broken.0 c.turn_once.ensures.turn.commits.is.causes
 
 pub returns-clause-told : goal.returns-clause-told
 returns-clause-told g c =
     let policy = c.args.clerk.now.policy in
     turn_moves_told c.args.clerk.now c.turn_once.new.clerk (g.P.Policy.chooses policy) c.told_asks_are_found.ensures.looks (c.turns_are_the_machines.ensures.turns policy)
-    (c.turns_are_the_machines.ensures.failures policy) c.turns_are_the_machines.ensures.broken c.turn_once.result c.turn_once.ensures.turns c.turn_once.ensures.fails c.turn_once.ensures.rests
-    c.turn_once.ensures.broken c.turn_once.ensures.causes
+    (c.turns_are_the_machines.ensures.failures policy) c.turns_are_the_machines.ensures.broken c.turn_once.result c.turn_once.ensures.turn.turns c.turn_once.ensures.turn.fails c.turn_once.ensures.turn.rests
+    c.turn_once.ensures.turn.commits.is.broken.0 c.turn_once.ensures.turn.commits.is.causes

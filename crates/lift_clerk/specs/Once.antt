@@ -1,0 +1,41 @@
+-- What one turn of a running clerk tells, and one reopening, whatever they answer.
+use Rattle.std.specs.Prelude.{◌≡◌, ◌⊎◌, true, Result, Err, IfOk, OnOk, OnErr}
+use Rattle.lift_disk.specs.Disk.{DiskState}
+use Rattle.lift_policy.specs.Eligible.{Choice}
+use Rattle.lift_decider.specs.Decider.{starting}
+use Rattle.lift_journal.specs.declared.fault.JournalFault.TheVariants.{Disk, Broken}
+use Rattle.lift_keeper.specs.declared.fault.KeeperFault.{KeeperFault}
+use Rattle.lift_keeper.specs.declared.fault.KeeperFault.TheVariants.{Journal}
+use Rattle.lift_keeper.specs.Commits.{CommitsTo}
+use Rattle.lift_keeper.specs.Recovers.{Recovers}
+use Rattle.lift_clerk.specs.declared.counts.Counts.{Counts}
+use Rattle.lift_clerk.specs.Clerk.{ClerkState}
+use Rattle.lift_clerk.specs.Turn.{IsBrokenTurn, entries_in}
+use Rattle.lift_clerk.specs.Machine.{Turns, Fails, Reopens, Stays}
+
+-- A turn of the machine, or one that the device failed, or one while broken.
+pub record TurnsOnce {D P : Type 0} (state : D → DiskState) (choice : Choice)
+    (before after : ClerkState D P) (result : Result Counts KeeperFault) : Type 0 where
+  pub turns : IfOk result (Turns choice before after)
+  pub fails : result ≡ Err (Journal Disk) → Fails choice before after
+  pub rests : result ≡ Err (Journal Broken) → IsBrokenTurn before after
+  -- Its device has the calls of its one commit and no other. That also says which faults there are,
+  -- and that a clerk which answers that it is broken was broken before.
+  pub commits : CommitsTo state before.keeper.writer (entries_in result after.keeper)
+      after.keeper.state.register after.keeper.writer result
+  pub kept : (after.desk ≡ before.desk) × (after.policy ≡ before.policy)
+
+-- A reopening of the machine, where the device is honest; or it was refused, and but for a failed
+-- call, which leaves it broken, nothing of it has changed.
+pub record ReopensOnce {D P T : Type 0} (state : D → DiskState) (before after : ClerkState D P)
+    (result : Result T KeeperFault) : Type 0 where
+  pub opens : OnOk result ((state before.keeper.writer.device).is_honest → Reopens before after)
+  pub stays : OnErr result (Stays before after)
+  pub same : OnErr result ((after.keeper.writer.is_broken ≡ true)
+      ⊎ (after.keeper.writer.is_broken ≡ before.keeper.writer.is_broken))
+  -- Its device has the calls of one opening and no other. It is refused for a failed call alone,
+  -- where the device is honest.
+  pub recovers : Recovers state before.keeper.writer after.keeper.writer result
+  pub starts : OnOk result (after.keeper.state ≡ starting after.keeper.writer.register)
+  pub kept : (after.desk ≡ before.desk) × (after.seat ≡ before.seat)
+      × (after.policy ≡ before.policy)
