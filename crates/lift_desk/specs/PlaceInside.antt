@@ -1,18 +1,11 @@
 -- What the clerk's seat at one table keeps beside what it knows.
-use Rattle.std.specs.Prelude.{◌≡◌, suc, ◌<◌, true, false, [], ◌∷◌, length}
+use Rattle.std.specs.Prelude.{◌≡◌, suc, ◌<◌, true, false, length}
 use Rattle.lift_desk.specs.declared.place.Place.TheInside.{Inside}
 use Rattle.lift_desk.specs.Words.{number_of, last_of, turn_of}
-use Rattle.lift_desk.specs.Seats.{ClerkPlace, is_seated, view_in, loads_of}
-
-abbrev pub seen : Inside → ClerkPlace
-seen s = record {
-  seated = is_seated s.badge.views;
-  table = s.badge.table_id;
-  view = (view_in s.badge.views).clerk;
-}
+use Rattle.lift_desk.specs.Seats.{IsOneView, is_seated, view_in, loads_of}
 
 pub record IsPlaced (s : Inside) : Type 0 where
-  pub one : is_seated s.badge.views ≡ true → s.badge.views ≡ view_in s.badge.views ∷ []
+  pub one : IsOneView s.badge.views
   pub answers : is_seated s.badge.views ≡ true → (view_in s.badge.views).answers ≡ true
   pub in_order : (view_in s.badge.views).looks_ahead ≡ false
   pub loads : s.loads ≡ loads_of (view_in s.badge.views)

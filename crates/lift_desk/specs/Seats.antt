@@ -39,6 +39,11 @@ no_table = record {
 abbrev pub no_place : ClerkPlace
 no_place = record { seated = false; table = no_table; view = no_answers }
 
+-- a seat stands at each place
+abbrev pub AllSeated : List ClerkPlace → Type 0
+AllSeated places =
+    (k : ℕ) → k < length places → (slice_index_or places k no_place).seated ≡ true
+
 -- what the clerk knows of a terminal's words
 abbrev pub view_at : List ClerkPlace → ℕ → ClerkView
 view_at clerk terminal = (slice_index_or clerk terminal no_place).view
@@ -131,6 +136,14 @@ abbrev pub view_in : List View → View
 view_in [] = blank
 view_in (v ∷ vs) = v
 
+abbrev pub IsOneView : List View → Type 0
+IsOneView views = is_seated views ≡ true → views ≡ view_in views ∷ []
+
+-- what is seen of a place by its badge
+abbrev pub place_of : TableId → List View → ClerkPlace
+place_of table views =
+    record { seated = is_seated views; table = table; view = (view_in views).clerk }
+
 -- what a seat ahead of the clerk begins with: what the clerk took and was told of
 abbrev pub taken_only : ClerkView → ClerkView
 taken_only v = record { taken = v.taken; answered = []; looks = 0; last = 0; told = v.told }
@@ -145,6 +158,11 @@ pub record NoteState : Type 0 where
   pub seated : Bool
   pub table : TableId
   pub word : ℕ
+
+-- what is seen of a note by its badge
+abbrev pub note_of : TableId → List View → NoteState
+note_of table views =
+    record { seated = is_seated views; table = table; word = (view_in views).noted }
 
 -- the note is of this terminal's table
 abbrev pub IsNoteOf : List TableId → ℕ → NoteState → Type 0

@@ -25,20 +25,18 @@ pub struct AheadPlace {
 }
 
 impl Model for AheadPlace {
-    ghost use Rattle.lift_desk.specs.Seats.{ClerkPlace};
+    ghost use Rattle.lift_desk.specs.Seats.{ClerkPlace, place_of};
 
     ghost Value = { ClerkPlace };
 
-    ghost use Rattle.lift_desk.specs.AheadInside.{seen, IsAheadPlace};
+    ghost view = { λ p. place_of p.badge.table_id p.badge.views };
 
-    ghost view = { seen };
+    ghost use Rattle.lift_desk.specs.AheadInside.{IsAheadPlace};
 
     ghost invariant = { IsAheadPlace };
 }
 
 impl Default for AheadPlace {
-    ghost use Rattle.std.specs.Prelude.{◌≡◌, false};
-
     ghost is_default = { λ p. p.seated ≡ false };
 
     fn default() -> Self {

@@ -54,15 +54,13 @@ pub struct ClerkSeat {
 
 impl Model for ClerkSeat {
     ghost use Rattle.std.specs.Prelude.{List};
-    ghost use Rattle.lift_desk.specs.Seats.{ClerkPlace};
+    ghost use Rattle.lift_desk.specs.Seats.{ClerkPlace, AllSeated};
 
     ghost Value = { List ClerkPlace };
 
-    ghost use Rattle.lift_desk.specs.ClerkInside.{seen, AllSeated};
+    ghost view = { λ s. s.places.items };
 
-    ghost view = { seen };
-
-    ghost invariant = { AllSeated };
+    ghost invariant = { λ s. AllSeated s.places.items };
 }
 
 impl ClerkSeat {
@@ -103,15 +101,13 @@ pub struct TakeSeat {
 
 impl Model for TakeSeat {
     ghost use Rattle.std.specs.Prelude.{List};
-    ghost use Rattle.lift_desk.specs.Seats.{ClerkPlace};
+    ghost use Rattle.lift_desk.specs.Seats.{ClerkPlace, AllSeated};
 
     ghost Value = { List ClerkPlace };
 
-    ghost use Rattle.lift_desk.specs.TakeInside.{seen, AllSeated};
+    ghost view = { λ s. s.places.items };
 
-    ghost view = { seen };
-
-    ghost invariant = { AllSeated };
+    ghost invariant = { λ s. AllSeated s.places.items };
 }
 
 impl Desk {

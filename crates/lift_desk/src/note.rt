@@ -1,5 +1,5 @@
 //! A note of an ask that was taken ahead of the clerk.
-ghost use Rattle.std.specs.Prelude.{◌≡◌, true, []};
+ghost use Rattle.std.specs.Prelude.{◌≡◌, true, false, []};
 
 use crate::seat::Chair;
 use crate::view::View;
@@ -14,20 +14,16 @@ pub struct Note {
 }
 
 impl Model for Note {
-    ghost use Rattle.lift_desk.specs.Seats.{NoteState};
+    ghost use Rattle.lift_desk.specs.Seats.{NoteState, note_of, IsOneView};
 
     ghost Value = { NoteState };
 
-    ghost use Rattle.lift_desk.specs.NoteInside.{seen, IsOne};
+    ghost view = { λ n. note_of n.badge.table_id n.badge.views };
 
-    ghost view = { seen };
-
-    ghost invariant = { IsOne };
+    ghost invariant = { λ n. IsOneView n.badge.views };
 }
 
 impl Default for Note {
-    ghost use Rattle.std.specs.Prelude.{◌≡◌, false};
-
     ghost is_default = { λ n. n.seated ≡ false };
 
     fn default() -> Self {

@@ -34,20 +34,18 @@ pub struct Place {
 }
 
 impl Model for Place {
-    ghost use Rattle.lift_desk.specs.Seats.{ClerkPlace};
+    ghost use Rattle.lift_desk.specs.Seats.{ClerkPlace, place_of};
 
     ghost Value = { ClerkPlace };
 
-    ghost use Rattle.lift_desk.specs.PlaceInside.{seen, IsPlaced};
+    ghost view = { λ p. place_of p.badge.table_id p.badge.views };
 
-    ghost view = { seen };
+    ghost use Rattle.lift_desk.specs.PlaceInside.{IsPlaced};
 
     ghost invariant = { IsPlaced };
 }
 
 impl Default for Place {
-    ghost use Rattle.std.specs.Prelude.{◌≡◌, false};
-
     ghost is_default = { λ p. p.seated ≡ false };
 
     fn default() -> Self {

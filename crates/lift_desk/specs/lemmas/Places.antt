@@ -8,7 +8,7 @@ use Rattle.std.proofs.lemmas.List.{length-map, length-take, get_or-take, set-get
 use Rattle.atomic_table.specs.Seated.{TableId}
 use Rattle.lift_desk.specs.Seats.{ClerkPlace, no_place, no_table, seats_from, clerk_of, ahead_from}
 use Rattle.lift_desk.specs.Seats.{view_at, clerk_with, placed_at, IsClerkOf, AreSeatsOf}
-use Rattle.lift_desk.specs.Seats.{OwesNothing}
+use Rattle.lift_desk.specs.Seats.{AllSeated, OwesNothing}
 use Rattle.lift_desk.specs.declared.view.ClerkView.{ClerkView}
 use Rattle.lift_desk.specs.Rule.{no_asks}
 
@@ -25,9 +25,6 @@ refill_set xs ys i a e =
     subst (λ zs. refill (length xs) xs (set zs i a) ≡ set xs i a) (sym e)
     (subst (λ n. take n (set xs i a ++ drop (length (set xs i a)) xs) ≡ set xs i a) same
     (refill_all xs (set xs i a) same))
-
-abbrev pub AllSeated : List ClerkPlace → Type 0
-AllSeated places = (k : ℕ) → k < length places → (get_or places k no_place).seated ≡ true
 
 seated_set : (places : List ClerkPlace) (i : ℕ) (p : ClerkPlace) → p.seated ≡ true
     → AllSeated places → AllSeated (set places i p)

@@ -1,8 +1,8 @@
 use Rattle.std.proofs.Common.{◌≡◌, ℕ, ◌-◌, ◌<◌, ◌≤◌, List, length, map, take, get_or, true, sym, ap, ◌∙◌, subst, Some, arith}
 use Rattle.std.specs.Prelude.{slice_get}
 use Rattle.std.proofs.lemmas.List.{length-map, get_or_default}
-use Rattle.lift_desk.specs.Seats.{ClerkPlace, no_place}
-use Rattle.lift_desk.specs.lemmas.Places.{table_at, AllSeated, last_table, last_seated, tables_fewer, seated_fewer, table_at_desk, refill_same}
+use Rattle.lift_desk.specs.Seats.{AllSeated, ClerkPlace, no_place}
+use Rattle.lift_desk.specs.lemmas.Places.{table_at, last_table, last_seated, tables_fewer, seated_fewer, table_at_desk, refill_same}
 use Rattle.lift_desk.proofs.desk.Desk.join.Goals as goal
 
 pub join-requires-clause-table : goal.join-requires-clause-table

@@ -1,6 +1,5 @@
 use Rattle.std.proofs.Common.{◌≡◌, ◌≤◌, length, map, take}
-use Rattle.lift_desk.specs.Seats.{ClerkPlace}
-use Rattle.lift_desk.specs.lemmas.Places.{AllSeated}
+use Rattle.lift_desk.specs.Seats.{AllSeated, ClerkPlace}
 use Rattle.lift_desk.proofs.desk.Desk.join.Given as goal
 
 abbrev pub invariant-loop-seat : goal.invariant-loop-seat

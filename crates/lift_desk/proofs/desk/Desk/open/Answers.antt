@@ -3,8 +3,8 @@ use Rattle.std.proofs.lemmas.List.{length-map, length_push}
 use mathlib.Core.List.{map-append}
 use Rattle.atomic_table.specs.Seated.{TableId}
 use Rattle.lift_desk.specs.Rule.{no_answers, no_asks}
-use Rattle.lift_desk.specs.Seats.{seats_from, clerk_of, placed_at, IsClerkOf, AreSeatsOf, OwesNothing, TerminalSeat, ClerkPlace}
-use Rattle.lift_desk.specs.lemmas.Places.{seats_from-push, seats_at, clerk_at, clerk_seated, nothing_owed, AllSeated, AllOfTwo, two_more}
+use Rattle.lift_desk.specs.Seats.{AllSeated, seats_from, clerk_of, placed_at, IsClerkOf, AreSeatsOf, OwesNothing, TerminalSeat, ClerkPlace}
+use Rattle.lift_desk.specs.lemmas.Places.{seats_from-push, seats_at, clerk_at, clerk_seated, nothing_owed, AllOfTwo, two_more}
 use Rattle.lift_desk.proofs.desk.Desk.open.Goals as goal
 
 pub loop-t-preserved : goal.loop-t-preserved

@@ -1,7 +1,7 @@
 use Rattle.std.proofs.Common.{◌≡◌, length, map, take, sym, ap, ◌∙◌, subst, arith}
 use Rattle.std.proofs.lemmas.List.{length-map}
-use Rattle.lift_desk.specs.Seats.{ClerkPlace}
-use Rattle.lift_desk.specs.lemmas.Places.{table_at, ahead_seated, ahead_at, AllSeated}
+use Rattle.lift_desk.specs.Seats.{AllSeated, ClerkPlace}
+use Rattle.lift_desk.specs.lemmas.Places.{table_at, ahead_seated, ahead_at}
 use Rattle.lift_desk.proofs.desk.Desk.split.Goals as goal
 
 pub split-requires-clause-table : goal.split-requires-clause-table
