@@ -148,28 +148,22 @@ impl Register {
     {
         self.note_lawful();
         note_ranges(&Record::Entry(*entry));
+        let number = entry.kept().number.get();
+        let is_next = number == self.last_number(entry.terminal()) + 1;
         match *entry {
             Entry::Allot {
                 kiosk,
-                number,
                 from,
                 to,
                 car,
                 party,
-            } => {
-                is_possible_call(building, kiosk, from, to, car)
-                    && number.get() == self.last_number(kiosk) + 1
-                    && self.has_place(building, car, party)
-            }
-            Entry::Stop {
-                car,
-                number,
-                floor,
                 ..
             } => {
-                is_possible_stop(building, car, floor)
-                    && number.get() == self.last_number(Terminal::of_car(car)) + 1
+                is_possible_call(building, kiosk, from, to, car)
+                    && is_next
+                    && self.has_place(building, car, party)
             }
+            Entry::Stop { car, floor, .. } => is_possible_stop(building, car, floor) && is_next,
         }
     }
 
