@@ -87,7 +87,7 @@ impl MemDisk {
         }
     }
 
-    // The image becomes what a cut leaves, and time begins anew.
+    /// The image becomes what a cut leaves, and time begins anew.
     fn lose(&mut self, outcome: Outcome)
         ensures image { IsLeftBy outcome (state_of self.old) (state_of self.new).image }
         ensures cut { IsCut (state_of self.old) (state_of self.new) }
