@@ -1,7 +1,6 @@
 //! The decisions of a group: what its terminals are answered, what each policy picks, and what
 //! calls cost each car.
-ghost use Rattle.std.specs.Prelude.{◌<◌};
-ghost use Rattle.lift_policy.specs.View.{IsViewIn};
+ghost use Rattle.std.specs.Prelude.{◌<◌, IsTrue};
 
 use crate::cases::{
     Trouble, body_of, car_of, count_of, number_of, push_letter, push_reply, push_space, push_stop,
@@ -41,14 +40,23 @@ pub(crate) fn ask<P: Policy>(
     reply
 }
 
-/// The car that a policy picks for a call, none where none is eligible.
-fn pick<P: Policy>(building: &Building, view: &View, policy: &P, call: &NewCall) -> Option<Letter>
-    requires possible { IsViewIn building.now view.now }
+/// Whether a call is between two floors of the building.
+fn are_inside(building: &Building, call: &NewCall) -> bool
+    ensures { IsTrue result → (call.now.from < building.now.floors)
+        × (call.now.to < building.now.floors) }
 {
     let floors = building.floors();
-    if floors <= call.from.get() || floors <= call.to.get() {
+    call.from.get() < floors && call.to.get() < floors
+}
+
+/// The car that a policy picks for a call, none where none is eligible.
+fn pick<P: Policy>(decider: &Decider, policy: &P, call: &NewCall) -> Option<Letter> {
+    let building = decider.building();
+    if !are_inside(building, call) {
         return None;
     }
+    let _possible = decider.register();
+    let view = &decider.view();
     let eligible = Eligible::among(building, view, *call)?;
     Some(policy.choose(building, view, *call, eligible))
 }
@@ -88,40 +96,32 @@ fn shipped_of(name: &str) -> Result<Shipped, Trouble> {
 
 /// What the policy of this name picks, by itself and as one of those that are shipped.
 fn pick_by(
-    building: &Building,
-    view: &View,
+    decider: &Decider,
     name: &str,
     call: &NewCall,
     came: &mut String,
-) -> Result<(), Trouble>
-    requires possible { IsViewIn building.now view.now }
-{
+) -> Result<(), Trouble> {
     let car = match name {
-        "etd" => pick(building, view, &Etd, call),
-        "fewest" => pick(building, view, &FewestOpen, call),
-        "wait" => pick(building, view, &ShortestWait, call),
-        "highest" => return push_car(came, pick(building, view, &Highest, call)),
+        "etd" => pick(decider, &Etd, call),
+        "fewest" => pick(decider, &FewestOpen, call),
+        "wait" => pick(decider, &ShortestWait, call),
+        "highest" => return push_car(came, pick(decider, &Highest, call)),
         _ => return Err(Trouble::Words),
     };
-    if pick(building, view, &shipped_of(name)?, call) != car {
+    if pick(decider, &shipped_of(name)?, call) != car {
         came.push_str("two ways differ")?;
     }
     push_car(came, car)
 }
 
 /// What a call costs each car that may take it, in ms.
-fn push_costs(
-    building: &Building,
-    view: &View,
-    call: &NewCall,
-    came: &mut String,
-) -> Result<(), Trouble>
-    requires possible { IsViewIn building.now view.now }
-{
-    let floors = building.floors();
-    if floors <= call.from.get() || floors <= call.to.get() {
+fn push_costs(decider: &Decider, call: &NewCall, came: &mut String) -> Result<(), Trouble> {
+    let building = decider.building();
+    if !are_inside(building, call) {
         return Err(Trouble::Words);
     }
+    let _possible = decider.register();
+    let view = &decider.view();
     let Some(eligible) = Eligible::among(building, view, *call) else {
         return Ok(came.push_str("none")?);
     };
@@ -167,16 +167,12 @@ impl<'b> Calls<'b> {
     /// `group picks etd 0 5`.
     fn picks(&self, words: &[&str], came: &mut String) -> Result<(), Trouble> {
         let (name, call) = words.split_first().ok_or(Trouble::Words)?;
-        let _possible = self.decider.register();
-        let view = self.decider.view();
-        pick_by(self.decider.building(), &view, name, &call_of(call)?, came)
+        pick_by(&self.decider, name, &call_of(call)?, came)
     }
 
     /// `group costs 0 5 x2`.
     fn costs(&self, words: &[&str], came: &mut String) -> Result<(), Trouble> {
-        let _possible = self.decider.register();
-        let view = self.decider.view();
-        push_costs(self.decider.building(), &view, &call_of(words)?, came)
+        push_costs(&self.decider, &call_of(words)?, came)
     }
 
     /// `group wait A 5 2`: until the car would be where a new call starts, in ms.
@@ -265,7 +261,7 @@ impl<'b> Calls<'b> {
                 let count = self.batch;
                 Ok(write!(came, "{count}")?)
             }
-            _ => registers::asked(self.decider.register(), verb, behind, came),
+            _ => registers::asked(self.decider.register(), words, came),
         }
     }
 }

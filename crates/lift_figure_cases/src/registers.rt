@@ -79,13 +79,9 @@ fn record(register: &Register, words: &[&str], came: &mut String) -> Result<(), 
 }
 
 /// What is asked of a register.
-pub(crate) fn asked(
-    register: &Register,
-    verb: &str,
-    behind: &[&str],
-    came: &mut String,
-) -> Result<(), Trouble> {
-    match verb {
+pub(crate) fn asked(register: &Register, words: &[&str], came: &mut String) -> Result<(), Trouble> {
+    let (verb, behind) = words.split_first().ok_or(Trouble::Words)?;
+    match *verb {
         "open" => open(register, behind, came),
         "last" => last(register, behind, came),
         "number" => number(register, behind, came),
@@ -161,7 +157,7 @@ impl<'b> Registers<'b> {
                 let fits = self.register.fits(self.building, &entry_of(behind)?);
                 Ok(came.push_str(yes_or_no(fits))?)
             }
-            _ => asked(&self.register, verb, behind, came),
+            _ => asked(&self.register, words, came),
         }
     }
 
@@ -174,7 +170,7 @@ impl<'b> Registers<'b> {
                 let is_same = self.checkpoint.is_same(&self.register);
                 Ok(came.push_str(yes_or_no(is_same))?)
             }
-            _ => asked(&self.checkpoint, verb, behind, came),
+            _ => asked(&self.checkpoint, words, came),
         }
     }
 }

@@ -328,18 +328,13 @@ impl Trip {
             "aboard" => self.insert(behind, true),
             "stops" => self.serve(behind),
             "moves" => self.replace_position(behind),
-            _ => self.asked(building, verb, behind, came),
+            _ => self.asked(building, words, came),
         }
     }
 
-    fn asked(
-        &self,
-        building: &Building,
-        verb: &str,
-        behind: &[&str],
-        came: &mut String,
-    ) -> Result<(), Trouble> {
-        match verb {
+    fn asked(&self, building: &Building, words: &[&str], came: &mut String) -> Result<(), Trouble> {
+        let (verb, behind) = words.split_first().ok_or(Trouble::Words)?;
+        match *verb {
             "halts" => self.halts(came),
             "halts-with" => self.halts_with(behind, came),
             "next" => self.next(came),
