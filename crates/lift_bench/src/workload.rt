@@ -67,23 +67,16 @@ fn decisions<'a>(words: &'a [String]) -> Result<Workload<'a>, Fault> {
 
 /// What is done with a file, by the name of the workload.
 fn on_file<'a>(name: &str, file: &'a str, count: &str) -> Result<Workload<'a>, Fault> {
-    if name == "fill" {
-        Ok(Workload::Fill(file))
-    } else if name == "open" {
-        Ok(Workload::Open(file))
-    } else if name == "walk" {
-        Ok(Workload::Walk(file))
-    } else if name == "format" {
-        Ok(Workload::Format(file, number(count, 1_000_000)?))
-    } else if name == "batches" {
-        Ok(Workload::Batches(file, number(count, u32::MAX)?))
-    } else if name == "read" {
-        Ok(Workload::Read(file, number(count, u32::MAX)?))
-    } else if name == "sync" {
-        Ok(Workload::Sync(file, number(count, u32::MAX)?))
-    } else {
-        Err(Fault::Words)
-    }
+    Ok(match name {
+        "fill" => Workload::Fill(file),
+        "open" => Workload::Open(file),
+        "walk" => Workload::Walk(file),
+        "format" => Workload::Format(file, number(count, 1_000_000)?),
+        "batches" => Workload::Batches(file, number(count, u32::MAX)?),
+        "read" => Workload::Read(file, number(count, u32::MAX)?),
+        "sync" => Workload::Sync(file, number(count, u32::MAX)?),
+        _ => return Err(Fault::Words),
+    })
 }
 
 /// What the words behind the program's name ask for; without words, the list of what there is.
