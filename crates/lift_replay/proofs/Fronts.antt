@@ -1,6 +1,6 @@
 -- A front of what the lines tell.
 use Rattle.std.proofs.Common.{◌≡◌, ℕ, List, [], ◌++◌, take, drop, take-append-drop, refl, sym, ap, ◌∙◌, subst}
-use Rattle.std.specs.Prelude.{Option, Some, None, Result, Ok, Err, OnOk, OnErr, IfErr}
+use Rattle.std.specs.Prelude.{Option, Some, None, Result, Ok, Err, OnOk, OnErr, IfOk, IfErr}
 use Rattle.std.proofs.lemmas.List.{append_assoc, append-nil}
 use Rattle.std.specs.Io.KnownBytes.{Appends}
 use Rattle.std.proofs.KnownBytes.{Appends-nil, Appends-trans}
@@ -129,6 +129,13 @@ pub tells_all : (plan : Plan) (count : ℕ) (g : GroupState) (script : List (Lis
     → (all : List ℕ) × TellsLines plan count g script all verdict × Reports old new piece after all → TellsPart plan count g script old new piece after
 tells_all plan count g script old new piece after verdict (all, tells, reports) = (all, verdict, tells, whole_part old new piece after all reports)
 
+-- all was told, or a front of it
+pub tells_either : {E : Type 0} (plan : Plan) (count : ℕ) (g : GroupState) (script : List (List ℕ)) (old new : Option (List ℕ)) (piece after : List ℕ) (result : Result Verdict E)
+    → IfOk result (λ verdict. (all : List ℕ) × TellsLines plan count g script all verdict × Reports old new piece after all) → OnErr result (TellsPart plan count g script old new piece after)
+    → TellsPart plan count g script old new piece after
+tells_either plan count g script old new piece after (Ok verdict) tells front = tells_all plan count g script old new piece after verdict tells
+tells_either plan count g script old new piece after (Err fault) tells front = front
+
 pub text_unwritten : (text : List ℕ) (old : Option (List ℕ)) → WritesFront (IsTextReport text) old old
 text_unwritten text old = let told = text_total text in (told.0, told.1, told.2, no_front old told.0)
 
@@ -172,7 +179,6 @@ cut_part plan count later g script rest outcome clerk seats end old mid new piec
       more_part old mid new piece next after added (cut ++ told.0) reports (longer_part mid new next after cut told.0 (part power.0 power.1)),
     )
 
--- what a put came to, a front of the piece was written
-pub put_front : (old new : Option (List ℕ)) (text : List ℕ) (result : Result Unit WriteFault) → OnOk result (Appends old new text) → IfErr result (λ fault. Appends old new (take fault.written text)) → AppendsFront old new text
-put_front old new text (Ok x) whole front = (text, ([], append-nil text), whole)
-put_front old new text (Err fault) whole front = taken_front old new fault.written text front
+-- all of it was written
+pub whole_front : (old new : Option (List ℕ)) (text : List ℕ) → Appends old new text → AppendsFront old new text
+whole_front old new text whole = (text, ([], append-nil text), whole)

@@ -1,21 +1,30 @@
 -- What was taken from a reader.
-use Rattle.std.proofs.Common.{◌≡◌, ℕ, ◌+◌, ◌<◌, ◌≤◌, List, ◌++◌, length, length-append, refl, ap, arith}
+use Rattle.std.proofs.Common.{◌≡◌, ℕ, suc, ◌+◌, ◌<◌, ◌≤◌, List, ◌++◌, length, length-append, refl, ap, inr, arith}
 use Rattle.std.specs.Prelude.{Option, Some, None, IfSome}
 use Rattle.std.specs.Io.KnownBytes.{Consumes}
 use Rattle.std.proofs.KnownBytes.{Consumes-trans}
-use Rattle.lift_replay.specs.Reading.{IsInput}
+use Rattle.lift_base.specs.Input.{InputState}
+use Rattle.lift_replay.specs.Reading.{GiveEach, IsInput, IsOfUse, TakesByEach}
 
 -- one call more
-pub taken_more : (most n : ℕ) (old mid new : Option (List ℕ)) (items : List ℕ) → length items ≡ n → Consumes old mid items → (more : List ℕ) × (n + length more ≤ most) × Consumes mid new more
-    → (all : List ℕ) × (length all ≤ most) × Consumes old new all
-taken_more most n old mid new items is first (more, few, second) =
+pub taken_more : {R : Type 0} (state : InputState R) (most n : ℕ) (old mid new : Option (List ℕ)) (items : List ℕ) → length items ≡ n → Consumes old mid items
+    → (more : List ℕ) × (n + length more ≤ most) × Consumes mid new more × IsOfUse more state → (all : List ℕ) × (length all ≤ most) × Consumes old new all
+taken_more state most n old mid new items is first (more, few, second, of_use) =
     (items ++ more, omega (arith, is, few, length-append items more), Consumes-trans old mid new items more first second)
 
--- so many calls took one byte at least each, and then one call more was made
-pub each_more : (most n k calls : ℕ) (old mid new : Option (List ℕ)) (items : List ℕ) → length items ≡ n → k ≤ n → calls ≡ k + 1 → Consumes old mid items
-    → (more : List ℕ) × (n + length more ≤ most) × Consumes mid new more → (all : List ℕ) × (length all ≤ most) × (calls ≤ length all + 1) × Consumes old new all
-each_more most n k calls old mid new items is each one first (more, few, second) =
-    (items ++ more, omega (arith, is, few, length-append items more), omega (arith, is, each, one, length-append items more), Consumes-trans old mid new items more first second)
+-- calls that gave a byte at least each, and one that was of use
+pub each_more : {R : Type 0} (remaining : R → Option (List ℕ)) (most n : ℕ) (old mid new : InputState R) (items : List ℕ) → length items ≡ n → n ≤ most
+    → (calls : ℕ) × GiveEach remaining calls items old mid → new.calls ≡ mid.calls + 1
+    → (more : List ℕ) × (n + length more ≤ most + 1) × Consumes (remaining mid.reader) (remaining new.reader) more × IsOfUse more new → TakesByEach most remaining old new
+each_more remaining most n old mid new items is room (calls, each) one (more, few, second, of_use) =
+    (calls, items, mid, each, omega (arith, is, room), inr (more, (one, second), of_use, omega (arith, is, few)))
+
+-- a call more that gave a byte at least
+pub each_on : {R : Type 0} (remaining : R → Option (List ℕ)) (n m : ℕ) (old mid new : InputState R) (items next : List ℕ) → length items ≡ n → length next ≡ m → n < m
+    → (calls : ℕ) × GiveEach remaining calls items old mid → new.calls ≡ mid.calls + 1
+    → (more : List ℕ) × (next ≡ items ++ more) × Consumes (remaining mid.reader) (remaining new.reader) more → (calls : ℕ) × GiveEach remaining calls next old new
+each_on remaining n m old mid new items next is next_is grows (calls, each) one (more, whole, taken) =
+    (suc calls, (mid, items, more, each, (one, taken), omega (arith, is, next_is, grows, ap length whole, length-append items more), whole))
 
 -- what was taken is too long, so all of it is
 pub long_input : (most : ℕ) (old new : Option (List ℕ)) (bytes : List ℕ) → Consumes old new bytes → most < length bytes → (all : List ℕ) × IsInput old all × (most < length all)

@@ -14,3 +14,5 @@ pub mod Shows
 pub mod Source
 pub mod Terminals
 pub mod Told
+pub mod Writing
+pub mod lemmas

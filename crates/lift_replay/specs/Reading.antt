@@ -1,5 +1,6 @@
 -- How far a script was read.
-use Rattle.std.specs.Prelude.{ℕ, ◌≡◌, ◌⊎◌, ◌+◌, ◌≤◌, true, Option, Some, None, List, length}
+use Rattle.std.specs.Prelude.{ℕ, zero, suc, ◌≡◌, ◌⊎◌, ◌+◌, ◌≤◌, ◌<◌, true, Option, Some, None}
+use Rattle.std.specs.Prelude.{List, [], ◌++◌, length}
 use Rattle.std.specs.Io.KnownBytes.{Consumes, IsAtEnd}
 use Rattle.lift_base.specs.Input.{InputState}
 
@@ -19,12 +20,39 @@ abbrev pub TakesUpTo : {R : Type 0} → ℕ → (R → Option (List ℕ)) → (o
 TakesUpTo most remaining old new = (bytes : List ℕ) × (length bytes ≤ most)
     × Consumes (remaining old) (remaining new) bytes
 
--- And each call of the reader but the last has taken one of them at least, so none was made behind
--- the end.
-abbrev pub TakesByEach : {R : Type 0} → ℕ → (R → Option (List ℕ)) → R → InputState R → Type 0
-TakesByEach most remaining old new =
-    (bytes : List ℕ) × (length bytes ≤ most) × (new.calls ≤ length bytes + 1)
-    × Consumes (remaining old) (remaining new.reader) bytes
+-- one call of the reader, which gave these bytes
+abbrev pub Gives : {R : Type 0} → (R → Option (List ℕ)) → List ℕ → (old new : InputState R) → Type 0
+Gives remaining bytes old new = (new.calls ≡ old.calls + 1)
+    × Consumes (remaining old.reader) (remaining new.reader) bytes
+
+-- So many calls of the reader gave these bytes, one behind the other, and each gave one at least.
+abbrev pub GiveEach : {R : Type 0} → (R → Option (List ℕ)) → (calls : ℕ) → List ℕ
+    → (old new : InputState R) → Type 0
+GiveEach remaining zero bytes old new = (bytes ≡ []) × (new ≡ old)
+GiveEach {R} remaining (suc calls) bytes old new =
+    (between : InputState R) × (earlier : List ℕ) × (more : List ℕ)
+    × GiveEach remaining calls earlier old between × Gives remaining more between new
+    × (0 < length more) × (bytes ≡ earlier ++ more)
+
+-- a call that gave these bytes gave one at least, found the end or failed
+abbrev pub IsOfUse : {R : Type 0} → List ℕ → InputState R → Type 0
+IsOfUse bytes new = (0 < length bytes) ⊎ ((new.ended ≡ true) ⊎ (new.failed ≡ true))
+
+-- One call more, behind these bytes: it gave some, up to one byte more than there may be, or found
+-- the end, or failed.
+abbrev pub IsLastCall : {R : Type 0} → ℕ → (R → Option (List ℕ)) → List ℕ → (old new : InputState R)
+    → Type 0
+IsLastCall most remaining bytes old new = (more : List ℕ) × Gives remaining more old new
+    × IsOfUse more new × (length bytes + length more ≤ most + 1)
+
+-- Each call of the reader but the last gave a byte at least, and all of these no more than there
+-- may be. So none was made behind the end, behind a failed one, or once a byte too many had come.
+abbrev pub TakesByEach : {R : Type 0} → ℕ → (R → Option (List ℕ)) → (old new : InputState R)
+    → Type 0
+TakesByEach {R} most remaining old new =
+    (calls : ℕ) × (bytes : List ℕ) × (last : InputState R) × GiveEach remaining calls bytes old last
+    × (length bytes ≤ most)
+    × ((new ≡ last) ⊎ IsLastCall most remaining bytes last new)
 
 -- These bytes are the input of a reader that has so much left; of one that doesn't tell, they may
 -- be any.

@@ -3,7 +3,7 @@
 ghost use Rattle.std.specs.Prelude.{◌≡◌, ℕ, List, ◌+◌, ◌≤◌, ◌<◌, ◌^◌, ◌++◌, length, vec_len, IfOk};
 ghost use Rattle.std.specs.Prelude.{OnErr, OnOk, IfSome, ◌⊎◌, true, false};
 ghost use Rattle.std.specs.Io.KnownBytes.{Consumes, IsAtEnd, Keeps};
-ghost use Rattle.lift_replay.specs.Reading.{TakesByEach, TakesUpTo};
+ghost use Rattle.lift_replay.specs.Reading.{IsOfUse, TakesByEach, TakesUpTo};
 ghost use Rattle.lift_replay.specs.declared.input.InputFault.TheVariants.{Memory as NoMemory};
 
 use lift_base::text::{Counted, ReadFault};
@@ -42,7 +42,8 @@ fn read_some<R: Read + Drop>(
     ensures gave { OnOk result ((more : List ℕ) × (bytes.new.items ≡ bytes.old.items ++ more)
         × Consumes (R.remaining input.old.reader) (R.remaining input.new.reader) more) }
     ensures taken { (more : List ℕ) × (vec_len bytes.old + length more ≤ most + 1)
-        × Consumes (R.remaining input.old.reader) (R.remaining input.new.reader) more }
+        × Consumes (R.remaining input.old.reader) (R.remaining input.new.reader) more
+        × IsOfUse more input.new }
     ensures grows { result ≡ Ok true → vec_len bytes.old < vec_len bytes.new }
     ensures kept { result ≡ Err InputFault.Read
         → Keeps (R.remaining input.old.reader) (R.remaining input.new.reader) }
@@ -88,7 +89,7 @@ pub fn read_all<R: Read + Drop>(
     ensures taken { TakesUpTo (most + 1) R.remaining input.old.reader input.new.reader }
     ensures taken_till_fault { result ≡ Err InputFault.Read
         → TakesUpTo most R.remaining input.old.reader input.new.reader }
-    ensures each_call { TakesByEach (most + 1) R.remaining input.old.reader input.new }
+    ensures each_call { TakesByEach most R.remaining input.old input.new }
     ensures few_calls { input.new.calls ≤ calls }
     ensures unfailed { OnOk result (input.new.failed ≡ false) }
     ensures cause { result ≡ Err InputFault.Read

@@ -2,9 +2,9 @@
 
 ghost use Rattle.std.specs.Prelude.{◌≡◌, ◌++◌, List, ℕ, [], take, string_bytes, OnOk, OnErr, IfErr};
 ghost use Rattle.std.specs.Io.KnownBytes.{Appends};
+ghost use Rattle.lift_replay.specs.Writing.{FailsAtLast, TakesEach};
 
-use lift_base::text::{WriteFault, put_all};
-use std::io::Write;
+use lift_base::text::{Outlet, WriteFault, put_all};
 
 /// A piece is written once it has so many bytes.
 const PIECE_BYTES: usize = 32_768;
@@ -14,13 +14,16 @@ const PIECE_BYTES: usize = 32_768;
 pub const ROOM_BYTES: usize = 65_536;
 
 /// Writes a piece of whole lines, and empties it, also where the writer doesn't take all of it.
-pub fn put_piece<W: Write>(writer: &mut W, piece: &mut String) -> Result<(), WriteFault>
+pub fn put_piece<W: Outlet>(writer: &mut W, piece: &mut String) -> Result<(), WriteFault>
     ensures ok { OnOk result
         (Appends (W.contents writer.old) (W.contents writer.new) (string_bytes piece.old)) }
     ensures front { IfErr result (λ fault.
         Appends (W.contents writer.old) (W.contents writer.new)
         (take fault.written (string_bytes piece.old))) }
     ensures emptied { string_bytes piece.new ≡ [] }
+    ensures each_call { OnOk result (TakesEach W.gives writer.old writer.new) }
+    ensures failed { OnErr result (FailsAtLast W.gives writer.old writer.new) }
+    ensures idle { string_bytes piece.old ≡ [] → writer.new ≡ writer.old }
 {
     let end = put_all(writer, piece.as_bytes());
     piece.clear();
@@ -28,7 +31,7 @@ pub fn put_piece<W: Write>(writer: &mut W, piece: &mut String) -> Result<(), Wri
 }
 
 /// Writes a piece of whole lines, and empties it, if it is large enough.
-pub fn put_large_piece<W: Write>(writer: &mut W, piece: &mut String) -> Result<(), WriteFault>
+pub fn put_large_piece<W: Outlet>(writer: &mut W, piece: &mut String) -> Result<(), WriteFault>
     ensures ok { OnOk result ((written : List ℕ)
         × Appends (W.contents writer.old) (W.contents writer.new) written
         × (string_bytes piece.old ≡ written ++ string_bytes piece.new)) }
@@ -36,6 +39,8 @@ pub fn put_large_piece<W: Write>(writer: &mut W, piece: &mut String) -> Result<(
         Appends (W.contents writer.old) (W.contents writer.new)
         (take fault.written (string_bytes piece.old))) }
     ensures emptied { OnErr result (string_bytes piece.new ≡ []) }
+    ensures each_call { OnOk result (TakesEach W.gives writer.old writer.new) }
+    ensures failed { OnErr result (FailsAtLast W.gives writer.old writer.new) }
 {
     if piece.len() < PIECE_BYTES {
         return Ok(());

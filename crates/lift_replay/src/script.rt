@@ -10,6 +10,7 @@ ghost use Rattle.lift_replay.specs.Running.{TellsLines, TellsPart};
 ghost use Rattle.lift_replay.specs.Replaying.{IsTextReport, ReportsFront, ReportsInput, Writes};
 ghost use Rattle.lift_replay.specs.Replaying.{WritesFront};
 ghost use Rattle.lift_replay.specs.Source.{lines_in};
+ghost use Rattle.lift_replay.specs.Writing.{IsCalled};
 ghost use Rattle.lift_replay.specs.declared.script.ReplayFault.TheVariants.{Memory as NoMemory};
 ghost use Rattle.lift_replay.specs.declared.script.ReplayFault.TheVariants.{Write as NoOutput};
 
@@ -21,10 +22,10 @@ use crate::segment::{SegmentEnd, add_segment};
 use crate::source::{Lines, split_script};
 use crate::station::first_keeper;
 use lift_base::Memory;
-use lift_base::text::{Counted, WriteFault, put_all};
+use lift_base::text::{Counted, Outlet, WriteFault, put_all};
 use lift_building::{Building, BuildingFault};
 use std::alloc::{AllocError, Global};
-use std::io::{Read, Write};
+use std::io::Read;
 
 /// Why a script was not carried out to its end.
 #[derive(Clone, Copy, PartialEq, Eq)]
@@ -68,8 +69,9 @@ const MOST_BYTES: usize = 1_048_576;
 const MOST_CALLS: u32 = 2_097_152;
 
 /// A report of one line, for a script of which nothing is carried out.
-fn refuse<W: Write>(writer: &mut W, report: &str) -> Result<Verdict, ReplayFault>
+fn refuse<W: Outlet>(writer: &mut W, report: &str) -> Result<Verdict, ReplayFault>
     ensures output { result ≢ Err ReplayFault.Read }
+    ensures calls { IsCalled W.gives writer.old writer.new result }
     ensures cause { result ≢ Err ReplayFault.Memory }
     ensures not_good { result ≢ Ok Verdict.Good }
     ensures bad { OnOk result (Appends (W.contents writer.old) (W.contents writer.new) report.now) }
@@ -81,12 +83,13 @@ fn refuse<W: Write>(writer: &mut W, report: &str) -> Result<Verdict, ReplayFault
 }
 
 /// Why the building is refused, as the report tells it.
-fn refuse_building<W: Write>(
+fn refuse_building<W: Outlet>(
     alloc: Global,
     writer: &mut W,
     fault: BuildingFault,
 ) -> Result<Verdict, ReplayFault>
     ensures output { result ≢ Err ReplayFault.Read }
+    ensures calls { IsCalled W.gives writer.old writer.new result }
     ensures not_good { result ≢ Ok Verdict.Good }
     ensures memory { fault ≡ BuildingFault.Memory → result ≡ Err ReplayFault.Memory }
     ensures silent { result ≡ Err ReplayFault.Memory
@@ -107,7 +110,7 @@ fn refuse_building<W: Write>(
 
 /// Carries out the lines, segment by segment: over a formatted device up to the first power cut,
 /// and then over what each cut left.
-fn add_segments<W: Write>(
+fn add_segments<W: Outlet>(
     alloc: Global,
     building: &Building,
     text: &str,
@@ -115,6 +118,8 @@ fn add_segments<W: Write>(
     writer: &mut W,
 ) -> Result<Verdict, ReplayFault>
     ensures output { result ≢ Err ReplayFault.Read }
+    ensures calls { IsCalled W.gives writer.old writer.new result }
+    ensures emptied { result ≡ Err ReplayFault.Write → string_bytes piece.new ≡ [] }
     ensures tells { IfOk result (λ verdict.
         (added : List ℕ) × TellsLines building.now 0 (first_group building.now)
         (lines_in text.now) added verdict
@@ -139,13 +144,14 @@ fn add_segments<W: Write>(
 
 /// Carries out the lines, and writes what they report, up to the end or to the line that ended the
 /// run.
-fn run_lines<W: Write>(
+fn run_lines<W: Outlet>(
     alloc: Global,
     building: &Building,
     lines: &str,
     writer: &mut W,
 ) -> Result<Verdict, ReplayFault>
     ensures output { result ≢ Err ReplayFault.Read }
+    ensures calls { IsCalled W.gives writer.old writer.new result }
     ensures tells { IfOk result (λ verdict.
         Writes (TellsLines building.now 0 (first_group building.now) (lines_in lines.now))
         (W.contents writer.old) (W.contents writer.new) verdict) }
@@ -155,15 +161,14 @@ fn run_lines<W: Write>(
 {
     let mut piece = String::with_capacity(alloc, ROOM_BYTES)?;
     let end = add_segments(alloc, building, lines, &mut piece, writer);
-    let written = put_piece(writer, &mut piece);
-    let verdict = end?;
-    written?;
-    Ok(verdict)
+    put_piece(writer, &mut piece)?;
+    end
 }
 
 /// Carries out a script that has come whole.
-fn run_text<W: Write>(alloc: Global, text: &str, writer: &mut W) -> Result<Verdict, ReplayFault>
+fn run_text<W: Outlet>(alloc: Global, text: &str, writer: &mut W) -> Result<Verdict, ReplayFault>
     ensures output { result ≢ Err ReplayFault.Read }
+    ensures calls { IsCalled W.gives writer.old writer.new result }
     ensures tells { IfOk result (λ verdict.
         Writes (IsTextReport text.now) (W.contents writer.old) (W.contents writer.new) verdict) }
     ensures front { OnErr result
@@ -181,7 +186,7 @@ fn run_text<W: Write>(alloc: Global, text: &str, writer: &mut W) -> Result<Verdi
 /// Carries out a script: reads it whole, and writes its report in pieces of whole lines. The
 /// verdict is Bad where the script, its building or one of its lines is malformed. After `Read`
 /// nothing was written, and after `Memory` or `Write` a front of the report.
-pub fn run<R: Read + Drop, W: Write>(
+pub fn run<R: Read + Drop, W: Outlet>(
     alloc: Global,
     input: &mut Counted<R>,
     writer: &mut W,
@@ -199,6 +204,8 @@ pub fn run<R: Read + Drop, W: Write>(
         (W.contents writer.new)) }
     ensures unwritten { result ≡ Err ReplayFault.Read
         → W.contents writer.new ≡ W.contents writer.old }
+    // The writer is told where one of its calls failed, and nowhere else; that call was the last.
+    ensures writes { IsCalled W.gives writer.old writer.new result }
     ensures unread { result ≡ Err ReplayFault.Read
         → (input.new.failed ≡ true) ⊎ ((input.new.calls ≡ 2097152) × (input.new.ended ≡ false)) }
     ensures failed { input.new.failed ≡ true → result ≡ Err ReplayFault.Read }
@@ -211,7 +218,7 @@ pub fn run<R: Read + Drop, W: Write>(
     ensures taken { TakesUpTo (most_bytes + 1) R.remaining input.old.reader input.new.reader }
     ensures taken_till_fault { result ≡ Err ReplayFault.Read
         → TakesUpTo most_bytes R.remaining input.old.reader input.new.reader }
-    ensures each_call { TakesByEach (most_bytes + 1) R.remaining input.old.reader input.new }
+    ensures each_call { TakesByEach most_bytes R.remaining input.old input.new }
     ensures few_calls { input.new.calls ≤ 2097152 }
 {
     let bytes = match read_all(alloc, input, MOST_BYTES, MOST_CALLS) {

@@ -8,6 +8,7 @@ ghost use Rattle.lift_replay.specs.Running.{LinesEnd, SegmentEnds, TellsPart};
 ghost use Rattle.lift_replay.specs.Segment.{IfCut, IsCut};
 ghost use Rattle.lift_replay.specs.Shows.{Shows, IsKept};
 ghost use Rattle.lift_replay.specs.Source.{lines_in};
+ghost use Rattle.lift_replay.specs.Writing.{IsCalled};
 
 use crate::lines::{End, Verdict, push_line};
 use crate::piece::put_large_piece;
@@ -15,13 +16,13 @@ use crate::report::push_cut;
 use crate::script::ReplayFault;
 use crate::source::Lines;
 use crate::station::Station;
+use lift_base::text::Outlet;
 use lift_building::Building;
 use lift_desk::{Desk, DeskParts};
 use lift_disk::FuseDisk;
 use lift_keeper::Keeper;
 use lift_policy::decisions_are_computed;
 use std::alloc::Global;
-use std::io::Write;
 
 /// How a segment of a run ends.
 pub enum SegmentEnd<'b> {
@@ -34,7 +35,7 @@ pub enum SegmentEnd<'b> {
 /// Carries out lines up to a power cut or to the end of the run, and adds what each reports to a
 /// piece of the report, which is written once it is large enough. What is left in the piece is of
 /// whole lines.
-fn add_lines<W: Write>(
+fn add_lines<W: Outlet>(
     alloc: Global,
     station: &mut Station,
     lines: &mut Lines,
@@ -42,6 +43,7 @@ fn add_lines<W: Write>(
     writer: &mut W,
 ) -> Result<End, ReplayFault>
     ensures output { result ≢ Err ReplayFault.Read }
+    ensures calls { IsCalled W.gives writer.old writer.new result }
     ensures emptied { result ≡ Err ReplayFault.Write → string_bytes piece.new ≡ [] }
     // What they tell is what is computed, of whichever group the station shows.
     ensures tells { IfOk result (λ end. (g : GroupState)
@@ -79,13 +81,15 @@ fn add_lines<W: Write>(
 }
 
 /// Adds to the piece how many calls are open once the power has come back.
-fn add_cut<W: Write>(
+fn add_cut<W: Outlet>(
     alloc: Global,
     calls: u32,
     piece: &mut String,
     writer: &mut W,
 ) -> Result<(), ReplayFault>
     ensures output { result ≢ Err ReplayFault.Read }
+    ensures calls { IsCalled W.gives writer.old writer.new result }
+    ensures emptied { result ≡ Err ReplayFault.Write → string_bytes piece.new ≡ [] }
     ensures reports { OnOk result
         (Reports (W.contents writer.old) (W.contents writer.new) (string_bytes piece.old)
         (string_bytes piece.new) (cut_text calls)) }
@@ -102,7 +106,7 @@ fn add_cut<W: Write>(
 
 /// Opens a desk for the building, and carries out lines over it and the keeper, up to a power cut
 /// or to the end of the run.
-pub fn add_segment<'b, W: Write>(
+pub fn add_segment<'b, W: Outlet>(
     alloc: Global,
     building: &'b Building,
     keeper: Keeper<'b, FuseDisk>,
@@ -113,6 +117,8 @@ pub fn add_segment<'b, W: Write>(
     requires plan { keeper.writer.plan ≡ building.now }
     requires settled { keeper.state.batch ≡ [] }
     ensures output { result ≢ Err ReplayFault.Read }
+    ensures calls { IsCalled W.gives writer.old writer.new result }
+    ensures emptied { result ≡ Err ReplayFault.Write → string_bytes piece.new ≡ [] }
     // What they tell is what is computed, of whichever group the keeper is of.
     ensures tells { IfOk result (λ end. (g : GroupState) → IsKept building.now g keeper.entry
         → g.terminals ≡ new_terminals building.now

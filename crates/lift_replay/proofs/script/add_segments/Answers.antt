@@ -1,4 +1,4 @@
-use Rattle.std.proofs.Common.{◌≡◌, ◌<◌, [], length, ap, subst, refl, arith}
+use Rattle.std.proofs.Common.{◌≡◌, ◌<◌, [], length, ap, subst, refl, arith, Err}
 use Rattle.lift_policy.specs.Step.{State}
 use Rattle.lift_replay.specs.Group.{first_group}
 use Rattle.lift_replay.specs.Running.{TellsLines}
@@ -7,6 +7,7 @@ use Rattle.lift_replay.specs.Source.{lines_in}
 use Rattle.lift_replay.specs.declared.segment.SegmentEnd.{SegmentEnd}
 use Rattle.lift_replay.proofs.Runs.{reports_none, segment_more, segment_last}
 use Rattle.lift_replay.proofs.Fronts.{err_so, tells_none, tells_more}
+use Rattle.lift_replay.specs.lemmas.Writes.{called_err, takes_more, till_more}
 use Rattle.lift_replay.proofs.script.add_segments.Goals as goal
 
 pub loop-init : goal.loop-init
@@ -22,6 +23,7 @@ loop-init g c =
             (subst (λ n. TellsLines c.args.building.now n (first_group c.args.building.now) (lines_in c.new-lines.result.rest.now) more verdict) c.new-lines.ensures.count tells)),
         reports_none _ _,
       );
+      called = (0, refl);
       left = omega (arith, long);
       plan = c.in_ok-keeper.ensures.plan;
       settled = ap (λ (state : State). state.batch) c.in_ok-keeper.ensures.state;
@@ -35,6 +37,7 @@ loop-preserved g c =
       tells = (let before = c.loop.invariant.tells in
           segment_more c.args.building.now 0 c.loop.lines.count c.add_segment.new.lines.count (first_group c.args.building.now) before.1 (lines_in c.args.text.now) (lines_in c.loop.lines.rest.now) (lines_in c.add_segment.new.lines.rest.now)
           before.0 c.in_ok-end.end c.in-Cut.recovered _ _ _ _ _ _ c.in-Cut.is before.4 before.5 (c.in_ok-end.ensures.tells before.1 before.2 before.3));
+      called = takes_more g.W.Outlet.gives _ _ _ c.loop.invariant.called c.in_ok-end.ensures.calls;
       left = omega (arith, c.loop.invariant.left, shorter);
       plan = subst (λ (end : SegmentEnd). IfCut end (λ keeper. keeper.writer.plan ≡ c.args.building.now)) c.in-Cut.is c.in_ok-end.ensures.plan;
       settled = subst (λ (end : SegmentEnd). IfCut end (λ keeper. keeper.state.batch ≡ [])) c.in-Cut.is c.in_ok-end.ensures.settled;
@@ -54,3 +57,13 @@ returns-in_err-end-clause-front g c = err_so c.from_residual-in_err-end.result (
     let before = c.loop.invariant.tells in
     tells_more c.args.building.now 0 c.loop.lines.count (first_group c.args.building.now) before.1 (lines_in c.args.text.now) (lines_in c.loop.lines.rest.now) _ _ _ _ _ _ before.0 before.4 before.5
     (c.in_err-end.ensures.front before.1 before.2 before.3))
+
+pub returns-in-Run-clause-calls : goal.returns-in-Run-clause-calls
+returns-in-Run-clause-calls g c = takes_more g.W.Outlet.gives _ _ _ c.loop.invariant.called c.in_ok-end.ensures.calls
+
+pub returns-in_err-keeper-clause-calls : goal.returns-in_err-keeper-clause-calls
+returns-in_err-keeper-clause-calls g c = called_err g.W.Outlet.gives _ _ c.from_residual.result _ c.from_residual.ensures.1 (0, refl)
+
+pub returns-in_err-end-clause-calls : goal.returns-in_err-end-clause-calls
+returns-in_err-end-clause-calls g c = called_err g.W.Outlet.gives _ _ c.from_residual-in_err-end.result _ c.from_residual-in_err-end.ensures.1
+    (till_more g.W.Outlet.gives _ _ _ _ (λ is. c.in_err-end.ensures.output (ap Err is)) c.loop.invariant.called c.in_err-end.ensures.calls)

@@ -10,6 +10,7 @@ use Rattle.lift_replay.specs.Replaying.{IsTextReport, WritesFront}
 use Rattle.lift_replay.specs.declared.lines.Verdict.TheVariants.{Bad}
 use Rattle.lift_replay.proofs.Fronts.{err_so, on_err, text_unwritten}
 use Rattle.lift_replay.proofs.Told.{if_ok, if_bad, on_ok}
+use Rattle.lift_replay.specs.lemmas.Writes.{called_err}
 use Rattle.lift_replay.proofs.script.run_text.Goals as goal
 
 pub returns-in-Ok-clause-tells : goal.returns-in-Ok-clause-tells
@@ -57,3 +58,6 @@ returns-clause-front g c =
         front.1,
       )
     ]) c.refuse_building.ensures.front
+
+pub returns-in_err-building-clause-calls : goal.returns-in_err-building-clause-calls
+returns-in_err-building-clause-calls g c = called_err g.W.Outlet.gives _ _ c.from_residual.result _ c.from_residual.ensures.1 (0, refl)

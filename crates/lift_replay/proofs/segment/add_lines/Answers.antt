@@ -8,6 +8,7 @@ use Rattle.lift_replay.specs.Running.{TellsLines}
 use Rattle.lift_replay.specs.declared.lines.Verdict.TheVariants.{Good}
 use Rattle.lift_replay.proofs.Runs.{reports_kept, reports_put, reports_on}
 use Rattle.lift_replay.proofs.Fronts.{err_so, tells_kept, tells_more, tells_so_far, tells_torn}
+use Rattle.lift_replay.specs.lemmas.Writes.{called_err, fails_more, takes_more}
 use Rattle.lift_replay.proofs.segment.add_lines.Goals as goal
 
 pub loop-preserved : goal.loop-preserved
@@ -36,6 +37,7 @@ loop-preserved g c =
             reports_on _ _ _ _ _ _ before.0 tells.0 before.4
                 (reports_put _ _ (string_bytes c.loop.piece) (string_bytes c.push_str.new.self) _ tells.0 piece_is c.in_ok-put_large_piece.ensures.ok),
           ));
+      called = takes_more g.W.Outlet.gives _ _ _ c.loop.invariant.called c.in_ok-put_large_piece.ensures.each_call;
       left = omega (arith, c.loop.invariant.left, c.in-Some.ensures.shorter);
       building = c.in_ok-end.ensures.building ∙ c.loop.invariant.building;
     }
@@ -106,3 +108,13 @@ returns-in_err-put_large_piece-clause-front g c =
     (reports_on _ _ _ _ _ _ before.0 tells.0 before.4 (reports_kept _ (string_bytes c.loop.piece) (string_bytes c.push_str.new.self) tells.0 piece_is))
     (tells_torn plan number more.0 (lines_in c.next.new.self.rest.now) _ _ _ (string_bytes c.push_str.new.self) (string_bytes c.put_large_piece.new.piece)
     c.in_err-put_large_piece.ensures.front c.in_err-put_large_piece.ensures.emptied)))
+
+pub returns-in_err-end-clause-calls : goal.returns-in_err-end-clause-calls
+returns-in_err-end-clause-calls g c = called_err g.W.Outlet.gives _ _ c.from_residual.result _ c.from_residual.ensures.1 c.loop.invariant.called
+
+pub returns-in_err-push_str-clause-calls : goal.returns-in_err-push_str-clause-calls
+returns-in_err-push_str-clause-calls g c = called_err g.W.Outlet.gives _ _ c.from_residual-in_err-push_str.result _ c.from_residual-in_err-push_str.ensures.1 c.loop.invariant.called
+
+pub returns-in_err-put_large_piece-clause-calls : goal.returns-in_err-put_large_piece-clause-calls
+returns-in_err-put_large_piece-clause-calls g c = called_err g.W.Outlet.gives _ _ c.from_residual-in_err-put_large_piece.result _ c.from_residual-in_err-put_large_piece.ensures.1
+    (fails_more g.W.Outlet.gives _ _ _ c.loop.invariant.called c.in_err-put_large_piece.ensures.failed)

@@ -4,6 +4,7 @@ use Rattle.lift_replay.specs.Running.{Continues}
 use Rattle.lift_replay.specs.Shows.{Shows}
 use Rattle.lift_replay.specs.Report.{Reports}
 use Rattle.lift_replay.specs.Source.{lines_in}
+use Rattle.lift_replay.specs.Writing.{TakesEach}
 use Rattle.lift_replay.proofs.segment.add_lines.Given as goal
 
 abbrev pub invariant-loop : goal.invariant-loop
@@ -12,6 +13,7 @@ invariant-loop g l = record {
       → (added : List ℕ) × (next : GroupState) × Shows l.fn.station.building.now next l.station.clerk l.station.terminals.seats.items
       × Continues l.fn.station.building.now l.fn.lines.count group (lines_in l.fn.lines.rest.now) added l.lines.count next (lines_in l.lines.rest.now)
       × Reports (g.W.Write.contents l.fn.writer) (g.W.Write.contents l.writer) (string_bytes l.fn.piece) (string_bytes l.piece) added;
+  called : TakesEach g.W.Outlet.gives l.fn.writer l.writer;
   left : l.counter + length l.lines.rest.now ≤ length l.fn.lines.rest.now;
   building : l.station.building ≡ l.fn.station.building;
 }

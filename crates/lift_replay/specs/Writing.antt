@@ -1,0 +1,39 @@
+-- How the writer of a report was called.
+use Rattle.std.specs.Prelude.{ℕ, zero, suc, ◌≡◌, ◌<◌, ◌⊎◌, Option, Some, None, List, length}
+use Rattle.std.specs.Prelude.{Result, Ok, Err}
+use Rattle.lift_replay.specs.declared.script.ReplayFault.{ReplayFault}
+use Rattle.lift_replay.specs.declared.script.ReplayFault.TheVariants.{Memory, Read, Write}
+
+-- so many calls of a writer, of which each took a byte at least
+abbrev pub Took : {W : Type 0} → (gives : W → List ℕ → Option ℕ → W → Type 0) → (calls : ℕ)
+    → (before after : W) → Type 0
+Took gives zero before after = after ≡ before
+Took {W} gives (suc calls) before after =
+    (between : W) × (given : List ℕ) × (count : ℕ) × Took gives calls before between
+    × gives between given (Some count) after × (0 < count)
+
+-- each call of the writer took a byte at least
+abbrev pub TakesEach : {W : Type 0} → (gives : W → List ℕ → Option ℕ → W → Type 0)
+    → (before after : W) → Type 0
+TakesEach gives before after = (calls : ℕ) × Took gives calls before after
+
+-- Each did but the last one: that failed, or took nothing of what it was given.
+abbrev pub FailsAtLast : {W : Type 0} → (gives : W → List ℕ → Option ℕ → W → Type 0)
+    → (before after : W) → Type 0
+FailsAtLast {W} gives before after =
+    (between : W) × (given : List ℕ) × TakesEach gives before between × (0 < length given)
+    × (gives between given None after ⊎ gives between given (Some 0) after)
+
+-- How the writer was called, by the fault. The writer is told where a call failed or took nothing,
+-- and that call was the last; where the reading failed there was none at all.
+abbrev pub IsCalledTill : {W : Type 0} → (gives : W → List ℕ → Option ℕ → W → Type 0)
+    → (before after : W) → ReplayFault → Type 0
+IsCalledTill gives before after Memory = TakesEach gives before after
+IsCalledTill gives before after Read = after ≡ before
+IsCalledTill gives before after Write = FailsAtLast gives before after
+
+-- How it was called, by the end: with a report no call failed.
+abbrev pub IsCalled : {W T : Type 0} → (gives : W → List ℕ → Option ℕ → W → Type 0)
+    → (before after : W) → Result T ReplayFault → Type 0
+IsCalled gives before after (Ok value) = TakesEach gives before after
+IsCalled gives before after (Err fault) = IsCalledTill gives before after fault
