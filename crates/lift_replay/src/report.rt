@@ -1,7 +1,7 @@
 //! The lines of a report.
 
 ghost use Rattle.std.specs.Prelude.{◌≡◌, ◌++◌, OnOk, decimal, string_bytes};
-ghost use Rattle.lift_base.specs.declared.command.Reply.TheVariants.{Car};
+ghost use Rattle.lift_base.specs.declared.command.Reply.TheVariants.{Car, Refused};
 ghost use Rattle.lift_base.specs.Text.{letter_text, terminal_text, next_text, reply_text};
 ghost use Rattle.lift_replay.specs.Report.{status_text, party_text, row_text, rows_text, car_text};
 ghost use Rattle.lift_replay.specs.Report.{register_text, halt_text, heard_text, waiting_text};
@@ -73,6 +73,15 @@ fn push_next(report: &mut String, next: Option<Stop>) -> Result<(), AllocError>
     }
 }
 
+/// Adds why a command is refused, as it is answered.
+fn push_refusal(report: &mut String, reason: Reason) -> Result<(), AllocError>
+    ensures { OnOk result (string_bytes report.new ≡ string_bytes report.old
+        ++ reply_text (Refused reason)) }
+{
+    report.push_str("NO ")?;
+    push_number(report, u64::from(reason.number()))
+}
+
 /// Adds an answer.
 fn push_reply(report: &mut String, reply: Reply) -> Result<(), AllocError>
     ensures { OnOk result (string_bytes report.new ≡ string_bytes report.old ++ reply_text reply) }
@@ -81,7 +90,8 @@ fn push_reply(report: &mut String, reply: Reply) -> Result<(), AllocError>
         Reply::Car(car) => push_car(report, car),
         Reply::Stopped(next) => push_next(report, next),
         Reply::Placed(next) => push_next(report, next),
-        _ => write!(report, "{reply}"),
+        Reply::Refused(reason) => push_refusal(report, reason),
+        Reply::Unknown => report.push_str("UNKNOWN"),
     }
 }
 
@@ -216,6 +226,13 @@ pub fn push_turn(report: &mut String, taken: usize, accepted: usize) -> Result<(
     ensures { OnOk result (string_bytes report.new ≡ string_bytes report.old
         ++ turn_text taken accepted) }
 {
+    // The most frequent turns are told as a whole.
+    if taken == 1 && accepted == 1 {
+        return report.push_str("turn 1 1\n");
+    }
+    if taken == 1 && accepted == 0 {
+        return report.push_str("turn 1 0\n");
+    }
     report.push_str("turn ")?;
     push_number(report, taken as u64)?;
     report.push(' ')?;
