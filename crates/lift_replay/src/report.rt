@@ -226,13 +226,6 @@ pub fn push_turn(report: &mut String, taken: usize, accepted: usize) -> Result<(
     ensures { OnOk result (string_bytes report.new ≡ string_bytes report.old
         ++ turn_text taken accepted) }
 {
-    // The most frequent turns are told as a whole.
-    if taken == 1 && accepted == 1 {
-        return report.push_str("turn 1 1\n");
-    }
-    if taken == 1 && accepted == 0 {
-        return report.push_str("turn 1 0\n");
-    }
     report.push_str("turn ")?;
     push_number(report, taken as u64)?;
     report.push(' ')?;
