@@ -1,10 +1,12 @@
 //! One connection, from its first line to its end.
 
-ghost use Rattle.std.specs.Prelude.{◌≡◌, ◌≤◌, ℕ, List, Err, IfOk, IfErr, length};
+ghost use Rattle.std.specs.Prelude.{◌≡◌, ◌≤◌, ℕ, List, Err, IfOk, IfErr, IfSome, IfNone, length};
+ghost use Rattle.std.specs.Str.Lines.{strip_carriage_return};
 ghost use Rattle.lift_base.specs.Output.{sink_of};
 ghost use Rattle.lift_kiosk.specs.Lines.{GivesLine, Keeps65, source_of};
 ghost use Rattle.lift_serve.specs.Connections.{Attends, CallsUpTo, EndsWithoutLine, IsSaid};
 ghost use Rattle.lift_serve.specs.Connections.{first_reads};
+ghost use Rattle.lift_serve.specs.FirstLine.{SpeaksFor};
 ghost use Rattle.lift_serve.specs.Lobby.{AskedState, IsSamePlace};
 
 use crate::connections::Ticket;
@@ -14,6 +16,7 @@ use crate::lobby::{Absent, Lobby, Missing, NoSeat, Returned, Vacancy};
 use crate::pace::AskBell;
 use lift_base::Terminal;
 use lift_base::text::{Counted, Watched};
+use lift_building::Building;
 use lift_kiosk::{End, Line, NoLine, read_line};
 use std::io::{Read, Write};
 use std::sync::{Mutex, Wait};
@@ -94,6 +97,18 @@ fn say<O: Write + Drop>(writer: &mut Watched<O>, bytes: &[u8])
     }
 }
 
+/// The terminal of the building that a first line names.
+fn terminal_in(building: &Building, line: &Line) -> Option<Terminal>
+    ensures some { (bytes : List ℕ) → Keeps65 bytes line.now.bytes.items line.now.is_longer
+        → IfSome result (λ terminal. SpeaksFor (length building.now.cars)
+        (length building.now.kiosks) (strip_carriage_return bytes) terminal) }
+    ensures none { (bytes : List ℕ) → Keeps65 bytes line.now.bytes.items line.now.is_longer
+        → IfNone result ((terminal : ℕ) → SpeaksFor (length building.now.cars)
+        (length building.now.kiosks) (strip_carriage_return bytes) terminal → ⊥) }
+{
+    terminal_of(line, building.cars(), building.kiosks())
+}
+
 /// Reads the first line, and serves the terminal that it names. Where the line names none of the
 /// building, or one whose seat the lobby's desk hasn't, `BAD` is answered, and where its seat is in
 /// use `BUSY`.
@@ -102,22 +117,19 @@ pub fn attend<'d, R: Wait + Clock, I: Read + Drop, O: Write + Drop>(
     lobby: &Mutex<Lobby<'d>>,
     ticket: Ticket,
     bell: &AskBell,
-    cars: u8,
-    kiosks: u8,
+    building: &Building,
     reader: &mut Counted<I>,
     writer: &mut Watched<O>,
 ) -> Outcome<'d>
-    requires cars { cars ≤ 16 }
-    requires kiosks { kiosks ≤ 47 }
-    ensures { Attends cars kiosks result (source_of I.remaining reader.old)
-        (source_of I.remaining reader.new)
+    ensures { Attends (length building.now.cars) (length building.now.kiosks) result
+        (source_of I.remaining reader.old) (source_of I.remaining reader.new)
         (sink_of O.contents writer.old) (sink_of O.contents writer.new) }
 {
     let line = match read_first(reader) {
         Ok(line) => line,
         Err(no_line) => return Outcome::NoLine(no_line),
     };
-    let Some(terminal) = terminal_of(&line, cars, kiosks) else {
+    let Some(terminal) = terminal_in(building, &line) else {
         say(writer, b"BAD\n");
         return Outcome::Bad;
     };

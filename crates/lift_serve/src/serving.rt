@@ -19,6 +19,7 @@ use crate::relaying::{Parts, run_parts, turn_rejoined, unrun};
 use crate::seating::{lobby_of, new_pagers};
 use crate::waking::WakingWriter;
 use lift_base::text::{Counted, Watched};
+use lift_building::Building;
 use lift_clerk::Clerk;
 use lift_desk::{Desk, DeskParts, Seat};
 use lift_disk::Disk;
@@ -78,15 +79,12 @@ const FAREWELL_MS: u64 = 1_000;
 /// What the threads of a serving share.
 #[derive(Clone, Copy)]
 struct Shared<'a, 'd> {
-    cars: u8,
-    kiosks: u8,
+    building: &'a Building,
     lobby: &'a Mutex<Lobby<'d>>,
     bells: &'a Bells<'a>,
     closing: &'a AtomicU64,
     connections: &'a Mutex<Connections>,
     lack: &'a Mutex<Option<Lack>>,
-    ghost some_cars: { cars ≤ 16 },
-    ghost some_kiosks: { kiosks ≤ 47 },
 }
 
 /// The first of two lacks.
@@ -195,8 +193,7 @@ fn speak<R: Wait + Clock>(
         shared.lobby,
         ticket,
         shared.bells.asks(),
-        shared.cars,
-        shared.kiosks,
+        shared.building,
         &mut reader,
         &mut writer,
     );
@@ -354,6 +351,8 @@ fn run<'d, 'b, R: Threads + Wait + Clock + Sync, D: Disk + Drop, P: Policy + Dro
     shared: Shared<'_, '_>,
     clerk: Clerk<'d, 'b, D, P>,
 ) -> Result<(Clerk<'d, 'b, D, P>, Option<Lack>), Clerk<'d, 'b, D, P>>
+    // Those are let in that speak for a terminal of the keeper's building.
+    requires own { shared.building.now ≡ clerk.keeper.writer.plan }
     ensures ran { IfOk result (λ ran.
         (fault : Option Fault) × Relayed (P.chooses clerk.entry.policy) D.state clerk.entry ran.0
         fault × (ran.1 ≡ undone fault)) }
@@ -403,15 +402,13 @@ fn serve_from<'d, 'b, R: Threads + Wait + Clock + Sync, D: Disk + Drop, P: Polic
     ensures { ComesTo (P.chooses clerk.entry.policy) D.state clerk.entry.policy clerk.entry.keeper
         result.keeper result.fault }
 {
-    let building = clerk.keeper().building();
     let lobby = Mutex::new(lobby);
     let connections = Mutex::new(connections);
     let lack = Mutex::new(None);
     let bells = Bells::new(pagers);
     let closing = AtomicU64::new(0);
     let shared = Shared {
-        cars: building.cars(),
-        kiosks: building.kiosks(),
+        building: clerk.keeper().building(),
         lobby: &lobby,
         bells: &bells,
         closing: &closing,
