@@ -1,5 +1,5 @@
 -- What is told, step by step.
-use Rattle.std.proofs.Common.{◌≡◌, ◌≢◌, ℕ, ◌==◌, List, [], ◌∷◌, length, get_or, Bool, true, false, Ok, Err, Result, subst, slice_set, ap, ◌∙◌, refl, inl, inr, arith}
+use Rattle.std.proofs.Common.{◌≡◌, ◌≢◌, ℕ, ◌==◌, List, [], ◌∷◌, length, get_or, Bool, true, false, Some, Ok, Err, Result, subst, slice_set, ap, ◌∙◌, refl, inl, inr, arith}
 use Rattle.std.specs.Prelude.{OnOk, IfOk, codes, ◌⊎◌}
 use Rattle.lift_replay.specs.declared.lines.Verdict.{Verdict}
 use Rattle.lift_replay.specs.declared.lines.Verdict.TheVariants.{Good, Bad}
@@ -18,7 +18,12 @@ use Rattle.lift_replay.specs.Grammar.{IsSkipped}
 use Rattle.lift_replay.specs.Report.{fault_text}
 use Rattle.lift_policy.specs.Choices.{IsEtdChoice}
 use Rattle.lift_clerk.specs.Turn.{IsFailedTurn, IsBrokenTurn}
-use Rattle.lift_replay.specs.Told.{ScriptClerk, HasAsked, WasStopped, TurnTells}
+use Rattle.lift_building.specs.Plan.{Plan}
+use Rattle.lift_replay.specs.declared.line.ScriptLine.{ScriptLine}
+use Rattle.lift_replay.specs.declared.line.ScriptLine.TheVariants.{Place, Call, Stop, Turn, Stops, Cost, Rows, Fuse, Cut}
+use Rattle.lift_replay.specs.declared.lines.End.{End}
+use Rattle.lift_replay.specs.declared.lines.End.TheVariants.{Run as Over}
+use Rattle.lift_replay.specs.Told.{ScriptClerk, HasAsked, LineTells, Tells, WasStopped, TurnTells, end_of}
 
 -- what follows from what is so where a call succeeds
 pub on_ok : {T E P Q : Type 0} (result : Result T E) → (P → Q) → OnOk result P → OnOk result Q
@@ -60,6 +65,24 @@ has_asked seats asked after old new t k number body at asks in_range is told = r
   seat = subst (λ j. after ≡ slice_set asked j (told_seat (seat_at asked j) (view_at old.seat j))) at is;
   knows = subst (λ j. new.seat ≡ clerk_with old.seat j (with_told_asks (view_at old.seat j) (seat_at asked j).view.asked)) at (ap (λ (c : ScriptClerk). c.seat) told);
 }
+
+-- what ends the lines at a desk tells nothing, but for a malformed line
+pub end_tells_none : (plan : Plan) (old new : ScriptClerk) (seats after : List TerminalSeat) (line : List ℕ) (number : ℕ) (end : End) (text : List ℕ) → LineTells plan old new seats after line number (Some end) text
+    → end ≢ Over Bad → text ≡ []
+end_tells_none plan old new seats after line number end text (inl skipped) other = skipped.2
+end_tells_none plan old new seats after line number end text (inr (inr bad)) other = absurd (let over : end ≡ Over Bad = (let e = bad.1 in cc) in other over)
+end_tells_none plan old new seats after line number end text (inr (inl (wanted, spells, known, tells, is, some))) other = by_line wanted tells is
+  where
+    by_line : (w : ScriptLine) → Tells plan old new seats after w text → Some end ≡ end_of w → text ≡ []
+    by_line (Cut outcome) te en = te.0
+    by_line (Place car floor dir) te en = absurd (cc)
+    by_line (Call kiosk n floor party) te en = absurd (cc)
+    by_line (Stop car n floor dir) te en = absurd (cc)
+    by_line Turn te en = absurd (cc)
+    by_line (Stops car) te en = absurd (cc)
+    by_line (Cost kiosk floor party) te en = absurd (cc)
+    by_line Rows te en = absurd (cc)
+    by_line (Fuse calls) te en = absurd (cc)
 
 pub if_ok : {T E : Type 0} {P Q : T → Type 0} (result : Result T E) → ((x : T) → P x → Q x) → IfOk result P → IfOk result Q
 if_ok (Ok x) f h = f x h

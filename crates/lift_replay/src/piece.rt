@@ -1,6 +1,7 @@
 //! A report in pieces, so that the writer isn't called for each line.
 
-ghost use Rattle.std.specs.Prelude.{◌≡◌, ◌++◌, List, ℕ, [], take, string_bytes, OnOk, OnErr, IfErr};
+ghost use Rattle.std.specs.Prelude.{◌≡◌, ◌<◌, ◌++◌, List, ℕ, [], length, take, string_bytes};
+ghost use Rattle.std.specs.Prelude.{OnOk, OnErr, IfErr};
 ghost use Rattle.std.specs.Io.KnownBytes.{Appends};
 ghost use Rattle.lift_replay.specs.Writing.{FailsAtLast, TakesEach};
 
@@ -38,6 +39,7 @@ pub fn put_large_piece<W: Outlet>(writer: &mut W, piece: &mut String) -> Result<
     ensures front { IfErr result (λ fault.
         Appends (W.contents writer.old) (W.contents writer.new)
         (take fault.written (string_bytes piece.old))) }
+    ensures small { OnOk result (length (string_bytes piece.new) < 32768) }
     ensures emptied { OnErr result (string_bytes piece.new ≡ []) }
     ensures each_call { OnOk result (TakesEach W.gives writer.old writer.new) }
     ensures failed { OnErr result (FailsAtLast W.gives writer.old writer.new) }

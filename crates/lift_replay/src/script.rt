@@ -1,6 +1,6 @@
 //! A whole script, from its bytes to its report.
 
-ghost use Rattle.std.specs.Prelude.{◌≡◌, ◌≢◌, ◌⊎◌, ◌+◌, ◌≤◌, ◌++◌, ℕ, List, [], length};
+ghost use Rattle.std.specs.Prelude.{◌≡◌, ◌≢◌, ◌⊎◌, ◌+◌, ◌<◌, ◌≤◌, ◌++◌, ℕ, List, [], length};
 ghost use Rattle.std.specs.Prelude.{string_bytes, true, false, OnOk, OnErr, IfOk};
 ghost use Rattle.std.specs.Io.KnownBytes.{Appends};
 ghost use Rattle.lift_replay.specs.Reading.{IsRead, TakesByEach, TakesUpTo, most_bytes};
@@ -117,6 +117,7 @@ fn add_segments<W: Outlet>(
     piece: &mut String,
     writer: &mut W,
 ) -> Result<Verdict, ReplayFault>
+    requires small { length (string_bytes piece.old) < 32768 }
     ensures output { result ≢ Err ReplayFault.Read }
     ensures calls { IsCalled W.gives writer.old writer.new result }
     ensures emptied { result ≡ Err ReplayFault.Write → string_bytes piece.new ≡ [] }

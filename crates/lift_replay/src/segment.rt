@@ -42,9 +42,13 @@ fn add_lines<W: Outlet>(
     piece: &mut String,
     writer: &mut W,
 ) -> Result<End, ReplayFault>
+    requires small { length (string_bytes piece.old) < 32768 }
     ensures output { result ≢ Err ReplayFault.Read }
     ensures calls { IsCalled W.gives writer.old writer.new result }
     ensures emptied { result ≡ Err ReplayFault.Write → string_bytes piece.new ≡ [] }
+    // No more is held back than that, but for the line that ends a bad script.
+    ensures small { IfOk result (λ end. end ≢ End.Run Verdict.Bad
+        → length (string_bytes piece.new) < 32768) }
     // What they tell is what is computed, of whichever group the station shows.
     ensures tells { IfOk result (λ end. (g : GroupState)
         → Shows station.old.building.now g station.old.clerk station.old.terminals.seats.items
@@ -90,6 +94,7 @@ fn add_cut<W: Outlet>(
     ensures output { result ≢ Err ReplayFault.Read }
     ensures calls { IsCalled W.gives writer.old writer.new result }
     ensures emptied { result ≡ Err ReplayFault.Write → string_bytes piece.new ≡ [] }
+    ensures small { OnOk result (length (string_bytes piece.new) < 32768) }
     ensures reports { OnOk result
         (Reports (W.contents writer.old) (W.contents writer.new) (string_bytes piece.old)
         (string_bytes piece.new) (cut_text calls)) }
@@ -116,6 +121,7 @@ pub fn add_segment<'b, W: Outlet>(
 ) -> Result<SegmentEnd<'b>, ReplayFault>
     requires plan { keeper.writer.plan ≡ building.now }
     requires settled { keeper.state.batch ≡ [] }
+    requires small { length (string_bytes piece.old) < 32768 }
     ensures output { result ≢ Err ReplayFault.Read }
     ensures calls { IsCalled W.gives writer.old writer.new result }
     ensures emptied { result ≡ Err ReplayFault.Write → string_bytes piece.new ≡ [] }
@@ -135,6 +141,8 @@ pub fn add_segment<'b, W: Outlet>(
         IfCut end (λ keeper. length lines.new.rest.now < length lines.old.rest.now)) }
     ensures plan { IfOk result (λ end. IfCut end (λ keeper. keeper.writer.plan ≡ building.now)) }
     ensures settled { IfOk result (λ end. IfCut end (λ keeper. keeper.state.batch ≡ [])) }
+    ensures small { IfOk result (λ end. IfCut end (λ keeper.
+        length (string_bytes piece.new) < 32768)) }
 {
     let terminals = 16 + usize::from(building.kiosks());
     let DeskParts { desk, seats, clerk } = Desk::open(alloc, terminals)?;

@@ -1,4 +1,4 @@
-use Rattle.std.proofs.Common.{◌≡◌, ◌<◌, [], length, ap, subst, refl, arith, Err}
+use Rattle.std.proofs.Common.{◌≡◌, ◌<◌, [], length, ap, subst, refl, arith, Err, string_bytes}
 use Rattle.lift_policy.specs.Step.{State}
 use Rattle.lift_replay.specs.Group.{first_group}
 use Rattle.lift_replay.specs.Running.{TellsLines}
@@ -23,6 +23,7 @@ loop-init g c =
             (subst (λ n. TellsLines c.args.building.now n (first_group c.args.building.now) (lines_in c.new-lines.result.rest.now) more verdict) c.new-lines.ensures.count tells)),
         reports_none _ _,
       );
+      small = c.requires.small;
       called = (0, refl);
       left = omega (arith, long);
       plan = c.in_ok-keeper.ensures.plan;
@@ -37,6 +38,7 @@ loop-preserved g c =
       tells = (let before = c.loop.invariant.tells in
           segment_more c.args.building.now 0 c.loop.lines.count c.add_segment.new.lines.count (first_group c.args.building.now) before.1 (lines_in c.args.text.now) (lines_in c.loop.lines.rest.now) (lines_in c.add_segment.new.lines.rest.now)
           before.0 c.in_ok-end.end c.in-Cut.recovered _ _ _ _ _ _ c.in-Cut.is before.4 before.5 (c.in_ok-end.ensures.tells before.1 before.2 before.3));
+      small = subst (λ (end : SegmentEnd). IfCut end (λ keeper. length (string_bytes c.add_segment.new.piece) < 32768)) c.in-Cut.is c.in_ok-end.ensures.small;
       called = takes_more g.W.Outlet.gives _ _ _ c.loop.invariant.called c.in_ok-end.ensures.calls;
       left = omega (arith, c.loop.invariant.left, shorter);
       plan = subst (λ (end : SegmentEnd). IfCut end (λ keeper. keeper.writer.plan ≡ c.args.building.now)) c.in-Cut.is c.in_ok-end.ensures.plan;

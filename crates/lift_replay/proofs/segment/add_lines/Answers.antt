@@ -1,4 +1,4 @@
-use Rattle.std.proofs.Common.{◌≡◌, ◌+◌, ◌++◌, ◌∙◌, Some, None, [], length, refl, sym, ap, subst, arith, string_bytes}
+use Rattle.std.proofs.Common.{◌≡◌, ◌<◌, ◌+◌, ◌++◌, ◌∙◌, Some, None, [], length, refl, sym, ap, subst, arith, string_bytes}
 use Rattle.lift_building.specs.Plan.{Plan}
 use Rattle.lift_replay.specs.Told.{LineTells}
 use Rattle.lift_replay.specs.Source.{lines_in}
@@ -6,6 +6,7 @@ use Rattle.lift_replay.proofs.LineSteps.{line_goes_on, line_ends}
 use Rattle.std.proofs.lemmas.List.{append-nil}
 use Rattle.lift_replay.specs.Running.{TellsLines}
 use Rattle.lift_replay.specs.declared.lines.Verdict.TheVariants.{Good}
+use Rattle.lift_replay.proofs.Told.{end_tells_none}
 use Rattle.lift_replay.proofs.Runs.{reports_kept, reports_put, reports_on}
 use Rattle.lift_replay.proofs.Fronts.{err_so, tells_kept, tells_more, tells_so_far, tells_torn}
 use Rattle.lift_replay.specs.lemmas.Writes.{called_err, fails_more, takes_more}
@@ -37,6 +38,7 @@ loop-preserved g c =
             reports_on _ _ _ _ _ _ before.0 tells.0 before.4
                 (reports_put _ _ (string_bytes c.loop.piece) (string_bytes c.push_str.new.self) _ tells.0 piece_is c.in_ok-put_large_piece.ensures.ok),
           ));
+      small = c.in_ok-put_large_piece.ensures.small;
       called = takes_more g.W.Outlet.gives _ _ _ c.loop.invariant.called c.in_ok-put_large_piece.ensures.each_call;
       left = omega (arith, c.loop.invariant.left, c.in-Some.ensures.shorter);
       building = c.in_ok-end.ensures.building ∙ c.loop.invariant.building;
@@ -63,6 +65,18 @@ returns-in-Some-end-clause-tells g c = λ group shows.
       more,
       reports_on _ _ _ _ _ _ before.0 tells.0 before.4 (reports_kept _ (string_bytes c.loop.piece) (string_bytes c.push_str.new.self) tells.0 piece_is),
     ))
+
+pub returns-in-Some-end-clause-small : goal.returns-in-Some-end-clause-small
+returns-in-Some-end-clause-small g c = λ other.
+    let tells = c.in_ok-end.ensures.tells in
+    let told_is : c.deref.result.now ≡ tells.0 = c.deref.ensures ∙ tells.2 ∙ ap (λ bytes. bytes ++ tells.0) c.clear.ensures.bytes in
+    let none : tells.0 ≡ [] = end_tells_none c.loop.station.building.now c.loop.station.clerk c.push_line.new.station.clerk c.loop.station.terminals.seats.items c.push_line.new.station.terminals.seats.items
+    c.in-Some.line.now c.in-Some.number c.in-Some-end.end tells.0
+    (subst (λ end. LineTells c.loop.station.building.now c.loop.station.clerk c.push_line.new.station.clerk c.loop.station.terminals.seats.items c.push_line.new.station.terminals.seats.items c.in-Some.line.now c.in-Some.number end tells.0) c.in-Some-end.is tells.1)
+    other in
+    let kept : string_bytes c.push_str.new.self ≡ string_bytes c.loop.piece =
+    c.in_ok-push_str.ensures.bytes ∙ ap (λ bytes. string_bytes c.loop.piece ++ bytes) (told_is ∙ none) ∙ append-nil (string_bytes c.loop.piece) in
+    subst (λ bytes. length bytes < 32768) (sym kept) c.loop.invariant.small
 
 pub returns-in_default-clause-tells : goal.returns-in_default-clause-tells
 returns-in_default-clause-tells g c = λ group shows.
