@@ -61,13 +61,15 @@ fn keeper_over(disk: FuseDisk, building: &Building) -> Keeper<'_, FuseDisk>
     }
 }
 
-/// The keeper over a formatted device in memory: nobody has called. It is refused only where the
-/// device takes its memory.
+/// The keeper over a formatted device in memory, of two halves and the two sectors before them:
+/// nobody has called. It is refused only where the device takes its memory.
 pub fn first_keeper(alloc: Global, building: &Building) -> Result<Keeper<'_, FuseDisk>, Memory>
     ensures empty { IfOk result (λ keeper. keeper.writer.register ≡ empty) }
     ensures unarmed { IfOk result (λ keeper. IsUnarmed (fuse_state_of keeper.writer.device)) }
     ensures state { IfOk result (λ keeper. keeper.state ≡ starting keeper.writer.register) }
     ensures plan { IfOk result (λ keeper. keeper.writer.plan ≡ building.now) }
+    ensures sectors { IfOk result (λ keeper.
+        length (fuse_state_of keeper.writer.device).image ≡ 130) }
     ensures whole { IfOk result (λ keeper. (keeper.writer.is_broken ≡ false)
         × (keeper.writer.doubt ≡ [])) }
     ensures kept { IfOk result (λ keeper. IsKept building.now (first_group building.now) keeper) }
