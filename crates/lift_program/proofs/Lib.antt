@@ -1,5 +1,6 @@
 mod Asked
 mod Commands
+mod Flushing
 mod Rows
 mod Stages
 mod Writing

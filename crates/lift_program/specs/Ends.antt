@@ -236,14 +236,15 @@ IsReport input (Served port fault) before after = Appends before after (serving_
 IsReport input (Failed fault) before after = IsReportOfFault fault before after
 IsReport input OtherWords before after = after ≡ before
 
--- the status of an end that these words come to over this input, with its report, and whose line
--- was told, if it has one
+-- The status of an end that these words come to over this input, with its report, and whose line
+-- was told, if it has one. It is a fault of the standard output only where that has failed.
 pub record IsStatusFor {E : Type 0} (contents : E
     → Option (List ℕ)) (words : List Text) (input before after : Option (List ℕ))
-    (old new : OutputState E) (status : ℕ) : Type 0 where
+    (has_failed : Type 0) (old new : OutputState E) (status : ℕ) : Type 0 where
   pub end : End
   pub is_end : IsEndOf input words before after end
   pub reported : IsReport input end before after
   pub is_status : status ≡ status_of end
   pub told : IfSome (line_of end) (IsTold contents old new)
   pub quiet : line_of end ≡ None → new ≡ old
+  pub unwritten : end ≡ Failed (File Output) → has_failed

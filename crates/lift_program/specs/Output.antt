@@ -1,6 +1,7 @@
 -- What is written, and what is known where it was not.
-use Rattle.std.specs.Prelude.{ℕ, ◌⊎◌, Option, List}
+use Rattle.std.specs.Prelude.{ℕ, ◌⊎◌, Bool, true, false, Option, List}
 use Rattle.lift_base.specs.Output.{OutputState, Takes, TakesFront, sink_of}
+use Rattle.lift_replay.specs.Writing.{TakesEach, FailsAtLast}
 
 -- All of these bytes were written, or the writer failed behind a front of them.
 abbrev pub IsTold : {W : Type 0} → (W → Option (List ℕ)) → (old new : OutputState W) → List ℕ
@@ -8,3 +9,16 @@ abbrev pub IsTold : {W : Type 0} → (W → Option (List ℕ)) → (old new : Ou
 IsTold contents old new bytes =
     Takes bytes (sink_of contents old) (sink_of contents new)
     ⊎ ((count : ℕ) × TakesFront count bytes (sink_of contents old) (sink_of contents new))
+
+-- Each call of the writer took a byte at least, and then it was flushed.
+abbrev pub IsFlushed : {W : Type 0} → (gives : W → List ℕ → Option ℕ → W → Type 0)
+    → (flushes : W → Bool → W → Type 0) → (old new : W) → Type 0
+IsFlushed {W} gives flushes old new =
+    (last : W) × TakesEach gives old last × flushes last true new
+
+-- The writer's last call failed, or took nothing; or each took a byte at least, and the flush
+-- behind them failed.
+abbrev pub HasFailed : {W : Type 0} → (gives : W → List ℕ → Option ℕ → W → Type 0)
+    → (flushes : W → Bool → W → Type 0) → (old new : W) → Type 0
+HasFailed {W} gives flushes old new =
+    FailsAtLast gives old new ⊎ ((last : W) × TakesEach gives old last × flushes last false new)

@@ -8,6 +8,7 @@ mod files;
 mod format;
 mod grammar;
 mod image;
+mod listening;
 mod output;
 mod replay;
 mod serve;
@@ -17,4 +18,5 @@ mod words;
 
 pub use end::End;
 pub use fault::{Fault, Role};
+pub use output::Outflow;
 pub use starting::{not_given, start};

@@ -1,19 +1,21 @@
 //! The carrying out of a script.
 
-ghost use Rattle.std.specs.Prelude.{◌≡◌, true, false, IfOk, IfErr, OnErr};
+ghost use Rattle.std.specs.Prelude.{◌≡◌, true, false, IfOk, IfErr, OnOk, OnErr};
 ghost use Rattle.lift_replay.specs.Reading.{IsRead};
 ghost use Rattle.lift_replay.specs.Replaying.{ReportsFront, ReportsInput};
 ghost use Rattle.lift_program.specs.declared.fault.Role.TheVariants.{Input, Output};
 ghost use Rattle.lift_program.specs.Ends.{IsReplayFault, IsUnread};
+ghost use Rattle.lift_program.specs.Output.{HasFailed, IsFlushed};
 
 use crate::fault::{Fault, Role};
+use crate::output::Outflow;
 use lift_base::text::Counted;
 use lift_replay::Verdict;
 use std::alloc::Global;
-use std::io::{Read, Write};
+use std::io::Read;
 
 /// Carries out the script that the reader gives, and writes its report.
-pub fn replay<R: Read + Drop, W: Write>(
+pub fn replay<R: Read + Drop, W: Outflow>(
     alloc: Global,
     input: &mut Counted<R>,
     writer: &mut W,
@@ -35,9 +37,12 @@ pub fn replay<R: Read + Drop, W: Write>(
     ensures unwritten { result ≡ Err (Fault.File Input)
         → W.contents writer.new ≡ W.contents writer.old }
     ensures read { result ≡ Err (Fault.File Output) → IsRead R.remaining input.old input.new }
+    ensures flushed { OnOk result (IsFlushed W.gives W.flushes writer.old writer.new) }
+    ensures failed { result ≡ Err (Fault.File Output)
+        → HasFailed W.gives W.flushes writer.old writer.new }
 {
     let verdict = lift_replay::run(alloc, input, writer)?;
-    match writer.flush() {
+    match writer.settle() {
         Ok(()) => Ok(verdict),
         Err(error) => Err(Fault::of_file(Role::Output, error)),
     }

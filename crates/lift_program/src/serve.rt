@@ -1,15 +1,20 @@
 //! The serving of a building on a port.
 
-ghost use Rattle.std.specs.Prelude.{◌≡◌, ◌≤◌, OnOk, IfOk, IfErr, IfSome};
+ghost use Rattle.std.specs.Prelude.{◌≡◌, ◌≤◌, [], ◌∷◌, Some, None, OnOk, IfOk};
+ghost use Rattle.std.specs.Prelude.{IfErr, OnErr, IfSome};
 ghost use Rattle.std.specs.Io.KnownBytes.{Appends};
+ghost use Rattle.std.specs.declared.net.tcp.TcpListener.{TcpListener as Listener};
 ghost use Rattle.lift_program.specs.Ends.{IsFileFault, IsReportOfFault, IsServeFault};
 ghost use Rattle.lift_program.specs.Ends.{IsServingFault, SaysFront, serving_text};
 ghost use Rattle.lift_program.specs.Faults.{served_fault};
+ghost use Rattle.lift_program.specs.Output.{HasFailed, IsFlushed};
 ghost use Rattle.lift_program.specs.Serving.{IsServing};
 ghost use Rattle.lift_program.specs.declared.fault.Role.TheVariants.{Output};
 
 use crate::fault::{Fault, Role};
 use crate::files::{building_in, keeper_in};
+use crate::listening::Listens;
+use crate::output::Outflow;
 use arrayvec::ArrayString;
 use itoa::Buffer;
 use lift_base::text::put_all;
@@ -19,8 +24,7 @@ use lift_policy::Shipped;
 use lift_serve::ServeFault;
 use std::alloc::Global;
 use std::fs::{File, Files};
-use std::io::Write;
-use std::net::{Ipv4Addr, Net, SocketAddr, SocketAddrV4, TcpListener, TcpStream};
+use std::net::TcpListener;
 use std::sync::Wait;
 use std::thread::Threads;
 use std::time::Clock;
@@ -41,11 +45,14 @@ fn fault_of(is_broken: bool, fault: Option<ServeFault>) -> Option<Fault>
 }
 
 /// Says which port is served.
-fn say<W: Write>(port: u16, writer: &mut W) -> Result<(), Fault>
+fn say<W: Outflow>(port: u16, writer: &mut W) -> Result<(), Fault>
     ensures said { OnOk result
         (Appends (W.contents writer.old) (W.contents writer.new) (serving_text port)) }
     ensures front { SaysFront port (W.contents writer.old) (W.contents writer.new) }
     ensures fault { IfErr result (IsFileFault Output) }
+    ensures flushed { OnOk result (IsFlushed W.gives W.flushes writer.old writer.new) }
+    ensures failed { result ≡ Err (Fault.File Output)
+        → HasFailed W.gives W.flushes writer.old writer.new }
 {
     let mut digits = Buffer::new();
     let mut line: ArrayString<64> = ArrayString::new();
@@ -55,9 +62,22 @@ fn say<W: Write>(port: u16, writer: &mut W) -> Result<(), Fault>
     if put_all(writer, line.as_str().as_bytes()).is_err() {
         return Err(Fault::File(Role::Output));
     }
-    match writer.flush() {
+    match writer.settle() {
         Ok(()) => Ok(()),
         Err(error) => Err(Fault::of_file(Role::Output, error)),
+    }
+}
+
+/// A socket that listens on this machine alone.
+fn listen_here<L: Listens>(net: &L, port: u16) -> Result<TcpListener, Fault>
+    ensures here { IfOk result (λ listener.
+        L.gives net.now (127 ∷ 0 ∷ 0 ∷ 1 ∷ []) port (Some listener)) }
+    ensures refused { OnErr result (L.gives net.now (127 ∷ 0 ∷ 0 ∷ 1 ∷ []) port None) }
+    ensures fault { IfErr result (λ fault. fault ≡ Fault.Network) }
+{
+    match net.listen([127, 0, 0, 1], port) {
+        Ok(listener) => Ok(listener),
+        Err(_) => Err(Fault::Network),
     }
 }
 
@@ -65,15 +85,7 @@ fn say<W: Write>(port: u16, writer: &mut W) -> Result<(), Fault>
 /// file `image`, until so many connections have ended. The answer is the fault that did not end it,
 /// if there was one.
 #[tactic(auto, using(crate::proofs::Stages::building_serves, crate::proofs::Stages::keeper_serves, crate::proofs::Stages::nothing_written, crate::proofs::Stages::opens_journal, crate::proofs::Stages::output_serves, crate::proofs::Writing::nothing_said, crate::proofs::Writing::said_front))]
-pub fn serve<
-    R: Files<File = File>
-        + Threads
-        + Wait
-        + Clock
-        + Net<Listener = TcpListener, Stream = TcpStream>
-        + Sync,
-    W: Write,
->(
+pub fn serve<R: Files<File = File> + Threads + Wait + Clock + Listens + Sync, W: Outflow>(
     rt: &R,
     alloc: Global,
     image: &str,
@@ -86,18 +98,23 @@ pub fn serve<
     ensures said { OnOk result
         (Appends (W.contents writer.old) (W.contents writer.new) (serving_text port)) }
     ensures served { IfOk result (IsServing policy) }
+    // The socket was asked for at 127.0.0.1, at this port.
+    ensures here { IfOk result (λ _.
+        (listener : Listener) × R.gives rt.now (127 ∷ 0 ∷ 0 ∷ 1 ∷ []) port (Some listener)) }
+    // The port is told only where that was refused.
+    ensures refused { result ≡ Err Fault.Network
+        → R.gives rt.now (127 ∷ 0 ∷ 0 ∷ 1 ∷ []) port None }
     ensures serving { IfOk result (λ fault. IfSome fault IsServingFault) }
     ensures fault { IfErr result IsServeFault }
     ensures report { IfErr result (λ fault.
         IsReportOfFault fault (W.contents writer.old) (W.contents writer.new)) }
     ensures front { SaysFront port (W.contents writer.old) (W.contents writer.new) }
+    ensures failed { result ≡ Err (Fault.File Output)
+        → HasFailed W.gives W.flushes writer.old writer.new }
 {
     let building = building_in(rt, alloc, building)?;
     let keeper = keeper_in(rt, image, &building)?;
-    let address = SocketAddr::V4(SocketAddrV4::new(Ipv4Addr::new(127, 0, 0, 1), port));
-    let Ok(listener) = rt.bind(address) else {
-        return Err(Fault::Network);
-    };
+    let listener = listen_here(rt, port)?;
     say(port, writer)?;
     let served = lift_serve::serve(rt, alloc, &listener, sessions, keeper, policy);
     Ok(fault_of(served.keeper.is_broken(), served.fault))

@@ -7,12 +7,14 @@ ghost use Rattle.lift_keeper.specs.declared.fault.KeeperFault.{KeeperFault as Re
 ghost use Rattle.lift_replay.specs.Report.{register_text};
 ghost use Rattle.lift_program.specs.Ends.{IsFileFault, IsReportOfFault, IsShowFault};
 ghost use Rattle.lift_program.specs.Ends.{IsShowingFault};
+ghost use Rattle.lift_program.specs.Output.{HasFailed, IsFlushed};
 ghost use Rattle.lift_program.specs.Showing.{IsShown, Shows, ShowsFront, ShowsPart};
 ghost use Rattle.lift_program.specs.declared.fault.Fault.TheVariants.{Journal as OfJournal};
 ghost use Rattle.lift_program.specs.declared.fault.Role.TheVariants.{Output};
 
 use crate::fault::{Fault, Role};
 use crate::files::{building_in, image_in};
+use crate::output::Outflow;
 use lift_base::text::put_all;
 use lift_building::Building;
 use lift_disk::{Disk, FileDisk};
@@ -21,23 +23,25 @@ use lift_register::Register;
 use lift_replay::report::push_rows;
 use std::alloc::Global;
 use std::fs::{File, Files};
-use std::io::Write;
 
 /// Writes the open calls of a register, as scripts report them.
-fn write_rows<W: Write>(alloc: Global, register: &Register, writer: &mut W) -> Result<(), Fault>
+fn write_rows<W: Outflow>(alloc: Global, register: &Register, writer: &mut W) -> Result<(), Fault>
     ensures written { OnOk result
         (Appends (W.contents writer.old) (W.contents writer.new) (register_text register.now)) }
     ensures front { OnErr result ((n : ℕ)
         × Appends (W.contents writer.old) (W.contents writer.new)
         (take n (register_text register.now))) }
     ensures fault { IfErr result (IsFileFault Output) }
+    ensures flushed { OnOk result (IsFlushed W.gives W.flushes writer.old writer.new) }
+    ensures failed { result ≡ Err (Fault.File Output)
+        → HasFailed W.gives W.flushes writer.old writer.new }
 {
     let mut report = String::new(alloc);
     push_rows(&mut report, register)?;
     if put_all(writer, report.as_bytes()).is_err() {
         return Err(Fault::File(Role::Output));
     }
-    match writer.flush() {
+    match writer.settle() {
         Ok(()) => Ok(()),
         Err(error) => Err(Fault::of_file(Role::Output, error)),
     }
@@ -45,7 +49,7 @@ fn write_rows<W: Write>(alloc: Global, register: &Register, writer: &mut W) -> R
 
 /// Opens the keeper of a building on a device, and writes the open calls that it shows: the
 /// recovery's. Hands the device back. No sector is written.
-fn show_on<D: Disk + Drop, W: Write>(
+fn show_on<D: Disk + Drop, W: Outflow>(
     alloc: Global,
     disk: D,
     building: &Building,
@@ -66,6 +70,9 @@ fn show_on<D: Disk + Drop, W: Write>(
         IsReportOfFault fault (W.contents writer.old) (W.contents writer.new)) }
     ensures fault { IfErr result.1 IsShowingFault }
     ensures writes { (D.state result.0).writes ≡ (D.state disk).writes }
+    // The standard output is told only where it failed.
+    ensures failed { result.1 ≡ Err (Fault.File Output)
+        → HasFailed W.gives W.flushes writer.old writer.new }
 {
     match Keeper::open(disk, building) {
         Ok(keeper) => {
@@ -79,7 +86,7 @@ fn show_on<D: Disk + Drop, W: Write>(
 /// Shows the open calls of the journal in the file `image`, which is of the building in the file
 /// `building`.
 #[tactic(auto, using(crate::proofs::Stages::building_shows, crate::proofs::Stages::image_shows, crate::proofs::Stages::nothing_written))]
-pub fn show<F: Files<File = File>, W: Write>(
+pub fn show<F: Files<File = File>, W: Outflow>(
     rt: &F,
     alloc: Global,
     image: &str,
@@ -92,6 +99,8 @@ pub fn show<F: Files<File = File>, W: Write>(
     ensures fault { IfErr result IsShowFault }
     ensures report { IfErr result (λ fault.
         IsReportOfFault fault (W.contents writer.old) (W.contents writer.new)) }
+    ensures failed { result ≡ Err (Fault.File Output)
+        → HasFailed W.gives W.flushes writer.old writer.new }
 {
     let building = building_in(rt, alloc, building)?;
     let disk = image_in(rt, image)?;

@@ -7,13 +7,14 @@ ghost use Rattle.lift_replay.specs.declared.lines.Verdict.TheVariants.{Good};
 ghost use Rattle.lift_program.specs.declared.fault.Role.TheVariants.{Input, Output};
 ghost use Rattle.lift_program.specs.Ends.{IsEndFor, IsEndOf, IsReport, IsStatusFor, IsUnread};
 ghost use Rattle.lift_program.specs.Ends.{WritesFor, line_of};
-ghost use Rattle.lift_program.specs.Output.{IsTold};
+ghost use Rattle.lift_program.specs.Output.{HasFailed, IsTold};
 ghost use Rattle.lift_program.specs.Words.{Asks, IsInRange};
 ghost use Rattle.lift_program.specs.declared.words.Request.TheVariants.{Replay};
 
 use crate::end::End;
 use crate::fault::Fault;
 use crate::format::format;
+use crate::output::Outflow;
 use crate::replay::replay;
 use crate::serve::serve;
 use crate::show::show;
@@ -38,7 +39,7 @@ fn done<
         + Net<Listener = TcpListener, Stream = TcpStream>
         + Sync,
     R: Read + Drop,
-    W: Write,
+    W: Outflow,
 >(rt: &F, alloc: Global, request: Request<'_>, input: &mut Counted<R>, writer: &mut W) -> End
     requires range { IsInRange request }
     requires fresh { input.old.calls ≡ 0 }
@@ -53,6 +54,8 @@ fn done<
     ensures unread { result ≡ End.Failed (Fault.File Input) → IsUnread input.new }
     ensures read { request.entry ≡ Replay → result ≡ End.Failed (Fault.File Output)
         → IsRead R.remaining input.old input.new }
+    ensures failed { result ≡ End.Failed (Fault.File Output)
+        → HasFailed W.gives W.flushes writer.old writer.new }
 {
     match request {
         Request::Replay => match replay(alloc, input, writer) {
@@ -110,7 +113,7 @@ fn carry_out<
         + Sync,
     S: AsStr,
     R: Read + Drop,
-    W: Write,
+    W: Outflow,
     E: Write + Drop,
 >(
     rt: &F,
@@ -140,6 +143,9 @@ fn carry_out<
     // and one that is undone for the standard output was.
     ensures read { Asks (map S.text words.now) Replay → result ≡ End.Failed (Fault.File Output)
         → IsRead R.remaining input.old input.new }
+    // The standard output is told only where it failed.
+    ensures failed { result ≡ End.Failed (Fault.File Output)
+        → HasFailed W.gives W.flushes writer.old writer.new }
 {
     let end = match request_of(alloc, words) {
         Ok(Some(request)) => done(rt, alloc, request, input, writer),
@@ -162,12 +168,13 @@ pub fn start<
         + Sync,
     S: AsStr,
     R: Read + Drop,
-    W: Write,
+    W: Outflow,
     E: Write + Drop,
 >(rt: &F, alloc: Global, words: &[S], reader: R, writer: &mut W, errors: &mut Watched<E>) -> u8
     // It is the status of an end that the words come to, with its report, and which is told.
     ensures status { IsStatusFor E.contents (map S.text words.now) (R.remaining reader)
-        (W.contents writer.old) (W.contents writer.new) errors.old errors.new result }
+        (W.contents writer.old) (W.contents writer.new)
+        (HasFailed W.gives W.flushes writer.old writer.new) errors.old errors.new result }
 {
     let mut input = Counted::new(reader);
     let end = carry_out(rt, alloc, words, &mut input, writer, errors);

@@ -4,6 +4,8 @@ use Rattle.lift_disk.specs.Files.{file_state_of}
 use Rattle.lift_program.specs.Ends.{IsFileFault, IsReportOfFault, IsShowingFault}
 use Rattle.lift_program.specs.Showing.{ShowsFront}
 use Rattle.lift_program.specs.declared.fault.Role.TheVariants.{Output}
+use Rattle.lift_program.specs.Stages.{IsBuildingFault}
+use Rattle.lift_program.proofs.Flushing.{err_same, image_no_output, other_than}
 use Rattle.lift_program.proofs.Stages.{showing_part, showing_shows}
 use Rattle.lift_program.proofs.Writing.{part_shown, shown_front}
 use Rattle.lift_program.proofs.show.show.Goals as goal
@@ -45,3 +47,13 @@ returns-in-Err-clause-only g c =
     (subst (λ r. IfErr r (λ fault. IsReportOfFault fault before after)) c.in-Err.is c.show_on-disk.ensures.unwritten)
     (subst (λ r. IfErr r (λ fault. IsFileFault Output fault → ShowsFront c.in_ok-building.building (file_state_of c.in_ok-disk.disk) (file_state_of c.show_on-disk.result.0) before after))
     c.in-Err.is c.show_on-disk.ensures.front)
+
+pub returns-in_err-building-clause-failed : goal.returns-in_err-building-clause-failed
+returns-in_err-building-clause-failed g c = other_than _ c.from_residual.result _ _ c.from_residual.ensures.1 (λ same. absurd (subst IsBuildingFault same c.in_err-building.ensures.fault))
+
+pub returns-in_err-disk-clause-failed : goal.returns-in_err-disk-clause-failed
+returns-in_err-disk-clause-failed g c =
+    other_than _ c.from_residual-in_err-disk.result _ _ c.from_residual-in_err-disk.ensures.1 (λ same. absurd (image_no_output c.in_ok-building.building _ c.in_err-disk.ensures.fault same))
+
+pub returns-in-Err-clause-failed : goal.returns-in-Err-clause-failed
+returns-in-Err-clause-failed g c = λ same. c.show_on-disk.ensures.failed (c.in-Err.is ∙ ap Err (err_same _ _ same))

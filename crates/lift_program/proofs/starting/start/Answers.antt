@@ -17,5 +17,6 @@ returns g c =
         is_status = c.status.ensures;
         told = c.carry_out-end.ensures.told;
         quiet = c.carry_out-end.ensures.quiet;
+        unwritten = c.carry_out-end.ensures.failed;
       };
     }

@@ -1,0 +1,46 @@
+-- How the output was called.
+use Rattle.std.proofs.Common.{◌≡◌, ◌<◌, ◌∙◌, ℕ, Bool, true, false, List, Option, length, refl, subst, sym, inl, inr}
+use Rattle.std.proofs.lemmas.Bool.{false≢true}
+use Rattle.std.specs.Prelude.{Result, Ok, Err, IsErrAnd, IfErr, OnOk, is_err}
+use Rattle.lift_base.specs.Output.{WroteAll, WroteUpToFault}
+use Rattle.lift_base.specs.declared.text.output.WriteFault.{WriteFault}
+use Rattle.lift_replay.specs.Writing.{TakesEach}
+use Rattle.lift_replay.specs.lemmas.Writes.{fails_of, takes_of}
+use Rattle.lift_building.specs.Plan.{Plan}
+use Rattle.lift_program.specs.Ends.{IsFileFault, IsServingFault, IsShowingFault}
+use Rattle.lift_program.specs.Output.{HasFailed}
+use Rattle.lift_program.specs.Stages.{IsBuildingFault, IsKeeperFault}
+use Rattle.lift_program.specs.declared.fault.Fault.{Fault}
+use Rattle.lift_program.specs.declared.fault.Fault.TheVariants.{File, Network}
+use Rattle.lift_program.specs.declared.fault.Role.TheVariants.{Image as OfImage, Output}
+
+-- all of the bytes were written
+pub takes_put : {W : Type 0} (gives : W → List ℕ → Option ℕ → W → Type 0) (bytes : List ℕ) (old new : W) (result : Result Unit WriteFault)
+    → is_err result ≡ false → OnOk result ((calls : ℕ) × WroteAll gives bytes 0 calls old new) → TakesEach gives old new
+takes_put gives bytes old new (Ok done) whole told = takes_of gives bytes old new told
+takes_put gives bytes old new (Err fault) whole told = absurd (false≢true (sym whole))
+
+-- or a front of them
+pub put_failed : {W : Type 0} (gives : W → List ℕ → Option ℕ → W → Type 0) (flushes : W → Bool → W → Type 0) (bytes : List ℕ) (old new : W) (result : Result Unit WriteFault)
+    → is_err result ≡ true → IfErr result (λ fault. fault.written < length bytes) → IfErr result (λ fault. (calls : ℕ) × WroteUpToFault gives bytes fault.written 0 calls old new)
+    → HasFailed gives flushes old new
+put_failed gives flushes bytes old new (Ok done) failed within told = absurd (false≢true failed)
+put_failed gives flushes bytes old new (Err fault) failed within told = inl (fails_of gives bytes old new fault within told)
+
+-- a fault that is handed on, and isn't this one
+pub other_than : {T : Type 0} (P : Type 0) (result : Result T Fault) (fault wanted : Fault) → IsErrAnd result (λ told. told ≡ fault) → (fault ≡ wanted → P) → result ≡ Err wanted → P
+other_than P result fault wanted is holds same = holds (sym (subst (λ r. IsErrAnd r (λ told. told ≡ fault)) same is))
+
+pub image_no_output : (plan : Plan) (fault : Fault) → IsFileFault OfImage fault → fault ≡ File Output → ⊥
+image_no_output plan fault (inl is) same = subst (IsKeeperFault plan) (sym is ∙ same) tt
+image_no_output plan fault (inr is) same = subst IsBuildingFault (sym is ∙ same) tt
+
+pub output_no_network : (fault : Fault) → IsFileFault Output fault → fault ≡ Network → ⊥
+output_no_network fault (inl is) same = subst IsShowingFault (sym is ∙ same) tt
+output_no_network fault (inr is) same = subst IsBuildingFault (sym is ∙ same) tt
+
+pub network_no_output : (fault : Fault) → fault ≡ Network → fault ≡ File Output → ⊥
+network_no_output fault is same = subst IsServingFault (sym is ∙ same) tt
+
+pub err_same : {T E : Type 0} (told wanted : E) → ◌≡◌ {A = Result T E} (Err told) (Err wanted) → told ≡ wanted
+err_same {T} {E} told wanted same = subst (λ (r : Result T E). IfErr r (λ other. told ≡ other)) same refl
