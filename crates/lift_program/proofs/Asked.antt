@@ -1,5 +1,5 @@
 -- What words come to.
-use Rattle.std.proofs.Common.{◌≡◌, ℕ, Option, List, refl, inl, inr}
+use Rattle.std.proofs.Common.{ℕ, Option, List, refl, inl, inr}
 use Rattle.clap.specs.Words.{Text}
 use Rattle.lift_program.specs.Ends.{IsEndFor, IsEndOf, WritesFor}
 use Rattle.lift_program.specs.Words.{Asks}

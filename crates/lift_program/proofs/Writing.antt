@@ -11,7 +11,7 @@ use Rattle.lift_replay.specs.Replaying.{ReportsFront, ReportsInput}
 use Rattle.lift_replay.specs.Report.{register_text}
 use Rattle.lift_replay.specs.declared.lines.Verdict.{Verdict}
 use Rattle.lift_program.specs.Ends.{SaysFront, serving_text}
-use Rattle.lift_program.specs.Showing.{Shows, ShowsFront, ShowsFrontOfFile, ShowsPart}
+use Rattle.lift_program.specs.Showing.{Shows, ShowsFront, ShowsPart}
 
 -- where nothing was written, nothing of the port was
 pub nothing_said : (port : ℕ) (written : Option (List ℕ)) → SaysFront port written written

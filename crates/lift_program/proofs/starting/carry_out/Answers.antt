@@ -1,8 +1,6 @@
-use Rattle.std.proofs.Common.{rules, map, sym, subst, ◌∙◌}
+use Rattle.std.proofs.Common.{rules, map, sym, subst}
 use Rattle.lift_program.specs.Ends.{IsEndOf}
-use Rattle.lift_program.proofs.Asked.{asked_end, unread_words}
-use Rattle.lift_program.specs.declared.end.End.TheVariants.{Failed, OtherWords}
-use Rattle.lift_program.specs.declared.fault.Fault.TheVariants.{Memory}
+use Rattle.lift_program.proofs.Asked.{asked_end}
 use Rattle.lift_program.proofs.starting.carry_out.Goals.{in-Ok-Some, in-Ok-None, in-Err}
 use Rattle.lift_program.proofs.starting.carry_out.Goals as goal
 
