@@ -1,5 +1,5 @@
 -- What a run of both parts leaves for the clerk of them.
-use Rattle.std.proofs.Common.{◌≡◌, ◌≢◌, Bool, true, false, ◌||◌, Option, Some, None, [], List, Result, refl, sym, ap, subst, ◌∙◌}
+use Rattle.std.proofs.Common.{◌≡◌, ◌≢◌, ◌||◌, Option, Some, None, [], refl, sym, ap, subst, ◌∙◌}
 use Rattle.std.specs.Prelude.{is_err}
 use Rattle.lift_disk.specs.Disk.{DiskState}
 use Rattle.lift_policy.specs.Eligible.{Choice}
@@ -8,14 +8,13 @@ use Rattle.lift_keeper.specs.Writer.{WriterView}
 use Rattle.lift_clerk.specs.Clerk.{ClerkState}
 use Rattle.lift_relay.specs.declared.pair.RunFault.{RunFault}
 use Rattle.lift_relay.specs.declared.pair.RunFault.TheVariants.{Keeper, Spawn}
-use Rattle.lift_parts.specs.Batch.{BatchState}
 use Rattle.lift_parts.specs.Allocator.{AllocatorState}
 use Rattle.lift_parts.specs.Flusher.{FlusherState}
 use Rattle.lift_parts.specs.Parts.{AreParts, AreOfOne}
 use Rattle.lift_serve.specs.declared.serving.ServeFault.{ServeFault}
 use Rattle.lift_serve.specs.declared.serving.ServeFault.TheVariants.{Network, Thread, Memory}
-use Rattle.lift_serve.specs.declared.serving.Lack.{Lack}
-use Rattle.lift_serve.specs.declared.serving.Lack.TheVariants.{Thread as NoThread, Memory as NoMemory}
+use Rattle.lift_serve.specs.declared.lacks.Lack.{Lack}
+use Rattle.lift_serve.specs.declared.lacks.Lack.TheVariants.{Thread as NoThread, Memory as NoMemory}
 use Rattle.lift_serve.specs.Relaying.{HaveRunOn, IsLastTurn, Relayed, first_told, has_failed, told, undone}
 
 abbrev is_spawn : Option RunFault → Type 0

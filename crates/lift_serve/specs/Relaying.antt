@@ -1,5 +1,5 @@
 -- What becomes of a clerk whose work two threads do.
-use Rattle.std.specs.Prelude.{ℕ, ◌≡◌, ◌≢◌, ◌⊎◌, ◌+◌, Bool, true, false, ◌||◌, is_err, Option, Some}
+use Rattle.std.specs.Prelude.{◌≡◌, ◌≢◌, ◌⊎◌, ◌+◌, Bool, true, false, ◌||◌, is_err, Option, Some}
 use Rattle.std.specs.Prelude.{None, Result, Err, IfOk, length}
 use Rattle.lift_disk.specs.Disk.{DiskState}
 use Rattle.lift_policy.specs.Eligible.{Choice}
@@ -19,9 +19,9 @@ use Rattle.lift_parts.specs.Turns.{IsSameAllocator}
 use Rattle.lift_parts.specs.Parts.{AreOfOne, AreParts, IsRejoined}
 use Rattle.lift_serve.specs.declared.serving.ServeFault.{ServeFault}
 use Rattle.lift_serve.specs.declared.serving.ServeFault.TheVariants.{Network, Thread, Memory}
-use Rattle.lift_serve.specs.declared.serving.Lack.{Lack}
-use Rattle.lift_serve.specs.declared.serving.Lack.TheVariants.{Thread as NoThread}
-use Rattle.lift_serve.specs.declared.serving.Lack.TheVariants.{Memory as NoMemory}
+use Rattle.lift_serve.specs.declared.lacks.Lack.{Lack}
+use Rattle.lift_serve.specs.declared.lacks.Lack.TheVariants.{Thread as NoThread}
+use Rattle.lift_serve.specs.declared.lacks.Lack.TheVariants.{Memory as NoMemory}
 
 -- What a turn of the clerk did, by its result. Behind one that failed the keeper is broken, behind
 -- another it is whole.

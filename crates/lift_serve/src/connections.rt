@@ -3,7 +3,8 @@
 ghost use Rattle.std.specs.Prelude.{◌≡◌, ℕ, ◌+◌, ◌%◌, ◌^◌, ◌∷◌, ◌++◌, [], pred, Ok, Some, None};
 ghost use Rattle.std.specs.Prelude.{IfErr, IsTrue, ◌↔◌, not, ◌==◌, filter};
 
-use std::alloc::{AllocError, Global};
+use crate::lacks::{Lack, Lacking, push};
+use std::alloc::Global;
 use std::marker::Model;
 use std::net::{Shutdown, TcpStream};
 use std::sync::Arc;
@@ -91,7 +92,7 @@ impl Connections {
 
     /// A connection is open from now on, by the number of the ticket. None where all have ended
     /// that were to end.
-    pub fn enter(&mut self, stream: Arc<TcpStream>) -> Result<Option<Ticket>, AllocError>
+    pub fn enter(&mut self, stream: Arc<TcpStream>) -> Result<Option<Ticket>, Lacking>
         ensures over { self.old.left ≡ 0 → result ≡ Ok None }
         ensures let_in { (number : ℕ) → result ≡ Ok (Some number) → (number ≡ self.old.next)
             × (self.new ≡ record self.old {
@@ -100,12 +101,13 @@ impl Connections {
             }) }
         ensures left_out { result ≡ Ok None → (self.old.left ≡ 0) × (self.new ≡ self.old) }
         ensures unchanged { IfErr result (λ _. self.new ≡ self.old) }
+        ensures lack { IfErr result (λ lacking. lacking ≡ Lack.Memory) }
     {
         if self.left == 0 {
             return Ok(None);
         }
         let number = self.next;
-        self.open.push(Open { number, stream })?;
+        push(&mut self.open, Open { number, stream })?;
         self.next = number.wrapping_add(1);
         Ok(Some(Ticket { number }))
     }

@@ -7,6 +7,7 @@ mod connections;
 mod first_line;
 mod held;
 mod keep_alive;
+mod lacks;
 mod lobby;
 mod pace;
 mod pager;

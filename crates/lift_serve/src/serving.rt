@@ -6,12 +6,13 @@ ghost use Rattle.lift_desk.specs.Seats.{AreSeatsOf, seats_from};
 ghost use Rattle.lift_parts.specs.Parts.{AreOfOne};
 ghost use Rattle.lift_serve.specs.Lobby.{AreInOrder, all_found};
 ghost use Rattle.lift_relay.specs.declared.pair.RunFault.{RunFault as Fault};
-ghost use Rattle.lift_serve.specs.Relaying.{ComesTo, HaveRunOn, Relayed, first_told, told, undone};
+ghost use Rattle.lift_serve.specs.Relaying.{ComesTo, HaveRunOn, Relayed, told, undone};
 ghost use Rattle.lift_serve.specs.Visits.{IsNewSeat};
 
 use crate::attending::attend;
 use crate::connections::{Connections, Ticket};
 use crate::keep_alive::watch;
+use crate::lacks::{Lack, Lacking, Lacks, first_of, read_ahead, share, share_again, start};
 use crate::lobby::Lobby;
 use crate::pace::{Bells, Pace};
 use crate::pager::Pager;
@@ -27,7 +28,6 @@ use lift_keeper::Keeper;
 use lift_policy::Policy;
 use lift_relay::{Gate, RunFault, split};
 use std::alloc::Global;
-use std::io::BufReader;
 use std::net::{Shutdown, TcpListener, TcpStream};
 use std::os::fd::OwnedFd;
 use std::sync::atomic::{AtomicU64, Ordering};
@@ -41,15 +41,6 @@ use std::time::{Clock, Duration};
 pub enum ServeFault {
     /// The listening socket failed.
     Network,
-    /// A thread couldn't be started.
-    Thread,
-    /// A growth was refused.
-    Memory,
-}
-
-/// What a connection was not served for, or the two parts did not run for.
-#[derive(Clone, Copy)]
-enum Lack {
     /// A thread couldn't be started.
     Thread,
     /// A growth was refused.
@@ -84,17 +75,7 @@ struct Shared<'a, 'd> {
     bells: &'a Bells<'a>,
     closing: &'a AtomicU64,
     connections: &'a Mutex<Connections>,
-    lack: &'a Mutex<Option<Lack>>,
-}
-
-/// The first of two lacks.
-fn first_of(before: Option<Lack>, behind: Option<Lack>) -> Option<Lack>
-    ensures { result ≡ first_told before behind }
-{
-    match before {
-        Some(lack) => Some(lack),
-        None => behind,
-    }
+    lacks: &'a Mutex<Lacks>,
 }
 
 /// What a run by itself is undone for.
@@ -121,9 +102,8 @@ fn told_of(lack: Option<Lack>) -> Option<ServeFault>
 
 impl<'a, 'd> Shared<'a, 'd> {
     /// Keeps the first lack in mind.
-    fn note<R: Wait>(self, rt: &R, lack: Lack) {
-        let mut first = self.lack.lock(rt);
-        *first = first_of(*first, Some(lack));
+    fn note<R: Wait>(self, rt: &R, lacking: Lacking) {
+        self.lacks.lock(rt).note(lacking);
     }
 
     fn is_over<R: Wait>(self, rt: &R) -> bool {
@@ -131,24 +111,20 @@ impl<'a, 'd> Shared<'a, 'd> {
     }
 
     /// None where all connections have ended that were to end.
-    fn enter<R: Wait>(self, rt: &R, stream: Arc<TcpStream>) -> Result<Option<Ticket>, Lack>
-        ensures lack { IfErr result (λ lack. lack ≡ Lack.Memory) }
+    fn enter<R: Wait>(self, rt: &R, stream: Arc<TcpStream>) -> Result<Option<Ticket>, Lacking>
+        ensures lack { IfErr result (λ lacking. lacking ≡ Lack.Memory) }
     {
-        match self.connections.lock(rt).enter(stream) {
-            Ok(ticket) => Ok(ticket),
-            Err(_) => Err(Lack::Memory),
-        }
+        self.connections.lock(rt).enter(stream)
     }
 
     /// A connection is not served.
-    fn refuse<R: Wait>(self, rt: &R, lack: Lack) {
-        self.note(rt, lack);
+    fn refuse<R: Wait>(self, rt: &R, lacking: Lacking) {
+        self.note(rt, lacking);
         self.connections.lock(rt).ended();
     }
 
     /// No connection is served any more.
-    fn give_up<R: Wait>(self, rt: &R, lack: Lack) {
-        self.note(rt, lack);
+    fn give_up<R: Wait>(self, rt: &R) {
         self.connections.lock(rt).give_up();
     }
 
@@ -180,13 +156,10 @@ fn speak<R: Wait + Clock>(
     shared: Shared<'_, '_>,
     ticket: Ticket,
     stream: &TcpStream,
-) -> Result<(), Lack>
-    ensures lack { IfErr result (λ lack. lack ≡ Lack.Memory) }
+) -> Result<(), Lacking>
+    ensures lack { IfErr result (λ lacking. lacking ≡ Lack.Memory) }
 {
-    let Ok(ahead) = BufReader::with_capacity(alloc, AHEAD, stream) else {
-        return Err(Lack::Memory);
-    };
-    let mut reader = Counted::new(ahead);
+    let mut reader = Counted::new(read_ahead(alloc, AHEAD, stream)?);
     let mut writer = Watched::new(WakingWriter::new(stream, shared.bells));
     let _outcome = attend(
         rt,
@@ -211,8 +184,8 @@ fn attend_stream<R: Wait + Clock>(
     let number = ticket.number();
     let _quick = stream.set_nodelay(true);
     watch(&stream);
-    if let Err(lack) = speak(rt, alloc, shared, ticket, &stream) {
-        shared.note(rt, lack);
+    if let Err(lacking) = speak(rt, alloc, shared, ticket, &stream) {
+        shared.note(rt, lacking);
     }
     let _closed = stream.shutdown(Shutdown::Both);
     shared.leave(rt, number);
@@ -224,15 +197,11 @@ fn admit<R: Wait>(
     alloc: Global,
     shared: Shared<'_, '_>,
     stream: TcpStream,
-) -> Result<Option<(Ticket, Arc<TcpStream>)>, Lack>
-    ensures lack { IfErr result (λ lack. lack ≡ Lack.Memory) }
+) -> Result<Option<(Ticket, Arc<TcpStream>)>, Lacking>
+    ensures lack { IfErr result (λ lacking. lacking ≡ Lack.Memory) }
 {
-    let Ok(stream) = Arc::new(alloc, stream) else {
-        return Err(Lack::Memory);
-    };
-    let Ok(theirs) = Arc::try_clone(&stream) else {
-        return Err(Lack::Memory);
-    };
+    let stream = share(alloc, stream)?;
+    let theirs = share_again(&stream)?;
     match shared.enter(rt, theirs)? {
         Some(ticket) => Ok(Some((ticket, stream))),
         None => Ok(None),
@@ -264,17 +233,15 @@ fn welcome<R: Threads + Wait + Clock + Sync>(
                 let (ticket, stream) = match admit(rt, alloc, shared, stream) {
                     Ok(Some(admitted)) => admitted,
                     Ok(None) => break,
-                    Err(lack) => {
-                        shared.refuse(rt, lack);
+                    Err(lacking) => {
+                        shared.refuse(rt, lacking);
                         continue;
                     }
                 };
                 let number = ticket.number();
-                let speaking = scope.spawn(move || attend_stream(
-                    rt, alloc, shared, ticket, stream,
-                ));
-                if speaking.is_err() {
-                    shared.note(rt, Lack::Thread);
+                let work = move || attend_stream(rt, alloc, shared, ticket, stream);
+                if let Err(lacking) = start(scope, work) {
+                    shared.note(rt, lacking);
                     shared.leave(rt, number);
                 }
             }
@@ -333,7 +300,7 @@ where
             }
             let ran = run_parts(rt, gate, parts);
             if ran.fault == Some(RunFault::Spawn) {
-                shared.give_up(rt, Lack::Thread);
+                shared.give_up(rt);
             }
             ran
         },
@@ -404,7 +371,7 @@ fn serve_from<'d, 'b, R: Threads + Wait + Clock + Sync, D: Disk + Drop, P: Polic
 {
     let lobby = Mutex::new(lobby);
     let connections = Mutex::new(connections);
-    let lack = Mutex::new(None);
+    let lacks = Mutex::new(Lacks::new());
     let bells = Bells::new(pagers);
     let closing = AtomicU64::new(0);
     let shared = Shared {
@@ -413,14 +380,14 @@ fn serve_from<'d, 'b, R: Threads + Wait + Clock + Sync, D: Disk + Drop, P: Polic
         bells: &bells,
         closing: &closing,
         connections: &connections,
-        lack: &lack,
+        lacks: &lacks,
     };
     match run(rt, alloc, listener, shared, clerk) {
         Ok((clerk, own)) => {
             let (_seat, keeper, _policy) = clerk.into_parts();
             Served {
                 keeper,
-                fault: told_of(first_of(own, *lack.lock(rt))),
+                fault: told_of(first_of(own, lacks.into_inner().first())),
             }
         }
         Err(clerk) => {
