@@ -21,7 +21,7 @@ use lift_base::text::put_all;
 use lift_journal::JournalFault;
 use lift_keeper::KeeperFault;
 use lift_policy::Shipped;
-use lift_serve::ServeFault;
+use lift_serve::{Refusal, ServeFault};
 use std::alloc::Global;
 use std::fs::{File, Files};
 use std::net::TcpListener;
@@ -30,17 +30,16 @@ use std::thread::Threads;
 use std::time::Clock;
 
 /// What the serving was undone for: a device that failed, and else the fault of the rest.
-fn fault_of(is_broken: bool, fault: Option<ServeFault>) -> Option<Fault>
+fn fault_of(is_broken: bool, fault: Option<Refusal>) -> Option<Fault>
     ensures { result ≡ served_fault is_broken fault }
 {
     if is_broken {
         return Some(Fault::Journal(KeeperFault::Journal(JournalFault::Disk)));
     }
-    match fault {
-        Some(ServeFault::Network) => Some(Fault::Network),
-        Some(ServeFault::Thread) => Some(Fault::Thread),
-        Some(ServeFault::Memory) => Some(Fault::Memory),
-        None => None,
+    match fault?.fault() {
+        ServeFault::Network => Some(Fault::Network),
+        ServeFault::Thread => Some(Fault::Thread),
+        ServeFault::Memory => Some(Fault::Memory),
     }
 }
 

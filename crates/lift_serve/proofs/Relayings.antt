@@ -87,10 +87,10 @@ not_run choice state a f of_one = record {
 }
 
 -- that no thread could be made for the serving itself is told, whatever else there was
-pub tells_spawn : (fault : Option RunFault) (own rest : Option Lack) (is_told : Option ServeFault) → own ≡ undone fault → is_told ≡ told (first_told own rest)
-    → fault ≡ Some Spawn → is_told ≡ Some Thread
+pub tells_spawn : (fault : Option RunFault) (own : Option ServeFault) (rest : Option Lack) (is_told : Option ServeFault) → own ≡ told (undone fault)
+    → is_told ≡ first_told own (told rest) → fault ≡ Some Spawn → is_told ≡ Some Thread
 tells_spawn fault own rest is_told is says spawn =
-    says ∙ ap (λ (o : Option Lack). told (first_told o rest)) (is ∙ ap undone spawn)
+    says ∙ ap (λ (o : Option ServeFault). first_told o (told rest)) (is ∙ ap (λ (f : Option RunFault). told (undone f)) spawn)
 
 abbrev is_network : Option ServeFault → Type 0
 is_network None = ⊥
@@ -103,6 +103,13 @@ told_no_network None is = subst is_network (sym is) tt
 told_no_network (Some NoThread) is = subst is_network (sym is) tt
 told_no_network (Some NoMemory) is = subst is_network (sym is) tt
 
--- a lack is never told as the socket's fault
-pub tells_lack : (lack : Option Lack) (is_told : Option ServeFault) → is_told ≡ told lack → is_told ≢ Some Network
-tells_lack lack is_told says is = told_no_network lack (sym says ∙ is)
+first_no_network : (own rest : Option Lack) → first_told (told own) (told rest) ≢ Some Network
+first_no_network None rest is = told_no_network rest is
+first_no_network (Some NoThread) rest is = subst is_network (sym is) tt
+first_no_network (Some NoMemory) rest is = subst is_network (sym is) tt
+
+-- what was wanting is never told as the socket's fault
+pub tells_no_network : (fault : Option RunFault) (own : Option ServeFault) (rest : Option Lack) (is_told : Option ServeFault) → own ≡ told (undone fault)
+    → is_told ≡ first_told own (told rest) → is_told ≢ Some Network
+tells_no_network fault own rest is_told of says is =
+    first_no_network (undone fault) rest (ap (λ (o : Option ServeFault). first_told o (told rest)) (sym of) ∙ sym says ∙ is)

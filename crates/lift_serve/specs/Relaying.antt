@@ -1,5 +1,5 @@
 -- What becomes of a clerk whose work two threads do.
-use Rattle.std.specs.Prelude.{◌≡◌, ◌≢◌, ◌⊎◌, ◌+◌, Bool, true, false, ◌||◌, is_err, Option, Some}
+use Rattle.std.specs.Prelude.{ℕ, ◌≡◌, ◌≢◌, ◌⊎◌, ◌+◌, Bool, true, false, ◌||◌, is_err, Option, Some}
 use Rattle.std.specs.Prelude.{None, Result, Err, IfOk, length}
 use Rattle.lift_disk.specs.Disk.{DiskState}
 use Rattle.lift_policy.specs.Eligible.{Choice}
@@ -67,8 +67,8 @@ undone None = None
 undone (Some (Keeper fault)) = None
 undone (Some Spawn) = Some NoThread
 
--- the first of two lacks, if there is one
-abbrev pub first_told : (before behind : Option Lack) → Option Lack
+-- the first of two, if there is one
+abbrev pub first_told : {T : Type 0} → (before behind : Option T) → Option T
 first_told None behind = behind
 first_told (Some lack) behind = Some lack
 

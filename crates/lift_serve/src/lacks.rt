@@ -1,13 +1,23 @@
 //! What is wanting in a serving: it is known only from the call that was refused it.
 
-ghost use Rattle.std.specs.Prelude.{◌≡◌, ◌++◌, ◌∷◌, [], None, Some, OnOk, OnErr, IfErr};
-ghost use Rattle.lift_serve.specs.Relaying.{first_told};
+ghost use Rattle.std.specs.Prelude.{◌≡◌, ◌≤◌, ◌++◌, ◌∷◌, [], None, Some, OnOk, OnErr};
+ghost use Rattle.std.specs.Prelude.{IfOk, IfErr, length};
+ghost use Rattle.lift_desk.specs.Seats.{AreSeatsOf, IsClerkOf, OwesNothing, seats_from};
+ghost use Rattle.lift_parts.specs.Parts.{AreOfOne, AreParts};
+ghost use Rattle.lift_serve.specs.Relaying.{HaveRunOn, first_told, told, undone};
 
+use crate::serving::ServeFault;
+use lift_clerk::Clerk;
+use lift_desk::{Desk, DeskParts};
+use lift_disk::Disk;
+use lift_policy::Policy;
+use lift_relay::{Allocator, Flusher, Gate, RunFault, run, split};
 use std::alloc::Global;
 use std::io::{BufReader, Read};
 use std::marker::Model;
-use std::sync::Arc;
-use std::thread::Scope;
+use std::net::TcpListener;
+use std::sync::{Arc, Wait};
+use std::thread::{Scope, Threads};
 
 /// What is wanting.
 #[derive(Clone, Copy)]
@@ -19,7 +29,7 @@ pub enum Lack {
 }
 
 /// That something is wanting. Only the calls below that were refused it make one. It can't be let
-/// go: only `note` ends it.
+/// go: `note` ends it, or that it is told.
 pub struct Lacking {
     what: Lack,
 }
@@ -30,6 +40,66 @@ impl Model for Lacking {
     ghost Value = { Lack };
 
     ghost view = { λ l. l.what };
+}
+
+/// That a serving was refused something. Only the calls below that were refused it make one, and
+/// what was noted of them.
+#[derive(Clone, Copy)]
+pub struct Refusal {
+    fault: ServeFault,
+}
+
+impl Model for Refusal {
+    ghost use Rattle.lift_serve.specs.declared.serving.ServeFault.{ServeFault};
+
+    ghost Value = { ServeFault };
+
+    ghost view = { λ r. r.fault };
+
+    ghost inverse = { λ f. record { fault = f } };
+}
+
+impl Refusal {
+    /// What it was refused.
+    pub fn fault(self) -> ServeFault
+        ensures { result ≡ self }
+    {
+        self.fault
+    }
+}
+
+/// How a lack is told.
+fn fault_of(lack: Lack) -> ServeFault
+    ensures { Some result ≡ told (Some lack) }
+{
+    match lack {
+        Lack::Thread => ServeFault::Thread,
+        Lack::Memory => ServeFault::Memory,
+    }
+}
+
+/// How it is told whether something was wanting.
+fn told_of(lack: Option<Lack>) -> Option<Refusal>
+    ensures { result ≡ told lack }
+{
+    match lack {
+        Some(lack) => Some(Refusal {
+            fault: fault_of(lack),
+        }),
+        None => None,
+    }
+}
+
+impl Lacking {
+    /// It is told.
+    pub(crate) fn told(self) -> Refusal
+        ensures { Some result ≡ told (Some self) }
+    {
+        let Lacking { what } = self;
+        Refusal {
+            fault: fault_of(what),
+        }
+    }
 }
 
 /// The first of what was wanting, if anything was. Only `note` adds to it.
@@ -48,7 +118,7 @@ impl Model for Lacks {
 }
 
 /// The first of two lacks.
-pub(crate) fn first_of(before: Option<Lack>, behind: Option<Lack>) -> Option<Lack>
+fn first_of(before: Option<Lack>, behind: Option<Lack>) -> Option<Lack>
     ensures { result ≡ first_told before behind }
 {
     match before {
@@ -73,11 +143,14 @@ impl Lacks {
         self.first = first_of(self.first, Some(what));
     }
 
-    /// The first.
-    pub(crate) fn first(&self) -> Option<Lack>
-        ensures { result ≡ self.now }
+    /// What is told of a serving: what was refused to it itself, and else the first of the rest.
+    pub(crate) fn behind(&self, own: Option<Refusal>) -> Option<Refusal>
+        ensures { result ≡ first_told own (told self.now) }
     {
-        self.first
+        match own {
+            Some(refusal) => Some(refusal),
+            None => told_of(self.first),
+        }
     }
 }
 
@@ -115,6 +188,17 @@ pub(crate) fn read_ahead<I: Read + Drop>(
     }
 }
 
+/// A vector with room for so many.
+pub(crate) fn with_room<T: Drop>(alloc: Global, count: usize) -> Result<Vec<T>, Lacking>
+    ensures none { IfOk result (λ values. values.items ≡ []) }
+    ensures lack { IfErr result (λ lacking. lacking ≡ Lack.Memory) }
+{
+    match Vec::with_capacity(alloc, count) {
+        Ok(values) => Ok(values),
+        Err(_) => Err(Lacking { what: Lack::Memory }),
+    }
+}
+
 /// One value more.
 pub(crate) fn push<T: Drop>(values: &mut Vec<T>, value: T) -> Result<(), Lacking>
     ensures pushed { OnOk result (values.new.items ≡ values.old.items ++ value ∷ []) }
@@ -139,4 +223,81 @@ pub(crate) fn start<'s, E, F: FnOnce() + Send + Drop + 's>(
         Ok(_) => Ok(()),
         Err(_) => Err(Lacking { what: Lack::Thread }),
     }
+}
+
+/// A view of a listening socket.
+pub(crate) fn listen_again(listener: &TcpListener) -> Result<TcpListener, Refusal>
+    ensures network { IfErr result (λ refusal. refusal ≡ ServeFault.Network) }
+{
+    match listener.try_clone() {
+        Ok(again) => Ok(again),
+        Err(_) => Err(Refusal {
+            fault: ServeFault::Network,
+        }),
+    }
+}
+
+/// A desk of so many terminals, with all its seats.
+pub(crate) fn open_desk(alloc: Global, terminals: usize) -> Result<DeskParts, Lacking>
+    requires { (1 ≤ terminals) × (terminals ≤ 63) }
+    ensures count { IfOk result (λ parts. length parts.desk ≡ terminals) }
+    ensures seats { IfOk result (λ parts. parts.seats.items ≡ seats_from 0 parts.desk) }
+    ensures seats_at { IfOk result (λ parts. AreSeatsOf parts.desk parts.seats.items) }
+    ensures clerk_at { IfOk result (λ parts. IsClerkOf parts.desk parts.clerk) }
+    ensures owes { IfOk result (λ parts. OwesNothing parts.clerk) }
+    ensures lack { IfErr result (λ lacking. lacking ≡ Lack.Memory) }
+{
+    match Desk::open(alloc, terminals) {
+        Ok(parts) => Ok(parts),
+        Err(_) => Err(Lacking { what: Lack::Memory }),
+    }
+}
+
+/// Both parts of a clerk, which comes back where memory was wanting for them.
+pub(crate) fn part<'d, 'b, D: Disk, P: Policy + Drop>(
+    alloc: Global,
+    clerk: Clerk<'d, 'b, D, P>,
+) -> Result<(Allocator<'d, 'b, P>, Flusher<'d, 'b, D>), (Clerk<'d, 'b, D, P>, Lacking)>
+    ensures parts { IfOk result (λ parts. AreParts clerk.entry parts.0 parts.1) }
+    ensures of_one { IfOk result (λ parts. AreOfOne parts.0 parts.1) }
+    ensures refused { IfErr result (λ back. back.0 ≡ clerk.entry) }
+    ensures lack { IfErr result (λ back. back.1 ≡ Lack.Memory) }
+{
+    match split(alloc, clerk) {
+        Ok(parts) => Ok(parts),
+        Err((clerk, _)) => Err((clerk, Lacking { what: Lack::Memory })),
+    }
+}
+
+/// What a run by itself is undone for.
+fn undone_by(fault: Option<RunFault>) -> Option<Refusal>
+    ensures { result ≡ told (undone fault) }
+{
+    told_of(match fault {
+        Some(RunFault::Spawn) => Some(Lack::Thread),
+        Some(RunFault::Keeper(_)) => None,
+        None => None,
+    })
+}
+
+/// Both parts run while the gate goes on, the flusher on this thread. The fault, and what the run
+/// was refused.
+pub(crate) fn run_both<'d, 'b, R, G, D, P>(
+    rt: &R,
+    allocator: &mut Allocator<'d, 'b, P>,
+    flusher: &mut Flusher<'d, 'b, D>,
+    gate: &G,
+) -> (Option<RunFault>, Option<Refusal>)
+where
+    R: Threads + Wait + Sync,
+    G: Gate + Sync,
+    D: Disk + Drop,
+    P: Policy + Drop + Send,
+    requires of_one { AreOfOne allocator.old flusher.old }
+    ensures ran { HaveRunOn (P.chooses allocator.old.policy) D.state allocator.old allocator.new
+        flusher.old flusher.new result.0 }
+    ensures told { result.1 ≡ told (undone result.0) }
+{
+    let fault = run(rt, allocator, flusher, gate);
+    (fault, undone_by(fault))
 }

@@ -23,6 +23,7 @@ pub use attending::{Outcome, attend};
 pub use connections::Ticket;
 pub use first_line::terminal_of;
 pub use held::Held;
+pub use lacks::Refusal;
 pub use lobby::{Absent, Lobby, Missing, NoSeat, Returned, Vacancy};
 pub use pace::{AskBell, Bells, Pace};
 pub use pager::Pager;

@@ -2,13 +2,15 @@
 
 ghost use Rattle.std.specs.Prelude.{◌≡◌, [], Some};
 ghost use Rattle.lift_parts.specs.Parts.{AreOfOne, IsRejoined};
-ghost use Rattle.lift_serve.specs.Relaying.{HaveRunOn, IsLastTurn, TurnsTo};
+ghost use Rattle.lift_serve.specs.Relaying.{HaveRunOn, IsLastTurn, TurnsTo, told, undone};
 
+use crate::lacks::{Refusal, run_both};
+use crate::serving::ServeFault;
 use lift_clerk::{Clerk, Counts};
 use lift_disk::Disk;
 use lift_keeper::KeeperFault;
 use lift_policy::Policy;
-use lift_relay::{Allocator, Flusher, Gate, RunFault, rejoin, run};
+use lift_relay::{Allocator, Flusher, Gate, RunFault, rejoin};
 use std::sync::Wait;
 use std::thread::Threads;
 
@@ -18,6 +20,8 @@ pub struct Parts<'d, 'b, D: Disk + Drop, P: Policy + Drop> {
     pub allocator: Allocator<'d, 'b, P>,
     pub flusher: Flusher<'d, 'b, D>,
     pub fault: Option<RunFault>,
+    /// What the run was refused. A fault alone can't say that no thread could be made.
+    pub refusal: Option<Refusal>,
 }
 
 /// Both parts run while the gate goes on, the flusher on this thread, and are given back behind the
@@ -33,41 +37,49 @@ where
     D: Disk + Drop,
     P: Policy + Drop + Send,
     requires of_one { AreOfOne parts.allocator parts.flusher }
-    ensures { HaveRunOn (P.chooses parts.entry.allocator.policy) D.state parts.entry.allocator
+    ensures ran { HaveRunOn (P.chooses parts.entry.allocator.policy) D.state parts.entry.allocator
         result.allocator parts.entry.flusher result.flusher result.fault }
+    ensures told { result.refusal ≡ told (undone result.fault) }
 {
     let Parts {
         mut allocator,
         mut flusher,
         fault: _,
+        refusal: _,
     } = parts;
-    let fault = run(rt, &mut allocator, &mut flusher, gate);
+    let (fault, refusal) = run_both(rt, &mut allocator, &mut flusher, gate);
     Parts {
         allocator,
         flusher,
         fault,
+        refusal,
     }
 }
 
-/// Both parts as they were, where no thread could be made.
+/// Both parts as they were, where no thread could be made, of which this tells.
 #[tactic(auto, using(crate::proofs::Relayings::not_run))]
 pub fn unrun<'d, 'b, D: Disk + Drop, P: Policy + Drop>(
     parts: Parts<'d, 'b, D, P>,
+    refusal: Refusal,
 ) -> Parts<'d, 'b, D, P>
     requires of_one { AreOfOne parts.allocator parts.flusher }
+    requires thread { refusal ≡ ServeFault.Thread }
     ensures unrun { HaveRunOn (P.chooses parts.entry.allocator.policy) D.state parts.entry.allocator
         result.allocator parts.entry.flusher result.flusher result.fault }
     ensures spawn { result.fault ≡ Some RunFault.Spawn }
+    ensures told { result.refusal ≡ told (undone result.fault) }
 {
     let Parts {
         allocator,
         flusher,
         fault: _,
+        refusal: _,
     } = parts;
     Parts {
         allocator,
         flusher,
         fault: Some(RunFault::Spawn),
+        refusal: Some(refusal),
     }
 }
 

@@ -1,12 +1,13 @@
 //! The seats of a desk before their first sessions.
 
-ghost use Rattle.std.specs.Prelude.{◌≡◌, ◌≤◌, ◌++◌, ◌∷◌, [], All, Some, IfOk, length};
+ghost use Rattle.std.specs.Prelude.{◌≡◌, ◌≤◌, ◌++◌, ◌∷◌, [], All, Some, IfOk, IfErr, length};
 ghost use Rattle.lift_desk.specs.Seats.{AreSeatsOf, IsSeatOf, seats_from};
 ghost use Rattle.lift_register.specs.Register.{last_of as last_in};
 ghost use Rattle.lift_serve.specs.Lobby.{AreInOrder, all_found, found_at};
 ghost use Rattle.lift_serve.specs.Visits.{AreAsFound, IsNewSeat, known_of, letter_in as letter_of};
 
 use crate::held::Held;
+use crate::lacks::{Lack, Lacking, push, with_room};
 use crate::lobby::Lobby;
 use crate::pager::Pager;
 use arrayvec::ArrayVec;
@@ -14,7 +15,7 @@ use lift_base::{Content, Letter, Number, Terminal};
 use lift_desk::{Desk, Seat};
 use lift_kiosk::LastLetter;
 use lift_register::Register;
-use std::alloc::{AllocError, Global};
+use std::alloc::Global;
 
 /// How many terminals there are at most.
 const TERMINALS: usize = 63;
@@ -47,13 +48,15 @@ fn last_of(register: &Register, terminal: Terminal) -> LastLetter
 
 /// A pager for each terminal that there can be.
 #[tactic(auto, using(crate::proofs::Pagers::none_in_order, crate::proofs::Pagers::one_pager_more))]
-pub(crate) fn new_pagers(alloc: Global) -> Result<Vec<Pager>, AllocError>
+pub(crate) fn new_pagers(alloc: Global) -> Result<Vec<Pager>, Lacking>
     ensures count { IfOk result (λ pagers. length pagers.items ≡ 63) }
     ensures in_order { IfOk result (λ pagers. AreInOrder pagers.items) }
+    ensures lack { IfErr result (λ lacking. lacking ≡ Lack.Memory) }
 {
-    let mut pagers = Vec::with_capacity(alloc, TERMINALS)?;
+    let mut pagers = with_room(alloc, TERMINALS)?;
     for index in 0..TERMINALS {
-        pagers.push(Pager::new(Terminal::new(index as u8).unwrap()))?;
+        let pager = Pager::new(Terminal::new(index as u8).unwrap());
+        push(&mut pagers, pager)?;
     }
     Ok(pagers)
 }

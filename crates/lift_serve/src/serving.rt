@@ -12,7 +12,10 @@ ghost use Rattle.lift_serve.specs.Visits.{IsNewSeat};
 use crate::attending::attend;
 use crate::connections::{Connections, Ticket};
 use crate::keep_alive::watch;
-use crate::lacks::{Lack, Lacking, Lacks, first_of, read_ahead, share, share_again, start};
+use crate::lacks::{
+    Lack, Lacking, Lacks, Refusal, listen_again, open_desk, part, read_ahead, share, share_again,
+    start,
+};
 use crate::lobby::Lobby;
 use crate::pace::{Bells, Pace};
 use crate::pager::Pager;
@@ -22,11 +25,11 @@ use crate::waking::WakingWriter;
 use lift_base::text::{Counted, Watched};
 use lift_building::Building;
 use lift_clerk::Clerk;
-use lift_desk::{Desk, DeskParts, Seat};
+use lift_desk::{DeskParts, Seat};
 use lift_disk::Disk;
 use lift_keeper::Keeper;
 use lift_policy::Policy;
-use lift_relay::{Gate, RunFault, split};
+use lift_relay::{Gate, RunFault};
 use std::alloc::Global;
 use std::net::{Shutdown, TcpListener, TcpStream};
 use std::os::fd::OwnedFd;
@@ -53,8 +56,9 @@ pub struct Served<'b, D: Disk + Drop> {
     /// The keeper behind the last turn, or as it was where none was made. It is broken where a call
     /// of the device failed.
     pub keeper: Keeper<'b, D>,
-    /// That no thread could be had for the serving itself, and else the first fault of the rest.
-    pub fault: Option<ServeFault>,
+    /// That no thread could be had for the serving itself, and else the first that was refused to
+    /// the rest.
+    pub fault: Option<Refusal>,
 }
 
 /// How much is read of a connection at once, in bytes.
@@ -76,28 +80,6 @@ struct Shared<'a, 'd> {
     closing: &'a AtomicU64,
     connections: &'a Mutex<Connections>,
     lacks: &'a Mutex<Lacks>,
-}
-
-/// What a run by itself is undone for.
-fn undone_by(fault: Option<RunFault>) -> Option<Lack>
-    ensures { result ≡ undone fault }
-{
-    match fault {
-        Some(RunFault::Spawn) => Some(Lack::Thread),
-        Some(RunFault::Keeper(_)) => None,
-        None => None,
-    }
-}
-
-/// How a lack is told.
-fn told_of(lack: Option<Lack>) -> Option<ServeFault>
-    ensures { result ≡ told lack }
-{
-    match lack {
-        Some(Lack::Thread) => Some(ServeFault::Thread),
-        Some(Lack::Memory) => Some(ServeFault::Memory),
-        None => None,
-    }
 }
 
 impl<'a, 'd> Shared<'a, 'd> {
@@ -279,8 +261,9 @@ where
     D: Disk + Drop,
     P: Policy + Drop + Send,
     requires of_one { AreOfOne parts.allocator parts.flusher }
-    ensures { HaveRunOn (P.chooses parts.entry.allocator.policy) D.state parts.entry.allocator
+    ensures ran { HaveRunOn (P.chooses parts.entry.allocator.policy) D.state parts.entry.allocator
         result.allocator parts.entry.flusher result.flusher result.fault }
+    ensures told { result.refusal ≡ told (undone result.fault) }
 {
     thread::scope(
         thread::scope_env(),
@@ -288,15 +271,13 @@ where
         move |scope| -> Parts<D, P>
             requires { IsSync R.row × IsSync G.row × IsSend P.row
                 × AreOfOne parts.allocator parts.flusher }
-            ensures { HaveRunOn (P.chooses parts.entry.allocator.policy) D.state
+            ensures ran { HaveRunOn (P.chooses parts.entry.allocator.policy) D.state
                 parts.entry.allocator result.allocator parts.entry.flusher result.flusher
                 result.fault }
+            ensures told { result.refusal ≡ told (undone result.fault) }
         {
-            if scope
-                .spawn(move || welcome_all(rt, alloc, listener, shared))
-                .is_err()
-            {
-                return unrun(parts);
+            if let Err(lacking) = start(scope, move || welcome_all(rt, alloc, listener, shared)) {
+                return unrun(parts, lacking.told());
             }
             let ran = run_parts(rt, gate, parts);
             if ran.fault == Some(RunFault::Spawn) {
@@ -308,8 +289,8 @@ where
 }
 
 /// The clerk's work is done in two parts while connections are accepted. It turns once more behind
-/// them. What the parts' run by itself is undone for is told beside the clerk: no contract knows
-/// what a lock holds. Where memory was wanting for the parts the clerk comes back as it was.
+/// them. What was refused to the parts' run itself is told beside the clerk: no contract knows what
+/// a lock holds. Where memory was wanting for the parts the clerk comes back as it was.
 #[tactic(auto, using(crate::proofs::Relayings::relayed_on, crate::proofs::Relayings::none_in_hand, crate::proofs::Relayings::all_received))]
 fn run<'d, 'b, R: Threads + Wait + Clock + Sync, D: Disk + Drop, P: Policy + Drop + Send>(
     rt: &R,
@@ -317,38 +298,39 @@ fn run<'d, 'b, R: Threads + Wait + Clock + Sync, D: Disk + Drop, P: Policy + Dro
     listener: &TcpListener,
     shared: Shared<'_, '_>,
     clerk: Clerk<'d, 'b, D, P>,
-) -> Result<(Clerk<'d, 'b, D, P>, Option<Lack>), Clerk<'d, 'b, D, P>>
+) -> Result<(Clerk<'d, 'b, D, P>, Option<Refusal>), (Clerk<'d, 'b, D, P>, Lacking)>
     // Those are let in that speak for a terminal of the keeper's building.
     requires own { shared.building.now ≡ clerk.keeper.writer.plan }
     ensures ran { IfOk result (λ ran.
         (fault : Option Fault) × Relayed (P.chooses clerk.entry.policy) D.state clerk.entry ran.0
-        fault × (ran.1 ≡ undone fault)) }
-    ensures refused { IfErr result (λ back. back ≡ clerk.entry) }
+        fault × (ran.1 ≡ told (undone fault))) }
+    ensures refused { IfErr result (λ back. back.0 ≡ clerk.entry) }
+    ensures lack { IfErr result (λ back. back.1 ≡ Lack.Memory) }
 {
-    match split(alloc, clerk) {
+    match part(alloc, clerk) {
         Ok((allocator, flusher)) => {
             let parts = Parts {
                 allocator,
                 flusher,
                 fault: None,
+                refusal: None,
             };
             let pace = Pace::new(shared.bells, shared.closing);
             let ran = run_beside(rt, alloc, listener, shared, &pace, parts);
-            let own = undone_by(ran.fault);
-            Ok((turn_rejoined(ran.allocator, ran.flusher), own))
+            Ok((turn_rejoined(ran.allocator, ran.flusher), ran.refusal))
         }
-        Err((clerk, _)) => Err(clerk),
+        Err(back) => Err(back),
     }
 }
 
 /// Nobody is served, for this: the keeper as it is.
-fn unserved<'b, D: Disk + Drop>(keeper: Keeper<'b, D>, fault: ServeFault) -> Served<'b, D>
+fn unserved<'b, D: Disk + Drop>(keeper: Keeper<'b, D>, refusal: Refusal) -> Served<'b, D>
     ensures keeper { result.keeper ≡ keeper.entry }
-    ensures fault { result.fault ≡ Some fault }
+    ensures fault { result.fault ≡ Some refusal }
 {
     Served {
         keeper,
-        fault: Some(fault),
+        fault: Some(refusal),
     }
 }
 
@@ -387,12 +369,12 @@ fn serve_from<'d, 'b, R: Threads + Wait + Clock + Sync, D: Disk + Drop, P: Polic
             let (_seat, keeper, _policy) = clerk.into_parts();
             Served {
                 keeper,
-                fault: told_of(first_of(own, lacks.into_inner().first())),
+                fault: lacks.into_inner().behind(own),
             }
         }
-        Err(clerk) => {
+        Err((clerk, lacking)) => {
             let (_seat, keeper, _policy) = clerk.into_parts();
-            unserved(keeper, ServeFault::Memory)
+            unserved(keeper, lacking.told())
         }
     }
 }
@@ -440,14 +422,17 @@ pub fn serve<'b, R: Threads + Wait + Clock + Sync, D: Disk + Drop, P: Policy + D
     ensures { ComesTo (P.chooses policy) D.state policy keeper.entry result.keeper result.fault }
 {
     let terminals = 16 + usize::from(keeper.building().kiosks());
-    let Ok(DeskParts { desk, seats, clerk }) = Desk::open(alloc, terminals) else {
-        return unserved(keeper, ServeFault::Memory);
+    let DeskParts { desk, seats, clerk } = match open_desk(alloc, terminals) {
+        Ok(parts) => parts,
+        Err(lacking) => return unserved(keeper, lacking.told()),
     };
-    let Ok(pagers) = new_pagers(alloc) else {
-        return unserved(keeper, ServeFault::Memory);
+    let pagers = match new_pagers(alloc) {
+        Ok(pagers) => pagers,
+        Err(lacking) => return unserved(keeper, lacking.told()),
     };
-    let Ok(again) = listener.try_clone() else {
-        return unserved(keeper, ServeFault::Network);
+    let again = match listen_again(listener) {
+        Ok(again) => again,
+        Err(refusal) => return unserved(keeper, refusal),
     };
     let listening = TcpStream::from(OwnedFd::from(again));
     let connections = Connections::new(alloc, listening, sessions);

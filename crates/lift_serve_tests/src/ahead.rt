@@ -244,10 +244,12 @@ fn serve_callers<
     let calls = move || call(rt, alloc, port, shared, are_both);
     let ended = &shared.ended;
     match serve_beside(rt, alloc, &listener, sessions, keeper, policy, ended, calls) {
-        Served {
-            keeper,
-            fault: None,
-        } if !keeper.is_broken() => Ok(keeper.register().open_count()),
+        Some(
+            Served {
+                keeper,
+                fault: None,
+            },
+        ) if !keeper.is_broken() => Ok(keeper.register().open_count()),
         _ => Err("a fault of serving".into()),
     }
 }

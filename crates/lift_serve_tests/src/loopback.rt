@@ -245,10 +245,12 @@ fn served<
     let (count, ended) = (&followed, &end);
     let calls = move || follow(rt, alloc, port, script, count, ended);
     match serve_beside(rt, alloc, &listener, sessions, keeper, policy, ended, calls) {
-        Served {
-            keeper,
-            fault: None,
-        } => {
+        Some(
+            Served {
+                keeper,
+                fault: None,
+            },
+        ) => {
             if count.load(Ordering::SeqCst) == 1 {
                 Ok(keeper)
             } else {

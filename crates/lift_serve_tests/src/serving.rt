@@ -5,7 +5,7 @@ ghost use Rattle.std.specs.Thread.{IsSync};
 use lift_disk::Disk;
 use lift_keeper::Keeper;
 use lift_policy::Policy;
-use lift_serve::{ServeFault, Served, serve};
+use lift_serve::{Served, serve};
 use std::alloc::Global;
 use std::net::TcpListener;
 use std::process::Abort;
@@ -30,7 +30,7 @@ fn watch<R: Clock + Abort>(rt: &R, ended: &AtomicU64) {
 }
 
 /// Serves on a socket until so many connections have ended, while a thread calls and another one
-/// watches.
+/// watches. None where there was no thread for these.
 pub(crate) fn serve_beside<'b, R, D, P, C>(
     rt: &R,
     alloc: Global,
@@ -40,7 +40,7 @@ pub(crate) fn serve_beside<'b, R, D, P, C>(
     policy: P,
     ended: &AtomicU64,
     calls: C,
-) -> Served<'b, D>
+) -> Option<Served<'b, D>>
 where
     R: Threads + Wait + Clock + Abort + Sync,
     D: Disk + Drop,
@@ -52,27 +52,21 @@ where
     thread::scope(
         thread::scope_env(),
         rt,
-        move |scope| -> Served<D>
+        move |scope| -> Option<Served<D>>
             requires sync { IsSync R.row }
             requires settled { keeper.state.batch ≡ [] }
             requires calls { C.pre calls }
         {
             if scope.spawn(move || watch(rt, ended)).is_err() {
-                return Served {
-                    keeper,
-                    fault: Some(ServeFault::Thread),
-                };
+                return None;
             }
             if scope.spawn(calls).is_err() {
                 ended.store(1, Ordering::SeqCst);
-                return Served {
-                    keeper,
-                    fault: Some(ServeFault::Thread),
-                };
+                return None;
             }
             let served = serve(rt, alloc, listener, sessions, keeper, policy);
             ended.store(1, Ordering::SeqCst);
-            served
+            Some(served)
         },
     )
 }

@@ -6,4 +6,4 @@ use Rattle.lift_serve.proofs.Sessions.{are_new}
 use Rattle.lift_serve.proofs.serving.serve.Goals as goal
 
 pub serve_at-requires-clause-new : goal.serve_at-requires-clause-new
-serve_at-requires-clause-new g c κs within = subst (λ (seats : List TerminalSeat). All IsNewSeat seats) (sym c.in-Ok.ensures.seats) (are_new 0 c.in-Ok.field-0.desk)
+serve_at-requires-clause-new g c κs within = subst (λ (seats : List TerminalSeat). All IsNewSeat seats) (sym c.in-Ok.ensures.seats) (are_new 0 c.in-Ok.parts.desk)
