@@ -18,7 +18,7 @@ use Rattle.lift_parts.specs.lemmas.Paired.{turns_joined, flushes_joined, same_al
 abbrev fault_in : Option RunFault → Option KeeperFault
 fault_in None = None
 fault_in (Some (Keeper fault)) = Some fault
-fault_in (Some Spawn) = None
+fault_in (Some (Spawn no_thread)) = None
 
 keeper_of : (first : Option KeeperFault) (fault : KeeperFault) → fault_of first ≡ Some (Keeper fault) → first ≡ Some fault
 keeper_of None fault is = ap fault_in is
@@ -27,18 +27,18 @@ keeper_of (Some e) fault is = ap fault_in is
 abbrev is_spawn : Option RunFault → Type 0
 is_spawn None = ⊥
 is_spawn (Some (Keeper fault)) = ⊥
-is_spawn (Some Spawn) = Unit {0}
+is_spawn (Some (Spawn no_thread)) = Unit {0}
 
 not_spawn : (first : Option KeeperFault) → is_spawn (fault_of first) → ⊥
 not_spawn None is = is
 not_spawn (Some e) is = is
 
 module _ {D P : Type 0} (choice : Choice) (state : D → DiskState) (a b : AllocatorState P) (f g : FlusherState D) (fault : Option RunFault) where
-  pub refused_of : IsRun choice state a b f g fault → fault ≡ Some Spawn → (b ≡ a) × (g ≡ f)
+  pub refused_of : IsRun choice state a b f g fault → fault ≡ Some (Spawn tt) → (b ≡ a) × (g ≡ f)
   refused_of (inl refused) is = refused.1
   refused_of (inr run) is = absurd (not_spawn run.first (subst is_spawn (sym is ∙ run.is_first) tt))
 
-  pub ran_of : IsRun choice state a b f g fault → (fault ≡ Some Spawn → ⊥) → HaveRun choice state a b f g fault
+  pub ran_of : IsRun choice state a b f g fault → (fault ≡ Some (Spawn tt) → ⊥) → HaveRun choice state a b f g fault
   ran_of (inl refused) goes = absurd (goes refused.0)
   ran_of (inr run) goes = run
 
@@ -68,7 +68,7 @@ module _ {D P : Type 0} (choice : Choice) (state : D → DiskState) (a b : Alloc
 
 -- What a run adds to what has happened, where as much was received as was sent: nothing, if no thread could be made.
 pub advances_of : {D P : Type 0} (chooses : P → Choice) (state : D → DiskState) (a b : AllocatorState P) (f g : FlusherState D) (fault : Option RunFault) (safe : List Entry) (given : List Held)
-    → RunsAreHistories D P chooses state → IsRun (chooses a.policy) state a b f g fault → ((fault ≡ Some Spawn → ⊥) → b.end.sent ≡ g.end.received) → HasPast chooses a f safe given
+    → RunsAreHistories D P chooses state → IsRun (chooses a.policy) state a b f g fault → ((fault ≡ Some (Spawn tt) → ⊥) → b.end.sent ≡ g.end.received) → HasPast chooses a f safe given
     → Advances chooses b f g safe given
 advances_of {D} {P} chooses state a b f g fault safe given law (inl refused) same start = record {
   batches = [];

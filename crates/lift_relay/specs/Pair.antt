@@ -25,13 +25,13 @@ IfRan closed (Ran now) = closed
 
 -- this, where both parts had theirs
 abbrev pub IfDone : Type 0 → Turned → Type 0
-IfDone closed Refused = Unit {0}
+IfDone closed (Refused no_thread) = Unit {0}
 IfDone closed (Done first) = closed
 
 -- no thread could be made, and both parts are as they were; or each has had its turns
 abbrev pub HaveTurned : {D P : Type 0} → Choice → (D → DiskState) → AllocatorState P
     → AllocatorState P → FlusherState D → FlusherState D → Turned → Type 0
-HaveTurned choice state a b f g Refused = (b ≡ a) × (g ≡ f)
+HaveTurned choice state a b f g (Refused no_thread) = (b ≡ a) × (g ≡ f)
 HaveTurned choice state a b f g (Done first) = AllocatorTurns choice a b
     × FlusherTurns state f None g first
 
@@ -54,5 +54,5 @@ pub record HaveRun {D P : Type 0} (choice : Choice) (state : D
 -- No thread could be made, and both parts are as they were; or both have run.
 abbrev pub IsRun : {D P : Type 0} → Choice → (D → DiskState) → AllocatorState P → AllocatorState P
     → FlusherState D → FlusherState D → Option RunFault → Type 0
-IsRun choice state a b f g fault = ((fault ≡ Some Spawn) × ((b ≡ a) × (g ≡ f)))
+IsRun choice state a b f g fault = ((fault ≡ Some (Spawn tt)) × ((b ≡ a) × (g ≡ f)))
     ⊎ HaveRun choice state a b f g fault

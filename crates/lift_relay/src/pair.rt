@@ -17,6 +17,7 @@ ghost use Rattle.lift_parts.specs.Runs.{HasPast, Advances};
 use crate::allocator::Allocator;
 use crate::flusher::Flusher;
 use crate::places::with_both;
+use crate::refused::{NoThread, spawn};
 use lift_disk::Disk;
 use lift_keeper::KeeperFault;
 use lift_parts::runs_are_histories;
@@ -25,7 +26,7 @@ use std::snapshot::Snapshot;
 use std::sync::Wait;
 use std::sync::atomic::{AtomicBool, Ordering};
 use std::thread;
-use std::thread::{Promise, SpawnError, Threads};
+use std::thread::{Promise, Threads};
 
 /// Says whether both parts go on, and is told how far they are, so that their threads may wait here
 /// in place of turning for nothing. What a run sends and receives behind the last turn of both is
@@ -64,7 +65,7 @@ pub enum RunFault {
     /// The flusher's first fault in the call.
     Keeper(KeeperFault),
     /// The thread couldn't be started.
-    Spawn,
+    Spawn(NoThread),
 }
 
 /// Tells the gate what a turn of the allocator did, before which so many batches had been sent.
@@ -218,7 +219,7 @@ fn allocate_if<'d, 'b, R: Wait, G: Gate, P: Policy + Drop>(
 #[derive(Clone, Copy)]
 enum Turned {
     /// No thread could be made.
-    Refused,
+    Refused(NoThread),
     /// They had, and this is the flusher's first fault.
     Done(Option<KeeperFault>),
 }
@@ -255,7 +256,7 @@ where
                 ensures comes { ComesFrom (P.chooses allocator.entry.policy) allocator.entry result }
                 ensures closed { IfRan (G.closed gate.entry.now) result }
             { allocate_if(rt, flag, allocator, gate) };
-            match scope.spawn_with(promise, work) {
+            match spawn(scope, promise, work) {
                 Ok(child) => {
                     let first = flush(rt, &mut flusher, gate);
                     match child.join(rt) {
@@ -263,12 +264,15 @@ where
                         Allocating::Ran(allocator) => (allocator, flusher, Turned::Done(first)),
                     }
                 }
-                Err(refused) => {
+                Err((unmade, no_thread)) => {
                     // The closure alone has the allocator, and hands it back unturned.
                     flag.store(false, Ordering::SeqCst);
-                    let SpawnError { value } = refused;
-                    match value() {
-                        Allocating::Idle(allocator) => (allocator, flusher, Turned::Refused),
+                    match unmade() {
+                        Allocating::Idle(allocator) => (
+                            allocator,
+                            flusher,
+                            Turned::Refused(no_thread),
+                        ),
                         Allocating::Ran(allocator) => (allocator, flusher, Turned::Done(None)),
                     }
                 }
@@ -291,11 +295,11 @@ where
     P: Policy + Drop + Send,
     ensures ran { IsRun (P.chooses allocator.entry.policy) D.state allocator.entry result.0
         flusher.entry result.1 result.2 }
-    ensures closed { result.2 ≢ Some RunFault.Spawn → G.closed gate.now }
+    ensures closed { result.2 ≢ Some (RunFault.Spawn tt) → G.closed gate.now }
 {
     let (mut allocator, mut flusher, turned) = turn_both(rt, allocator, flusher, gate);
     match turned {
-        Turned::Refused => (allocator, flusher, Some(RunFault::Spawn)),
+        Turned::Refused(no_thread) => (allocator, flusher, Some(RunFault::Spawn(no_thread))),
         Turned::Done(first) => {
             let fault = match drain(rt, &mut allocator, &mut flusher, first) {
                 Some(fault) => Some(RunFault::Keeper(fault)),
@@ -325,13 +329,13 @@ where
     D: Disk + Drop,
     P: Policy + Drop + Send,
     requires of_one { AreOfOne allocator.old flusher.old }
-    ensures refused { result ≡ Some RunFault.Spawn
+    ensures refused { result ≡ Some (RunFault.Spawn tt)
         → (allocator.new ≡ allocator.old) × (flusher.new ≡ flusher.old) }
-    ensures ran { result ≢ Some RunFault.Spawn
+    ensures ran { result ≢ Some (RunFault.Spawn tt)
         → HaveRun (P.chooses allocator.old.policy) D.state allocator.old allocator.new flusher.old
         flusher.new result }
     // It ends only once the gate has said not to go on, or where no thread could be made.
-    ensures closed { result ≢ Some RunFault.Spawn → G.closed gate.now }
+    ensures closed { result ≢ Some (RunFault.Spawn tt) → G.closed gate.now }
     ensures broken { (fault : KeeperFault) → result ≡ Some (RunFault.Keeper fault)
         → flusher.new.writer.is_broken ≡ true }
     ensures same_allocator { IsSameAllocator allocator.old allocator.new }
@@ -340,7 +344,7 @@ where
     // What was received, and then what the line holds, is what was sent; after a run it holds
     // nothing.
     ensures queued { Queued allocator.new.end flusher.new.end }
-    ensures received { result ≢ Some RunFault.Spawn
+    ensures received { result ≢ Some (RunFault.Spawn tt)
         → allocator.new.end.sent ≡ flusher.new.end.received }
     // Whatever has happened to both parts before, the history goes on by just the batches that the
     // run received.
@@ -359,7 +363,7 @@ where
         )
             ensures ran { IsRun (P.chooses allocator.entry.policy) D.state allocator.entry result.0
                 flusher.entry result.1 result.2 }
-            ensures closed { result.2 ≢ Some RunFault.Spawn → G.closed gate.entry.now }
+            ensures closed { result.2 ≢ Some (RunFault.Spawn tt) → G.closed gate.entry.now }
         { run_owned(rt, allocator, flusher, gate) },
     );
     flusher.compare(allocator);

@@ -26,13 +26,13 @@ returns-in-Idle g c =
 
 pub returns-in-Idle-2 : goal.returns-in-Idle-2
 returns-in-Idle-2 g c =
-    let back : c.in-Err.refused.value.2 ≡ c.captures.allocator = search rules in
+    let back : c.in-Err.unmade.2 ≡ c.captures.allocator = search rules in
     record { turned = (c.in-Idle-2.ensures.comes ∙ back, refl); closed = tt }
 
 pub returns-in-Ran-2 : goal.returns-in-Ran-2
 returns-in-Ran-2 g c =
-    let back : c.in-Err.refused.value.2 ≡ c.captures.allocator = search rules in
-    let gate : c.in-Err.refused.value.3 ≡ c.captures.gate = search rules in
+    let back : c.in-Err.unmade.2 ≡ c.captures.allocator = search rules in
+    let gate : c.in-Err.unmade.3 ≡ c.captures.gate = search rules in
     record {
       turned = (subst (λ (a : AllocatorState g.row.P.Denot). AllocatorTurns (g.P.Policy.chooses a.policy) a c.in-Ran-2.allocator) back c.in-Ran-2.ensures.comes, NoFlush);
       closed = subst (λ x. g.G.Gate.closed x.now) gate c.in-Ran-2.ensures.closed;
@@ -42,13 +42,13 @@ returns-in-Ran-2 g c =
 captures_send : (ν : Sym) (A B C D : RattleType) → IsSend A → IsSend B → IsSend C → IsSend D → IsSend (TupleAt ν (A ∷ B ∷ C ∷ D ∷ []))
 captures_send ν A B C D a b c d = search sendable depth 20
 
-pub spawn_with-requires-send-T : goal.spawn_with-requires-send-T
-spawn_with-requires-send-T g c = λ κs h.
+pub spawn-requires-send-T : goal.spawn-requires-send-T
+spawn-requires-send-T g c = λ κs h.
     let p : IsSend (param 3 g.row.P) = c.requires-raw.1.1.1.1.0 in
     param_send 3 _ (arg_send _ no _ (allocating_send _ _ (param 3 g.row.P) _ p))
 
-pub spawn_with-requires-send-F : goal.spawn_with-requires-send-F
-spawn_with-requires-send-F g c = λ κs h.
+pub spawn-requires-send-F : goal.spawn-requires-send-F
+spawn-requires-send-F g c = λ κs h.
     let p : IsSend (param 3 g.row.P) = c.requires-raw.1.1.1.1.0 in
     let rt : IsSync (param 0 g.row.R) = c.requires-raw.1.1.1.1.1.0 in
     let gate : IsSync (param 1 g.row.G) = c.requires-raw.1.1.1.1.1.1 in
