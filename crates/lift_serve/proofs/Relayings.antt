@@ -20,27 +20,27 @@ use Rattle.lift_serve.specs.Relaying.{HaveRunOn, IsLastTurn, Relayed, first_told
 abbrev is_spawn : Option RunFault → Type 0
 is_spawn None = ⊥
 is_spawn (Some (Keeper fault)) = ⊥
-is_spawn (Some Spawn) = Unit {0}
+is_spawn (Some (Spawn no_thread)) = Unit {0}
 
 abbrev nothing : Option RunFault
 nothing = None
 
-no_fault : nothing ≡ Some Spawn → ⊥
+no_fault : nothing ≡ Some (Spawn tt) → ⊥
 no_fault is = subst is_spawn (sym is) tt
 
-not_spawn : (of : KeeperFault) → Some (Keeper of) ≡ Some Spawn → ⊥
+not_spawn : (of : KeeperFault) → Some (Keeper of) ≡ Some (Spawn tt) → ⊥
 not_spawn of is = subst is_spawn (sym is) tt
 
 module _ {D P : Type 0} (choice : Choice) (state : D → DiskState) (before : ClerkState D P) (a b : AllocatorState P) (f g : FlusherState D) where
   pub none_in_hand : (fault : Option RunFault) → AreParts before a f → HaveRunOn choice state a b f g fault → b.hand ≡ []
   none_in_hand None parts run = (run.ran no_fault).nothing_in_hand
   none_in_hand (Some (Keeper of)) parts run = (run.ran (not_spawn of)).nothing_in_hand
-  none_in_hand (Some Spawn) parts run = ap (λ (x : AllocatorState P). x.hand) (run.refused refl).0 ∙ parts.nothing_sent.4
+  none_in_hand (Some (Spawn no_thread)) parts run = ap (λ (x : AllocatorState P). x.hand) (run.refused refl).0 ∙ parts.nothing_sent.4
 
   pub all_received : (fault : Option RunFault) → AreParts before a f → HaveRunOn choice state a b f g fault → b.end.sent ≡ g.end.received
   all_received None parts run = run.received no_fault
   all_received (Some (Keeper of)) parts run = run.received (not_spawn of)
-  all_received (Some Spawn) parts run =
+  all_received (Some (Spawn no_thread)) parts run =
       ap (λ (x : AllocatorState P). x.end.sent) (run.refused refl).0 ∙ parts.nothing_sent.0
       ∙ sym (ap (λ (x : FlusherState D). x.end.received) (run.refused refl).1 ∙ parts.nothing_sent.2)
 
@@ -48,7 +48,7 @@ module _ {D P : Type 0} (choice : Choice) (state : D → DiskState) (before : Cl
   breaks : (fault : Option RunFault) (after : ClerkState D P) → HaveRunOn choice state a b f g fault → (last : IsLastTurn choice b g after)
       → after.keeper.writer.is_broken ≡ (has_failed fault || is_err last.result)
   breaks None after run last = last.turn.broken
-  breaks (Some Spawn) after run last = last.turn.broken
+  breaks (Some (Spawn no_thread)) after run last = last.turn.broken
   breaks (Some (Keeper of)) after run last =
       last.turn.broken ∙ last.turn.stays_broken (ap (λ (w : WriterView D). w.is_broken) last.rejoined.writer ∙ run.broken of refl)
 
@@ -76,7 +76,7 @@ relayed_on {D} {P} chooses state before after a b f g fault parts run last =
     (relayed (chooses a.policy) state before a b f g fault after parts run (subst (λ (p : P). IsLastTurn (chooses p) b g after) run.same.policy last))
 
 -- parts that no thread could be made for are as they were
-pub not_run : {D P : Type 0} (choice : Choice) (state : D → DiskState) (a : AllocatorState P) (f : FlusherState D) → AreOfOne a f → HaveRunOn choice state a a f f (Some Spawn)
+pub not_run : {D P : Type 0} (choice : Choice) (state : D → DiskState) (a : AllocatorState P) (f : FlusherState D) → AreOfOne a f → HaveRunOn choice state a a f f (Some (Spawn tt))
 not_run choice state a f of_one = record {
   refused = λ spawn. (refl, refl);
   ran = λ other. absurd (other refl);
@@ -88,7 +88,7 @@ not_run choice state a f of_one = record {
 
 -- that no thread could be made for the serving itself is told, whatever else there was
 pub tells_spawn : (fault : Option RunFault) (own : Option ServeFault) (rest : Option Lack) (is_told : Option ServeFault) → own ≡ told (undone fault)
-    → is_told ≡ first_told own (told rest) → fault ≡ Some Spawn → is_told ≡ Some Thread
+    → is_told ≡ first_told own (told rest) → fault ≡ Some (Spawn tt) → is_told ≡ Some Thread
 tells_spawn fault own rest is_told is says spawn =
     says ∙ ap (λ (o : Option ServeFault). first_told o (told rest)) (is ∙ ap (λ (f : Option RunFault). told (undone f)) spawn)
 

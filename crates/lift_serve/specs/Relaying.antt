@@ -40,9 +40,9 @@ pub record TurnsTo {D P : Type 0} (choice : Choice) (before after : ClerkState D
 pub record HaveRunOn {D P : Type 0} (choice : Choice) (state : D
     → DiskState) (a b : AllocatorState P) (f g : FlusherState D)
     (fault : Option RunFault) : Type 0 where
-  pub refused : fault ≡ Some Spawn → (b ≡ a) × (g ≡ f)
-  pub ran : fault ≢ Some Spawn → HaveRun choice state a b f g fault
-  pub received : fault ≢ Some Spawn → b.end.sent ≡ g.end.received
+  pub refused : fault ≡ Some (Spawn tt) → (b ≡ a) × (g ≡ f)
+  pub ran : fault ≢ Some (Spawn tt) → HaveRun choice state a b f g fault
+  pub received : fault ≢ Some (Spawn tt) → b.end.sent ≡ g.end.received
   pub broken : (of : KeeperFault) → fault ≡ Some (Keeper of) → g.writer.is_broken ≡ true
   pub same : IsSameAllocator a b
   pub of_one : AreOfOne b g
@@ -58,14 +58,14 @@ pub record IsLastTurn {D P : Type 0} (choice : Choice) (a : AllocatorState P) (f
 -- whether a turn of the flusher failed
 abbrev pub has_failed : Option RunFault → Bool
 has_failed None = false
-has_failed (Some Spawn) = false
+has_failed (Some (Spawn no_thread)) = false
 has_failed (Some (Keeper fault)) = true
 
 -- what a run by itself is undone for: that no thread could be made
 abbrev pub undone : Option RunFault → Option Lack
 undone None = None
 undone (Some (Keeper fault)) = None
-undone (Some Spawn) = Some NoThread
+undone (Some (Spawn no_thread)) = Some NoThread
 
 -- the first of two, if there is one
 abbrev pub first_told : {T : Type 0} → (before behind : Option T) → Option T
@@ -114,7 +114,7 @@ pub record IsServedKeeper {D P : Type 0} (choice : Choice) (state : D
     (fault : Option ServeFault) : Type 0 where
   pub relayed : IsRelayedKeeper choice state policy keeper keeper'
   pub seats : length relayed.before.desk ≡ 16 + length keeper.writer.plan.kiosks
-  pub tells : relayed.fault ≡ Some Spawn → fault ≡ Some Thread
+  pub tells : relayed.fault ≡ Some (Spawn tt) → fault ≡ Some Thread
   pub begun : fault ≢ Some Network
 
 -- Nobody was served: the keeper is as it was, and that the socket failed or that memory was wanting

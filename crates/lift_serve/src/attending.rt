@@ -19,6 +19,7 @@ use lift_base::text::{Counted, Watched};
 use lift_building::Building;
 use lift_kiosk::{End, Line, NoLine, read_line};
 use std::io::{Read, Write};
+use std::marker::Model;
 use std::sync::{Mutex, Wait};
 use std::time::Clock;
 
@@ -39,6 +40,30 @@ pub enum Outcome<'d> {
     /// There was a session of the terminal that it names, which ended so, and whose seat is back in
     /// the lobby.
     Visited(Returned<'d>, End),
+}
+
+/// That a connection was attended to, and what came of it. Only `attend` makes one.
+#[derive(Drop)]
+pub struct Attended<'d> {
+    outcome: Outcome<'d>,
+}
+
+impl<'d> Model for Attended<'d> {
+    ghost use Rattle.lift_serve.specs.declared.attending.Outcome.{Outcome};
+
+    ghost Value = { Outcome };
+
+    ghost view = { λ a. a.outcome };
+}
+
+impl<'d> Attended<'d> {
+    /// What came of the connection.
+    pub fn outcome(self) -> Outcome<'d>
+        ensures { result ≡ self.entry }
+    {
+        let Attended { outcome } = self;
+        outcome
+    }
 }
 
 /// The first line.
@@ -109,10 +134,8 @@ fn terminal_in(building: &Building, line: &Line) -> Option<Terminal>
     terminal_of(line, building.cars(), building.kiosks())
 }
 
-/// Reads the first line, and serves the terminal that it names. Where the line names none of the
-/// building, or one whose seat the lobby's desk hasn't, `BAD` is answered, and where its seat is in
-/// use `BUSY`.
-pub fn attend<'d, R: Wait + Clock, I: Read + Drop, O: Write + Drop>(
+/// What comes of a connection.
+fn outcome_of<'d, R: Wait + Clock, I: Read + Drop, O: Write + Drop>(
     rt: &R,
     lobby: &Mutex<Lobby<'d>>,
     ticket: Ticket,
@@ -146,4 +169,24 @@ pub fn attend<'d, R: Wait + Clock, I: Read + Drop, O: Write + Drop>(
     };
     let (held, end) = held.visit(rt, bell, reader, writer);
     Outcome::Visited(put_back(rt, lobby, held, vacancy), end)
+}
+
+/// Reads the first line, and serves the terminal that it names. Where the line names none of the
+/// building, or one whose seat the lobby's desk hasn't, `BAD` is answered, and where its seat is in
+/// use `BUSY`.
+pub fn attend<'d, R: Wait + Clock, I: Read + Drop, O: Write + Drop>(
+    rt: &R,
+    lobby: &Mutex<Lobby<'d>>,
+    ticket: Ticket,
+    bell: &AskBell,
+    building: &Building,
+    reader: &mut Counted<I>,
+    writer: &mut Watched<O>,
+) -> Attended<'d>
+    ensures { Attends (length building.now.cars) (length building.now.kiosks) result
+        (source_of I.remaining reader.old) (source_of I.remaining reader.new)
+        (sink_of O.contents writer.old) (sink_of O.contents writer.new) }
+{
+    let outcome = outcome_of(rt, lobby, ticket, bell, building, reader, writer);
+    Attended { outcome }
 }

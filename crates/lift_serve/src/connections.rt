@@ -1,12 +1,14 @@
 //! The connections that are open, and how many have ended.
 
-ghost use Rattle.std.specs.Prelude.{◌≡◌, ℕ, ◌+◌, ◌%◌, ◌^◌, ◌∷◌, ◌++◌, [], pred, Ok, Some, None};
-ghost use Rattle.std.specs.Prelude.{IfErr, IsTrue, ◌↔◌, not, ◌==◌, filter};
+ghost use Rattle.std.specs.Prelude.{◌≡◌, ◌≢◌, ℕ, ◌+◌, ◌%◌, ◌^◌, ◌∷◌, ◌++◌, [], pred, Ok, true, is_err};
+ghost use Rattle.std.specs.Prelude.{IfOk, IfErr, IsSome, IsTrue, ◌↔◌, not, ◌==◌, filter};
 
-use crate::lacks::{Lack, Lacking, push};
+use crate::attending::Attended;
+use crate::lacks::{Lack, Lacking, Noted, push};
 use std::alloc::Global;
 use std::marker::Model;
 use std::net::{Shutdown, TcpStream};
+use std::snapshot::Snapshot;
 use std::sync::Arc;
 
 /// An open connection.
@@ -37,6 +39,29 @@ impl Ticket {
     {
         self.number
     }
+}
+
+/// Why a connection has ended.
+#[derive(Drop)]
+pub(crate) enum Ending<'d> {
+    /// It was attended to.
+    Attended(Attended<'d>),
+    /// Something was wanting for it.
+    Lacking(Noted),
+}
+
+/// That the end of the connection of this number was counted. Only `leave` makes one.
+#[derive(Drop)]
+pub(crate) struct Left {
+    number: u64,
+}
+
+/// That all connections have ended that were to end. Only `Connections` makes one, where none is
+/// left.
+#[derive(Drop)]
+pub(crate) struct Over {
+    connections: Snapshot<Connections>,
+    ghost none_left: { connections.value.left ≡ 0 },
 }
 
 /// The connections that are open, and how many may still end before all of them are closed.
@@ -77,10 +102,20 @@ impl Connections {
     }
 
     /// Whether all have ended that were to end.
-    pub fn is_over(&self) -> bool
-        ensures { IsTrue result ↔ (self.now.left ≡ 0) }
+    pub(crate) fn is_over(&self) -> Option<Over>
+        ensures { IsSome result ↔ (self.now.left ≡ 0) }
     {
-        self.left == 0
+        let is_over = self.left == 0;
+        if is_over { Some(self.over()) } else { None }
+    }
+
+    /// None is left.
+    fn over(&self) -> Over
+        requires { self.now.left ≡ 0 }
+    {
+        Over {
+            connections: Snapshot::of(self),
+        }
     }
 
     /// Whether none is open.
@@ -90,43 +125,56 @@ impl Connections {
         self.open.is_empty()
     }
 
-    /// A connection is open from now on, by the number of the ticket. None where all have ended
-    /// that were to end.
-    pub fn enter(&mut self, stream: Arc<TcpStream>) -> Result<Option<Ticket>, Lacking>
-        ensures over { self.old.left ≡ 0 → result ≡ Ok None }
-        ensures let_in { (number : ℕ) → result ≡ Ok (Some number) → (number ≡ self.old.next)
+    /// A connection is open from now on, by the number of the ticket. Nobody is let in where all
+    /// have ended that were to end.
+    pub(crate) fn enter(&mut self, stream: Arc<TcpStream>) -> Result<Result<Ticket, Over>, Lacking>
+        ensures over { self.old.left ≡ 0 → IfOk result (λ entered. is_err entered ≡ true) }
+        ensures lacks { IfErr result (λ _. self.old.left ≢ 0) }
+        ensures let_in { (number : ℕ) → result ≡ Ok (Ok number) → (number ≡ self.old.next)
             × (self.new ≡ record self.old {
               numbers = self.old.numbers ++ number ∷ [];
               next = (self.old.next + 1) % 2 ^ 64;
             }) }
-        ensures left_out { result ≡ Ok None → (self.old.left ≡ 0) × (self.new ≡ self.old) }
+        ensures left_out { IfOk result (λ entered. IfErr entered (λ _.
+            (self.old.left ≡ 0) × (self.new ≡ self.old))) }
         ensures unchanged { IfErr result (λ _. self.new ≡ self.old) }
         ensures lack { IfErr result (λ lacking. lacking ≡ Lack.Memory) }
     {
         if self.left == 0 {
-            return Ok(None);
+            return Ok(Err(self.over()));
         }
         let number = self.next;
         push(&mut self.open, Open { number, stream })?;
         self.next = number.wrapping_add(1);
-        Ok(Some(Ticket { number }))
+        Ok(Ok(Ticket { number }))
     }
 
-    /// The connection of this number has ended.
-    pub fn leave(&mut self, number: u64)
-        ensures { self.new ≡ record self.old {
+    /// The connection of this number has ended, and so.
+    pub(crate) fn leave(&mut self, number: u64, ending: Ending<'_>) -> Left
+        ensures left { self.new ≡ record self.old {
           numbers = filter (λ n.
               not (n == number)) self.old.numbers;
           left = pred self.old.left;
         } }
+        ensures number { result.number ≡ number }
     {
+        let _used = ending;
         self.open.retain(|open| open.number != number);
+        self.ended();
+        Left { number }
+    }
+
+    /// A connection that was not let in has ended, for which something was wanting.
+    pub(crate) fn refuse(&mut self, noted: Noted)
+        ensures { self.new ≡ record self.old { left = pred self.old.left } }
+    {
+        let _used = noted;
         self.ended();
     }
 
     /// One connection more has ended. Behind the last one that is to end no more are accepted, and
     /// nothing more is read from the others.
-    pub fn ended(&mut self)
+    fn ended(&mut self)
         ensures { self.new ≡ record self.old { left = pred self.old.left } }
     {
         if self.left == 0 {

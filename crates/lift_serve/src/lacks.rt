@@ -6,10 +6,13 @@ ghost use Rattle.lift_desk.specs.Seats.{AreSeatsOf, IsClerkOf, OwesNothing, seat
 ghost use Rattle.lift_parts.specs.Parts.{AreOfOne, AreParts};
 ghost use Rattle.lift_serve.specs.Relaying.{HaveRunOn, first_told, told, undone};
 
-use crate::serving::ServeFault;
+use crate::connections::{Left, Over};
+use crate::relaying::{Parts, unrun};
+use crate::serving::{ServeFault, Served, unserved};
 use lift_clerk::Clerk;
 use lift_desk::{Desk, DeskParts};
 use lift_disk::Disk;
+use lift_keeper::Keeper;
 use lift_policy::Policy;
 use lift_relay::{Allocator, Flusher, Gate, RunFault, run, split};
 use std::alloc::Global;
@@ -29,7 +32,7 @@ pub enum Lack {
 }
 
 /// That something is wanting. Only the calls below that were refused it make one. It can't be let
-/// go: `note` ends it, or that it is told.
+/// go: it is noted, or it ends the whole serving, whose keeper or parts that takes.
 pub struct Lacking {
     what: Lack,
 }
@@ -92,7 +95,7 @@ fn told_of(lack: Option<Lack>) -> Option<Refusal>
 
 impl Lacking {
     /// It is told.
-    pub(crate) fn told(self) -> Refusal
+    fn told(self) -> Refusal
         ensures { Some result ≡ told (Some self) }
     {
         let Lacking { what } = self;
@@ -100,10 +103,39 @@ impl Lacking {
             fault: fault_of(what),
         }
     }
+
+    /// Nobody is served, for this: the keeper as it is.
+    pub(crate) fn unserved<'b, D: Disk + Drop>(self, keeper: Keeper<'b, D>) -> Served<'b, D>
+        ensures keeper { result.keeper ≡ keeper.entry }
+        ensures fault { result.fault ≡ told (Some self) }
+    {
+        unserved(keeper, self.told())
+    }
+
+    /// Both parts as they were, where no thread could be made, of which this tells.
+    pub(crate) fn unrun<'d, 'b, D: Disk + Drop, P: Policy + Drop>(
+        self,
+        parts: Parts<'d, 'b, D, P>,
+    ) -> Parts<'d, 'b, D, P>
+        requires of_one { AreOfOne parts.allocator parts.flusher }
+        requires thread { self ≡ Lack.Thread }
+        ensures unrun { HaveRunOn (P.chooses parts.entry.allocator.policy) D.state
+            parts.entry.allocator result.allocator parts.entry.flusher result.flusher
+            (Some (RunFault.Spawn tt)) }
+        ensures told { result.refusal ≡ told (undone (Some (RunFault.Spawn tt))) }
+    {
+        unrun(parts, self.told())
+    }
 }
 
-/// The first of what was wanting, if anything was. Only `note` adds to it.
+/// That a lack was noted. Only `note` makes one.
 #[derive(Drop)]
+pub(crate) struct Noted {
+    what: Lack,
+}
+
+/// The first of what was wanting to the rest of a serving, if anything was. Only `note` adds to it.
+/// It can't be let go: what comes of the serving ends it, which takes the keeper and tells it.
 pub struct Lacks {
     first: Option<Lack>,
 }
@@ -136,21 +168,44 @@ impl Lacks {
     }
 
     /// Keeps the first in mind.
-    pub(crate) fn note(&mut self, lacking: Lacking)
-        ensures { self.new ≡ first_told self.old (Some lacking) }
+    pub(crate) fn note(&mut self, lacking: Lacking) -> Noted
+        ensures first { self.new ≡ first_told self.old (Some lacking) }
+        ensures noted { result.what ≡ lacking }
     {
         let Lacking { what } = lacking;
         self.first = first_of(self.first, Some(what));
+        Noted { what }
     }
 
-    /// What is told of a serving: what was refused to it itself, and else the first of the rest.
-    pub(crate) fn behind(&self, own: Option<Refusal>) -> Option<Refusal>
-        ensures { result ≡ first_told own (told self.now) }
+    /// What came of a serving with this keeper. Told is what was refused to it itself, and else the
+    /// first of the rest.
+    pub(crate) fn behind<'b, D: Disk + Drop>(
+        self,
+        own: Option<Refusal>,
+        keeper: Keeper<'b, D>,
+    ) -> Served<'b, D>
+        ensures keeper { result.keeper ≡ keeper.entry }
+        ensures fault { result.fault ≡ first_told own (told self) }
     {
-        match own {
+        let Lacks { first } = self;
+        let fault = match own {
             Some(refusal) => Some(refusal),
-            None => told_of(self.first),
-        }
+            None => told_of(first),
+        };
+        Served { keeper, fault }
+    }
+
+    /// Nobody was served, for this, which is told whatever else there was: the keeper as it is.
+    pub(crate) fn unserved<'b, D: Disk + Drop>(
+        self,
+        lacking: Lacking,
+        keeper: Keeper<'b, D>,
+    ) -> Served<'b, D>
+        ensures keeper { result.keeper ≡ keeper.entry }
+        ensures fault { result.fault ≡ told (Some lacking) }
+    {
+        let Lacks { first: _ } = self;
+        lacking.unserved(keeper)
     }
 }
 
@@ -212,7 +267,7 @@ pub(crate) fn push<T: Drop>(values: &mut Vec<T>, value: T) -> Result<(), Lacking
 }
 
 /// A thread of a scope, for this work.
-pub(crate) fn start<'s, E, F: FnOnce() + Send + Drop + 's>(
+fn start<'s, E, T: Send + Drop + 's, F: FnOnce() -> T + Send + Drop + 's>(
     scope: &Scope<'s, E>,
     work: F,
 ) -> Result<(), Lacking>
@@ -223,6 +278,28 @@ pub(crate) fn start<'s, E, F: FnOnce() + Send + Drop + 's>(
         Ok(_) => Ok(()),
         Err(_) => Err(Lacking { what: Lack::Thread }),
     }
+}
+
+/// A thread of a scope for the accepting, which returns once that is over.
+pub(crate) fn start_accepting<'s, E, F: FnOnce() -> Over + Send + Drop + 's>(
+    scope: &Scope<'s, E>,
+    work: F,
+) -> Result<(), Lacking>
+    requires { F.pre work }
+    ensures lack { IfErr result (λ lacking. lacking ≡ Lack.Thread) }
+{
+    start(scope, work)
+}
+
+/// A thread of a scope for a connection, which returns once that is counted as ended.
+pub(crate) fn start_session<'s, E, F: FnOnce() -> Left + Send + Drop + 's>(
+    scope: &Scope<'s, E>,
+    work: F,
+) -> Result<(), Lacking>
+    requires { F.pre work }
+    ensures lack { IfErr result (λ lacking. lacking ≡ Lack.Thread) }
+{
+    start(scope, work)
 }
 
 /// A view of a listening socket.
@@ -270,11 +347,11 @@ pub(crate) fn part<'d, 'b, D: Disk, P: Policy + Drop>(
 }
 
 /// What a run by itself is undone for.
-fn undone_by(fault: Option<RunFault>) -> Option<Refusal>
-    ensures { result ≡ told (undone fault) }
+fn undone_by(fault: &Option<RunFault>) -> Option<Refusal>
+    ensures { result ≡ told (undone fault.now) }
 {
     told_of(match fault {
-        Some(RunFault::Spawn) => Some(Lack::Thread),
+        Some(RunFault::Spawn(_)) => Some(Lack::Thread),
         Some(RunFault::Keeper(_)) => None,
         None => None,
     })
@@ -299,5 +376,6 @@ where
     ensures told { result.1 ≡ told (undone result.0) }
 {
     let fault = run(rt, allocator, flusher, gate);
-    (fault, undone_by(fault))
+    let refusal = undone_by(&fault);
+    (fault, refusal)
 }

@@ -19,14 +19,14 @@ mod seating;
 mod serving;
 mod waking;
 
-pub use attending::{Outcome, attend};
+pub use attending::{Attended, Outcome, attend};
 pub use connections::Ticket;
 pub use first_line::terminal_of;
 pub use held::Held;
 pub use lacks::Refusal;
 pub use lobby::{Absent, Lobby, Missing, NoSeat, Returned, Vacancy};
-pub use pace::{AskBell, Bells, Pace};
-pub use pager::Pager;
+pub use pace::{AskBell, Bells, Pace, Rang};
+pub use pager::{Pager, Told};
 pub use port::RestingPort;
 pub use relaying::{Parts, run_parts, turn_rejoined};
 pub use serving::{ServeFault, Served, serve};

@@ -1,7 +1,10 @@
 //! How the allocator's thread and the flusher's wait: for terminals, and for one another.
 
-use crate::pager::Pager;
+ghost use Rattle.std.specs.Prelude.{◌≡◌};
+
+use crate::pager::{Pager, Told};
 use lift_relay::Gate;
+use std::marker::Model;
 use std::sync::Wait;
 use std::sync::atomic::{AtomicU64, Ordering};
 use std::thread::Parker;
@@ -26,6 +29,20 @@ pub struct AskBell {
     enough: AtomicU64,
 }
 
+/// That the bell was rung for the asks of which a pager was told. Only `ring` makes one.
+#[derive(Drop)]
+pub struct Rang<'d> {
+    told: Told<'d>,
+}
+
+impl<'d> Model for Rang<'d> {
+    ghost use Rattle.std.specs.Prelude.{ℕ};
+
+    ghost Value = { ℕ };
+
+    ghost view = { λ r. r.told };
+}
+
 impl AskBell {
     /// Nobody has asked.
     pub fn new() -> AskBell {
@@ -36,12 +53,15 @@ impl AskBell {
         }
     }
 
-    /// A terminal's ask is stored.
-    pub fn ring(&self) {
+    /// A terminal's ask is stored, of which its pager was told before.
+    pub fn ring<'d>(&self, told: Told<'d>) -> Rang<'d>
+        ensures { result ≡ told.entry }
+    {
         let asked = self.asked.fetch_add(1, Ordering::SeqCst).saturating_add(1);
         if asked >= self.enough.load(Ordering::SeqCst) {
             self.parker.unpark();
         }
+        Rang { told }
     }
 
     /// What was asked before is found by a scan.

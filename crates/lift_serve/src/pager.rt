@@ -1,9 +1,12 @@
 //! What tells a resting session that its terminal's answer is stored.
 
 ghost use Rattle.std.specs.Prelude.{◌≡◌};
+ghost use Rattle.lift_serve.specs.Rung.{asks_at};
 
 use lift_base::Terminal;
+use lift_kiosk::DeskPort;
 use std::marker::Model;
+use std::snapshot::Snapshot;
 use std::sync::Wait;
 use std::sync::atomic::{AtomicU64, Ordering};
 use std::thread;
@@ -44,6 +47,22 @@ impl Model for Pager {
     ghost view = { λ p. p.terminal };
 }
 
+/// That a pager was told of the asks that are stored at a terminal's port, which only proofs read.
+/// Only `asked` makes one.
+#[derive(Drop)]
+pub struct Told<'d> {
+    port: Snapshot<DeskPort<'d>>,
+}
+
+impl<'d> Model for Told<'d> {
+    ghost use Rattle.std.specs.Prelude.{ℕ};
+    ghost use Rattle.lift_serve.specs.Rung.{asks_at};
+
+    ghost Value = { ℕ };
+
+    ghost view = { λ t. asks_at t.port.value };
+}
+
 impl Pager {
     /// Of this terminal, which awaits nothing.
     pub fn new(terminal: Terminal) -> Pager
@@ -56,9 +75,14 @@ impl Pager {
         }
     }
 
-    /// The terminal's ask is stored.
-    pub fn asked(&self) {
+    /// The terminal's last ask is stored at this port.
+    pub fn asked<'d>(&self, port: &DeskPort<'d>) -> Told<'d>
+        ensures { result ≡ asks_at port.now }
+    {
         self.stage.store(ASKED, Ordering::SeqCst);
+        Told {
+            port: Snapshot::of(port),
+        }
     }
 
     /// The answer was heard.

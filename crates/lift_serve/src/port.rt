@@ -1,7 +1,9 @@
 //! A seat's port that wakes the clerk, and sleeps between two looks.
 
-ghost use Rattle.std.specs.Prelude.{◌≡◌};
-ghost use Rattle.lift_serve.specs.Rung.{asks_at};
+ghost use Rattle.std.specs.Prelude.{◌≡◌, ◌≢◌, ◌↔◌, ◌+◌, OnOk, OnErr, None, Err, true};
+ghost use Rattle.lift_kiosk.specs.Desk.{place_of};
+ghost use Rattle.lift_kiosk.specs.Port.{AsksOne};
+ghost use Rattle.lift_serve.specs.Rung.{asks_at, view_at};
 
 use crate::pace::AskBell;
 use crate::pager::Pager;
@@ -23,7 +25,7 @@ pub struct RestingPort<'d, 'r, R: Wait + Clock> {
     rt: &'r R,
     bell: &'r AskBell,
     pager: &'r Pager,
-    ghost rung_for_each: { rung ≡ asks_at port },
+    ghost rung_for_each: { rung.asks ≡ asks_at port },
 }
 
 impl<'d, 'r, R: Wait + Clock> RestingPort<'d, 'r, R> {
@@ -60,9 +62,7 @@ impl<'d, 'r, R: Wait + Clock> RestingPort<'d, 'r, R> {
 }
 
 impl<'d, 'r, R: Wait + Clock> Port for RestingPort<'d, 'r, R> {
-    ghost use Rattle.lift_kiosk.specs.Desk.{port_view, place_of};
-
-    ghost view = { λ p. port_view p.port.seat.view p.rests };
+    ghost view = { λ p. view_at p.port p.rests };
 
     ghost place = { λ p. place_of p.port };
 
@@ -70,7 +70,21 @@ impl<'d, 'r, R: Wait + Clock> Port for RestingPort<'d, 'r, R> {
         self.port.pending()
     }
 
-    fn ask(&mut self, number: Number, body: Body) -> Result<(), AskRefusal> {
+    // The port's clauses, and that it rings just once for an ask that is stored, and for no other.
+    fn ask(&mut self, number: Number, body: Body) -> Result<(), AskRefusal>
+        ensures waiting { (result ≡ Err AskRefusal.Waiting)
+            ↔ ((view_at self.old.port self.old.rests).pending ≢ None) }
+        ensures spent { (result ≡ Err AskRefusal.Spent)
+            ↔ (((view_at self.old.port self.old.rests).pending ≡ None)
+            × ((view_at self.old.port self.old.rests).spent ≡ true)) }
+        ensures ok { OnOk result (AsksOne (view_at self.old.port self.old.rests)
+            (record { number = number; body = body }) (view_at self.new.port self.new.rests)) }
+        ensures err { OnErr result
+            (view_at self.new.port self.new.rests ≡ view_at self.old.port self.old.rests) }
+        ensures stays { place_of self.new.port ≡ place_of self.old.port }
+        ensures rung { OnOk result (self.new.rung.times ≡ self.old.rung.times + 1) }
+        ensures unrung { OnErr result (self.new.rung.times ≡ self.old.rung.times) }
+    {
         let outcome = self.port.ask(number, body);
         if outcome.is_ok() {
             self.rung.ring(self.bell, self.pager, &self.port);

@@ -19,8 +19,9 @@ use std::thread::Threads;
 pub struct Parts<'d, 'b, D: Disk + Drop, P: Policy + Drop> {
     pub allocator: Allocator<'d, 'b, P>,
     pub flusher: Flusher<'d, 'b, D>,
+    /// What came of their run.
     pub fault: Option<RunFault>,
-    /// What the run was refused. A fault alone can't say that no thread could be made.
+    /// What was refused to their run, or before it.
     pub refusal: Option<Refusal>,
 }
 
@@ -56,7 +57,7 @@ where
     }
 }
 
-/// Both parts as they were, where no thread could be made, of which this tells.
+/// Both parts as they were, where no thread could be made before their run, of which this tells.
 #[tactic(auto, using(crate::proofs::Relayings::not_run))]
 pub fn unrun<'d, 'b, D: Disk + Drop, P: Policy + Drop>(
     parts: Parts<'d, 'b, D, P>,
@@ -65,9 +66,8 @@ pub fn unrun<'d, 'b, D: Disk + Drop, P: Policy + Drop>(
     requires of_one { AreOfOne parts.allocator parts.flusher }
     requires thread { refusal ≡ ServeFault.Thread }
     ensures unrun { HaveRunOn (P.chooses parts.entry.allocator.policy) D.state parts.entry.allocator
-        result.allocator parts.entry.flusher result.flusher result.fault }
-    ensures spawn { result.fault ≡ Some RunFault.Spawn }
-    ensures told { result.refusal ≡ told (undone result.fault) }
+        result.allocator parts.entry.flusher result.flusher (Some (RunFault.Spawn tt)) }
+    ensures told { result.refusal ≡ told (undone (Some (RunFault.Spawn tt))) }
 {
     let Parts {
         allocator,
@@ -78,7 +78,7 @@ pub fn unrun<'d, 'b, D: Disk + Drop, P: Policy + Drop>(
     Parts {
         allocator,
         flusher,
-        fault: Some(RunFault::Spawn),
+        fault: None,
         refusal: Some(refusal),
     }
 }

@@ -1,46 +1,62 @@
-//! For how many of a terminal's asks the clerk's bell was rung.
+//! For how many of a terminal's asks the clerk's bell was rung, and how often.
 
-ghost use Rattle.std.specs.Prelude.{◌≡◌};
+ghost use Rattle.std.specs.Prelude.{◌≡◌, ◌+◌};
 ghost use Rattle.lift_serve.specs.Rung.{asks_at};
 
-use crate::pace::AskBell;
+use crate::pace::{AskBell, Rang};
 use crate::pager::Pager;
+use lift_base::ProofCount;
 use lift_kiosk::DeskPort;
 use std::marker::Model;
 use std::snapshot::Snapshot;
 
-/// How many asks of a terminal's port the bell was rung for, with those that the port began with.
-/// Only proofs read it. To ring for an ask takes the port at which it is stored.
+/// How many asks of a terminal's port the bell was rung for, with those that the port began with,
+/// and how often. Only proofs read it. To ring for an ask takes the port at which it is stored.
 #[derive(Drop)]
 pub(crate) struct Rung<'d> {
-    port: Snapshot<DeskPort<'d>>,
+    begun: Snapshot<DeskPort<'d>>,
+    last: Option<Rang<'d>>,
+    times: ProofCount,
 }
 
 impl<'d> Model for Rung<'d> {
-    ghost use Rattle.std.specs.Prelude.{ℕ};
-    ghost use Rattle.lift_serve.specs.Rung.{asks_at};
+    ghost use Rattle.lift_serve.specs.Rung.{RungState, asks_at, rung_last};
 
-    ghost Value = { ℕ };
+    ghost Value = { RungState };
 
-    ghost view = { λ r. asks_at r.port.value };
+    ghost view = { λ r. record {
+      begun = asks_at r.begun.value;
+      asks = rung_last (asks_at r.begun.value) r.last;
+      times = r.times.count;
+    } };
 }
 
 impl<'d> Rung<'d> {
     /// Those of the sessions before, at a port that is made anew.
     pub(crate) fn of(port: &DeskPort<'d>) -> Self
-        ensures { result ≡ asks_at port.now }
+        ensures { result ≡ record {
+          begun = asks_at port.now;
+          asks = asks_at port.now;
+          times = 0;
+        } }
     {
         Rung {
-            port: Snapshot::of(port),
+            begun: Snapshot::of(port),
+            last: None,
+            times: ProofCount::new(),
         }
     }
 
     /// Tells the terminal's pager of the last ask that was stored at the port, and wakes the clerk.
     pub(crate) fn ring(&mut self, bell: &AskBell, pager: &Pager, port: &DeskPort<'d>)
-        ensures { self.new ≡ asks_at port.now }
+        ensures { self.new ≡ record {
+          begun = self.old.begun;
+          asks = asks_at port.now;
+          times = self.old.times + 1;
+        } }
     {
-        pager.asked();
-        bell.ring();
-        self.port = Snapshot::of(port);
+        let told = pager.asked(port);
+        self.last = Some(bell.ring(told));
+        self.times = ProofCount::next(&self.times);
     }
 }

@@ -9,17 +9,17 @@ ghost use Rattle.lift_relay.specs.declared.pair.RunFault.{RunFault as Fault};
 ghost use Rattle.lift_serve.specs.Relaying.{ComesTo, HaveRunOn, Relayed, told, undone};
 ghost use Rattle.lift_serve.specs.Visits.{IsNewSeat};
 
-use crate::attending::attend;
-use crate::connections::{Connections, Ticket};
+use crate::attending::{Attended, attend};
+use crate::connections::{Connections, Ending, Left, Over, Ticket};
 use crate::keep_alive::watch;
 use crate::lacks::{
-    Lack, Lacking, Lacks, Refusal, listen_again, open_desk, part, read_ahead, share, share_again,
-    start,
+    Lack, Lacking, Lacks, Noted, Refusal, listen_again, open_desk, part, read_ahead, share,
+    share_again, start_accepting, start_session,
 };
 use crate::lobby::Lobby;
 use crate::pace::{Bells, Pace};
 use crate::pager::Pager;
-use crate::relaying::{Parts, run_parts, turn_rejoined, unrun};
+use crate::relaying::{Parts, run_parts, turn_rejoined};
 use crate::seating::{lobby_of, new_pagers};
 use crate::waking::WakingWriter;
 use lift_base::text::{Counted, Watched};
@@ -29,14 +29,14 @@ use lift_desk::{DeskParts, Seat};
 use lift_disk::Disk;
 use lift_keeper::Keeper;
 use lift_policy::Policy;
-use lift_relay::{Gate, RunFault};
+use lift_relay::Gate;
 use std::alloc::Global;
 use std::net::{Shutdown, TcpListener, TcpStream};
 use std::os::fd::OwnedFd;
 use std::sync::atomic::{AtomicU64, Ordering};
 use std::sync::{Arc, Mutex, Wait};
 use std::thread;
-use std::thread::Threads;
+use std::thread::{Scope, Threads};
 use std::time::{Clock, Duration};
 
 /// Why a connection was not served, or none could be.
@@ -84,16 +84,16 @@ struct Shared<'a, 'd> {
 
 impl<'a, 'd> Shared<'a, 'd> {
     /// Keeps the first lack in mind.
-    fn note<R: Wait>(self, rt: &R, lacking: Lacking) {
-        self.lacks.lock(rt).note(lacking);
+    fn note<R: Wait>(self, rt: &R, lacking: Lacking) -> Noted {
+        self.lacks.lock(rt).note(lacking)
     }
 
-    fn is_over<R: Wait>(self, rt: &R) -> bool {
+    fn is_over<R: Wait>(self, rt: &R) -> Option<Over> {
         self.connections.lock(rt).is_over()
     }
 
-    /// None where all connections have ended that were to end.
-    fn enter<R: Wait>(self, rt: &R, stream: Arc<TcpStream>) -> Result<Option<Ticket>, Lacking>
+    /// Nobody is let in where all connections have ended that were to end.
+    fn enter<R: Wait>(self, rt: &R, stream: Arc<TcpStream>) -> Result<Result<Ticket, Over>, Lacking>
         ensures lack { IfErr result (λ lacking. lacking ≡ Lack.Memory) }
     {
         self.connections.lock(rt).enter(stream)
@@ -101,8 +101,8 @@ impl<'a, 'd> Shared<'a, 'd> {
 
     /// A connection is not served.
     fn refuse<R: Wait>(self, rt: &R, lacking: Lacking) {
-        self.note(rt, lacking);
-        self.connections.lock(rt).ended();
+        let noted = self.note(rt, lacking);
+        self.connections.lock(rt).refuse(noted);
     }
 
     /// No connection is served any more.
@@ -110,8 +110,11 @@ impl<'a, 'd> Shared<'a, 'd> {
         self.connections.lock(rt).give_up();
     }
 
-    fn leave<R: Wait>(self, rt: &R, number: u64) {
-        self.connections.lock(rt).leave(number);
+    /// The connection of this number has ended, and so.
+    fn leave<R: Wait>(self, rt: &R, number: u64, ending: Ending<'d>) -> Left
+        ensures { result.number ≡ number }
+    {
+        self.connections.lock(rt).leave(number, ending)
     }
 
     fn is_empty<R: Wait>(self, rt: &R) -> bool {
@@ -132,18 +135,18 @@ impl<'a, 'd> Shared<'a, 'd> {
 }
 
 /// Speaks with a connection.
-fn speak<R: Wait + Clock>(
+fn speak<'d, R: Wait + Clock>(
     rt: &R,
     alloc: Global,
-    shared: Shared<'_, '_>,
+    shared: Shared<'_, 'd>,
     ticket: Ticket,
     stream: &TcpStream,
-) -> Result<(), Lacking>
+) -> Result<Attended<'d>, Lacking>
     ensures lack { IfErr result (λ lacking. lacking ≡ Lack.Memory) }
 {
     let mut reader = Counted::new(read_ahead(alloc, AHEAD, stream)?);
     let mut writer = Watched::new(WakingWriter::new(stream, shared.bells));
-    let _outcome = attend(
+    Ok(attend(
         rt,
         shared.lobby,
         ticket,
@@ -151,43 +154,81 @@ fn speak<R: Wait + Clock>(
         shared.building,
         &mut reader,
         &mut writer,
-    );
-    Ok(())
+    ))
 }
 
-/// A connection's thread.
+/// A connection's thread, behind which the connection is counted as ended: it was attended to, or
+/// what was wanting for that is noted.
 fn attend_stream<R: Wait + Clock>(
     rt: &R,
     alloc: Global,
     shared: Shared<'_, '_>,
     ticket: Ticket,
     stream: Arc<TcpStream>,
-) {
+) -> Left
+    ensures { result.number ≡ ticket }
+{
     let number = ticket.number();
     let _quick = stream.set_nodelay(true);
     watch(&stream);
-    if let Err(lacking) = speak(rt, alloc, shared, ticket, &stream) {
-        shared.note(rt, lacking);
-    }
+    let ending = match speak(rt, alloc, shared, ticket, &stream) {
+        Ok(attended) => Ending::Attended(attended),
+        Err(lacking) => Ending::Lacking(shared.note(rt, lacking)),
+    };
     let _closed = stream.shutdown(Shutdown::Both);
-    shared.leave(rt, number);
+    shared.leave(rt, number, ending)
 }
 
-/// A connection is open from now on. None where all have ended that were to end.
+/// A connection is open from now on, but where all have ended that were to end.
 fn admit<R: Wait>(
     rt: &R,
     alloc: Global,
     shared: Shared<'_, '_>,
     stream: TcpStream,
-) -> Result<Option<(Ticket, Arc<TcpStream>)>, Lacking>
+) -> Result<Result<(Ticket, Arc<TcpStream>), Over>, Lacking>
     ensures lack { IfErr result (λ lacking. lacking ≡ Lack.Memory) }
 {
     let stream = share(alloc, stream)?;
     let theirs = share_again(&stream)?;
     match shared.enter(rt, theirs)? {
-        Some(ticket) => Ok(Some((ticket, stream))),
-        None => Ok(None),
+        Ok(ticket) => Ok(Ok((ticket, stream))),
+        Err(over) => Ok(Err(over)),
     }
+}
+
+/// Accepts connections until all have ended that were to end.
+fn accept_all<'s, 'd: 's, E, R: Threads + Wait + Clock + Sync>(
+    rt: &'s R,
+    alloc: Global,
+    listener: &TcpListener,
+    scope: &Scope<'s, E>,
+    shared: Shared<'s, 'd>,
+) -> Over {
+    for _ in rt.forever() {
+        let accepted = listener.accept();
+        if let Some(over) = shared.is_over(rt) {
+            return over;
+        }
+        let Ok((stream, _)) = accepted else {
+            thread::sleep(rt, Duration::from_millis(REST_MS));
+            continue;
+        };
+        let (ticket, stream) = match admit(rt, alloc, shared, stream) {
+            Ok(Ok(admitted)) => admitted,
+            Ok(Err(over)) => return over,
+            Err(lacking) => {
+                shared.refuse(rt, lacking);
+                continue;
+            }
+        };
+        let number = ticket.number();
+        let work = move || attend_stream(rt, alloc, shared, ticket, stream);
+        if let Err(lacking) = start_session(scope, work) {
+            let noted = shared.note(rt, lacking);
+            let _left = shared.leave(rt, number, Ending::Lacking(noted));
+        }
+    }
+    unreachable!()
 }
 
 /// Accepts connections until all have ended that were to end, and returns when each thread of one
@@ -197,37 +238,16 @@ fn welcome<R: Threads + Wait + Clock + Sync>(
     alloc: Global,
     listener: &TcpListener,
     shared: Shared<'_, '_>,
-) {
+) -> Over {
     thread::scope(
         thread::scope_env(),
         rt,
-        move |scope|
+        move |scope| -> Over
             requires { IsSync R.row }
         {
-            for stream in listener.incoming() {
-                if shared.is_over(rt) {
-                    break;
-                }
-                let Ok(stream) = stream else {
-                    thread::sleep(rt, Duration::from_millis(REST_MS));
-                    continue;
-                };
-                let (ticket, stream) = match admit(rt, alloc, shared, stream) {
-                    Ok(Some(admitted)) => admitted,
-                    Ok(None) => break,
-                    Err(lacking) => {
-                        shared.refuse(rt, lacking);
-                        continue;
-                    }
-                };
-                let number = ticket.number();
-                let work = move || attend_stream(rt, alloc, shared, ticket, stream);
-                if let Err(lacking) = start(scope, work) {
-                    shared.note(rt, lacking);
-                    shared.leave(rt, number);
-                }
-            }
+            let over = accept_all(rt, alloc, listener, scope, shared);
             shared.see_off(rt);
+            over
         },
     )
 }
@@ -238,10 +258,11 @@ fn welcome_all<R: Threads + Wait + Clock + Sync>(
     alloc: Global,
     listener: &TcpListener,
     shared: Shared<'_, '_>,
-) {
-    welcome(rt, alloc, listener, shared);
+) -> Over {
+    let over = welcome(rt, alloc, listener, shared);
     shared.closing.store(1, Ordering::SeqCst);
     shared.bells.ring_all();
+    over
 }
 
 /// Both parts run, the flusher on this thread, while connections are accepted on another. Where no
@@ -261,9 +282,9 @@ where
     D: Disk + Drop,
     P: Policy + Drop + Send,
     requires of_one { AreOfOne parts.allocator parts.flusher }
-    ensures ran { HaveRunOn (P.chooses parts.entry.allocator.policy) D.state parts.entry.allocator
-        result.allocator parts.entry.flusher result.flusher result.fault }
-    ensures told { result.refusal ≡ told (undone result.fault) }
+    ensures ran { (fault : Option Fault) × HaveRunOn (P.chooses parts.entry.allocator.policy)
+        D.state parts.entry.allocator result.allocator parts.entry.flusher result.flusher fault
+        × (result.refusal ≡ told (undone fault)) }
 {
     thread::scope(
         thread::scope_env(),
@@ -271,16 +292,17 @@ where
         move |scope| -> Parts<D, P>
             requires { IsSync R.row × IsSync G.row × IsSend P.row
                 × AreOfOne parts.allocator parts.flusher }
-            ensures ran { HaveRunOn (P.chooses parts.entry.allocator.policy) D.state
-                parts.entry.allocator result.allocator parts.entry.flusher result.flusher
-                result.fault }
-            ensures told { result.refusal ≡ told (undone result.fault) }
+            ensures ran { (fault : Option Fault)
+                × HaveRunOn (P.chooses parts.entry.allocator.policy) D.state parts.entry.allocator
+                result.allocator parts.entry.flusher result.flusher fault
+                × (result.refusal ≡ told (undone fault)) }
         {
-            if let Err(lacking) = start(scope, move || welcome_all(rt, alloc, listener, shared)) {
-                return unrun(parts, lacking.told());
+            let work = move || welcome_all(rt, alloc, listener, shared);
+            if let Err(lacking) = start_accepting(scope, work) {
+                return lacking.unrun(parts);
             }
             let ran = run_parts(rt, gate, parts);
-            if ran.fault == Some(RunFault::Spawn) {
+            if ran.refusal.is_some() {
                 shared.give_up(rt);
             }
             ran
@@ -324,7 +346,7 @@ fn run<'d, 'b, R: Threads + Wait + Clock + Sync, D: Disk + Drop, P: Policy + Dro
 }
 
 /// Nobody is served, for this: the keeper as it is.
-fn unserved<'b, D: Disk + Drop>(keeper: Keeper<'b, D>, refusal: Refusal) -> Served<'b, D>
+pub(crate) fn unserved<'b, D: Disk + Drop>(keeper: Keeper<'b, D>, refusal: Refusal) -> Served<'b, D>
     ensures keeper { result.keeper ≡ keeper.entry }
     ensures fault { result.fault ≡ Some refusal }
 {
@@ -367,14 +389,11 @@ fn serve_from<'d, 'b, R: Threads + Wait + Clock + Sync, D: Disk + Drop, P: Polic
     match run(rt, alloc, listener, shared, clerk) {
         Ok((clerk, own)) => {
             let (_seat, keeper, _policy) = clerk.into_parts();
-            Served {
-                keeper,
-                fault: lacks.into_inner().behind(own),
-            }
+            lacks.into_inner().behind(own, keeper)
         }
         Err((clerk, lacking)) => {
             let (_seat, keeper, _policy) = clerk.into_parts();
-            unserved(keeper, lacking.told())
+            lacks.into_inner().unserved(lacking, keeper)
         }
     }
 }
@@ -424,11 +443,11 @@ pub fn serve<'b, R: Threads + Wait + Clock + Sync, D: Disk + Drop, P: Policy + D
     let terminals = 16 + usize::from(keeper.building().kiosks());
     let DeskParts { desk, seats, clerk } = match open_desk(alloc, terminals) {
         Ok(parts) => parts,
-        Err(lacking) => return unserved(keeper, lacking.told()),
+        Err(lacking) => return lacking.unserved(keeper),
     };
     let pagers = match new_pagers(alloc) {
         Ok(pagers) => pagers,
-        Err(lacking) => return unserved(keeper, lacking.told()),
+        Err(lacking) => return lacking.unserved(keeper),
     };
     let again = match listen_again(listener) {
         Ok(again) => again,

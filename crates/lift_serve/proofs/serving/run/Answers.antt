@@ -3,8 +3,8 @@ use Rattle.lift_serve.proofs.serving.run.Goals as goal
 
 pub returns-in-Ok-clause-ran : goal.returns-in-Ok-clause-ran
 returns-in-Ok-clause-ran g c = (
-  c.run_beside-ran.result.fault,
+  c.run_beside-ran.ensures.ran.0,
   relayed_on g.P.Policy.chooses g.D.Disk.state c.args.clerk c.turn_rejoined.result c.in-Ok.allocator c.run_beside-ran.result.allocator c.in-Ok.flusher c.run_beside-ran.result.flusher
-      c.run_beside-ran.result.fault c.in-Ok.ensures.parts c.run_beside-ran.ensures.ran c.turn_rejoined.ensures,
-  c.run_beside-ran.ensures.told,
+      c.run_beside-ran.ensures.ran.0 c.in-Ok.ensures.parts c.run_beside-ran.ensures.ran.1 c.turn_rejoined.ensures,
+  c.run_beside-ran.ensures.ran.2,
 )

@@ -1,4 +1,4 @@
-use Rattle.std.proofs.Common.{refl, sym, inl}
+use Rattle.std.proofs.Common.{refl, sym, ◌∙◌, inl}
 use Rattle.lift_serve.proofs.Relayings.{tells_no_network, tells_spawn}
 use Rattle.lift_serve.proofs.serving.serve_from.Goals as goal
 
@@ -12,9 +12,9 @@ returns-in-Ok g c =
         begins = refl;
         policy_is = refl;
         relayed = c.in-Ok.ensures.ran.1;
-        ends = sym c.into_parts-seat.ensures.keeper;
+        ends = sym (c.behind.ensures.keeper ∙ c.into_parts-seat.ensures.keeper);
       };
       seats = c.requires.count;
-      tells = tells_spawn c.in-Ok.ensures.ran.0 c.in-Ok.own _ _ c.in-Ok.ensures.ran.2 c.behind.ensures;
-      begun = tells_no_network c.in-Ok.ensures.ran.0 c.in-Ok.own _ _ c.in-Ok.ensures.ran.2 c.behind.ensures;
+      tells = tells_spawn c.in-Ok.ensures.ran.0 c.in-Ok.own _ _ c.in-Ok.ensures.ran.2 c.behind.ensures.fault;
+      begun = tells_no_network c.in-Ok.ensures.ran.0 c.in-Ok.own _ _ c.in-Ok.ensures.ran.2 c.behind.ensures.fault;
     })

@@ -6,8 +6,8 @@ use Rattle.lift_serve.specs.declared.connections.Open.{Open}
 use Rattle.lift_serve.proofs.Numbers.{kept_numbers}
 use Rattle.lift_serve.proofs.connections.Connections.leave.Goals as goal
 
-pub returns : goal.returns
-returns c =
+pub returns-clause-left : goal.returns-clause-left
+returns-clause-left c =
     let inside = c.self.inside in
     let kept : c.retain.new.self.items ≡ filter (λ (o : Open). not (o.number == c.args.number)) inside.open.items =
     filter_same _ _ _ (λ x b f' k. search rules) _ _ c.retain.ensures.filtered in
