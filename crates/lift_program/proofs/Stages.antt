@@ -1,5 +1,5 @@
 -- What the faults of each stage are to a whole command.
-use Rattle.std.proofs.Common.{◌≡◌, ◌≢◌, ◌≤◌, ◌+◌, ◌*◌, ℕ, List, Option, length, false, refl, sym, subst, inl, inr}
+use Rattle.std.proofs.Common.{◌≡◌, ◌≢◌, ◌≤◌, ◌+◌, ◌*◌, ◌∙◌, ℕ, List, Option, length, false, refl, sym, subst, inl, inr, arith}
 use Rattle.lift_building.specs.Describes.{IsTextOf}
 use Rattle.lift_building.specs.Gives.{IsFirstFault}
 use Rattle.lift_building.specs.Plan.{Plan, shape_of}
@@ -12,7 +12,9 @@ use Rattle.lift_keeper.specs.Keeper.{KeeperView}
 use Rattle.lift_keeper.specs.Reopening.{RefusesReopening, Reopens}
 use Rattle.lift_keeper.specs.declared.fault.KeeperFault.{KeeperFault}
 use Rattle.lift_keeper.specs.declared.fault.KeeperFault.TheVariants.{Journal as OfJournal, OtherBuilding, BadEntry}
-use Rattle.lift_program.specs.Images.{image_state_of}
+use Rattle.lift_program.specs.Images.{IsOnlyRead, IsToBeShown, image_state_of, shown_file_of, shown_state_of}
+use Rattle.lift_disk.specs.Below.{below}
+use Rattle.lift_program.specs.declared.shown.ShownImage.{ShownImage}
 use Rattle.lift_program.specs.declared.image.ImageDisk.{ImageDisk}
 use Rattle.lift_disk.specs.Files.{file_state_of}
 use Rattle.lift_disk.specs.declared.file.FileDisk.{FileDisk}
@@ -136,39 +138,43 @@ pub image_shows : (plan : Plan) (fault : Fault) → HasBuilding plan → IsFileF
 image_shows plan fault has (inl is) = subst IsShowFault (sym is) (plan, has)
 image_shows plan fault has (inr is) = subst IsShowFault (sym is) tt
 
+-- an image that was shown was only read
+pub only_read : (opened left : ShownImage) → IsToBeShown opened → (shown_state_of left).failures ≡ (shown_state_of opened).failures → IsOnlyRead (shown_file_of left)
+only_read opened left fresh same = record { unwritten = (below left.device).unwritten; unhurt = omega (arith, same ∙ fresh.unhurt) }
+
 -- what the showing of a journal on an image is undone for
-pub showing_shows : (plan : Plan) (opened left : FileDisk) (before after : Option (List ℕ)) (fault : Fault) → HasBuilding plan
-    → (file_state_of opened).calls ≡ 0 → (file_state_of opened).failures ≡ 0 → IsShowingFault fault
-    → ((refusal : KeeperFault) → fault ≡ Journal refusal → RefusesReopening plan (file_state_of opened) (file_state_of left) refusal)
-    → (IsFileFault Output fault → ShowsFront plan (file_state_of opened) (file_state_of left) before after) → IsShowFault fault
-showing_shows plan opened left before after (Building fault) has uncalled unhurt is refused front = absurd is
-showing_shows plan opened left before after (Journal fault) has uncalled unhurt is refused front =
-    (is, (plan, has, record { opened = opened; uncalled = uncalled; unhurt = unhurt; left = left; refused = refused fault refl }))
-showing_shows plan opened left before after (File OfBuilding) has uncalled unhurt is refused front = absurd is
-showing_shows plan opened left before after (File OfImage) has uncalled unhurt is refused front = absurd is
-showing_shows plan opened left before after (File Input) has uncalled unhurt is refused front = absurd is
-showing_shows plan opened left before after (File Output) has uncalled unhurt is refused front =
+pub showing_shows : (plan : Plan) (opened left : ShownImage) (before after : Option (List ℕ)) (fault : Fault) → HasBuilding plan
+    → IsToBeShown opened → IsShowingFault fault
+    → ((refusal : KeeperFault) → fault ≡ Journal refusal → RefusesReopening plan (shown_state_of opened) (shown_state_of left) refusal)
+    → (IsFileFault Output fault → ShowsFront plan (shown_state_of opened) (shown_state_of left) before after) → IsShowFault fault
+showing_shows plan opened left before after (Building fault) has fresh is refused front = absurd is
+showing_shows plan opened left before after (Journal fault) has fresh is refused front =
+    (is, (plan, has, record { opened = opened; uncalled = fresh.uncalled; unhurt = fresh.unhurt; left = left; refused = refused fault refl }))
+showing_shows plan opened left before after (File OfBuilding) has fresh is refused front = absurd is
+showing_shows plan opened left before after (File OfImage) has fresh is refused front = absurd is
+showing_shows plan opened left before after (File Input) has fresh is refused front = absurd is
+showing_shows plan opened left before after (File Output) has fresh is refused front =
     let shows = front (inl refl) in
-    record { plan = plan; building = has; opened = opened; uncalled = uncalled; unhurt = unhurt; left = left; register = shows.register; recovers = shows.recovers }
-showing_shows plan opened left before after Memory has uncalled unhurt is refused front = tt
-showing_shows plan opened left before after Network has uncalled unhurt is refused front = absurd is
-showing_shows plan opened left before after Thread has uncalled unhurt is refused front = absurd is
+    record { plan = plan; building = has; opened = opened; fresh = fresh; left = left; register = shows.register; recovers = shows.recovers }
+showing_shows plan opened left before after Memory has fresh is refused front = tt
+showing_shows plan opened left before after Network has fresh is refused front = absurd is
+showing_shows plan opened left before after Thread has fresh is refused front = absurd is
 
 -- what was written of a journal on an image whose showing is undone
-pub showing_part : (plan : Plan) (text : List ℕ) (opened left : FileDisk) (before after : Option (List ℕ)) (fault : Fault) → IsTextOf text plan
-    → (file_state_of opened).calls ≡ 0 → (file_state_of opened).failures ≡ 0 → IsShowingFault fault → IsReportOfFault fault before after
-    → (IsFileFault Output fault → ShowsFront plan (file_state_of opened) (file_state_of left) before after) → ShowsPart before after
-showing_part plan text opened left before after (Building fault) described uncalled unhurt is written front = absurd is
-showing_part plan text opened left before after (Journal fault) described uncalled unhurt is written front = inl written
-showing_part plan text opened left before after (File OfBuilding) described uncalled unhurt is written front = absurd is
-showing_part plan text opened left before after (File OfImage) described uncalled unhurt is written front = absurd is
-showing_part plan text opened left before after (File Input) described uncalled unhurt is written front = absurd is
-showing_part plan text opened left before after (File Output) described uncalled unhurt is written front =
-    part_shown plan text opened left before after described uncalled unhurt (front (inl refl))
-showing_part plan text opened left before after Memory described uncalled unhurt is written front =
-    part_shown plan text opened left before after described uncalled unhurt (front (inr refl))
-showing_part plan text opened left before after Network described uncalled unhurt is written front = absurd is
-showing_part plan text opened left before after Thread described uncalled unhurt is written front = absurd is
+pub showing_part : (plan : Plan) (text : List ℕ) (opened left : ShownImage) (before after : Option (List ℕ)) (fault : Fault) → IsTextOf text plan
+    → IsToBeShown opened → IsShowingFault fault → IsReportOfFault fault before after
+    → (IsFileFault Output fault → ShowsFront plan (shown_state_of opened) (shown_state_of left) before after) → ShowsPart before after
+showing_part plan text opened left before after (Building fault) described fresh is written front = absurd is
+showing_part plan text opened left before after (Journal fault) described fresh is written front = inl written
+showing_part plan text opened left before after (File OfBuilding) described fresh is written front = absurd is
+showing_part plan text opened left before after (File OfImage) described fresh is written front = absurd is
+showing_part plan text opened left before after (File Input) described fresh is written front = absurd is
+showing_part plan text opened left before after (File Output) described fresh is written front =
+    part_shown plan text opened left before after described fresh (front (inl refl))
+showing_part plan text opened left before after Memory described fresh is written front =
+    part_shown plan text opened left before after described fresh (front (inr refl))
+showing_part plan text opened left before after Network described fresh is written front = absurd is
+showing_part plan text opened left before after Thread described fresh is written front = absurd is
 
 -- a script that couldn't be read has no report
 pub replay_report : (fault : Fault) (before after : Option (List ℕ)) → IsReplayFault fault → (fault ≡ File Input → after ≡ before) → IsReportOfFault fault before after

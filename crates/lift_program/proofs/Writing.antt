@@ -1,17 +1,17 @@
 -- What stays written, and what was said.
-use Rattle.std.proofs.Common.{◌≡◌, Option, List, [], length, ℕ, sym, subst, inr, arith}
+use Rattle.std.proofs.Common.{Option, List, [], length, ℕ, sym, subst, inr, arith}
 use Rattle.std.specs.Io.KnownBytes.{Appends, Keeps}
 use Rattle.std.proofs.KnownBytes.{Appends-kept, Appends-nil}
 use Rattle.std.proofs.lemmas.List.{append-nil, take_all}
 use Rattle.lift_building.specs.Describes.{IsTextOf}
 use Rattle.lift_building.specs.Plan.{Plan}
-use Rattle.lift_disk.specs.Files.{file_state_of}
-use Rattle.lift_disk.specs.declared.file.FileDisk.{FileDisk}
 use Rattle.lift_replay.specs.Replaying.{ReportsFront, ReportsInput}
 use Rattle.lift_replay.specs.Report.{register_text}
 use Rattle.lift_replay.specs.declared.lines.Verdict.{Verdict}
 use Rattle.lift_program.specs.Ends.{SaysFront, serving_text}
+use Rattle.lift_program.specs.Images.{IsToBeShown, shown_state_of}
 use Rattle.lift_program.specs.Showing.{Shows, ShowsFront, ShowsPart}
+use Rattle.lift_program.specs.declared.shown.ShownImage.{ShownImage}
 
 -- where nothing was written, nothing of the port was
 pub nothing_said : (port : ℕ) (written : Option (List ℕ)) → SaysFront port written written
@@ -32,8 +32,8 @@ pub report_front : (input old new : Option (List ℕ)) (verdict : Verdict) → R
 report_front input old new verdict told = (told.0, told.1, (told.2.0, verdict, told.2.1, (told.2.0, ([], append-nil told.2.0), told.2.2)))
 
 -- all lines of a register are a front of them
-pub shown_front : (plan : Plan) (opened left : FileDisk) (old new : Option (List ℕ)) → Shows plan (file_state_of opened) (file_state_of left) old new
-    → ShowsFront plan (file_state_of opened) (file_state_of left) old new
+pub shown_front : (plan : Plan) (opened left : ShownImage) (old new : Option (List ℕ)) → Shows plan (shown_state_of opened) (shown_state_of left) old new
+    → ShowsFront plan (shown_state_of opened) (shown_state_of left) old new
 shown_front plan opened left old new shows =
     let text : List ℕ = register_text shows.register in
     record {
@@ -43,7 +43,7 @@ shown_front plan opened left old new shows =
       written = subst (Appends old new) (sym (take_all (length text) text (omega arith))) shows.written;
     }
 
-pub part_shown : (plan : Plan) (text : List ℕ) (opened left : FileDisk) (old new : Option (List ℕ)) → IsTextOf text plan → (file_state_of opened).calls ≡ 0
-    → (file_state_of opened).failures ≡ 0 → ShowsFront plan (file_state_of opened) (file_state_of left) old new → ShowsPart old new
-part_shown plan text opened left old new described uncalled unhurt front =
-    inr (record { text = text; plan = plan; described = described; opened = opened; uncalled = uncalled; unhurt = unhurt; left = left; front = front })
+pub part_shown : (plan : Plan) (text : List ℕ) (opened left : ShownImage) (old new : Option (List ℕ)) → IsTextOf text plan → IsToBeShown opened
+    → ShowsFront plan (shown_state_of opened) (shown_state_of left) old new → ShowsPart old new
+part_shown plan text opened left old new described fresh front =
+    inr (record { text = text; plan = plan; described = described; opened = opened; fresh = fresh; left = left; front = front })

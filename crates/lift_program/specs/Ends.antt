@@ -17,8 +17,9 @@ use Rattle.lift_replay.specs.Replaying.{ReportsFront, ReportsInput}
 use Rattle.lift_program.specs.Faults.{fault_text, usage_text}
 use Rattle.lift_program.specs.Output.{IsTold}
 use Rattle.lift_program.specs.Serving.{IsServing}
-use Rattle.lift_program.specs.Images.{image_state_of}
+use Rattle.lift_program.specs.Images.{image_state_of, shown_state_of}
 use Rattle.lift_program.specs.declared.image.ImageDisk.{ImageDisk}
+use Rattle.lift_program.specs.declared.shown.ShownImage.{ShownImage}
 use Rattle.lift_program.specs.Showing.{IsShown, IsOpeningFault, ShowsPart}
 use Rattle.lift_program.specs.Stages.{HasBuilding, HasNoBuilding, OpensJournal, OpensNoJournal}
 use Rattle.lift_program.specs.Stages.{ReadsBuilding, ReadsJournal}
@@ -119,7 +120,7 @@ IsShowingFault Thread = ⊥
 -- file; the recovery's refusal; the standard output. Or want of memory.
 abbrev pub IsShowFault : Fault → Type 0
 IsShowFault (Building fault) = HasNoBuilding fault
-IsShowFault (Journal fault) = IsOpeningFault fault × OpensNoJournal FileDisk file_state_of fault
+IsShowFault (Journal fault) = IsOpeningFault fault × OpensNoJournal ShownImage shown_state_of fault
 IsShowFault (File OfBuilding) = Unit {0}
 IsShowFault (File OfImage) = ReadsBuilding
 IsShowFault (File Input) = ⊥
@@ -237,10 +238,13 @@ IsReport input (Failed fault) before after = IsReportOfFault fault before after
 IsReport input OtherWords before after = after ≡ before
 
 -- The status of an end that these words come to over this input, with its report, and whose line
--- was told, if it has one. It is a fault of the standard output only where that has failed.
+-- was told, if it has one. It is a fault of the standard output only where that has failed, a
+-- serving at a port only where that was listened at, and a fault of the port only where it was
+-- refused.
 pub record IsStatusFor {E : Type 0} (contents : E
     → Option (List ℕ)) (words : List Text) (input before after : Option (List ℕ))
-    (has_failed : Type 0) (old new : OutputState E) (status : ℕ) : Type 0 where
+    (has_failed : Type 0) (has_listened : ℕ → Type 0) (was_refused : Type 0)
+    (old new : OutputState E) (status : ℕ) : Type 0 where
   pub end : End
   pub is_end : IsEndOf input words before after end
   pub reported : IsReport input end before after
@@ -248,3 +252,5 @@ pub record IsStatusFor {E : Type 0} (contents : E
   pub told : IfSome (line_of end) (IsTold contents old new)
   pub quiet : line_of end ≡ None → new ≡ old
   pub unwritten : end ≡ Failed (File Output) → has_failed
+  pub here : (port : ℕ) (fault : Option Fault) → end ≡ Served port fault → has_listened port
+  pub refused : end ≡ Failed Network → was_refused

@@ -1,11 +1,13 @@
--- What is said of the device over a journal's file.
-use Rattle.std.specs.Prelude.{ℕ, List}
+-- What is said of the devices over a journal's file.
+use Rattle.std.specs.Prelude.{ℕ, ◌≡◌, List}
 use Rattle.lift_disk.specs.Disk.{DiskState}
 use Rattle.lift_disk.specs.Files.{file_state_of}
 use Rattle.lift_disk.specs.Runs.{buffered}
 use Rattle.lift_disk.specs.Below.{below, held_back}
 use Rattle.lift_disk.specs.declared.file.FileDisk.{FileDisk}
 use Rattle.lift_program.specs.declared.image.ImageDisk.{ImageDisk}
+use Rattle.lift_program.specs.declared.shown.ShownImage.{ShownImage}
+use Rattle.lift_program.specs.Unwritten.{unwritten_file_of, unwritten_state_of}
 
 -- the file below it
 abbrev pub file_of : ImageDisk → FileDisk
@@ -20,3 +22,24 @@ held_of d = held_back d.device
 abbrev pub image_state_of : ImageDisk → DiskState
 image_state_of d = buffered (file_state_of (file_of d)) d.device.from
     (held_of d) d.device.calls.count d.device.writes.count d.device.trace.calls
+
+-- the file of an image that is shown
+abbrev pub shown_file_of : ShownImage → FileDisk
+shown_file_of d = unwritten_file_of (below d.device)
+
+-- the file without its writes, the device's own counts and its own calls; a failed one is one of
+-- the file, or a refused write
+abbrev pub shown_state_of : ShownImage → DiskState
+shown_state_of d = buffered (unwritten_state_of (below d.device)) d.device.from
+    (held_back d.device) d.device.calls.count d.device.writes.count d.device.trace.calls
+
+-- An image was opened to be shown: no call was made of it or of its file, and none has failed.
+pub record IsToBeShown (d : ShownImage) : Type 0 where
+  pub uncalled : (shown_state_of d).calls ≡ 0
+  pub unhurt : (shown_state_of d).failures ≡ 0
+  pub untouched : (file_state_of (shown_file_of d)).calls ≡ 0
+
+-- No call of the file has failed, and none was a write.
+pub record IsOnlyRead (file : FileDisk) : Type 0 where
+  pub unwritten : (file_state_of file).writes ≡ 0
+  pub unhurt : (file_state_of file).failures ≡ 0

@@ -1,8 +1,10 @@
 pub mod Ends
 pub mod Faults
+pub mod Listening
 pub mod Images
 pub mod Output
 pub mod Serving
 pub mod Showing
 pub mod Stages
 pub mod Words
+pub mod Unwritten

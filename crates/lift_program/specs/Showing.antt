@@ -4,8 +4,6 @@ use Rattle.std.specs.Io.KnownBytes.{Appends}
 use Rattle.lift_building.specs.Describes.{IsTextOf}
 use Rattle.lift_building.specs.Plan.{Plan}
 use Rattle.lift_disk.specs.Disk.{DiskState}
-use Rattle.lift_disk.specs.Files.{file_state_of}
-use Rattle.lift_disk.specs.declared.file.FileDisk.{FileDisk}
 use Rattle.lift_journal.specs.declared.fault.JournalFault.TheVariants.{Disk, NotFormatted, Damaged}
 use Rattle.lift_journal.specs.declared.fault.JournalFault.TheVariants.{Full, Broken}
 use Rattle.lift_keeper.specs.Reopening.{Reopens}
@@ -17,6 +15,8 @@ use Rattle.lift_register.specs.Belongs.{BelongsTo}
 use Rattle.lift_register.specs.Register.{RegisterState}
 use Rattle.lift_register.specs.WellFormed.{IsWellFormed}
 use Rattle.lift_replay.specs.Report.{register_text}
+use Rattle.lift_program.specs.Images.{IsOnlyRead, IsToBeShown, shown_file_of, shown_state_of}
+use Rattle.lift_program.specs.declared.shown.ShownImage.{ShownImage}
 
 -- The recovery has opened a device of the building: this is the register that it gave, and it is
 -- possible in the building.
@@ -49,26 +49,25 @@ pub record ShowsFrontOfFile (before after : Option (List ℕ)) : Type 0 where
   pub text : List ℕ
   pub plan : Plan
   pub described : IsTextOf text plan
-  pub opened : FileDisk
-  pub uncalled : (file_state_of opened).calls ≡ 0
-  pub unhurt : (file_state_of opened).failures ≡ 0
-  pub left : FileDisk
-  pub front : ShowsFront plan (file_state_of opened) (file_state_of left) before after
+  pub opened : ShownImage
+  pub fresh : IsToBeShown opened
+  pub left : ShownImage
+  pub front : ShowsFront plan (shown_state_of opened) (shown_state_of left) before after
 
 -- nothing was written, or such a front
 abbrev pub ShowsPart : (before after : Option (List ℕ)) → Type 0
 ShowsPart before after = (after ≡ before) ⊎ ShowsFrontOfFile before after
 
 -- The open calls of the journal on the device were written, of a building that a text describes.
--- From the opening of the file on no call failed, and none was a write.
-pub record IsShown (disk : FileDisk) (before after : Option (List ℕ)) : Type 0 where
+-- Of its file no call failed, and none was a write.
+pub record IsShown (disk : ShownImage) (before after : Option (List ℕ)) : Type 0 where
   pub text : List ℕ
   pub plan : Plan
   pub described : IsTextOf text plan
-  pub opened : FileDisk
-  pub uncalled : (file_state_of opened).calls ≡ 0
-  pub unhurt : (file_state_of opened).failures ≡ 0
-  pub shows : Shows plan (file_state_of opened) (file_state_of disk) before after
+  pub opened : ShownImage
+  pub fresh : IsToBeShown opened
+  pub shows : Shows plan (shown_state_of opened) (shown_state_of disk) before after
+  pub only_read : IsOnlyRead (shown_file_of disk)
 
 -- What an opening may be refused for: what the journal's opening is, a building of another shape,
 -- or a record that doesn't fit.

@@ -7,10 +7,9 @@ use Rattle.lift_building.specs.Gives.{IsFirstFault}
 use Rattle.lift_building.specs.Plan.{Plan}
 use Rattle.lift_building.specs.declared.fault.BuildingFault.{BuildingFault}
 use Rattle.lift_disk.specs.Disk.{DiskState}
-use Rattle.lift_disk.specs.Files.{file_state_of}
-use Rattle.lift_disk.specs.declared.file.FileDisk.{FileDisk}
-use Rattle.lift_program.specs.Images.{image_state_of}
+use Rattle.lift_program.specs.Images.{IsToBeShown, image_state_of, shown_state_of}
 use Rattle.lift_program.specs.declared.image.ImageDisk.{ImageDisk}
+use Rattle.lift_program.specs.declared.shown.ShownImage.{ShownImage}
 use Rattle.lift_keeper.specs.Keeper.{KeeperView}
 use Rattle.lift_keeper.specs.Reopening.{RefusesReopening, Reopens}
 use Rattle.lift_keeper.specs.declared.fault.KeeperFault.{KeeperFault}
@@ -77,12 +76,11 @@ OpensJournal = (plan : Plan) × (keeper : KeeperView ImageDisk) × HasBuilding p
 pub record ReadsJournal : Type 0 where
   pub plan : Plan
   pub building : HasBuilding plan
-  pub opened : FileDisk
-  pub uncalled : (file_state_of opened).calls ≡ 0
-  pub unhurt : (file_state_of opened).failures ≡ 0
-  pub left : FileDisk
+  pub opened : ShownImage
+  pub fresh : IsToBeShown opened
+  pub left : ShownImage
   pub register : RegisterState
-  pub recovers : Recovers plan (file_state_of opened) (file_state_of left) register
+  pub recovers : Recovers plan (shown_state_of opened) (shown_state_of left) register
 
 -- the building was read, and the recovery was refused for this
 abbrev pub OpensNoJournal : (D : Type 0) → (D → DiskState) → KeeperFault → Type 0

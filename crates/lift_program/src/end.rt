@@ -6,6 +6,7 @@ ghost use Rattle.lift_program.specs.Output.{IsTold};
 
 use crate::fault::Fault;
 use crate::output::tell;
+use crate::shown::ShownImage;
 use lift_base::text::Watched;
 use lift_disk::FileDisk;
 use lift_replay::Verdict;
@@ -19,7 +20,7 @@ pub enum End {
     /// An empty journal was made on this file.
     Formatted(FileDisk),
     /// The open calls of the journal on this file were written.
-    Shown(FileDisk),
+    Shown(ShownImage),
     /// The building was served on this port; a fault that did not end that is told.
     Served(u16, Option<Fault>),
     /// The work is undone.

@@ -5,6 +5,7 @@ ghost use Rattle.std.specs.Prelude.{vec_len};
 ghost use Rattle.lift_disk.specs.Files.{file_state_of};
 ghost use Rattle.lift_replay.specs.Reading.{TakesUpTo};
 ghost use Rattle.lift_program.specs.Ends.{IsFileFault, IsUnread};
+ghost use Rattle.lift_program.specs.Images.{IsToBeShown};
 ghost use Rattle.lift_program.specs.Stages.{HasBuilding, HasKeeperOf, IsBuildingFault};
 ghost use Rattle.lift_program.specs.Stages.{IsKeeperFault, TakesAll, most_text};
 ghost use Rattle.lift_program.specs.declared.fault.Role.TheVariants.{Building as OfBuilding};
@@ -12,6 +13,7 @@ ghost use Rattle.lift_program.specs.declared.fault.Role.TheVariants.{Image as Of
 
 use crate::fault::{Fault, Role};
 use crate::image::ImageDisk;
+use crate::shown::ShownImage;
 use lift_base::text::Counted;
 use lift_building::Building;
 use lift_disk::{FileDisk, FileFault};
@@ -146,9 +148,19 @@ pub fn image_at<F: Files<File = File>>(rt: &F, path: &str, sectors: u32) -> Resu
 pub fn image_in<F: Files<File = File>>(rt: &F, path: &str) -> Result<FileDisk, Fault>
     ensures failures { IfOk result (λ disk. (file_state_of disk).failures ≡ 0) }
     ensures calls { IfOk result (λ disk. (file_state_of disk).calls ≡ 0) }
+    ensures writes { IfOk result (λ disk. (file_state_of disk).writes ≡ 0) }
     ensures fault { IfErr result (IsFileFault OfImage) }
 {
     FileDisk::open(rt, path).map_err(refused)
+}
+
+/// The image of a journal that is there, to be shown.
+pub fn image_to_show<F: Files<File = File>>(rt: &F, path: &str) -> Result<ShownImage, Fault>
+    ensures opened { IfOk result IsToBeShown }
+    ensures fault { IfErr result (IsFileFault OfImage) }
+{
+    let file = image_in(rt, path)?;
+    Ok(ShownImage::over(file))
 }
 
 /// The keeper that the recovery gives, over the journal in a file.

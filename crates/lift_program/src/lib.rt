@@ -13,10 +13,14 @@ mod output;
 mod replay;
 mod serve;
 mod show;
+mod shown;
 mod starting;
+mod unwritten;
 mod words;
 
 pub use end::End;
 pub use fault::{Fault, Role};
+pub use listening::Listens;
 pub use output::Outflow;
+pub use shown::ShownImage;
 pub use starting::{not_given, start};

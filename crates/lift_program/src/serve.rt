@@ -1,12 +1,12 @@
 //! The serving of a building on a port.
 
-ghost use Rattle.std.specs.Prelude.{◌≡◌, ◌≤◌, [], ◌∷◌, Some, None, OnOk, IfOk};
+ghost use Rattle.std.specs.Prelude.{◌≡◌, ◌≤◌, Some, None, OnOk, IfOk};
 ghost use Rattle.std.specs.Prelude.{IfErr, OnErr, IfSome};
 ghost use Rattle.std.specs.Io.KnownBytes.{Appends};
-ghost use Rattle.std.specs.declared.net.tcp.TcpListener.{TcpListener as Listener};
 ghost use Rattle.lift_program.specs.Ends.{IsFileFault, IsReportOfFault, IsServeFault};
 ghost use Rattle.lift_program.specs.Ends.{IsServingFault, SaysFront, serving_text};
 ghost use Rattle.lift_program.specs.Faults.{served_fault};
+ghost use Rattle.lift_program.specs.Listening.{HasListened, local};
 ghost use Rattle.lift_program.specs.Output.{HasFailed, IsFlushed};
 ghost use Rattle.lift_program.specs.Serving.{IsServing};
 ghost use Rattle.lift_program.specs.declared.fault.Role.TheVariants.{Output};
@@ -69,9 +69,8 @@ fn say<W: Outflow>(port: u16, writer: &mut W) -> Result<(), Fault>
 
 /// A socket that listens on this machine alone.
 fn listen_here<L: Listens>(net: &L, port: u16) -> Result<TcpListener, Fault>
-    ensures here { IfOk result (λ listener.
-        L.gives net.now (127 ∷ 0 ∷ 0 ∷ 1 ∷ []) port (Some listener)) }
-    ensures refused { OnErr result (L.gives net.now (127 ∷ 0 ∷ 0 ∷ 1 ∷ []) port None) }
+    ensures here { IfOk result (λ listener. L.gives net.now local port (Some listener)) }
+    ensures refused { OnErr result (L.gives net.now local port None) }
     ensures fault { IfErr result (λ fault. fault ≡ Fault.Network) }
 {
     match net.listen([127, 0, 0, 1], port) {
@@ -98,11 +97,9 @@ pub fn serve<R: Files<File = File> + Threads + Wait + Clock + Listens + Sync, W:
         (Appends (W.contents writer.old) (W.contents writer.new) (serving_text port)) }
     ensures served { IfOk result (IsServing policy) }
     // The socket was asked for at 127.0.0.1, at this port.
-    ensures here { IfOk result (λ _.
-        (listener : Listener) × R.gives rt.now (127 ∷ 0 ∷ 0 ∷ 1 ∷ []) port (Some listener)) }
+    ensures here { OnOk result (HasListened R.gives rt.now port) }
     // The port is told only where that was refused.
-    ensures refused { result ≡ Err Fault.Network
-        → R.gives rt.now (127 ∷ 0 ∷ 0 ∷ 1 ∷ []) port None }
+    ensures refused { result ≡ Err Fault.Network → R.gives rt.now local port None }
     ensures serving { IfOk result (λ fault. IfSome fault IsServingFault) }
     ensures fault { IfErr result IsServeFault }
     ensures report { IfErr result (λ fault.

@@ -13,11 +13,12 @@ ghost use Rattle.lift_program.specs.declared.fault.Fault.TheVariants.{Journal as
 ghost use Rattle.lift_program.specs.declared.fault.Role.TheVariants.{Output};
 
 use crate::fault::{Fault, Role};
-use crate::files::{building_in, image_in};
+use crate::files::{building_in, image_to_show};
 use crate::output::Outflow;
+use crate::shown::ShownImage;
 use lift_base::text::put_all;
 use lift_building::Building;
-use lift_disk::{Disk, FileDisk};
+use lift_disk::Disk;
 use lift_keeper::Keeper;
 use lift_register::Register;
 use lift_replay::report::push_rows;
@@ -92,7 +93,7 @@ pub fn show<F: Files<File = File>, W: Outflow>(
     image: &str,
     building: &str,
     writer: &mut W,
-) -> Result<FileDisk, Fault>
+) -> Result<ShownImage, Fault>
     ensures shown { IfOk result (λ disk.
         IsShown disk (W.contents writer.old) (W.contents writer.new)) }
     ensures only { ShowsPart (W.contents writer.old) (W.contents writer.new) }
@@ -103,7 +104,7 @@ pub fn show<F: Files<File = File>, W: Outflow>(
         → HasFailed W.gives W.flushes writer.old writer.new }
 {
     let building = building_in(rt, alloc, building)?;
-    let disk = image_in(rt, image)?;
+    let disk = image_to_show(rt, image)?;
     let (disk, outcome) = show_on(alloc, disk, &building, writer);
     match outcome {
         Ok(()) => Ok(disk),

@@ -1,19 +1,22 @@
 //! From the program's words to its status.
 
-ghost use Rattle.std.specs.Prelude.{◌≡◌, ◌≢◌, None, false, true, map, IfSome};
+ghost use Rattle.std.specs.Prelude.{ℕ, ◌≡◌, ◌≢◌, Option, None, false, true, map, IfSome};
 ghost use Rattle.std.specs.IoError.{error_kind};
 ghost use Rattle.lift_replay.specs.Reading.{IsRead};
 ghost use Rattle.lift_replay.specs.declared.lines.Verdict.TheVariants.{Good};
 ghost use Rattle.lift_program.specs.declared.fault.Role.TheVariants.{Input, Output};
 ghost use Rattle.lift_program.specs.Ends.{IsEndFor, IsEndOf, IsReport, IsStatusFor, IsUnread};
 ghost use Rattle.lift_program.specs.Ends.{WritesFor, line_of};
+ghost use Rattle.lift_program.specs.Listening.{HasListened, WasRefused};
 ghost use Rattle.lift_program.specs.Output.{HasFailed, IsTold};
+ghost use Rattle.lift_program.specs.declared.fault.Fault.{Fault};
 ghost use Rattle.lift_program.specs.Words.{Asks, IsInRange};
 ghost use Rattle.lift_program.specs.declared.words.Request.TheVariants.{Replay};
 
 use crate::end::End;
 use crate::fault::Fault;
 use crate::format::format;
+use crate::listening::Listens;
 use crate::output::Outflow;
 use crate::replay::replay;
 use crate::serve::serve;
@@ -25,19 +28,13 @@ use std::convert::AsStr;
 use std::fs::{File, Files};
 use std::io;
 use std::io::{ErrorKind, Read, Write};
-use std::net::{Net, TcpListener, TcpStream};
 use std::sync::Wait;
 use std::thread::Threads;
 use std::time::Clock;
 
 /// Does what the request asks for.
 fn done<
-    F: Files<File = File>
-        + Threads
-        + Wait
-        + Clock
-        + Net<Listener = TcpListener, Stream = TcpStream>
-        + Sync,
+    F: Files<File = File> + Threads + Wait + Clock + Listens + Sync,
     R: Read + Drop,
     W: Outflow,
 >(rt: &F, alloc: Global, request: Request<'_>, input: &mut Counted<R>, writer: &mut W) -> End
@@ -56,6 +53,9 @@ fn done<
         → IsRead R.remaining input.old input.new }
     ensures failed { result ≡ End.Failed (Fault.File Output)
         → HasFailed W.gives W.flushes writer.old writer.new }
+    ensures here { (port : ℕ) (fault : Option Fault) → result ≡ End.Served port fault
+        → HasListened F.gives rt.now port }
+    ensures refused { result ≡ End.Failed Fault.Network → WasRefused F.gives rt.now }
 {
     match request {
         Request::Replay => match replay(alloc, input, writer) {
@@ -105,12 +105,7 @@ pub fn not_given<E: Write + Drop>(error: io::Error, errors: &mut Watched<E>) -> 
 /// Does what the words behind the program's name ask for, and answers how it ended. A fault writes
 /// its line to `errors`, and so do other words.
 fn carry_out<
-    F: Files<File = File>
-        + Threads
-        + Wait
-        + Clock
-        + Net<Listener = TcpListener, Stream = TcpStream>
-        + Sync,
+    F: Files<File = File> + Threads + Wait + Clock + Listens + Sync,
     S: AsStr,
     R: Read + Drop,
     W: Outflow,
@@ -143,9 +138,12 @@ fn carry_out<
     // and one that is undone for the standard output was.
     ensures read { Asks (map S.text words.now) Replay → result ≡ End.Failed (Fault.File Output)
         → IsRead R.remaining input.old input.new }
-    // The standard output is told only where it failed.
+    // The standard output is told only where it failed, and the port only where it was refused.
     ensures failed { result ≡ End.Failed (Fault.File Output)
         → HasFailed W.gives W.flushes writer.old writer.new }
+    ensures here { (port : ℕ) (fault : Option Fault) → result ≡ End.Served port fault
+        → HasListened F.gives rt.now port }
+    ensures refused { result ≡ End.Failed Fault.Network → WasRefused F.gives rt.now }
 {
     let end = match request_of(alloc, words) {
         Ok(Some(request)) => done(rt, alloc, request, input, writer),
@@ -160,12 +158,7 @@ fn carry_out<
 /// done, 1 for a bad script or a fault, 2 for other words. A fault writes its line to `errors`, and
 /// so do other words.
 pub fn start<
-    F: Files<File = File>
-        + Threads
-        + Wait
-        + Clock
-        + Net<Listener = TcpListener, Stream = TcpStream>
-        + Sync,
+    F: Files<File = File> + Threads + Wait + Clock + Listens + Sync,
     S: AsStr,
     R: Read + Drop,
     W: Outflow,
@@ -174,7 +167,8 @@ pub fn start<
     // It is the status of an end that the words come to, with its report, and which is told.
     ensures status { IsStatusFor E.contents (map S.text words.now) (R.remaining reader)
         (W.contents writer.old) (W.contents writer.new)
-        (HasFailed W.gives W.flushes writer.old writer.new) errors.old errors.new result }
+        (HasFailed W.gives W.flushes writer.old writer.new) (HasListened F.gives rt.now)
+        (WasRefused F.gives rt.now) errors.old errors.new result }
 {
     let mut input = Counted::new(reader);
     let end = carry_out(rt, alloc, words, &mut input, writer, errors);

@@ -1,4 +1,4 @@
-use Rattle.std.proofs.Common.{rules, map, sym, subst}
+use Rattle.std.proofs.Common.{◌∙◌, rules, map, sym, subst}
 use Rattle.lift_program.specs.Ends.{IsEndOf}
 use Rattle.lift_program.proofs.Asked.{asked_end}
 use Rattle.lift_program.proofs.starting.carry_out.Goals.{in-Ok-Some, in-Ok-None, in-Err}
@@ -16,4 +16,20 @@ returns-clause-end g c =
       | in-Ok-None w ↦ subst (IsEndOf input words before (g.W.Write.contents c.match-request_of.writer)) (sym w.end-is) (search rules)
       | in-Err w ↦ subst (IsEndOf input words before (g.W.Write.contents c.match-request_of.writer)) (sym w.end-is)
           (search rules)
+    ]
+
+pub returns-clause-here : goal.returns-clause-here
+returns-clause-here g c = λ port fault is.
+    elim c.match-request_of.branch [
+      | in-Ok-Some w ↦ w.done-end.ensures.here port fault (sym w.end-is ∙ is)
+      | in-Ok-None w ↦ absurd (let other = sym w.end-is ∙ is in cc)
+      | in-Err w ↦ absurd (let other = sym w.end-is ∙ is in cc)
+    ]
+
+pub returns-clause-refused : goal.returns-clause-refused
+returns-clause-refused g c = λ is.
+    elim c.match-request_of.branch [
+      | in-Ok-Some w ↦ w.done-end.ensures.refused (sym w.end-is ∙ is)
+      | in-Ok-None w ↦ absurd (let other = sym w.end-is ∙ is in cc)
+      | in-Err w ↦ absurd (let other = sym w.end-is ∙ is in cc)
     ]

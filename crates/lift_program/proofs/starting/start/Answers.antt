@@ -18,5 +18,7 @@ returns g c =
         told = c.carry_out-end.ensures.told;
         quiet = c.carry_out-end.ensures.quiet;
         unwritten = c.carry_out-end.ensures.failed;
+        here = c.carry_out-end.ensures.here;
+        refused = c.carry_out-end.ensures.refused;
       };
     }

@@ -1,0 +1,17 @@
+-- What a serving listens on.
+use Rattle.std.specs.Prelude.{ℕ, List, [], ◌∷◌, Option, Some, None}
+use Rattle.std.specs.declared.net.tcp.TcpListener.{TcpListener as Listener}
+
+-- the address that this machine alone can reach
+abbrev pub local : List ℕ
+local = 127 ∷ 0 ∷ 0 ∷ 1 ∷ []
+
+-- a socket was asked for at this port there, and had
+abbrev pub HasListened : {N : Type 0} → (gives : N → List ℕ → ℕ → Option Listener → Type 0) → N
+    → ℕ → Type 0
+HasListened gives net port = (listener : Listener) × gives net local port (Some listener)
+
+-- a socket was asked for at a port there, and refused
+abbrev pub WasRefused : {N : Type 0} → (gives : N → List ℕ → ℕ → Option Listener → Type 0) → N
+    → Type 0
+WasRefused gives net = (port : ℕ) × gives net local port None
