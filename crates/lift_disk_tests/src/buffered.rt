@@ -1,48 +1,40 @@
 //! A device that reads ahead and joins writes, over a file and over a device in memory.
-use crate::calls::{get, put};
-use lift_disk::{Buffered, BufferedFile, Disk, FileDisk, MemDisk, Outcome};
+use crate::calls::{Call, all_come, get, put_neighbours, sync};
+use crate::files::{created, opened};
+use lift_disk::{Buffered, BufferedFile, Disk, MemDisk, Outcome};
 use std::fs;
 use std::process::Abort;
 use std::test::Fail;
+
+/// What the sectors 2, 3, 5, 18, 20, 30 and 31 hold once they were written.
+const WRITTEN: [Call; 7] = [
+    Call::Get(2, 0),
+    Call::Get(3, 3),
+    Call::Get(5, 55),
+    Call::Get(18, 18),
+    Call::Get(20, 20),
+    Call::Get(30, 30),
+    Call::Get(31, 0),
+];
+
+/// Whether the sectors 3 to 20, 30 and 5 are written and then read so, what was read ahead before
+/// too.
+fn are_held_back<D: Disk>(disk: &mut D) -> bool {
+    disk.sectors() == 40
+        && all_come(disk, &[Call::Get(39, 0), Call::Get(2, 0)])
+        && put_neighbours(disk)
+        && all_come(disk, &[Call::Put(30, 30), Call::Put(5, 55)])
+        && all_come(disk, &WRITTEN)
+}
 
 /// What is held back is read at once, over what was read ahead too; it is in the file once it was
 /// synced.
 #[test]
 fn what_is_held_back_is_read_and_then_written(rt: HostRuntime) -> Result<(), Fail> {
     let path = "lift_disk_buffered.image";
-    let file = FileDisk::create(&rt, path, 40).ok().expect(&rt, "a file");
-    let mut disk: BufferedFile = Buffered::over(file);
-    assert!(rt; disk.sectors() == 40);
-    assert!(rt; get(&mut disk, 39) == Some(0) && get(&mut disk, 2) == Some(0));
-    for sector in 3..21 {
-        assert!(rt; put(&mut disk, sector, sector as u8));
-    }
-    assert!(rt; put(&mut disk, 30, 30) && put(&mut disk, 5, 55));
-    for (sector, byte) in [
-        (2, 0),
-        (3, 3),
-        (5, 55),
-        (18, 18),
-        (20, 20),
-        (30, 30),
-        (31, 0),
-    ] {
-        assert_eq!(rt; get(&mut disk, sector), Some(byte));
-    }
-    assert!(rt; disk.sync().is_ok());
-    let mut plain = FileDisk::open(&rt, path).ok().expect(&rt, "the file");
-    for (sector, byte) in [
-        (2, 0),
-        (3, 3),
-        (5, 55),
-        (18, 18),
-        (20, 20),
-        (30, 30),
-        (31, 0),
-    ] {
-        assert_eq!(rt; get(&mut plain, sector), Some(byte));
-        assert_eq!(rt; get(&mut disk, sector), Some(byte));
-    }
+    let mut disk: BufferedFile = Buffered::over(created(&rt, path, 40));
+    assert!(rt; are_held_back(&mut disk) && sync(&mut disk));
+    assert!(rt; all_come(&mut opened(&rt, path), &WRITTEN) && all_come(&mut disk, &WRITTEN));
     // cut short by another, it fails, since a read asks for the sectors behind too
     fs::write(&rt, path, [1u8; 1024].as_slice())?;
     assert!(rt; get(&mut disk, 1).is_none());
@@ -54,9 +46,7 @@ fn what_is_held_back_is_read_and_then_written(rt: HostRuntime) -> Result<(), Fai
 /// held back.
 fn holding<R: AllocGlobal + Abort>(rt: &R) -> Buffered<MemDisk> {
     let mut disk = Buffered::over(MemDisk::new(rt.alloc(), 40).ok().expect(rt, "memory"));
-    for sector in 3..21 {
-        assert!(rt; put(&mut disk, sector, sector as u8));
-    }
+    assert!(rt; put_neighbours(&mut disk));
     disk
 }
 
@@ -83,7 +73,7 @@ fn a_cut_loses_what_is_held_back(rt: HostRuntime) {
         assert!(rt; has(&mut disk, [3, 18, 19, 20, 0]));
         let mut disk = Buffered::over(disk.into_inner().cut(outcome));
         assert!(rt; has(&mut disk, left));
-        assert!(rt; put(&mut disk, 19, 7) && get(&mut disk, 19) == Some(7));
+        assert!(rt; all_come(&mut disk, &[Call::Put(19, 7), Call::Get(19, 7)]));
     }
 }
 
@@ -92,7 +82,7 @@ fn a_cut_loses_what_is_held_back(rt: HostRuntime) {
 fn a_cut_leaves_what_was_synced(rt: HostRuntime) {
     for outcome in [Outcome::Keep, Outcome::Lose, Outcome::Fill(165)] {
         let mut disk = holding(&rt);
-        assert!(rt; disk.sync().is_ok());
+        assert!(rt; sync(&mut disk));
         let mut disk = Buffered::over(disk.into_inner().cut(outcome));
         assert!(rt; has(&mut disk, [3, 18, 19, 20, 0]));
     }

@@ -1,5 +1,5 @@
 //! A device in memory, and what a cut leaves.
-use crate::calls::{get, holds, put};
+use crate::calls::{Call, all_come, get, holds, sync};
 use lift_disk::{Disk, MemDisk, Outcome};
 use std::process::Abort;
 
@@ -7,24 +7,34 @@ use std::process::Abort;
 /// third, and a write of the fourth failed.
 fn written<R: AllocGlobal + Abort>(rt: &R) -> MemDisk {
     let mut disk = MemDisk::new(rt.alloc(), 4).ok().expect(rt, "memory");
-    assert!(rt; put(&mut disk, 0, 1) && put(&mut disk, 1, 2));
-    assert!(rt; disk.sync().is_ok());
-    assert!(rt; put(&mut disk, 1, 3) && put(&mut disk, 2, 4));
+    let calls = [
+        Call::Put(0, 1),
+        Call::Put(1, 2),
+        Call::Sync,
+        Call::Put(1, 3),
+        Call::Put(2, 4),
+    ];
+    assert!(rt; all_come(&mut disk, &calls));
     assert!(rt; disk.sectors() == 4);
-    if 3 < disk.sectors() {
-        disk.spoil(Some(3));
-    }
+    disk.spoil(Some(3));
     disk
+}
+
+/// Whether all sectors of a device, which are so many, hold zeros.
+fn is_of_zeros<D: Disk>(disk: &mut D, sectors: u32) -> bool {
+    for sector in 0..sectors {
+        if get(disk, sector) != Some(0) {
+            return false;
+        }
+    }
+    disk.sectors() == sectors
 }
 
 #[test]
 fn a_new_device_is_of_zeros(rt: HostRuntime) {
     for sectors in [0, 1, 130] {
         let mut disk = MemDisk::new(rt.alloc(), sectors).ok().expect(&rt, "memory");
-        assert!(rt; disk.sectors() == sectors);
-        for sector in 0..sectors {
-            assert!(rt; get(&mut disk, sector) == Some(0));
-        }
+        assert!(rt; is_of_zeros(&mut disk, sectors));
     }
 }
 
@@ -51,33 +61,45 @@ fn a_sync_makes_it_safe(rt: HostRuntime) {
     for outcome in [Outcome::Keep, Outcome::Lose, Outcome::Fill(9)] {
         let mut disk = written(&rt);
         disk.spoil(None);
-        assert!(rt; disk.sync().is_ok());
+        assert!(rt; sync(&mut disk));
         let mut disk = disk.cut(outcome);
         assert!(rt; holds(&mut disk, [1, 3, 4, 0]));
-        assert!(rt; put(&mut disk, 0, 5));
+        assert!(rt; all_come(&mut disk, &[Call::Put(0, 5)]));
         assert!(rt; holds(&mut disk.cut(Outcome::Lose), [1, 3, 4, 0]));
     }
+}
+
+/// Whether a sector is there and is written with these bytes.
+fn put_bytes<D: Disk>(disk: &mut D, sector: u32, bytes: &[u8; 512]) -> bool {
+    sector < disk.sectors() && disk.write(sector, bytes).is_ok()
+}
+
+/// Whether a sector is there and holds these bytes.
+fn holds_bytes<D: Disk>(disk: &mut D, sector: u32, bytes: &[u8; 512]) -> bool {
+    let mut buffer = [1; 512];
+    sector < disk.sectors() && disk.read(sector, &mut buffer).is_ok() && buffer == *bytes
 }
 
 /// Sectors that lie far apart, and some that hold bytes only at their front or at their end.
 #[test]
 fn a_sync_makes_each_sector_safe(rt: HostRuntime) {
     let mut disk = MemDisk::new(rt.alloc(), 130).ok().expect(&rt, "memory");
-    assert!(rt; put(&mut disk, 129, 1) && put(&mut disk, 0, 2) && put(&mut disk, 64, 3));
     let mut front = [0; 512];
     front[0] = 0xA5;
     let mut end = [0; 512];
     end[511] = 0x5A;
-    assert!(rt; disk.sectors() == 130);
-    assert!(rt; disk.write(7, &front).is_ok() && disk.write(8, &end).is_ok());
-    assert!(rt; disk.sync().is_ok());
-    assert!(rt; put(&mut disk, 64, 4) && put(&mut disk, 100, 5));
+    let far = [Call::Put(129, 1), Call::Put(0, 2), Call::Put(64, 3)];
+    assert!(rt; all_come(&mut disk, &far));
+    assert!(rt; put_bytes(&mut disk, 7, &front) && put_bytes(&mut disk, 8, &end));
+    let later = [Call::Sync, Call::Put(64, 4), Call::Put(100, 5)];
+    assert!(rt; all_come(&mut disk, &later));
     let mut disk = disk.cut(Outcome::Lose);
-    for (sector, byte) in [(129, 1), (0, 2), (64, 3), (100, 0)] {
-        assert!(rt; get(&mut disk, sector) == Some(byte));
-    }
-    assert!(rt; disk.sectors() == 130);
-    let mut buffer = [1; 512];
-    assert!(rt; disk.read(7, &mut buffer).is_ok() && buffer == front);
-    assert!(rt; disk.read(8, &mut buffer).is_ok() && buffer == end);
+    let left = [
+        Call::Get(129, 1),
+        Call::Get(0, 2),
+        Call::Get(64, 3),
+        Call::Get(100, 0),
+    ];
+    assert!(rt; all_come(&mut disk, &left));
+    assert!(rt; holds_bytes(&mut disk, 7, &front) && holds_bytes(&mut disk, 8, &end));
 }

@@ -1,5 +1,5 @@
 //! A device on a file that notes how it is called.
-use crate::calls::{get, put};
+use crate::calls::Call;
 use lift_disk::{Disk, SectorFile, TracedFile};
 use std::cell::Cell;
 use std::fs::{Metadata, OpenFile};
@@ -27,6 +27,12 @@ impl Notes {
             length: Cell::new(0),
             safe_length: Cell::new(0),
         }
+    }
+
+    /// Whether the file was read and written last at these places, and synced so often.
+    fn are(&self, noted: &(u64, u64, u32)) -> bool {
+        let (read, written, syncs) = *noted;
+        self.read.get() == read && self.written.get() == written && self.syncs.get() == syncs
     }
 }
 
@@ -71,18 +77,26 @@ impl OpenFile for NotedFile<'_> {
     }
 }
 
+/// Whether the call comes to what it says, and the file was then read and written last at these
+/// places, and synced so often.
+fn is_noted<D: Disk>(disk: &mut D, notes: &Notes, call: &Call, noted: &(u64, u64, u32)) -> bool {
+    call.comes(disk) && notes.are(noted)
+}
+
 /// Each call of the device is one of the file: at 512 times the sector, or a sync of its data.
 #[test]
-fn each_call_is_one_of_the_file(rt: HostRuntime) -> Result<(), Fail> {
+fn each_call_is_one_of_the_file(rt: HostRuntime) {
     let notes = Notes::new();
     let mut disk = SectorFile::over(TracedFile::over(NotedFile { notes: &notes }), 8);
-    assert!(rt; put(&mut disk, 3, 1) && notes.written.get() == 1536);
-    assert!(rt; put(&mut disk, 0, 1) && notes.written.get() == 0);
-    assert!(rt; get(&mut disk, 5) == Some(1) && notes.read.get() == 2560);
-    assert!(rt; notes.written.get() == 0 && notes.syncs.get() == 0);
-    assert!(rt; disk.sync().is_ok() && notes.syncs.get() == 1);
-    assert!(rt; disk.sync().is_ok() && notes.syncs.get() == 2);
-    Ok(())
+    for (call, noted) in [
+        (Call::Put(3, 1), (1, 1536, 0)),
+        (Call::Put(0, 1), (1, 0, 0)),
+        (Call::Get(5, 1), (2560, 0, 0)),
+        (Call::Sync, (2560, 0, 1)),
+        (Call::Sync, (2560, 0, 2)),
+    ] {
+        assert!(rt; is_noted(&mut disk, &notes, &call, &noted));
+    }
 }
 
 /// A file that is made has its length, and that is made safe; opened, it is as it was.
