@@ -12,7 +12,7 @@ Gives view (Err fault) read = read ≡ Err fault
 
 -- nothing is said of a want of memory
 abbrev pub Fails : {Y : Type 0} → BuildingFault → Result Y BuildingFault → Type 0
-Fails Memory read = Unit {0}
+Fails (Memory no_memory) read = Unit {0}
 Fails fault read = read ≡ Err fault
 
 -- the same, where memory did not run out
@@ -26,8 +26,11 @@ abbrev pub NamesDetour : Plan → BuildingFault → Type 0
 NamesDetour plan (Detour i j k) = IsFirstDetour plan i j k
 NamesDetour plan _ = ⊥
 
--- The fault is the first one of the text's keys. Where these have none, it is the first detour of
--- what they describe.
+-- The fault is the first one of the keys that were read. Where these have none, it is the first
+-- detour of what they describe.
+abbrev pub IsFaultOf : Result Plan BuildingFault → BuildingFault → Type 0
+IsFaultOf read fault = MatchResult read (λ plan. NamesDetour plan fault) (λ first. fault ≡ first)
+
+-- the same of a text
 abbrev pub IsFirstFault : List ℕ → BuildingFault → Type 0
-IsFirstFault text fault =
-    MatchResult (plan_of text) (λ plan. NamesDetour plan fault) (λ first. fault ≡ first)
+IsFirstFault text fault = IsFaultOf (plan_of text) fault

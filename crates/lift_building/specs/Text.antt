@@ -37,4 +37,4 @@ fault_number (WrongType field) = 3
 fault_number (OutOfRange field) = 4
 fault_number TableShape = 5
 fault_number (Detour i j k) = 6
-fault_number Memory = 7
+fault_number (Memory no_memory) = 7

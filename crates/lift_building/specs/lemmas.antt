@@ -1,4 +1,5 @@
 pub mod Limits
+pub mod Spares
 pub mod Times
 pub mod Getters
 pub mod Described

@@ -1,20 +1,21 @@
 //! A building, once it is read.
 
-ghost use Rattle.std.specs.Prelude.{◌≡◌, ◌≢◌, ◌<◌, ◌≤◌, ◌↔◌, true, length, IfOk, IfErr};
+ghost use Rattle.std.specs.Prelude.{◌≡◌, ◌≢◌, ◌<◌, ◌≤◌, ◌↔◌, true, length, Ok, IfOk, IfErr};
 ghost use Rattle.lift_base.specs.History.{IsWithinLimits};
 ghost use Rattle.toml.specs.View.{view};
 ghost use Rattle.lift_building.specs.Plan.{Plan, HasLimits, IsBuilding, flight_ms, serves_floor};
 ghost use Rattle.lift_building.specs.Plan.{places_of, kiosk_floor_of, shape_of};
-ghost use Rattle.lift_building.specs.Reading.{document_of, plan_of};
+ghost use Rattle.lift_building.specs.Reading.{document_of, plan_in};
 ghost use Rattle.lift_building.specs.Arrivals.{arrivals_of, AreArrivals};
 ghost use Rattle.lift_building.specs.Layout.{layout_view};
 ghost use Rattle.lift_building.specs.Describes.{IsTextOf};
-ghost use Rattle.lift_building.specs.Gives.{GivesIfRoom, IsFirstFault};
+ghost use Rattle.lift_building.specs.Gives.{Gives, GivesIfRoom, IsFaultOf, IsFirstFault};
 
 use crate::detour::first_detour;
 use crate::fault::BuildingFault;
 use crate::layout::Layout;
 use crate::reading::layout_in;
+use crate::refused::NoMemory;
 use arrayvec::ArrayVec;
 use lift_base::{Floor, Halt, Letter, Position, Shape};
 use std::alloc::Global;
@@ -27,18 +28,20 @@ fn document_of(alloc: Global, text: &str) -> Result<Value, BuildingFault>
 {
     match toml::table_from_str(alloc, text) {
         Ok(table) => Ok(Value::Table(table)),
-        Err(error) if error.is_memory() => Err(BuildingFault::Memory),
-        Err(_) => Err(BuildingFault::NotToml),
+        Err(error) => match NoMemory::of(&error) {
+            Some(no_memory) => Err(BuildingFault::Memory(no_memory)),
+            None => Err(BuildingFault::NotToml),
+        },
     }
 }
 
-/// What a text describes, before the search for detours.
-fn layout_of(alloc: Global, text: &str) -> Result<Layout, BuildingFault>
-    ensures given { GivesIfRoom layout_view result (plan_of text.now) }
+/// What a document describes, before the search for detours.
+fn layout_of(document: &Value) -> Result<Layout, BuildingFault>
+    ensures given { Gives layout_view result (plan_in (view document.now)) }
     ensures limits { IfOk result (λ layout. HasLimits (layout_view layout)) }
+    ensures no_memory { IfErr result (λ fault. fault ≢ BuildingFault.Memory tt) }
 {
-    let document = document_of(alloc, text)?;
-    layout_in(&document)
+    layout_in(document)
 }
 
 fn floor_at(number: usize) -> Floor
@@ -75,28 +78,42 @@ impl Model for Building {
     ghost invariant = { λ b. IsBuilding (layout_view b.layout) };
 }
 
+/// The building that a document describes, or its first fault. This takes no memory.
+fn building_in(document: &Value) -> Result<Building, BuildingFault>
+    ensures found { IfOk result (λ building.
+        (plan_in (view document.now) ≡ Ok building) × IsBuilding building) }
+    // A building's document is not refused.
+    ensures taken { (plan : Plan) → plan_in (view document.now) ≡ Ok plan → IsBuilding plan
+        → result ≡ Ok plan }
+    ensures first { IfErr result (IsFaultOf (plan_in (view document.now))) }
+    ensures no_memory { IfErr result (λ fault. fault ≢ BuildingFault.Memory tt) }
+{
+    let layout = layout_of(document)?;
+    match first_detour(&layout) {
+        None => Ok(Building { layout }),
+        Some((i, j, k)) => Err(detour(i, j, k)),
+    }
+}
+
 impl Building {
     /// The building that a TOML text describes, or the first fault of the text in the order in
     /// which it is read: `floors`, `door_ms`, `kiosks`, `flight`, `cars`, and last the detours.
     ///
     /// # Errors
     /// `Memory` where no memory was left for the document; else the text's first fault.
-    #[tactic(auto, using(crate::specs::lemmas::Again::text_is, crate::specs::lemmas::Again::text_again))]
+    #[tactic(auto, using(crate::specs::lemmas::Again::text_is))]
     pub fn read(alloc: Global, text: &str) -> Result<Self, BuildingFault>
         // What is read is what the text says, and it is a building.
         ensures found { IfOk result (λ building. IsTextOf text.now building × IsBuilding building) }
         // A building's text is refused for want of memory alone.
         ensures only { (plan : Plan) → IsTextOf text.now plan → IsBuilding plan
-            → IfErr result (λ fault. fault ≡ BuildingFault.Memory) }
+            → IfErr result (λ fault. fault ≡ BuildingFault.Memory tt) }
         // Each other fault is the first one of the text.
-        ensures first { IfErr result (λ fault. fault ≢ BuildingFault.Memory
+        ensures first { IfErr result (λ fault. fault ≢ BuildingFault.Memory tt
             → IsFirstFault text.now fault) }
     {
-        let layout = layout_of(alloc, text)?;
-        match first_detour(&layout) {
-            None => Ok(Building { layout }),
-            Some((i, j, k)) => Err(detour(i, j, k)),
-        }
+        let document = document_of(alloc, text)?;
+        building_in(&document)
     }
 
     /// The number of floors, 2 to 64.

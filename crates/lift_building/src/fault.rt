@@ -2,6 +2,7 @@
 
 ghost use Rattle.std.specs.Prelude.{◌≡◌};
 
+use crate::refused::NoMemory;
 use lift_base::Floor;
 
 /// A key of the building's text.
@@ -58,7 +59,7 @@ pub enum BuildingFault {
     /// The flight from the first floor to the third is longer than with a stop at the second.
     Detour(Floor, Floor, Floor),
     /// No memory was left: a growth was refused.
-    Memory,
+    Memory(NoMemory),
 }
 
 impl BuildingFault {
@@ -75,7 +76,7 @@ impl BuildingFault {
             BuildingFault::OutOfRange(_) => 4,
             BuildingFault::TableShape => 5,
             BuildingFault::Detour(_, _, _) => 6,
-            BuildingFault::Memory => 7,
+            BuildingFault::Memory(_) => 7,
         }
     }
 }

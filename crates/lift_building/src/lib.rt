@@ -6,6 +6,8 @@ mod detour;
 mod fault;
 mod layout;
 mod reading;
+mod refused;
 
 pub use building::Building;
 pub use fault::{BuildingFault, Field};
+pub use refused::NoMemory;

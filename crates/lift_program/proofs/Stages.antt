@@ -28,14 +28,14 @@ use Rattle.lift_program.specs.declared.fault.Fault.TheVariants.{Building, Journa
 use Rattle.lift_program.specs.declared.fault.Role.TheVariants.{Building as OfBuilding, Image as OfImage, Input, Output}
 
 -- the first fault of a text within the bound
-pub first_fault : (text : List ℕ) (fault : BuildingFault) → length text ≤ most_text → (fault ≢ NoRoom → IsFirstFault text fault) → IsBuildingFault (of_building fault)
+pub first_fault : (text : List ℕ) (fault : BuildingFault) → length text ≤ most_text → (fault ≢ NoRoom tt → IsFirstFault text fault) → IsBuildingFault (of_building fault)
 first_fault text NotToml short first = record { text = text; short = short; first = first (λ same. cc) }
 first_fault text (Missing field) short first = record { text = text; short = short; first = first (λ same. cc) }
 first_fault text (WrongType field) short first = record { text = text; short = short; first = first (λ same. cc) }
 first_fault text (OutOfRange field) short first = record { text = text; short = short; first = first (λ same. cc) }
 first_fault text TableShape short first = record { text = text; short = short; first = first (λ same. cc) }
 first_fault text (Detour i j k) short first = record { text = text; short = short; first = first (λ same. cc) }
-first_fault text NoRoom short first = tt
+first_fault text (NoRoom no_memory) short first = tt
 
 pub has_building : (plan : Plan) (text : List ℕ) → length text ≤ most_text → IsTextOf text plan → HasBuilding plan
 has_building plan text short described = record { text = text; short = short; described = described }

@@ -58,7 +58,7 @@ usage_text = codes "liftd: usage"
 
 -- a building that was refused for want of memory is that
 abbrev pub of_building : BuildingFault → Fault
-of_building NoRoom = Memory
+of_building (NoRoom no_memory) = Memory
 of_building fault = Building fault
 
 -- a script whose reading failed is undone for the standard input, one whose report could not be

@@ -66,7 +66,7 @@ impl From<BuildingFault> for Fault {
 
     fn from(fault: BuildingFault) -> Fault {
         match fault {
-            BuildingFault::Memory => Fault::Memory,
+            BuildingFault::Memory(_) => Fault::Memory,
             other => Fault::Building(other),
         }
     }

@@ -76,13 +76,13 @@ names_one plan (Detour i j k) (Missing x) p q = absurd q
 names_one plan (Detour i j k) (WrongType x) p q = absurd q
 names_one plan (Detour i j k) (OutOfRange x) p q = absurd q
 names_one plan (Detour i j k) TableShape p q = absurd q
-names_one plan (Detour i j k) Memory p q = absurd q
+names_one plan (Detour i j k) (Memory m) p q = absurd q
 names_one plan NotToml h p q = absurd p
 names_one plan (Missing x) h p q = absurd p
 names_one plan (WrongType x) h p q = absurd p
 names_one plan (OutOfRange x) h p q = absurd p
 names_one plan TableShape h p q = absurd p
-names_one plan Memory h p q = absurd p
+names_one plan (Memory m) h p q = absurd p
 
 fault_one : (read : Result Plan BuildingFault) (f h : BuildingFault) → MatchResult read (λ plan. NamesDetour plan f) (λ first. f ≡ first) → MatchResult read (λ plan. NamesDetour plan h) (λ first. h ≡ first) → f ≡ h
 fault_one (Ok plan) f h p q = names_one plan f h p q
@@ -95,7 +95,7 @@ no_detour plan (Missing x) is p = p
 no_detour plan (WrongType x) is p = p
 no_detour plan (OutOfRange x) is p = p
 no_detour plan TableShape is p = p
-no_detour plan Memory is p = p
+no_detour plan (Memory m) is p = p
 
 not_both : (building report : List ℕ) (plan : Plan) → RefusesBuilding building report → SaysBuilding building plan → ⊥
 not_both building report plan refuses says =

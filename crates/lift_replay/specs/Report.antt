@@ -105,7 +105,7 @@ floors_text (WrongType field) = []
 floors_text (OutOfRange field) = []
 floors_text TableShape = []
 floors_text (Detour from by to) = detour_text from by to
-floors_text Memory = []
+floors_text (Memory no_memory) = []
 
 -- a text is no building
 abbrev pub building_text : BuildingFault → List ℕ

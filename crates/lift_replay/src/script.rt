@@ -91,16 +91,16 @@ fn refuse_building<W: Outlet>(
     ensures output { result ≢ Err ReplayFault.Read }
     ensures calls { IsCalled W.gives writer.old writer.new result }
     ensures not_good { result ≢ Ok Verdict.Good }
-    ensures memory { fault ≡ BuildingFault.Memory → result ≡ Err ReplayFault.Memory }
+    ensures memory { fault ≡ BuildingFault.Memory tt → result ≡ Err ReplayFault.Memory }
     ensures silent { result ≡ Err ReplayFault.Memory
         → W.contents writer.new ≡ W.contents writer.old }
-    ensures bad { OnOk result ((fault ≢ BuildingFault.Memory)
+    ensures bad { OnOk result ((fault ≢ BuildingFault.Memory tt)
         × Appends (W.contents writer.old) (W.contents writer.new) (building_text fault)) }
     ensures front { OnErr result ((W.contents writer.new ≡ W.contents writer.old)
-        ⊎ ((fault ≢ BuildingFault.Memory)
+        ⊎ ((fault ≢ BuildingFault.Memory tt)
         × AppendsFront (W.contents writer.old) (W.contents writer.new) (building_text fault))) }
 {
-    if fault == BuildingFault::Memory {
+    if matches!(fault, BuildingFault::Memory(_)) {
         return Err(ReplayFault::Memory);
     }
     let mut report = String::new(alloc);

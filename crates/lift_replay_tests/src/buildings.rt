@@ -15,6 +15,6 @@ fn memory_or_the_right_answer(rt: HostRuntime) {
             Err(_) => return,
         };
         let fault = Building::read(rt.alloc(), &text).err();
-        assert!(rt; fault == wanted || fault == Some(BuildingFault::Memory));
+        assert!(rt; fault == wanted || matches!(fault, Some(BuildingFault::Memory(_))));
     }
 }

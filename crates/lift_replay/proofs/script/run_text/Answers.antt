@@ -22,7 +22,7 @@ returns-in-Ok-clause-tells g c =
 pub returns-clause-tells : goal.returns-clause-tells
 returns-clause-tells g c =
     let script : IsScript c.args.text.now (string_bytes c.in-Some.building) (lines_in c.in-Some.lines.now) = search rules in
-    let first : c.in-Err.fault ≢ Memory → IsFirstFault (string_bytes c.in-Some.building) c.in-Err.fault = λ other. search rules in
+    let first : c.in-Err.fault ≢ Memory tt → IsFirstFault (string_bytes c.in-Some.building) c.in-Err.fault = λ other. search rules in
     if_bad (λ verdict. (report : List ℕ) × IsTextReport c.args.text.now report verdict × Appends (g.W.Write.contents c.args.writer.now) (g.W.Write.contents c.refuse_building.new.writer) report)
     c.refuse_building.result c.refuse_building.ensures.not_good
     (on_ok c.refuse_building.result (λ refused. (
@@ -48,7 +48,7 @@ returns-in-Ok-clause-front g c =
 pub returns-clause-front : goal.returns-clause-front
 returns-clause-front g c =
     let script : IsScript c.args.text.now (string_bytes c.in-Some.building) (lines_in c.in-Some.lines.now) = search rules in
-    let first : c.in-Err.fault ≢ Memory → IsFirstFault (string_bytes c.in-Some.building) c.in-Err.fault = λ other. search rules in
+    let first : c.in-Err.fault ≢ Memory tt → IsFirstFault (string_bytes c.in-Some.building) c.in-Err.fault = λ other. search rules in
     on_err c.refuse_building.result (λ refused. elim refused [
       | inl same ↦ subst (WritesFront (IsTextReport c.args.text.now) (g.W.Write.contents c.args.writer.now)) (sym same) (text_unwritten c.args.text.now _)
       | inr front ↦ (
