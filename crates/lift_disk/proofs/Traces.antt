@@ -1,9 +1,14 @@
 -- One call more of a device on a file, and of the file.
-use Rattle.std.proofs.Common.{◌≡◌, ◌++◌, ◌*◌, [], ◌∷◌, List, refl, sym, ◌∙◌, ap}
+use Rattle.std.proofs.Common.{◌≡◌, ◌++◌, ◌*◌, ◌-◌, ◌≤◌, [], ◌∷◌, ℕ, List, length, Some, refl, sym, ◌∙◌, ap, arith}
+use Rattle.std.proofs.lemmas.Grind.{merely}
+use Rattle.std.proofs.lemmas.Option.{get_or_from_slice_get, slice_get-get_or}
+use Rattle.std.proofs.Math.ListN.{get_or-append}
+use Rattle.lift_disk.specs.Files.{HasGiven}
+use Rattle.lift_disk.specs.Runs.{GivesRun}
 use Rattle.lift_disk.specs.Trace.{Access}
 use Rattle.lift_disk.specs.Trace.Access.{Read as ReadSector, Write as WriteSector, Sync as SyncSectors}
 use Rattle.lift_disk.specs.FileCalls.{FileCall, in_bytes, without_given}
-use Rattle.lift_disk.specs.FileCalls.FileCall.{Read, Write, SyncData, SetLength, SyncAll}
+use Rattle.lift_disk.specs.FileCalls.FileCall.{Read, ReadSectors, Write, SyncData, SetLength, SyncAll}
 
 in_bytes-push : (calls : List Access) (call : Access) → in_bytes (calls ++ call ∷ []) ≡ in_bytes calls ++ in_bytes (call ∷ [])
 in_bytes-push [] call = refl
@@ -14,6 +19,7 @@ in_bytes-push (SyncSectors ∷ calls) call = ap (λ (l : List FileCall). SyncDat
 without_given-push : (calls : List FileCall) (call : FileCall) → without_given (calls ++ call ∷ []) ≡ without_given calls ++ without_given (call ∷ [])
 without_given-push [] call = refl
 without_given-push (Read offset bytes ∷ calls) call = ap (λ (l : List FileCall). Read offset [] ∷ l) (without_given-push calls call)
+without_given-push (ReadSectors offset run ∷ calls) call = ap (λ (l : List FileCall). Read offset [] ∷ l) (without_given-push calls call)
 without_given-push (Write offset bytes ∷ calls) call = ap (λ (l : List FileCall). Write offset bytes ∷ l) (without_given-push calls call)
 without_given-push (SyncData ∷ calls) call = ap (λ (l : List FileCall). SyncData ∷ l) (without_given-push calls call)
 without_given-push (SetLength bytes ∷ calls) call = ap (λ (l : List FileCall). SetLength bytes ∷ l) (without_given-push calls call)
@@ -24,3 +30,18 @@ pub one_more : (calls after : List Access) (of_files filed : List FileCall) (cal
 one_more calls after of_files filed call of_file same more filed_more is =
     ap without_given filed_more ∙ without_given-push of_files of_file ∙ ap (λ (l : List FileCall). l ++ without_given (of_file ∷ [])) same ∙ ap (λ (l : List FileCall). in_bytes calls ++ l) is
     ∙ sym (in_bytes-push calls call) ∙ ap in_bytes (sym more)
+
+-- the last call gave these sectors
+pub given_run : (calls filed : List FileCall) (offset sector count : ℕ) (run rest : List (List ℕ)) → count ≤ length run → offset ≡ sector * 512 → filed ≡ calls ++ ReadSectors offset run ∷ []
+    → GivesRun (HasGiven filed) sector count (run ++ rest)
+given_run calls filed offset sector count run rest long placed listed i bytes inside is =
+    merely (record {
+      before = calls;
+      first = sector;
+      run = run;
+      after = [];
+      listed = listed ∙ ap (λ n. calls ++ ReadSectors n run ∷ []) placed;
+      behind = inside.0;
+      here = slice_get-get_or run (i - sector) [] (omega (arith, inside.0, inside.1, long))
+          ∙ ap Some (sym (get_or-append run rest [] (i - sector) (omega (arith, inside.0, inside.1, long))) ∙ get_or_from_slice_get (run ++ rest) (i - sector) bytes [] is);
+    })

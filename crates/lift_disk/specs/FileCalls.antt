@@ -1,7 +1,7 @@
 -- The calls of a file that have succeeded, in their order, and the calls of a device that they
 -- stand for.
 use Rattle.std.specs.Prelude.{◌≡◌, ◌++◌, ◌+◌, ◌*◌, ◌==◌, [], ◌∷◌, ℕ, List, Result, OnOk, OnErr}
-use Rattle.std.specs.Prelude.{refl, cond}
+use Rattle.std.specs.Prelude.{refl, cond, get_or}
 use Rattle.std.specs.Coded.{Coded, code_by, coded×, coded_ℕ, coded_list}
 use Rattle.lift_disk.specs.Trace.{Access}
 use Rattle.lift_disk.specs.Trace.Access.{Read as ReadSector, Write as WriteSector}
@@ -10,6 +10,8 @@ use Rattle.lift_disk.specs.Trace.Access.{Sync as SyncSectors}
 pub data FileCall : Type 0 where
   -- the offset in bytes, and the bytes that it gave
   Read : ℕ → List ℕ → FileCall
+  -- the offset in bytes, and the sectors that it gave, one behind the other
+  ReadSectors : ℕ → List (List ℕ) → FileCall
   -- the offset in bytes, and the bytes that it took
   Write : ℕ → List ℕ → FileCall
   -- what was written is made safe, without the file's times
@@ -20,17 +22,19 @@ pub data FileCall : Type 0 where
   SyncAll : FileCall
 
 -- how the logic stores a call
-abbrev pub to_parts : FileCall → ℕ × (ℕ × List ℕ)
-to_parts (Read offset bytes) = (0, (offset, bytes))
-to_parts (Write offset bytes) = (1, (offset, bytes))
+abbrev pub to_parts : FileCall → ℕ × (ℕ × List (List ℕ))
+to_parts (Read offset bytes) = (0, (offset, bytes ∷ []))
+to_parts (Write offset bytes) = (1, (offset, bytes ∷ []))
 to_parts SyncData = (2, (0, []))
 to_parts (SetLength bytes) = (3, (bytes, []))
 to_parts SyncAll = (4, (0, []))
+to_parts (ReadSectors offset run) = (5, (offset, run))
 
-abbrev pub of_parts : ℕ × (ℕ × List ℕ) → FileCall
-of_parts p = cond (p.0 == 0) (Read p.1.0 p.1.1)
-    (cond (p.0 == 1) (Write p.1.0 p.1.1)
-    (cond (p.0 == 2) SyncData (cond (p.0 == 3) (SetLength p.1.0) SyncAll)))
+abbrev pub of_parts : ℕ × (ℕ × List (List ℕ)) → FileCall
+of_parts p = cond (p.0 == 0) (Read p.1.0 (get_or p.1.1 0 []))
+    (cond (p.0 == 1) (Write p.1.0 (get_or p.1.1 0 []))
+    (cond (p.0 == 2) SyncData
+    (cond (p.0 == 3) (SetLength p.1.0) (cond (p.0 == 4) SyncAll (ReadSectors p.1.0 p.1.1)))))
 
 pub there_and_back : (call : FileCall) → of_parts (to_parts call) ≡ call
 there_and_back (Read offset bytes) = refl
@@ -38,11 +42,13 @@ there_and_back (Write offset bytes) = refl
 there_and_back SyncData = refl
 there_and_back (SetLength bytes) = refl
 there_and_back SyncAll = refl
+there_and_back (ReadSectors offset run) = refl
 
 abbrev pub file_calls_code : Coded (List FileCall)
 file_calls_code = coded_list
-    (code_by (ℕ × (ℕ × List ℕ)) (coded× coded_ℕ (coded× coded_ℕ (coded_list coded_ℕ))) to_parts
-    of_parts there_and_back)
+    (code_by (ℕ × (ℕ × List (List ℕ)))
+    (coded× coded_ℕ (coded× coded_ℕ (coded_list (coded_list coded_ℕ)))) to_parts of_parts
+    there_and_back)
 
 -- the calls of a file that stand for these of a device, but for the bytes that reads gave: a sector
 -- is 512 bytes
@@ -56,6 +62,7 @@ in_bytes (SyncSectors ∷ calls) = SyncData ∷ in_bytes calls
 abbrev pub without_given : List FileCall → List FileCall
 without_given [] = []
 without_given (Read offset bytes ∷ calls) = Read offset [] ∷ without_given calls
+without_given (ReadSectors offset run ∷ calls) = Read offset [] ∷ without_given calls
 without_given (Write offset bytes ∷ calls) = Write offset bytes ∷ without_given calls
 without_given (SyncData ∷ calls) = SyncData ∷ without_given calls
 without_given (SetLength bytes ∷ calls) = SetLength bytes ∷ without_given calls

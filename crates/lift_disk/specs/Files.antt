@@ -1,6 +1,8 @@
 -- What is said of a device on a real file.
-use Rattle.std.specs.Prelude.{ℕ, ◌/◌, if◌then◌else◌, nat_lt, List, [], false}
+use Rattle.std.specs.Prelude.{ℕ, ◌≡◌, ◌≤◌, ◌-◌, ◌*◌, ◌/◌, if◌then◌else◌, nat_lt, List, [], ◌∷◌}
+use Rattle.std.specs.Prelude.{◌++◌, false, slice_get, Some}
 use Rattle.lift_disk.specs.FileCalls.{FileCall}
+use Rattle.lift_disk.specs.FileCalls.FileCall.{ReadSectors}
 use Rattle.lift_disk.specs.Traced.{making_of, calls_of, failures_of}
 use Rattle.lift_disk.specs.Disk.{DiskState}
 use Rattle.lift_disk.specs.declared.sectors.SectorFile.{SectorFile}
@@ -39,6 +41,16 @@ making_below d = making_of d.file
 -- the calls of its file that the device has made, but for those that failed
 abbrev pub calls_below : {F : Type 0} → SectorFile F → List FileCall
 calls_below d = calls_of d.file
+
+-- One of these calls gave these bytes for the sector, by itself or among its neighbours.
+pub record HasGiven (calls : List FileCall) (sector : ℕ) (bytes : List ℕ) : Type 0 where
+  pub before : List FileCall
+  pub first : ℕ
+  pub run : List (List ℕ)
+  pub after : List FileCall
+  pub listed : calls ≡ before ++ ReadSectors (first * 512) run ∷ after
+  pub behind : first ≤ sector
+  pub here : slice_get run (sector - first) ≡ Some bytes
 
 -- the same of a file of the system
 abbrev pub file_state_of : FileDisk → DiskState

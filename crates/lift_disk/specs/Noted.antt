@@ -10,7 +10,7 @@ use Rattle.lift_disk.specs.Trace.{Access}
 use Rattle.lift_disk.specs.Trace.Access.{Read, Write, Sync}
 use Rattle.lift_disk.specs.FileCalls.{FileCall}
 use Rattle.lift_disk.specs.FileCalls.FileCall.{Read as ReadBytes, Write as WriteBytes, SyncData}
-use Rattle.lift_disk.specs.FileCalls.FileCall.{SetLength, SyncAll}
+use Rattle.lift_disk.specs.FileCalls.FileCall.{ReadSectors, SetLength, SyncAll}
 use Rattle.lift_disk.specs.Disk.{Image}
 use Rattle.lift_disk.specs.Calls.{Call, writes_of}
 use Rattle.lift_disk.specs.Calls.Call.{Write as Written, Sync as Synced}
@@ -23,6 +23,7 @@ access_of made.Sync = Sync
 
 abbrev pub file_call_of : Called → FileCall
 file_call_of (called.Read offset bytes) = ReadBytes offset bytes.now
+file_call_of (called.ReadSectors offset run) = ReadSectors offset run.now
 file_call_of (called.Write offset bytes) = WriteBytes offset bytes.now
 file_call_of called.SyncData = SyncData
 file_call_of (called.SetLength bytes) = SetLength bytes

@@ -27,6 +27,11 @@ abbrev pub HoldsRun : ℕ → ℕ → List (List ℕ) → Image → Type 0
 HoldsRun from count run image = (i : ℕ) → IsInRun from count i
     → slice_get image i ≡ slice_get run (i - from)
 
+-- each of so many sectors from that one on was given with the bytes that it has here
+abbrev pub GivesRun : (ℕ → List ℕ → Type 0) → ℕ → ℕ → List (List ℕ) → Type 0
+GivesRun has_given from count run = (i : ℕ) (bytes : List ℕ) → IsInRun from count i
+    → slice_get run (i - from) ≡ Some bytes → ∥ has_given i bytes ∥₁
+
 -- these sectors are written from that one on, and what was written in others still stands
 pub record SettlesRun (from : ℕ) (run : List (List ℕ)) (old new : DiskState) : Type 0 where
   pub here : (i : ℕ) (bytes : List ℕ) → from ≤ i → slice_get run (i - from) ≡ Some bytes

@@ -1,10 +1,15 @@
 //! A device that reads ahead, and holds neighbouring writes back until it makes them as one.
-ghost use Rattle.std.specs.Prelude.{◌≡◌, ◌≤◌, ◌<◌, ◌+◌, [], ℕ, length, slice_get, Some, IsTrue};
-ghost use Rattle.std.specs.Prelude.{OnOk, IfOk, IfSome, IfNone};
-ghost use Rattle.lift_disk.specs.Disk.{MayLeave};
-ghost use Rattle.lift_disk.specs.Runs.{CountsFault, HoldsRun, IsInRun, KeepsWrites, Opens, Rests};
+ghost use Rattle.std.specs.Prelude.{◌≡◌, ◌≤◌, ◌<◌, ◌+◌, [], ℕ, List, length, slice_get, Some};
+ghost use Rattle.std.specs.Prelude.{IsTrue, OnOk, OnErr, IfOk, IfSome, IfNone, ◌⊎◌, ◌-◌};
+ghost use Rattle.lift_disk.specs.Disk.{FailsAsTold, GoesOn, HasCause, IsSteadyAt, KeepsImage};
+ghost use Rattle.lift_disk.specs.Disk.{KeepsSynced, MayLeave, StaysLoose, StaysWritten};
+ghost use Rattle.lift_disk.specs.Disk.{TouchesNothing};
+ghost use Rattle.lift_disk.specs.Runs.{CountsFault, GivesRun, HoldsRun, IsInRun, KeepsWrites};
+ghost use Rattle.lift_disk.specs.Runs.{Opens, Rests};
 ghost use Rattle.lift_disk.specs.Runs.{left_with, left_without, run_loose, run_whole};
 ghost use Rattle.lift_disk.specs.Runs.{with_run};
+ghost use Rattle.lift_disk.specs.Trace.{Records};
+ghost use Rattle.lift_disk.specs.Trace.Access.{Read};
 
 use crate::runs::{Ahead, MOST_AHEAD, RunDisk};
 use crate::trace::{Made, ProofTrace};
@@ -37,10 +42,11 @@ pub struct Buffered<R: RunDisk + Drop> {
     ghost count: { ahead_count ≤ 16 },
     ghost read: { (R.state device).is_honest
         → HoldsRun ahead_from ahead_count ahead (R.state device).image },
+    ghost given: { GivesRun (R.has_given device) ahead_from ahead_count ahead },
 }
 
 impl<R: RunDisk + Drop> Buffered<R> {
-    ghost use Rattle.lift_disk.specs.Below.{as_written, below, held_back};
+    ghost use Rattle.lift_disk.specs.Below.{IsHeldBack, as_written, below, held_back};
 
     /// A device of which nothing was read or written yet. It makes no call of the other one and
     /// announces nothing.
@@ -87,6 +93,7 @@ impl<R: RunDisk + Drop> Buffered<R> {
             (R.state self.now.device).image) sector ≡ Some bytes.now) }
         ensures none { IfNone result
             (¬ IsInRun self.now.from (length self.now.pending.items) sector) }
+        ensures held { IfSome result (λ bytes. IsHeldBack self.now sector bytes.now) }
     {
         if sector < self.from {
             return None;
@@ -100,8 +107,10 @@ impl<R: RunDisk + Drop> Buffered<R> {
 
     /// What was read ahead of a sector.
     fn read_ahead(&self, sector: u32) -> Option<&[u8; 512]>
-        ensures { IfSome result (λ bytes. (R.state self.now.device).is_honest
+        ensures some { IfSome result (λ bytes. (R.state self.now.device).is_honest
             → slice_get (R.state self.now.device).image sector ≡ Some bytes.now) }
+        ensures given { IfSome result (λ bytes.
+            ∥ R.has_given self.now.device sector bytes.now ∥₁) }
     {
         if sector < self.ahead_from {
             return None;
@@ -171,6 +180,8 @@ impl<R: RunDisk + Drop> Buffered<R> {
             (KeepsWrites (as_written R.state self.old) (as_written R.state self.new)) }
         ensures gives { OnOk result ((R.state self.old.device).is_honest
             → slice_get (R.state self.new.device).image sector ≡ slice_get self.new.ahead 0) }
+        ensures given { OnOk result ((bytes : List ℕ) → slice_get self.new.ahead 0 ≡ Some bytes
+            → ∥ R.has_given self.new.device sector bytes ∥₁) }
         ensures pending { (self.new.from ≡ self.old.from) × (self.new.pending ≡ self.old.pending) }
         ensures faults { CountsFault result (R.state self.old.device) (R.state self.new.device) }
         ensures counts { (self.new.calls ≡ self.old.calls) × (self.new.writes ≡ self.old.writes) }
@@ -193,6 +204,8 @@ impl<R: RunDisk + Drop> Buffered<R> {
             (KeepsWrites (as_written R.state self.old) (as_written R.state self.new)) }
         ensures gives { IfOk result (λ bytes. (R.state self.old.device).is_honest
             → slice_get (as_written R.state self.new).image sector ≡ Some bytes) }
+        ensures given { IfOk result (λ bytes. IsHeldBack self.old sector bytes
+            ⊎ ∥ R.has_given self.new.device sector bytes ∥₁) }
         ensures faults { CountsFault result (R.state self.old.device) (R.state self.new.device) }
         ensures counts { (self.new.calls ≡ self.old.calls) × (self.new.writes ≡ self.old.writes) }
         ensures trace { self.new.trace ≡ self.old.trace }
@@ -209,6 +222,7 @@ impl<R: RunDisk + Drop> Buffered<R> {
 }
 
 impl<R: RunDisk + Drop> Disk for Buffered<R> {
+    ghost use Rattle.lift_disk.specs.Below.{IsHeldBack, below, buffered_state_of};
     ghost use Rattle.lift_disk.specs.Runs.{buffered};
 
     ghost state = { λ d. buffered (R.state d.device) d.from d.pending.items d.calls.count
@@ -240,7 +254,43 @@ impl<R: RunDisk + Drop> Disk for Buffered<R> {
         self.device.sectors()
     }
 
-    fn read(&mut self, sector: u32, buffer: &mut [u8; 512]) -> Result<(), DiskFault> {
+    fn read(&mut self, sector: u32, buffer: &mut [u8; 512]) -> Result<(), DiskFault>
+        requires { sector < (buffered_state_of R.state self.old).size }
+        // beside what each device promises: these bytes are still to be written, or a call of the
+        // other device gave them
+        ensures given { OnOk result (IsHeldBack self.old sector buffer.new
+            ⊎ ∥ R.has_given (below self.new) sector buffer.new ∥₁) }
+        ensures goes_on { GoesOn (buffered_state_of R.state self.old)
+            (buffered_state_of R.state self.new) }
+        ensures cause { HasCause result (buffered_state_of R.state self.old)
+            (buffered_state_of R.state self.new) }
+        ensures counted { OnErr result ((buffered_state_of R.state self.new).failures
+            ≡ (buffered_state_of R.state self.old).failures + 1) }
+        ensures told { FailsAsTold result (buffered_state_of R.state self.old)
+            (buffered_state_of R.state self.new) }
+        ensures writes { (buffered_state_of R.state self.new).writes
+            ≡ (buffered_state_of R.state self.old).writes }
+        ensures recorded { Records result (Read sector) (buffered_state_of R.state self.old).trace
+            (buffered_state_of R.state self.new).trace }
+        ensures written { OnOk result (StaysWritten (buffered_state_of R.state self.old)
+            (buffered_state_of R.state self.new)) }
+        ensures touched { (buffered_state_of R.state self.old).is_honest
+            → TouchesNothing (buffered_state_of R.state self.old)
+            (buffered_state_of R.state self.new) }
+        ensures loose { (buffered_state_of R.state self.old).is_honest
+            → StaysLoose (buffered_state_of R.state self.old)
+            (buffered_state_of R.state self.new) }
+        ensures gives { OnOk result ((buffered_state_of R.state self.old).is_honest
+            → slice_get (buffered_state_of R.state self.new).image sector ≡ Some buffer.new) }
+        ensures steady { OnOk result ((buffered_state_of R.state self.old).is_honest
+            → (buffered_state_of R.state self.old).is_steady
+            → IsSteadyAt (buffered_state_of R.state self.old).image
+            (buffered_state_of R.state self.new)) }
+        ensures image { KeepsImage (buffered_state_of R.state self.old)
+            (buffered_state_of R.state self.new) }
+        ensures kept { KeepsSynced (buffered_state_of R.state self.old)
+            (buffered_state_of R.state self.new) }
+    {
         self.calls = ProofCount::next(&self.calls);
         *buffer = self.fetch(sector)?;
         self.trace = self.trace.then(&Made::Read(u64::from(sector)));

@@ -147,6 +147,10 @@ impl Disk for FileDisk {
 }
 
 impl RunDisk for FileDisk {
+    ghost use Rattle.lift_disk.specs.Files.{HasGiven, file_calls_of};
+
+    ghost has_given = { λ d. HasGiven (file_calls_of d) };
+
     fn announce(&mut self, sector: u32) {
         self.device.announce(sector)
     }

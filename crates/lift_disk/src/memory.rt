@@ -1,7 +1,7 @@
 //! A device in memory. Proofs know its calls, so they know what a crash at any past moment might
 //! have left.
 ghost use Rattle.std.specs.Prelude.{◌≡◌, ◌≤◌, ◌<◌, ◌+◌, ◌^◌, ◌++◌, [], ◌∷◌, ℕ, length, replicate};
-ghost use Rattle.std.specs.Prelude.{true, false, refl, OnOk, OnErr, IfOk, IfSome};
+ghost use Rattle.std.specs.Prelude.{true, false, refl, OnOk, OnErr, IfOk, IfSome, ⊤};
 ghost use Rattle.std.proofs.Common.{inl};
 ghost use Rattle.lift_disk.specs.Disk.{ChangesWithin, IsSynced, IsUnarmed};
 ghost use Rattle.lift_disk.specs.Memory.{IsFlagged, IsWithin, image_after, no_other};
@@ -156,6 +156,8 @@ impl Disk for MemDisk {
 }
 
 impl RunDisk for MemDisk {
+    ghost has_given = { λ _ _ _. ⊤ };
+
     fn announce(&mut self, sector: u32) {
         self.loose[sector as usize] = true;
         self.span = self.span.with(sector);

@@ -1,9 +1,10 @@
 //! Devices that take several neighbouring sectors in one call.
-ghost use Rattle.std.specs.Prelude.{◌≡◌, ◌≤◌, ◌<◌, ◌+◌, ℕ, OnOk, OnErr, length};
+ghost use Rattle.std.specs.Prelude.{◌≡◌, ◌≤◌, ◌<◌, ◌+◌, ℕ, OnOk, OnErr, List, length};
 ghost use Rattle.lift_disk.specs.Disk.{StaysWritten, GoesOn, HasCause, FailsAsTold};
 ghost use Rattle.lift_disk.specs.Disk.{FailsAsToldOrShort, TouchesNothing, StaysLoose, KeepsSynced};
 ghost use Rattle.lift_disk.specs.Disk.{IsSteadyAt};
-ghost use Rattle.lift_disk.specs.Runs.{Announces, HoldsRun, IsInRun, SettlesRun, joined, with_run};
+ghost use Rattle.lift_disk.specs.Runs.{Announces, GivesRun, HoldsRun, IsInRun, SettlesRun, joined};
+ghost use Rattle.lift_disk.specs.Runs.{with_run};
 ghost use Rattle.lift_disk.specs.Trace.{Records};
 ghost use Rattle.lift_disk.specs.Trace.Access.{Read, Write};
 
@@ -17,11 +18,16 @@ pub type Ahead = [[u8; 512]; MOST_AHEAD];
 
 /// A device that also takes several neighbouring sectors in one call.
 pub trait RunDisk: Disk {
+    /// A call of the device has given these bytes for the sector.
+    ghost has_given: { Self → ℕ → List ℕ → Type 0 };
+
     /// Says that a sector is to be written. It is no call: from now on a crash may leave any bytes
     /// at all in the sector, as if its write had begun.
     fn announce(&mut self, sector: u32)
         requires { sector < (Self.state self.old).size }
-        ensures { Announces sector (Self.state self.old) (Self.state self.new) };
+        ensures announced { Announces sector (Self.state self.old) (Self.state self.new) }
+        ensures given { (i : ℕ) (bytes : List ℕ) → ∥ has_given self.old i bytes ∥₁
+            → ∥ has_given self.new i bytes ∥₁ };
 
     /// Reads so many sectors from this one on. A failed read leaves the buffer open.
     fn read_run(&mut self, sector: u32, count: usize, buffer: &mut Ahead) -> Result<(), DiskFault>
@@ -42,6 +48,7 @@ pub trait RunDisk: Disk {
             → StaysLoose (Self.state self.old) (Self.state self.new) }
         ensures gives { OnOk result ((Self.state self.old).is_honest
             → HoldsRun sector count buffer.new (Self.state self.new).image) }
+        ensures given { OnOk result (GivesRun (has_given self.new) sector count buffer.new) }
         ensures steady { OnOk result ((Self.state self.old).is_honest
             → (Self.state self.old).is_steady
             → IsSteadyAt (Self.state self.old).image (Self.state self.new)) }

@@ -122,12 +122,16 @@ impl<F: FileExt + OpenFile + Drop> Disk for SectorFile<F> {
 }
 
 impl<F: FileExt + OpenFile + Drop> RunDisk for SectorFile<F> {
+    ghost use Rattle.lift_disk.specs.Files.{HasGiven, calls_below};
+
+    ghost has_given = { λ d. HasGiven (calls_below d) };
+
     fn announce(&mut self, _sector: u32) {}
 
     fn read_run(&mut self, sector: u32, count: usize, buffer: &mut Ahead) -> Result<(), DiskFault> {
         self.calls = ProofCount::next(&self.calls);
-        let bytes = buffer[..count].as_flattened_mut();
-        if self.file.read(bytes, offset_of(sector)).is_err() {
+        let run = &mut buffer[..count];
+        if self.file.read_sectors(run, offset_of(sector)).is_err() {
             return Err(DiskFault);
         }
         self.trace = self.trace.then(&Made::Read(u64::from(sector)));

@@ -1,7 +1,8 @@
 //! A file whose calls are listed.
 ghost use Rattle.std.specs.Prelude.{◌≡◌, ◌↔◌, [], ◌∷◌, IfOk, IsOk};
 ghost use Rattle.lift_disk.specs.FileCalls.{MakesCall};
-ghost use Rattle.lift_disk.specs.FileCalls.FileCall.{Read, Write, SyncData, SetLength, SyncAll};
+ghost use Rattle.lift_disk.specs.FileCalls.FileCall.{Read, ReadSectors, Write, SyncData};
+ghost use Rattle.lift_disk.specs.FileCalls.FileCall.{SetLength, SyncAll};
 
 use crate::DiskFault;
 use crate::file_calls::{Called, ProofFileCalls};
@@ -117,6 +118,20 @@ impl<F: FileExt + OpenFile + Drop> TracedFile<F> {
     {
         let outcome = self.file.read_exact_at(buffer, offset);
         self.note(outcome, &Called::Read(offset, buffer))
+    }
+
+    /// Reads so many sectors as the buffer has from this offset on, in one call.
+    pub(crate) fn read_sectors(
+        &mut self,
+        buffer: &mut [[u8; 512]],
+        offset: u64,
+    ) -> Result<(), DiskFault>
+        ensures made { MakesCall result (ReadSectors offset buffer.new) (calls_of self.old)
+            (calls_of self.new) (failures_of self.old) (failures_of self.new) }
+        ensures making { making_of self.new ≡ making_of self.old }
+    {
+        let outcome = self.file.read_exact_at(buffer.as_flattened_mut(), offset);
+        self.note(outcome, &Called::ReadSectors(offset, buffer))
     }
 
     /// Writes these bytes from this offset on.

@@ -1,7 +1,10 @@
 //! The device over the file of a journal that is there.
-ghost use Rattle.std.specs.Prelude.{◌≡◌, []};
+ghost use Rattle.std.specs.Prelude.{◌≡◌, ◌+◌, ◌<◌, ◌⊎◌, [], OnOk, OnErr};
+ghost use Rattle.lift_disk.specs.Disk.{FailsAsTold, GoesOn, HasCause};
 ghost use Rattle.lift_disk.specs.Files.{file_state_of};
-ghost use Rattle.lift_program.specs.Images.{file_of, held_of, image_state_of};
+ghost use Rattle.lift_disk.specs.Trace.{Records};
+ghost use Rattle.lift_disk.specs.Trace.Access.{Read};
+ghost use Rattle.lift_program.specs.Images.{GivesImage, file_of, held_of, image_state_of};
 
 use lift_disk::{Buffered, BufferedFile, Disk, DiskFault, FileDisk};
 
@@ -46,7 +49,20 @@ impl Disk for ImageDisk {
         self.device.sectors()
     }
 
-    fn read(&mut self, sector: u32, buffer: &mut [u8; 512]) -> Result<(), DiskFault> {
+    fn read(&mut self, sector: u32, buffer: &mut [u8; 512]) -> Result<(), DiskFault>
+        requires { sector < (image_state_of self.old).size }
+        // beside what each device promises: these bytes are still to be written, or a call of its
+        // file gave them for the sector
+        ensures given { OnOk result (GivesImage sector buffer.new self.old self.new) }
+        ensures goes_on { GoesOn (image_state_of self.old) (image_state_of self.new) }
+        ensures cause { HasCause result (image_state_of self.old) (image_state_of self.new) }
+        ensures counted { OnErr result ((image_state_of self.new).failures
+            ≡ (image_state_of self.old).failures + 1) }
+        ensures told { FailsAsTold result (image_state_of self.old) (image_state_of self.new) }
+        ensures writes { (image_state_of self.new).writes ≡ (image_state_of self.old).writes }
+        ensures recorded { Records result (Read sector) (image_state_of self.old).trace
+            (image_state_of self.new).trace }
+    {
         self.device.read(sector, buffer)
     }
 

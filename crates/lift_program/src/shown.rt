@@ -1,7 +1,10 @@
 //! The device over the file of a journal that is shown.
-ghost use Rattle.std.specs.Prelude.{◌≡◌};
+ghost use Rattle.std.specs.Prelude.{◌≡◌, ◌+◌, ◌<◌, ◌⊎◌, OnOk, OnErr};
+ghost use Rattle.lift_disk.specs.Disk.{FailsAsTold, GoesOn, HasCause};
 ghost use Rattle.lift_disk.specs.Files.{file_state_of};
-ghost use Rattle.lift_program.specs.Images.{shown_file_of, shown_state_of};
+ghost use Rattle.lift_disk.specs.Trace.{Records};
+ghost use Rattle.lift_disk.specs.Trace.Access.{Read};
+ghost use Rattle.lift_program.specs.Images.{GivesShown, shown_file_of, shown_state_of};
 
 use crate::unwritten::UnwrittenFile;
 use lift_disk::{Buffered, Disk, DiskFault, FileDisk};
@@ -43,7 +46,20 @@ impl Disk for ShownImage {
         self.device.sectors()
     }
 
-    fn read(&mut self, sector: u32, buffer: &mut [u8; 512]) -> Result<(), DiskFault> {
+    fn read(&mut self, sector: u32, buffer: &mut [u8; 512]) -> Result<(), DiskFault>
+        requires { sector < (shown_state_of self.old).size }
+        // beside what each device promises: these are bytes that a call of its file gave for the
+        // sector
+        ensures given { OnOk result (GivesShown sector buffer.new self.old self.new) }
+        ensures goes_on { GoesOn (shown_state_of self.old) (shown_state_of self.new) }
+        ensures cause { HasCause result (shown_state_of self.old) (shown_state_of self.new) }
+        ensures counted { OnErr result ((shown_state_of self.new).failures
+            ≡ (shown_state_of self.old).failures + 1) }
+        ensures told { FailsAsTold result (shown_state_of self.old) (shown_state_of self.new) }
+        ensures writes { (shown_state_of self.new).writes ≡ (shown_state_of self.old).writes }
+        ensures recorded { Records result (Read sector) (shown_state_of self.old).trace
+            (shown_state_of self.new).trace }
+    {
         self.device.read(sector, buffer)
     }
 

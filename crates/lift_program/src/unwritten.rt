@@ -61,6 +61,11 @@ impl Disk for UnwrittenFile {
 }
 
 impl RunDisk for UnwrittenFile {
+    ghost use Rattle.lift_disk.specs.Files.{HasGiven, file_calls_of};
+    ghost use Rattle.lift_program.specs.Unwritten.{unwritten_file_of};
+
+    ghost has_given = { λ d. HasGiven (file_calls_of (unwritten_file_of d)) };
+
     fn announce(&mut self, _sector: u32) {}
 
     fn read_run(&mut self, sector: u32, count: usize, buffer: &mut Ahead) -> Result<(), DiskFault> {

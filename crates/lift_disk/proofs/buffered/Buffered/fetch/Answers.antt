@@ -10,7 +10,7 @@ pub returns-in-Some-read_ahead-clause-gives : goal.returns-in-Some-read_ahead-cl
 returns-in-Some-read_ahead-clause-gives g c honest =
     let d = c.args.self.now in
     run_outside d.pending.items d.from (g.R.Disk.state d.device).image c.args.sector c.in_default.ensures.none
-    ∙ c.in-Some-read_ahead.ensures honest
+    ∙ c.in-Some-read_ahead.ensures.some honest
 
 pub returns-clause-gives : goal.returns-clause-gives
 returns-clause-gives g c honest =

@@ -15,8 +15,8 @@ invariant_of-self-clause-kept c =
     changes_more (IsFlagged m.loose.items) _ m.image.items m.synced.items
     (λ i was. (flagged_set m.loose.items c.args.sector i (omega (arith, m.sized, c.requires))).1 (inl was)) m.kept
 
-pub returns : goal.returns
-returns c =
+pub returns-clause-announced : goal.returns-clause-announced
+returns-clause-announced c =
     let m = c.args.self.now in
     let within : c.args.sector < length m.loose.items = omega (arith, m.sized, c.requires) in
     let failed = spoil_goes_on m.history.first m.history.calls m.image.items m.synced.items m.loose.items m.is_steady m.failures.count m.calls.count m.writes.count m.trace.calls
