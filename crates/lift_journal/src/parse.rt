@@ -41,24 +41,16 @@ fn read_records(version: Version, text: &[u8; 1024], count: usize) -> Option<Arr
     Some(records)
 }
 
+/// As many zeros as two sectors have bytes.
+static ZEROS: [u8; 1024] = [0; 1024];
+
 /// Whether all bytes from this place on are zero.
 fn is_zero_from(text: &[u8; 1024], at: usize) -> bool
     requires { at ≤ 1024 }
     ensures { IsTrue result ↔ (drop at text.now ≡ replicate (1024 - at) 0) }
 {
-    let zeros = [0; 1024];
     let rest: &[u8] = &text[at..];
-    rest == &zeros[at..]
-}
-
-/// Two sectors as one text.
-fn joined(first: &[u8; 512], second: &[u8; 512]) -> [u8; 1024]
-    ensures { result ≡ first.now ++ second.now }
-{
-    let mut text = [0; 1024];
-    put(&mut text, 0, first);
-    put(&mut text, 512, second);
-    text
+    rest == &ZEROS[at..]
 }
 
 /// The records behind the header of a body of two sectors, if they and zeros stand there.
@@ -74,13 +66,11 @@ pub fn parse(
     ensures none { IfNone result ((records : List RecordValue) → length records ≡ count
         → ¬ IsTailOf version records (drop 16 (first.now ++ second.now))) }
 {
-    let text = joined(first, second);
-    let Some(records) = read_records(version, &text, count) else {
+    let mut text = [0; 1024];
+    put(&mut text, 0, first);
+    put(&mut text, 512, second);
+    if !is_zero_from(&text, 16 + 16 * count) {
         return None;
-    };
-    if is_zero_from(&text, 16 + 16 * count) {
-        Some(records)
-    } else {
-        None
     }
+    read_records(version, &text, count)
 }
