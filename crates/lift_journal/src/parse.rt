@@ -1,13 +1,14 @@
 //! The reading of a batch.
 ghost use Rattle.std.specs.Prelude.{◌≡◌, ◌≤◌, ◌-◌, ◌++◌, ◌↔◌, IsTrue, IfSome, IfNone, Some, List};
-ghost use Rattle.std.specs.Prelude.{length, take, drop, replicate};
+ghost use Rattle.std.specs.Prelude.{IsFalse, [], ◌∷◌, ◌<◌, length, take, drop, replicate};
 ghost use Rattle.lift_base.specs.declared.history.Record.{Record as RecordValue};
 ghost use Rattle.lift_record.specs.Header.{IsHeaderSpelling};
+ghost use Rattle.lift_record.specs.Record.{IsSpellingOf};
 ghost use Rattle.lift_journal.specs.Seen.{IsRecordsIn, IsTailOf};
 
 use crate::bytes::{put, sixteen};
 use arrayvec::ArrayVec;
-use lift_base::Record;
+use lift_base::{Record, push_some};
 use lift_record::{Header, Version, decode, decode_header};
 
 /// The header at the front of a body, if it is one and has this number.
@@ -23,6 +24,50 @@ pub fn header_of(first: &[u8; 512], number: u32) -> Option<Header>
     }
 }
 
+/// The kind of a stop's record.
+const STOP: u8 = 2;
+
+/// Adds the record that these bytes spell, if they spell one.
+fn push_decoded(version: Version, bytes: &[u8; 16], records: &mut ArrayVec<Record, 63>) -> bool
+    requires room { length records.old.items < 63 }
+    ensures pushed { IsTrue result → (content : RecordValue) × IsSpellingOf version bytes.now content
+        × (records.new.items ≡ records.old.items ++ content ∷ []) }
+    ensures none { IsFalse result → (content : RecordValue)
+        → ¬ IsSpellingOf version bytes.now content }
+{
+    let found = decode(version, bytes);
+    push_some(records, found);
+    found.is_some()
+}
+
+/// The same, as a call of its own.
+#[inline(never)]
+fn push_apart(version: Version, bytes: &[u8; 16], records: &mut ArrayVec<Record, 63>) -> bool
+    requires room { length records.old.items < 63 }
+    ensures pushed { IsTrue result → (content : RecordValue) × IsSpellingOf version bytes.now content
+        × (records.new.items ≡ records.old.items ++ content ∷ []) }
+    ensures none { IsFalse result → (content : RecordValue)
+        → ¬ IsSpellingOf version bytes.now content }
+{
+    push_decoded(version, bytes, records)
+}
+
+/// The same. Most records are stops, and where the compiler knows their kind it reads them in half
+/// the steps.
+fn push_next(version: Version, bytes: &[u8; 16], records: &mut ArrayVec<Record, 63>) -> bool
+    requires room { length records.old.items < 63 }
+    ensures pushed { IsTrue result → (content : RecordValue) × IsSpellingOf version bytes.now content
+        × (records.new.items ≡ records.old.items ++ content ∷ []) }
+    ensures none { IsFalse result → (content : RecordValue)
+        → ¬ IsSpellingOf version bytes.now content }
+{
+    if bytes[0] == STOP {
+        push_decoded(version, bytes, records)
+    } else {
+        push_apart(version, bytes, records)
+    }
+}
+
 /// So many records behind the header of this text, if they are spelled there.
 fn read_records(version: Version, text: &[u8; 1024], count: usize) -> Option<ArrayVec<Record, 63>>
     requires { count ≤ 63 }
@@ -33,10 +78,9 @@ fn read_records(version: Version, text: &[u8; 1024], count: usize) -> Option<Arr
 {
     let mut records = ArrayVec::new();
     for k in 0..count {
-        let Some(content) = decode(version, &sixteen(text, 16 + 16 * k)) else {
+        if !push_next(version, &sixteen(text, 16 + 16 * k), &mut records) {
             return None;
-        };
-        records.push(content);
+        }
     }
     Some(records)
 }
