@@ -1,6 +1,6 @@
 //! A device that reads ahead, and holds neighbouring writes back until it makes them as one.
 ghost use Rattle.std.specs.Prelude.{◌≡◌, ◌≤◌, ◌<◌, ◌+◌, [], ℕ, length, slice_get, Some, IsTrue};
-ghost use Rattle.std.specs.Prelude.{OnOk, IfOk, IfSome, IfNone};
+ghost use Rattle.std.specs.Prelude.{OnOk, IfSome, IfNone};
 ghost use Rattle.lift_disk.specs.Disk.{MayLeave};
 ghost use Rattle.lift_disk.specs.Runs.{CountsFault, HoldsRun, IsInRun, KeepsWrites, Opens, Rests};
 ghost use Rattle.lift_disk.specs.Runs.{left_with, left_without, run_loose, run_whole};
@@ -185,26 +185,29 @@ impl<R: RunDisk + Drop> Buffered<R> {
         Ok(())
     }
 
-    /// The sector's bytes, as they are to be read.
-    fn fetch(&mut self, sector: u32) -> Result<[u8; 512], DiskFault>
+    /// Puts the sector's bytes into the buffer, as they are to be read.
+    fn fetch(&mut self, sector: u32, buffer: &mut [u8; 512]) -> Result<(), DiskFault>
         requires { sector < (R.state self.old.device).size }
         ensures rests { Rests (as_written R.state self.old) (as_written R.state self.new) }
         ensures keeps { OnOk result
             (KeepsWrites (as_written R.state self.old) (as_written R.state self.new)) }
-        ensures gives { IfOk result (λ bytes. (R.state self.old.device).is_honest
-            → slice_get (as_written R.state self.new).image sector ≡ Some bytes) }
+        ensures gives { OnOk result ((R.state self.old.device).is_honest
+            → slice_get (as_written R.state self.new).image sector ≡ Some buffer.new) }
         ensures faults { CountsFault result (R.state self.old.device) (R.state self.new.device) }
         ensures counts { (self.new.calls ≡ self.old.calls) × (self.new.writes ≡ self.old.writes) }
         ensures trace { self.new.trace ≡ self.old.trace }
     {
         if let Some(bytes) = self.held_back(sector) {
-            return Ok(*bytes);
+            *buffer = *bytes;
+            return Ok(());
         }
         if let Some(bytes) = self.read_ahead(sector) {
-            return Ok(*bytes);
+            *buffer = *bytes;
+            return Ok(());
         }
         self.look_ahead(sector)?;
-        Ok(self.ahead[0])
+        *buffer = self.ahead[0];
+        Ok(())
     }
 }
 
@@ -242,7 +245,7 @@ impl<R: RunDisk + Drop> Disk for Buffered<R> {
 
     fn read(&mut self, sector: u32, buffer: &mut [u8; 512]) -> Result<(), DiskFault> {
         self.calls = ProofCount::next(&self.calls);
-        *buffer = self.fetch(sector)?;
+        self.fetch(sector, buffer)?;
         self.trace = self.trace.then(&Made::Read(u64::from(sector)));
         Ok(())
     }
