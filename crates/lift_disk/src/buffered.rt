@@ -1,6 +1,6 @@
 //! A device that reads ahead, and holds neighbouring writes back until it makes them as one.
 ghost use Rattle.std.specs.Prelude.{◌≡◌, ◌≤◌, ◌<◌, ◌+◌, [], ℕ, List, length, slice_get, Some};
-ghost use Rattle.std.specs.Prelude.{IsTrue, OnOk, OnErr, IfOk, IfSome, IfNone, ◌⊎◌, ◌-◌};
+ghost use Rattle.std.specs.Prelude.{IsTrue, OnOk, OnErr, IfSome, IfNone, ◌⊎◌, ◌-◌};
 ghost use Rattle.lift_disk.specs.Disk.{FailsAsTold, GoesOn, HasCause, IsSteadyAt, KeepsImage};
 ghost use Rattle.lift_disk.specs.Disk.{KeepsSynced, MayLeave, StaysLoose, StaysWritten};
 ghost use Rattle.lift_disk.specs.Disk.{TouchesNothing};
@@ -196,28 +196,31 @@ impl<R: RunDisk + Drop> Buffered<R> {
         Ok(())
     }
 
-    /// The sector's bytes, as they are to be read.
-    fn fetch(&mut self, sector: u32) -> Result<[u8; 512], DiskFault>
+    /// Puts the sector's bytes into the buffer, as they are to be read.
+    fn fetch(&mut self, sector: u32, buffer: &mut [u8; 512]) -> Result<(), DiskFault>
         requires { sector < (R.state self.old.device).size }
         ensures rests { Rests (as_written R.state self.old) (as_written R.state self.new) }
         ensures keeps { OnOk result
             (KeepsWrites (as_written R.state self.old) (as_written R.state self.new)) }
-        ensures gives { IfOk result (λ bytes. (R.state self.old.device).is_honest
-            → slice_get (as_written R.state self.new).image sector ≡ Some bytes) }
-        ensures given { IfOk result (λ bytes. IsHeldBack self.old sector bytes
-            ⊎ ∥ R.has_given self.new.device sector bytes ∥₁) }
+        ensures gives { OnOk result ((R.state self.old.device).is_honest
+            → slice_get (as_written R.state self.new).image sector ≡ Some buffer.new) }
+        ensures given { OnOk result (IsHeldBack self.old sector buffer.new
+            ⊎ ∥ R.has_given self.new.device sector buffer.new ∥₁) }
         ensures faults { CountsFault result (R.state self.old.device) (R.state self.new.device) }
         ensures counts { (self.new.calls ≡ self.old.calls) × (self.new.writes ≡ self.old.writes) }
         ensures trace { self.new.trace ≡ self.old.trace }
     {
         if let Some(bytes) = self.held_back(sector) {
-            return Ok(*bytes);
+            *buffer = *bytes;
+            return Ok(());
         }
         if let Some(bytes) = self.read_ahead(sector) {
-            return Ok(*bytes);
+            *buffer = *bytes;
+            return Ok(());
         }
         self.look_ahead(sector)?;
-        Ok(self.ahead[0])
+        *buffer = self.ahead[0];
+        Ok(())
     }
 }
 
@@ -292,7 +295,7 @@ impl<R: RunDisk + Drop> Disk for Buffered<R> {
             (buffered_state_of R.state self.new) }
     {
         self.calls = ProofCount::next(&self.calls);
-        *buffer = self.fetch(sector)?;
+        self.fetch(sector, buffer)?;
         self.trace = self.trace.then(&Made::Read(u64::from(sector)));
         Ok(())
     }

@@ -1,13 +1,14 @@
 //! The reading of a batch.
 ghost use Rattle.std.specs.Prelude.{◌≡◌, ◌≤◌, ◌-◌, ◌++◌, ◌↔◌, IsTrue, IfSome, IfNone, Some, List};
-ghost use Rattle.std.specs.Prelude.{length, take, drop, replicate};
+ghost use Rattle.std.specs.Prelude.{IsFalse, [], ◌∷◌, ◌<◌, length, take, drop, replicate};
 ghost use Rattle.lift_base.specs.declared.history.Record.{Record as RecordValue};
 ghost use Rattle.lift_record.specs.Header.{IsHeaderSpelling};
+ghost use Rattle.lift_record.specs.Record.{IsSpellingOf};
 ghost use Rattle.lift_journal.specs.Seen.{IsRecordsIn, IsTailOf};
 
 use crate::bytes::{put, sixteen};
 use arrayvec::ArrayVec;
-use lift_base::Record;
+use lift_base::{Record, push_some};
 use lift_record::{Header, Version, decode, decode_header};
 
 /// The header at the front of a body, if it is one and has this number.
@@ -23,6 +24,50 @@ pub fn header_of(first: &[u8; 512], number: u32) -> Option<Header>
     }
 }
 
+/// The kind of a stop's record.
+const STOP: u8 = 2;
+
+/// Adds the record that these bytes spell, if they spell one.
+fn push_decoded(version: Version, bytes: &[u8; 16], records: &mut ArrayVec<Record, 63>) -> bool
+    requires room { length records.old.items < 63 }
+    ensures pushed { IsTrue result → (content : RecordValue) × IsSpellingOf version bytes.now content
+        × (records.new.items ≡ records.old.items ++ content ∷ []) }
+    ensures none { IsFalse result → (content : RecordValue)
+        → ¬ IsSpellingOf version bytes.now content }
+{
+    let found = decode(version, bytes);
+    push_some(records, found);
+    found.is_some()
+}
+
+/// The same, as a call of its own.
+#[inline(never)]
+fn push_apart(version: Version, bytes: &[u8; 16], records: &mut ArrayVec<Record, 63>) -> bool
+    requires room { length records.old.items < 63 }
+    ensures pushed { IsTrue result → (content : RecordValue) × IsSpellingOf version bytes.now content
+        × (records.new.items ≡ records.old.items ++ content ∷ []) }
+    ensures none { IsFalse result → (content : RecordValue)
+        → ¬ IsSpellingOf version bytes.now content }
+{
+    push_decoded(version, bytes, records)
+}
+
+/// The same. Most records are stops, and where the compiler knows their kind it reads them in half
+/// the steps.
+fn push_next(version: Version, bytes: &[u8; 16], records: &mut ArrayVec<Record, 63>) -> bool
+    requires room { length records.old.items < 63 }
+    ensures pushed { IsTrue result → (content : RecordValue) × IsSpellingOf version bytes.now content
+        × (records.new.items ≡ records.old.items ++ content ∷ []) }
+    ensures none { IsFalse result → (content : RecordValue)
+        → ¬ IsSpellingOf version bytes.now content }
+{
+    if bytes[0] == STOP {
+        push_decoded(version, bytes, records)
+    } else {
+        push_apart(version, bytes, records)
+    }
+}
+
 /// So many records behind the header of this text, if they are spelled there.
 fn read_records(version: Version, text: &[u8; 1024], count: usize) -> Option<ArrayVec<Record, 63>>
     requires { count ≤ 63 }
@@ -33,32 +78,23 @@ fn read_records(version: Version, text: &[u8; 1024], count: usize) -> Option<Arr
 {
     let mut records = ArrayVec::new();
     for k in 0..count {
-        let Some(content) = decode(version, &sixteen(text, 16 + 16 * k)) else {
+        if !push_next(version, &sixteen(text, 16 + 16 * k), &mut records) {
             return None;
-        };
-        records.push(content);
+        }
     }
     Some(records)
 }
+
+/// As many zeros as two sectors have bytes.
+static ZEROS: [u8; 1024] = [0; 1024];
 
 /// Whether all bytes from this place on are zero.
 fn is_zero_from(text: &[u8; 1024], at: usize) -> bool
     requires { at ≤ 1024 }
     ensures { IsTrue result ↔ (drop at text.now ≡ replicate (1024 - at) 0) }
 {
-    let zeros = [0; 1024];
     let rest: &[u8] = &text[at..];
-    rest == &zeros[at..]
-}
-
-/// Two sectors as one text.
-fn joined(first: &[u8; 512], second: &[u8; 512]) -> [u8; 1024]
-    ensures { result ≡ first.now ++ second.now }
-{
-    let mut text = [0; 1024];
-    put(&mut text, 0, first);
-    put(&mut text, 512, second);
-    text
+    rest == &ZEROS[at..]
 }
 
 /// The records behind the header of a body of two sectors, if they and zeros stand there.
@@ -74,13 +110,11 @@ pub fn parse(
     ensures none { IfNone result ((records : List RecordValue) → length records ≡ count
         → ¬ IsTailOf version records (drop 16 (first.now ++ second.now))) }
 {
-    let text = joined(first, second);
-    let Some(records) = read_records(version, &text, count) else {
+    let mut text = [0; 1024];
+    put(&mut text, 0, first);
+    put(&mut text, 512, second);
+    if !is_zero_from(&text, 16 + 16 * count) {
         return None;
-    };
-    if is_zero_from(&text, 16 + 16 * count) {
-        Some(records)
-    } else {
-        None
     }
+    read_records(version, &text, count)
 }

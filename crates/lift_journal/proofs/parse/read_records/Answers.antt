@@ -17,24 +17,25 @@ loop-k-init c = subst (IsRecordsIn c.args.version (drop 16 c.args.text.now) 0) (
 pub loop-k-preserved : goal.loop-k-preserved
 loop-k-preserved c =
     let text = c.args.text.now in
-    let spells = (c.decode.ensures c.in-Some.content).0 c.in-Some.is in
-    let same : take 16 (drop (16 * c.loop-k.k) (drop 16 text)) ≡ spelling_of c.args.version c.in-Some.content =
+    let pushed = c.push_next.ensures.pushed c.if-not-push_next.false in
+    let spells = pushed.1 in
+    let same : take 16 (drop (16 * c.loop-k.k) (drop 16 text)) ≡ spelling_of c.args.version pushed.0 =
     sym (piece_is text c.loop-k.k) ∙ sym c.sixteen.ensures ∙ spells.spelled in
-    subst (IsRecordsIn c.args.version (drop 16 text) (c.loop-k.k + 1)) (sym c.push.ensures.items)
-    (records_more c.args.version (drop 16 text) c.loop-k.k c.loop-k.records.items c.in-Some.content c.loop-k.invariant
+    subst (IsRecordsIn c.args.version (drop 16 text) (c.loop-k.k + 1)) (sym pushed.2)
+    (records_more c.args.version (drop 16 text) c.loop-k.k c.loop-k.records.items pushed.0 c.loop-k.invariant
     (record { is_record = (spells.typed, spells.lawful); sayable = spells.sayable })
     (omega (arith, length-drop 16 text, c.told-text, c.loop-k-test.true, c.requires)) same)
 
-pub returns-in_default-clause-none : goal.returns-in_default-clause-none
-returns-in_default-clause-none c records there =
+pub returns-then-not-push_next-clause-none : goal.returns-then-not-push_next-clause-none
+returns-then-not-push_next-clause-none c records there =
     let text = c.args.text.now in
     let next = get_or records c.loop-k.k (Done 0) in
     let lawful : IsRecordIn c.args.version next = there.lawful c.loop-k.k (Done 0) (omega (arith, there.counted, c.loop-k-test.true)) in
     let spelled : c.sixteen.result ≡ spelling_of c.args.version next =
     c.sixteen.ensures ∙ piece_is text c.loop-k.k ∙ record_at c.args.version (drop 16 text) c.args.count c.loop-k.k records (Done 0) there c.loop-k-test.true in
-    c.in_default.not-Some next ((c.decode.ensures next).1 (record {
+    c.push_next.ensures.none c.if-not-push_next.true next (record {
       typed = lawful.is_record.0;
       lawful = lawful.is_record.1;
       sayable = lawful.sayable;
       spelled = spelled;
-    }))
+    })
