@@ -1,5 +1,5 @@
 -- What the faults of each stage are to a whole command.
-use Rattle.std.proofs.Common.{◌≡◌, ◌≢◌, ◌≤◌, ◌+◌, ◌*◌, ◌∙◌, ℕ, List, Option, length, false, refl, sym, subst, inl, inr, arith}
+use Rattle.std.proofs.Common.{◌≡◌, ◌≢◌, ◌≤◌, ◌+◌, ◌*◌, ◌∙◌, [], ℕ, List, Option, length, false, refl, sym, subst, inl, inr, arith}
 use Rattle.lift_building.specs.Describes.{IsTextOf}
 use Rattle.lift_building.specs.Gives.{IsFirstFault}
 use Rattle.lift_building.specs.Plan.{Plan, shape_of}
@@ -12,11 +12,11 @@ use Rattle.lift_keeper.specs.Keeper.{KeeperView}
 use Rattle.lift_keeper.specs.Reopening.{RefusesReopening, Reopens}
 use Rattle.lift_keeper.specs.declared.fault.KeeperFault.{KeeperFault}
 use Rattle.lift_keeper.specs.declared.fault.KeeperFault.TheVariants.{Journal as OfJournal, OtherBuilding, BadEntry}
-use Rattle.lift_program.specs.Images.{IsOnlyRead, IsToBeShown, image_state_of, shown_file_of, shown_state_of}
+use Rattle.lift_program.specs.Images.{IsOnlyRead, IsToBeServed, IsToBeShown, file_of, image_state_of, shown_file_of, shown_state_of}
 use Rattle.lift_disk.specs.Below.{below}
 use Rattle.lift_program.specs.declared.shown.ShownImage.{ShownImage}
 use Rattle.lift_program.specs.declared.image.ImageDisk.{ImageDisk}
-use Rattle.lift_disk.specs.Files.{file_state_of}
+use Rattle.lift_disk.specs.Files.{file_making_of, file_state_of}
 use Rattle.lift_disk.specs.declared.file.FileDisk.{FileDisk}
 use Rattle.lift_program.specs.Ends.{IsFileFault, IsFormatFault, IsMadeWith, IsReplayFault, IsReportOfFault, IsServeFault, IsShowFault, IsShowingFault}
 use Rattle.lift_program.specs.Faults.{of_building}
@@ -37,17 +37,31 @@ first_fault text TableShape short first = record { text = text; short = short; f
 first_fault text (Detour i j k) short first = record { text = text; short = short; first = first (λ same. cc) }
 first_fault text (NoRoom no_memory) short first = tt
 
+-- none of them is the building's file
+pub building_no_file : (fault : BuildingFault) → of_building fault ≢ File OfBuilding
+building_no_file NotToml same = cc
+building_no_file (Missing field) same = cc
+building_no_file (WrongType field) same = cc
+building_no_file (OutOfRange field) same = cc
+building_no_file TableShape same = cc
+building_no_file (Detour i j k) same = cc
+building_no_file NoRoom same = cc
+
 pub has_building : (plan : Plan) (text : List ℕ) → length text ≤ most_text → IsTextOf text plan → HasBuilding plan
 has_building plan text short described = record { text = text; short = short; described = described }
 
 pub has_keeper : (plan : Plan) (opened : ImageDisk) (keeper : KeeperView ImageDisk) → (image_state_of opened).calls ≡ 0 → (image_state_of opened).failures ≡ 0
+    → (file_state_of (file_of opened)).calls ≡ 0 → file_making_of (file_of opened) ≡ []
     → Reopens plan (image_state_of opened) (image_state_of keeper.writer.device) keeper.writer.register keeper.writer.half keeper.writer.is_second keeper.writer.used
     → keeper.writer.is_broken ≡ false → keeper.writer.plan ≡ plan → HasKeeperOf plan keeper
-has_keeper plan opened keeper uncalled unhurt recovers whole own = record { opened = opened; uncalled = uncalled; unhurt = unhurt; recovers = recovers; whole = whole; own = own }
+has_keeper plan opened keeper uncalled unhurt untouched unmade recovers whole own =
+    record { opened = opened; fresh = record { uncalled = uncalled; unhurt = unhurt; untouched = untouched; unmade = unmade }; recovers = recovers; whole = whole; own = own }
 
 pub has_no_keeper : (plan : Plan) (opened left : ImageDisk) (fault : KeeperFault) → (image_state_of opened).calls ≡ 0 → (image_state_of opened).failures ≡ 0
-    → RefusesReopening plan (image_state_of opened) (image_state_of left) fault → HasNoKeeperOf ImageDisk image_state_of plan fault
-has_no_keeper plan opened left fault uncalled unhurt refused = record { opened = opened; uncalled = uncalled; unhurt = unhurt; left = left; refused = refused }
+    → (file_state_of (file_of opened)).calls ≡ 0 → file_making_of (file_of opened) ≡ []
+    → RefusesReopening plan (image_state_of opened) (image_state_of left) fault → HasNoKeeperOf ImageDisk IsToBeServed image_state_of plan fault
+has_no_keeper plan opened left fault uncalled unhurt untouched unmade refused =
+    record { opened = opened; fresh = record { uncalled = uncalled; unhurt = unhurt; untouched = untouched; unmade = unmade }; left = left; refused = refused }
 
 -- what the making of a journal leaves
 pub is_made : (plan : Plan) (half : ℕ) (disk : FileDisk) → HasBuilding plan → (file_state_of disk).trace ≡ format_calls (shape_of plan half)
@@ -149,7 +163,7 @@ pub showing_shows : (plan : Plan) (opened left : ShownImage) (before after : Opt
     → (IsFileFault Output fault → ShowsFront plan (shown_state_of opened) (shown_state_of left) before after) → IsShowFault fault
 showing_shows plan opened left before after (Building fault) has fresh is refused front = absurd is
 showing_shows plan opened left before after (Journal fault) has fresh is refused front =
-    (is, (plan, has, record { opened = opened; uncalled = fresh.uncalled; unhurt = fresh.unhurt; left = left; refused = refused fault refl }))
+    (is, (plan, has, record { opened = opened; fresh = fresh; left = left; refused = refused fault refl }))
 showing_shows plan opened left before after (File OfBuilding) has fresh is refused front = absurd is
 showing_shows plan opened left before after (File OfImage) has fresh is refused front = absurd is
 showing_shows plan opened left before after (File Input) has fresh is refused front = absurd is

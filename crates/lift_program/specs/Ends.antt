@@ -1,7 +1,9 @@
 -- How the program ends, and what it says of it.
-use Rattle.std.specs.Prelude.{ℕ, ◌≡◌, ◌⊎◌, ◌+◌, ◌*◌, List, [], ◌∷◌, ◌++◌, Option, Some, None}
+use Rattle.std.specs.Prelude.{ℕ, ◌≡◌, ◌≢◌, ◌⊎◌, ◌+◌, ◌*◌, List, [], ◌∷◌, ◌++◌, Option, Some, None}
 use Rattle.std.specs.Prelude.{IfSome, true, false, codes, take}
 use Rattle.std.specs.Fmt.{decimal}
+use Rattle.std.specs.IoError.{error_kind}
+use Rattle.std.specs.declared.io.ErrorKind.TheVariants.{OutOfMemory}
 use Rattle.std.specs.Io.KnownBytes.{Appends}
 use Rattle.clap.specs.Words.{Text}
 use Rattle.lift_base.specs.Input.{InputState}
@@ -9,6 +11,8 @@ use Rattle.lift_base.specs.Output.{OutputState}
 use Rattle.lift_building.specs.Plan.{Plan, shape_of}
 use Rattle.lift_disk.specs.Files.{file_state_of}
 use Rattle.lift_disk.specs.declared.file.FileDisk.{FileDisk}
+use Rattle.lift_disk.specs.declared.file.FileFault.{FileFault}
+use Rattle.lift_disk.specs.declared.file.FileFault.TheVariants.{System, NotAFile}
 use Rattle.lift_journal.specs.Calls.{format_calls}
 use Rattle.lift_journal.specs.declared.fault.JournalFault.TheVariants.{Disk}
 use Rattle.lift_keeper.specs.declared.fault.KeeperFault.TheVariants.{Journal as OfJournal}
@@ -17,7 +21,7 @@ use Rattle.lift_replay.specs.Replaying.{ReportsFront, ReportsInput}
 use Rattle.lift_program.specs.Faults.{fault_text, usage_text}
 use Rattle.lift_program.specs.Output.{IsTold}
 use Rattle.lift_program.specs.Serving.{IsServing}
-use Rattle.lift_program.specs.Images.{image_state_of, shown_state_of}
+use Rattle.lift_program.specs.Images.{IsToBeServed, IsToBeShown, image_state_of, shown_state_of}
 use Rattle.lift_program.specs.declared.image.ImageDisk.{ImageDisk}
 use Rattle.lift_program.specs.declared.shown.ShownImage.{ShownImage}
 use Rattle.lift_program.specs.Showing.{IsShown, IsOpeningFault, ShowsPart}
@@ -79,6 +83,12 @@ IsMadeFor (Serve image building port sessions policy) disk = ⊥
 abbrev pub IsFileFault : Role → Fault → Type 0
 IsFileFault role fault = (fault ≡ File role) ⊎ (fault ≡ Memory)
 
+-- what a refused image comes to: want of memory where the system said so, else its file
+abbrev pub IsImageFault : FileFault → Fault → Type 0
+IsImageFault (System error) fault = (error_kind error ≡ OutOfMemory → fault ≡ Memory)
+    × (error_kind error ≢ OutOfMemory → fault ≡ File OfImage)
+IsImageFault NotAFile fault = fault ≡ File OfImage
+
 -- the standard input, the standard output, or want of memory
 abbrev pub IsReplayFault : Fault → Type 0
 IsReplayFault (Building fault) = ⊥
@@ -120,7 +130,8 @@ IsShowingFault Thread = ⊥
 -- file; the recovery's refusal; the standard output. Or want of memory.
 abbrev pub IsShowFault : Fault → Type 0
 IsShowFault (Building fault) = HasNoBuilding fault
-IsShowFault (Journal fault) = IsOpeningFault fault × OpensNoJournal ShownImage shown_state_of fault
+IsShowFault (Journal fault) = IsOpeningFault fault
+    × OpensNoJournal ShownImage IsToBeShown shown_state_of fault
 IsShowFault (File OfBuilding) = Unit {0}
 IsShowFault (File OfImage) = ReadsBuilding
 IsShowFault (File Input) = ⊥
@@ -133,7 +144,8 @@ IsShowFault Thread = ⊥
 -- file; the recovery's refusal; the port, and then the standard output. Or want of memory.
 abbrev pub IsServeFault : Fault → Type 0
 IsServeFault (Building fault) = HasNoBuilding fault
-IsServeFault (Journal fault) = IsOpeningFault fault × OpensNoJournal ImageDisk image_state_of fault
+IsServeFault (Journal fault) = IsOpeningFault fault
+    × OpensNoJournal ImageDisk IsToBeServed image_state_of fault
 IsServeFault (File OfBuilding) = Unit {0}
 IsServeFault (File OfImage) = ReadsBuilding
 IsServeFault (File Input) = ⊥

@@ -24,6 +24,14 @@ abbrev pub image_state_of : ImageDisk → DiskState
 image_state_of d = buffered (file_state_of (file_of d)) d.device.from
     (held_of d) d.device.calls.count d.device.writes.count d.device.trace.calls
 
+-- An image was opened to be served: its file was there and was not made, no call was made of it or
+-- of its file, and none has failed.
+pub record IsToBeServed (d : ImageDisk) : Type 0 where
+  pub uncalled : (image_state_of d).calls ≡ 0
+  pub unhurt : (image_state_of d).failures ≡ 0
+  pub untouched : (file_state_of (file_of d)).calls ≡ 0
+  pub unmade : file_making_of (file_of d) ≡ []
+
 -- A read gave these bytes for the sector: they are still to be written, or a call of the file gave
 -- them.
 abbrev pub GivesImage : ℕ → List ℕ → (old new : ImageDisk) → Type 0

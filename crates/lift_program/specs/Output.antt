@@ -1,5 +1,5 @@
 -- What is written, and what is known where it was not.
-use Rattle.std.specs.Prelude.{ℕ, ◌⊎◌, Bool, true, false, Option, List}
+use Rattle.std.specs.Prelude.{ℕ, ◌≡◌, ◌⊎◌, Bool, true, false, Option, List}
 use Rattle.lift_base.specs.Output.{OutputState, Takes, TakesFront, sink_of}
 use Rattle.lift_replay.specs.Writing.{TakesEach, FailsAtLast}
 
@@ -15,6 +15,12 @@ abbrev pub IsFlushed : {W : Type 0} → (gives : W → List ℕ → Option ℕ �
     → (flushes : W → Bool → W → Type 0) → (old new : W) → Type 0
 IsFlushed {W} gives flushes old new =
     (last : W) × TakesEach gives old last × flushes last true new
+
+-- Each call of the writer took a byte at least, and then there was none, or a flush that failed.
+abbrev pub WasTaken : {W : Type 0} → (gives : W → List ℕ → Option ℕ → W → Type 0)
+    → (flushes : W → Bool → W → Type 0) → (old new : W) → Type 0
+WasTaken {W} gives flushes old new =
+    (last : W) × TakesEach gives old last × ((new ≡ last) ⊎ flushes last false new)
 
 -- The writer's last call failed, or took nothing; or each took a byte at least, and the flush
 -- behind them failed.

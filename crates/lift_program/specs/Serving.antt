@@ -2,7 +2,7 @@
 use Rattle.std.specs.Prelude.{ℕ, ◌≡◌, false, List, Option}
 use Rattle.lift_building.specs.Describes.{IsTextOf}
 use Rattle.lift_building.specs.Plan.{Plan}
-use Rattle.lift_program.specs.Images.{image_state_of}
+use Rattle.lift_program.specs.Images.{IsToBeServed, image_state_of}
 use Rattle.lift_program.specs.declared.image.ImageDisk.{ImageDisk}
 use Rattle.lift_keeper.specs.Keeper.{KeeperView}
 use Rattle.lift_keeper.specs.Reopening.{Reopens}
@@ -13,16 +13,15 @@ use Rattle.lift_serve.specs.declared.serving.ServeFault.{ServeFault}
 use Rattle.lift_program.specs.Faults.{served_fault}
 use Rattle.lift_program.specs.declared.fault.Fault.{Fault}
 
--- The recovery opened a journal on a file, of a building that a text describes, and that building
--- was served over it with this policy. What is told is that the device failed, exactly where it
--- did, and else what the serving told.
+-- The recovery opened a journal on a file that was there, of a building that a text describes, and
+-- that building was served over it with this policy. What is told is that the device failed, exactly
+-- where it did, and else what the serving told.
 pub record IsServing (policy : Shipped) (fault : Option Fault) : Type 0 where
   pub text : List ℕ
   pub plan : Plan
   pub described : IsTextOf text plan
   pub opened : ImageDisk
-  pub uncalled : (image_state_of opened).calls ≡ 0
-  pub unhurt : (image_state_of opened).failures ≡ 0
+  pub fresh : IsToBeServed opened
   pub keeper : KeeperView ImageDisk
   pub recovers : Reopens plan (image_state_of opened)
       (image_state_of keeper.writer.device) keeper.writer.register keeper.writer.half

@@ -7,7 +7,7 @@ use Rattle.lift_building.specs.Gives.{IsFirstFault}
 use Rattle.lift_building.specs.Plan.{Plan}
 use Rattle.lift_building.specs.declared.fault.BuildingFault.{BuildingFault}
 use Rattle.lift_disk.specs.Disk.{DiskState}
-use Rattle.lift_program.specs.Images.{IsToBeShown, image_state_of, shown_state_of}
+use Rattle.lift_program.specs.Images.{IsToBeServed, IsToBeShown, image_state_of, shown_state_of}
 use Rattle.lift_program.specs.declared.image.ImageDisk.{ImageDisk}
 use Rattle.lift_program.specs.declared.shown.ShownImage.{ShownImage}
 use Rattle.lift_keeper.specs.Keeper.{KeeperView}
@@ -45,8 +45,7 @@ pub record HasNoBuilding (fault : BuildingFault) : Type 0 where
 -- an image was opened, and the recovery from it, of this building, gave this keeper
 pub record HasKeeperOf (plan : Plan) (keeper : KeeperView ImageDisk) : Type 0 where
   pub opened : ImageDisk
-  pub uncalled : (image_state_of opened).calls ≡ 0
-  pub unhurt : (image_state_of opened).failures ≡ 0
+  pub fresh : IsToBeServed opened
   pub recovers : Reopens plan (image_state_of opened)
       (image_state_of keeper.writer.device) keeper.writer.register keeper.writer.half
       keeper.writer.is_second keeper.writer.used
@@ -55,11 +54,10 @@ pub record HasKeeperOf (plan : Plan) (keeper : KeeperView ImageDisk) : Type 0 wh
 
 -- an image was opened as such a device, and the recovery from it, of this building, was refused for
 -- this
-pub record HasNoKeeperOf (D : Type 0) (state : D
+pub record HasNoKeeperOf (D : Type 0) (is_fresh : D → Type 0) (state : D
     → DiskState) (plan : Plan) (fault : KeeperFault) : Type 0 where
   pub opened : D
-  pub uncalled : (state opened).calls ≡ 0
-  pub unhurt : (state opened).failures ≡ 0
+  pub fresh : is_fresh opened
   pub left : D
   pub refused : RefusesReopening plan (state opened) (state left) fault
 
@@ -83,8 +81,9 @@ pub record ReadsJournal : Type 0 where
   pub recovers : Recovers plan (shown_state_of opened) (shown_state_of left) register
 
 -- the building was read, and the recovery was refused for this
-abbrev pub OpensNoJournal : (D : Type 0) → (D → DiskState) → KeeperFault → Type 0
-OpensNoJournal D state fault = (plan : Plan) × HasBuilding plan × HasNoKeeperOf D state plan fault
+abbrev pub OpensNoJournal : (D : Type 0) → (D → Type 0) → (D → DiskState) → KeeperFault → Type 0
+OpensNoJournal D is_fresh state fault =
+    (plan : Plan) × HasBuilding plan × HasNoKeeperOf D is_fresh state plan fault
 
 -- what no building is had for: its file, want of memory, or its text's first fault
 abbrev pub IsBuildingFault : Fault → Type 0
@@ -102,7 +101,7 @@ IsBuildingFault Thread = ⊥
 -- refusal
 abbrev pub IsKeeperFault : Plan → Fault → Type 0
 IsKeeperFault plan (Building fault) = ⊥
-IsKeeperFault plan (Journal fault) = HasNoKeeperOf ImageDisk image_state_of plan fault
+IsKeeperFault plan (Journal fault) = HasNoKeeperOf ImageDisk IsToBeServed image_state_of plan fault
 IsKeeperFault plan (File OfBuilding) = ⊥
 IsKeeperFault plan (File OfImage) = Unit {0}
 IsKeeperFault plan (File Input) = ⊥

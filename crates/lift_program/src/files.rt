@@ -1,10 +1,12 @@
 //! The files that the commands name: buildings, and the images of journals.
 
-ghost use Rattle.std.specs.Prelude.{◌≡◌, ◌≤◌, ◌+◌, ◌⊎◌, [], IfOk, IfErr, IfSome, OnOk, false, length};
-ghost use Rattle.std.specs.Prelude.{vec_len};
-ghost use Rattle.lift_disk.specs.Files.{file_state_of};
+ghost use Rattle.std.specs.Prelude.{◌≡◌, ◌≢◌, ◌≤◌, ◌+◌, ◌*◌, ◌∷◌, ◌⊎◌, [], IfOk, IfErr, IfSome, OnOk};
+ghost use Rattle.std.specs.Prelude.{Err, false, length, vec_len};
+ghost use Rattle.std.specs.Str.{IsUtf8};
+ghost use Rattle.lift_disk.specs.FileCalls.FileCall.{SetLength, SyncAll};
+ghost use Rattle.lift_disk.specs.Files.{file_making_of, file_state_of};
 ghost use Rattle.lift_replay.specs.Reading.{TakesUpTo};
-ghost use Rattle.lift_program.specs.Ends.{IsFileFault, IsUnread};
+ghost use Rattle.lift_program.specs.Ends.{IsFileFault, IsImageFault, IsUnread};
 ghost use Rattle.lift_program.specs.Images.{IsToBeShown};
 ghost use Rattle.lift_program.specs.Stages.{HasBuilding, HasKeeperOf, IsBuildingFault};
 ghost use Rattle.lift_program.specs.Stages.{IsKeeperFault, TakesAll, most_text};
@@ -91,11 +93,14 @@ fn building_file<F: Files<File = File>>(rt: &F, path: &str) -> Result<File, Faul
 }
 
 /// The building that the bytes of its file spell.
-#[tactic(auto, using(crate::proofs::Stages::first_fault, crate::proofs::Stages::has_building))]
+#[tactic(auto, using(crate::proofs::Stages::building_no_file, crate::proofs::Stages::first_fault, crate::proofs::Stages::has_building))]
 fn building_of(alloc: Global, bytes: &[u8]) -> Result<Building, Fault>
     requires bound { length bytes.now ≤ most_text }
     ensures found { IfOk result HasBuilding }
     ensures fault { IfErr result IsBuildingFault }
+    // It is refused as a file just where it is no text.
+    ensures no_text { ¬ IsUtf8 bytes.now → result ≡ Err (Fault.File OfBuilding) }
+    ensures text { IsUtf8 bytes.now → IfErr result (λ fault. fault ≢ Fault.File OfBuilding) }
 {
     match str::from_utf8(bytes) {
         Ok(text) => match Building::read(alloc, text) {
@@ -124,7 +129,8 @@ pub fn building_in<F: Files<File = File>>(
 
 /// What a refused image comes to.
 fn refused(fault: FileFault) -> Fault
-    ensures { IsFileFault OfImage result }
+    ensures file { IsFileFault OfImage result }
+    ensures cause { IsImageFault fault result }
 {
     match fault {
         FileFault::System(error) => Fault::of_file(Role::Image, error),
@@ -139,16 +145,19 @@ pub fn image_at<F: Files<File = File>>(rt: &F, path: &str, sectors: u32) -> Resu
     ensures calls { IfOk result (λ disk. (file_state_of disk).calls ≡ 0) }
     ensures writes { IfOk result (λ disk. (file_state_of disk).writes ≡ 0) }
     ensures trace { IfOk result (λ disk. (file_state_of disk).trace ≡ []) }
+    ensures making { IfOk result (λ disk.
+        file_making_of disk ≡ SetLength (sectors * 512) ∷ SyncAll ∷ []) }
     ensures fault { IfErr result (IsFileFault OfImage) }
 {
     FileDisk::create(rt, path, sectors).map_err(refused)
 }
 
-/// The file of a journal that is there.
+/// The file of a journal that is there. It is not made anew.
 pub fn image_in<F: Files<File = File>>(rt: &F, path: &str) -> Result<FileDisk, Fault>
     ensures failures { IfOk result (λ disk. (file_state_of disk).failures ≡ 0) }
     ensures calls { IfOk result (λ disk. (file_state_of disk).calls ≡ 0) }
     ensures writes { IfOk result (λ disk. (file_state_of disk).writes ≡ 0) }
+    ensures unmade { IfOk result (λ disk. file_making_of disk ≡ []) }
     ensures fault { IfErr result (IsFileFault OfImage) }
 {
     FileDisk::open(rt, path).map_err(refused)
@@ -164,7 +173,7 @@ pub fn image_to_show<F: Files<File = File>>(rt: &F, path: &str) -> Result<ShownI
 }
 
 /// The keeper that the recovery gives, over the journal in a file.
-#[tactic(auto, using(crate::proofs::Stages::has_keeper, crate::proofs::Stages::has_no_keeper, crate::proofs::Stages::image_keeps))]
+#[tactic(auto, using(crate::proofs::Stages::image_keeps))]
 pub fn keeper_in<'b, F: Files<File = File>>(
     rt: &F,
     path: &str,

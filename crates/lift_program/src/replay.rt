@@ -1,7 +1,7 @@
 //! The carrying out of a script.
 
-ghost use Rattle.std.specs.Prelude.{◌≡◌, true, false, IfOk, IfErr, OnOk, OnErr};
-ghost use Rattle.lift_replay.specs.Reading.{IsRead};
+ghost use Rattle.std.specs.Prelude.{◌≡◌, ◌≤◌, ◌+◌, true, false, IfOk, IfErr, OnOk, OnErr};
+ghost use Rattle.lift_replay.specs.Reading.{IsRead, TakesUpTo, most_bytes};
 ghost use Rattle.lift_replay.specs.Replaying.{ReportsFront, ReportsInput};
 ghost use Rattle.lift_program.specs.declared.fault.Role.TheVariants.{Input, Output};
 ghost use Rattle.lift_program.specs.Ends.{IsReplayFault, IsUnread};
@@ -37,6 +37,9 @@ pub fn replay<R: Read + Drop, W: Outflow>(
     ensures unwritten { result ≡ Err (Fault.File Input)
         → W.contents writer.new ≡ W.contents writer.old }
     ensures read { result ≡ Err (Fault.File Output) → IsRead R.remaining input.old input.new }
+    // Nothing is read behind what the script took.
+    ensures taken { TakesUpTo (most_bytes + 1) R.remaining input.old.reader input.new.reader }
+    ensures few_calls { input.new.calls ≤ 2097152 }
     ensures flushed { OnOk result (IsFlushed W.gives W.flushes writer.old writer.new) }
     ensures failed { result ≡ Err (Fault.File Output)
         → HasFailed W.gives W.flushes writer.old writer.new }

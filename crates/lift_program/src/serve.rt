@@ -7,7 +7,7 @@ ghost use Rattle.lift_program.specs.Ends.{IsFileFault, IsReportOfFault, IsServeF
 ghost use Rattle.lift_program.specs.Ends.{IsServingFault, SaysFront, serving_text};
 ghost use Rattle.lift_program.specs.Faults.{served_fault};
 ghost use Rattle.lift_program.specs.Listening.{HasListened, local};
-ghost use Rattle.lift_program.specs.Output.{HasFailed, IsFlushed};
+ghost use Rattle.lift_program.specs.Output.{HasFailed, IsFlushed, WasTaken};
 ghost use Rattle.lift_program.specs.Serving.{IsServing};
 ghost use Rattle.lift_program.specs.declared.fault.Role.TheVariants.{Output};
 
@@ -52,6 +52,9 @@ fn say<W: Outflow>(port: u16, writer: &mut W) -> Result<(), Fault>
     ensures flushed { OnOk result (IsFlushed W.gives W.flushes writer.old writer.new) }
     ensures failed { result ≡ Err (Fault.File Output)
         → HasFailed W.gives W.flushes writer.old writer.new }
+    // Memory is wanting only where no call failed but a flush.
+    ensures wanting { result ≡ Err Fault.Memory
+        → WasTaken W.gives W.flushes writer.old writer.new }
 {
     let mut digits = Buffer::new();
     let mut line: ArrayString<64> = ArrayString::new();

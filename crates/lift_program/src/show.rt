@@ -7,7 +7,7 @@ ghost use Rattle.lift_keeper.specs.declared.fault.KeeperFault.{KeeperFault as Re
 ghost use Rattle.lift_replay.specs.Report.{register_text};
 ghost use Rattle.lift_program.specs.Ends.{IsFileFault, IsReportOfFault, IsShowFault};
 ghost use Rattle.lift_program.specs.Ends.{IsShowingFault};
-ghost use Rattle.lift_program.specs.Output.{HasFailed, IsFlushed};
+ghost use Rattle.lift_program.specs.Output.{HasFailed, IsFlushed, WasTaken};
 ghost use Rattle.lift_program.specs.Showing.{IsShown, Shows, ShowsFront, ShowsPart};
 ghost use Rattle.lift_program.specs.declared.fault.Fault.TheVariants.{Journal as OfJournal};
 ghost use Rattle.lift_program.specs.declared.fault.Role.TheVariants.{Output};
@@ -36,6 +36,9 @@ fn write_rows<W: Outflow>(alloc: Global, register: &Register, writer: &mut W) ->
     ensures flushed { OnOk result (IsFlushed W.gives W.flushes writer.old writer.new) }
     ensures failed { result ≡ Err (Fault.File Output)
         → HasFailed W.gives W.flushes writer.old writer.new }
+    // Memory is wanting only where no call failed but a flush.
+    ensures wanting { result ≡ Err Fault.Memory
+        → WasTaken W.gives W.flushes writer.old writer.new }
 {
     let mut report = String::new(alloc);
     push_rows(&mut report, register)?;

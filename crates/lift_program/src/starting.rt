@@ -1,6 +1,6 @@
 //! From the program's words to its status.
 
-ghost use Rattle.std.specs.Prelude.{ℕ, ◌≡◌, ◌≢◌, Option, None, false, true, map, IfSome};
+ghost use Rattle.std.specs.Prelude.{ℕ, ◌≡◌, ◌≢◌, ◌≤◌, Option, None, false, true, map, IfSome};
 ghost use Rattle.std.specs.IoError.{error_kind};
 ghost use Rattle.lift_replay.specs.Reading.{IsRead};
 ghost use Rattle.lift_replay.specs.declared.lines.Verdict.TheVariants.{Good};
@@ -49,6 +49,7 @@ fn done<
         (W.contents writer.new) }
     ensures good { result ≡ End.Replayed Good → input.new.ended ≡ true }
     ensures unread { result ≡ End.Failed (Fault.File Input) → IsUnread input.new }
+    ensures few_calls { input.new.calls ≤ 2097152 }
     ensures read { request.entry ≡ Replay → result ≡ End.Failed (Fault.File Output)
         → IsRead R.remaining input.old input.new }
     ensures failed { result ≡ End.Failed (Fault.File Output)

@@ -26,3 +26,10 @@ returns-in-Err-clause-failed g c = λ same. inr (
   takes_put g.W.Outlet.gives c.as_bytes.result.now _ _ c.put_all.result (sym c.is_err.ensures.value ∙ c.if-is_err.false) c.put_all.ensures.each,
   c.in-Err.ensures.failed,
 )
+
+pub returns-in-Err-clause-wanting : goal.returns-in-Err-clause-wanting
+returns-in-Err-clause-wanting g c = λ same. (
+  c.put_all.new.writer,
+  takes_put g.W.Outlet.gives c.as_bytes.result.now _ _ c.put_all.result (sym c.is_err.ensures.value ∙ c.if-is_err.false) c.put_all.ensures.each,
+  inr c.in-Err.ensures.failed,
+)

@@ -1,4 +1,4 @@
-use Rattle.std.proofs.Common.{◌∙◌, inr, sym}
+use Rattle.std.proofs.Common.{◌∙◌, inl, inr, refl, sym}
 use Rattle.lift_program.proofs.Flushing.{put_failed, takes_put}
 use Rattle.lift_program.proofs.show.write_rows.Goals as goal
 
@@ -19,3 +19,13 @@ returns-clause-failed g c = λ same. inr (
   takes_put g.W.Outlet.gives c.as_bytes.result.now _ _ c.put_all.result (sym c.is_err.ensures.value ∙ c.if-is_err.false) c.put_all.ensures.each,
   c.in-Err.ensures.failed,
 )
+
+pub returns-clause-wanting : goal.returns-clause-wanting
+returns-clause-wanting g c = λ same. (
+  c.put_all.new.writer,
+  takes_put g.W.Outlet.gives c.as_bytes.result.now _ _ c.put_all.result (sym c.is_err.ensures.value ∙ c.if-is_err.false) c.put_all.ensures.each,
+  inr c.in-Err.ensures.failed,
+)
+
+pub returns-in_err-push_rows-clause-wanting : goal.returns-in_err-push_rows-clause-wanting
+returns-in_err-push_rows-clause-wanting g c = λ same. (c.args.writer.now, (0, refl), inl refl)
