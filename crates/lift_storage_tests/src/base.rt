@@ -1,0 +1,7 @@
+//! Tests of `lift_base`'s counted readers, watched writers and printed values over streams that say
+//! how they were called.
+
+mod printed;
+mod reads;
+mod streams;
+mod writes;

@@ -1,0 +1,103 @@
+//! A device on a file.
+use crate::disk::calls::{Call, all_come, holds};
+use lift_disk::{Disk, FileDisk, FileFault};
+use std::fs::{self, File, Files};
+use std::process::Abort;
+use std::test::Fail;
+
+const FOLDER: &str = "lift_disk_folder";
+
+/// The device on a file that is there.
+pub(crate) fn opened<R: Files<File = File> + Abort>(rt: &R, path: &str) -> FileDisk {
+    FileDisk::open(rt, path).ok().expect(rt, "the file")
+}
+
+/// A device on a file that is made anew.
+pub(crate) fn created<R: Files<File = File> + Abort>(rt: &R, path: &str, sectors: u32) -> FileDisk {
+    FileDisk::create(rt, path, sectors)
+        .ok()
+        .expect(rt, "a file")
+}
+
+/// Whether four sectors of zeros are written and read.
+fn keeps<D: Disk>(disk: &mut D) -> bool {
+    disk.sectors() == 4
+        && holds(disk, [0, 0, 0, 0])
+        && all_come(disk, &[Call::Put(0, 1), Call::Put(3, 2), Call::Sync])
+        && holds(disk, [1, 0, 0, 2])
+}
+
+/// Whether that is there.
+fn has_kept<D: Disk>(disk: &mut D) -> bool {
+    disk.sectors() == 4 && holds(disk, [1, 0, 0, 2])
+}
+
+/// Whether a device on a file that is made anew keeps what is written.
+fn is_kept<R: Files<File = File> + Abort>(rt: &R, path: &str) -> Result<bool, Fail> {
+    fs::write(rt, path, b"something else".as_slice())?;
+    Ok(keeps(&mut created(rt, path, 4)))
+}
+
+/// Whether the next that opens the file has that; cut short by another, it fails and ends.
+fn is_read_again<R: Files<File = File> + Abort>(rt: &R, path: &str) -> Result<bool, Fail> {
+    let mut disk = opened(rt, path);
+    let is_there = has_kept(&mut disk);
+    fs::write(rt, path, [1u8; 512].as_slice())?;
+    Ok(is_there && all_come(&mut disk, &[Call::Get(0, 1), Call::GetFails(1)]))
+}
+
+/// What was written and synced is read again by the next that opens the file.
+#[test]
+fn a_file_keeps_its_sectors(rt: HostRuntime) -> Result<(), Fail> {
+    let path = "lift_disk_kept.image";
+    assert!(rt; is_kept(&rt, path)?);
+    assert!(rt; fs::metadata(&rt, path)?.len() == 2048);
+    assert!(rt; is_read_again(&rt, path)?);
+    fs::remove_file(&rt, path)?;
+    Ok(())
+}
+
+/// How many sectors a device has, where there is one.
+fn sectors_of(device: Result<FileDisk, FileFault>) -> Option<u32> {
+    match device {
+        Ok(disk) => Some(disk.sectors()),
+        Err(_) => None,
+    }
+}
+
+fn is_no_file(device: Result<FileDisk, FileFault>) -> bool {
+    matches!(device, Err(FileFault::NotAFile))
+}
+
+fn is_refused_by_system(device: Result<FileDisk, FileFault>) -> bool {
+    matches!(device, Err(FileFault::System(_)))
+}
+
+/// Only whole sectors of a file count.
+#[test]
+fn whole_sectors_count(rt: HostRuntime) -> Result<(), Fail> {
+    let path = "lift_disk_length.image";
+    for (bytes, sectors) in [(0u64, 0), (511, 0), (512, 1), (513, 1), (1024, 2)] {
+        let file = fs::File::create(&rt, path)?;
+        file.set_len(bytes)?;
+        assert!(rt; sectors_of(FileDisk::open(&rt, path)) == Some(sectors));
+    }
+    fs::remove_file(&rt, path)?;
+    assert!(rt; is_refused_by_system(FileDisk::open(&rt, path)));
+    Ok(())
+}
+
+/// A folder, a device of the system and a missing file or folder are told.
+#[test]
+fn what_is_no_device_is_refused(rt: HostRuntime) -> Result<(), Fail> {
+    let _ = fs::remove_dir_all(&rt, FOLDER);
+    fs::create_dir(&rt, FOLDER)?;
+    for path in [FOLDER, "/dev/null"] {
+        assert!(rt; is_no_file(FileDisk::open(&rt, path)));
+        assert!(rt; is_no_file(FileDisk::create(&rt, path, 4)));
+    }
+    let made = FileDisk::create(&rt, "lift_disk_folder/no/file", 4);
+    assert!(rt; is_refused_by_system(made));
+    fs::remove_dir_all(&rt, FOLDER)?;
+    Ok(())
+}
