@@ -11,13 +11,12 @@ fn is_read(bytes: &[u8; 16], version: u8, count: u16, number: u32) -> bool {
     }
 }
 
-/// Whether they are that of the second version, and are written for what they say.
+/// Whether they are that of the second version, and are written for it.
 fn is_spelled(bytes: &[u8; 16], count: u16, number: u32) -> bool {
-    let is_written = match decode_header(bytes) {
-        Some(header) => encode_header(header.count, header.number) == *bytes,
-        None => false,
-    };
-    is_written && is_read(bytes, 2, count, number)
+    if count == 0 || count > 63 || number == 0 {
+        return false;
+    }
+    is_read(bytes, 2, count, number) && encode_header(count, number) == *bytes
 }
 
 /// Headers are read in both versions.
