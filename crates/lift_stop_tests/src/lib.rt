@@ -4,7 +4,7 @@
 //! What was told is there each time. These are 3,256 stops of each device, and as many of each kind
 //! of work. So is each call of three batches that wait in a line, and of a commit that moves a
 //! journal of version 1 to version 2; there the recovery is not stopped. (Appends, checkpoints and
-//! openings of a journal are stopped so in `lift_journal_tests`.)
+//! openings of a journal are stopped so in `lift_storage_tests`.)
 #![tactic(auto)]
 
 #[cfg(test)]
