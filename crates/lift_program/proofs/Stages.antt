@@ -45,7 +45,7 @@ building_no_file (WrongType field) same = cc
 building_no_file (OutOfRange field) same = cc
 building_no_file TableShape same = cc
 building_no_file (Detour i j k) same = cc
-building_no_file NoRoom same = cc
+building_no_file (NoRoom no_memory) same = cc
 
 pub has_building : (plan : Plan) (text : List ℕ) → length text ≤ most_text → IsTextOf text plan → HasBuilding plan
 has_building plan text short described = record { text = text; short = short; described = described }
