@@ -68,6 +68,12 @@ without_given (SyncData ∷ calls) = SyncData ∷ without_given calls
 without_given (SetLength bytes ∷ calls) = SetLength bytes ∷ without_given calls
 without_given (SyncAll ∷ calls) = SyncAll ∷ without_given calls
 
+-- Exactly one call of a file: this one if it succeeded, else one that failed.
+pub record IsOneCall {F T E : Type 0} (gives : F → FileCall → F → Type 0) (fails : F → F → Type 0)
+    (result : Result T E) (call : FileCall) (old new : F) : Type 0 where
+  pub made : OnOk result (gives old call new)
+  pub failed : OnErr result (fails old new)
+
 -- One call more if it succeeded, else one failure more.
 pub record MakesCall {T E : Type 0} (result : Result T E) (call : FileCall)
     (old_calls new_calls : List FileCall) (old_failures new_failures : ℕ) : Type 0 where

@@ -15,6 +15,7 @@ mod record;
 mod runs;
 mod sectors;
 mod span;
+mod told;
 mod trace;
 mod traced;
 
@@ -27,4 +28,5 @@ pub use memory::MemDisk;
 pub use outcome::Outcome;
 pub use runs::{Ahead, MOST_AHEAD, RunDisk};
 pub use sectors::SectorFile;
+pub use told::ToldFile;
 pub use traced::TracedFile;

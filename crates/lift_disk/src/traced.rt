@@ -1,15 +1,15 @@
 //! A file whose calls are listed.
 ghost use Rattle.std.specs.Prelude.{◌≡◌, ◌↔◌, [], ◌∷◌, IfOk, IsOk};
-ghost use Rattle.lift_disk.specs.FileCalls.{MakesCall};
+ghost use Rattle.lift_disk.specs.FileCalls.{IsOneCall, MakesCall};
 ghost use Rattle.lift_disk.specs.FileCalls.FileCall.{Read, ReadSectors, Write, SyncData};
 ghost use Rattle.lift_disk.specs.FileCalls.FileCall.{SetLength, SyncAll};
 
 use crate::DiskFault;
 use crate::file_calls::{Called, ProofFileCalls};
+use crate::told::ToldFile;
 use lift_base::ProofCount;
 use std::fs::{File, Files, OpenFile, OpenOptions};
 use std::io;
-use std::os::unix::fs::FileExt;
 
 /// A file with the list of its calls that have succeeded and the count of those that have failed,
 /// which only proofs read. The only way to the file is by the calls below, so both bind.
@@ -52,17 +52,23 @@ impl TracedFile<File> {
             .open(rt, path)?;
         TracedFile::sized(file, bytes)
     }
+
+    /// How many bytes the file has.
+    pub(crate) fn length(&self) -> io::Result<u64> {
+        Ok(self.file.metadata()?.len())
+    }
 }
 
-impl<F: FileExt + OpenFile + Drop> TracedFile<F> {
+impl<F: ToldFile + Drop> TracedFile<F> {
     ghost use Rattle.lift_disk.specs.Noted.{file_call_of};
-    ghost use Rattle.lift_disk.specs.Traced.{calls_of, failures_of, making_of};
+    ghost use Rattle.lift_disk.specs.Traced.{calls_of, failures_of, making_of, file_of, IsSized};
 
     /// A file that was opened to be read and written, and not called yet.
     pub fn over(file: F) -> TracedFile<F>
         ensures making { making_of result ≡ [] }
         ensures calls { calls_of result ≡ [] }
         ensures failures { failures_of result ≡ 0 }
+        ensures same { file_of result ≡ file }
     {
         TracedFile {
             file,
@@ -74,21 +80,17 @@ impl<F: FileExt + OpenFile + Drop> TracedFile<F> {
 
     /// A file that was opened to be read and written, made into one of so many bytes.
     pub fn sized(file: F, bytes: u64) -> io::Result<TracedFile<F>>
+        ensures sized { IfOk result (λ made. IsSized F.gives bytes file (file_of made)) }
         ensures making { IfOk result (λ file. making_of file ≡ SetLength bytes ∷ SyncAll ∷ []) }
         ensures calls { IfOk result (λ file. calls_of file ≡ []) }
         ensures failures { IfOk result (λ file. failures_of file ≡ 0) }
     {
         let mut traced = TracedFile::over(file);
-        traced.file.set_len(bytes)?;
+        traced.file.set_length_told(bytes)?;
         traced.making = traced.making.then(&Called::SetLength(bytes));
-        traced.file.sync_all()?;
+        traced.file.sync_all_told()?;
         traced.making = traced.making.then(&Called::SyncAll);
         Ok(traced)
-    }
-
-    /// How many bytes the file has.
-    pub(crate) fn length(&self) -> io::Result<u64> {
-        Ok(self.file.metadata()?.len())
     }
 
     /// Lists a call of the file that succeeded, or counts one that failed.
@@ -97,6 +99,7 @@ impl<F: FileExt + OpenFile + Drop> TracedFile<F> {
             (calls_of self.new) (failures_of self.old) (failures_of self.new) }
         ensures making { making_of self.new ≡ making_of self.old }
         ensures told { IsOk result ↔ IsOk outcome }
+        ensures same { file_of self.new ≡ file_of self.old }
     {
         match outcome {
             Ok(()) => {
@@ -114,9 +117,11 @@ impl<F: FileExt + OpenFile + Drop> TracedFile<F> {
     pub(crate) fn read(&mut self, buffer: &mut [u8], offset: u64) -> Result<(), DiskFault>
         ensures made { MakesCall result (Read offset buffer.new) (calls_of self.old)
             (calls_of self.new) (failures_of self.old) (failures_of self.new) }
+        ensures one { IsOneCall F.gives F.fails result (Read offset buffer.new) (file_of self.old)
+            (file_of self.new) }
         ensures making { making_of self.new ≡ making_of self.old }
     {
-        let outcome = self.file.read_exact_at(buffer, offset);
+        let outcome = self.file.read_told(buffer, offset);
         self.note(outcome, &Called::Read(offset, buffer))
     }
 
@@ -128,9 +133,11 @@ impl<F: FileExt + OpenFile + Drop> TracedFile<F> {
     ) -> Result<(), DiskFault>
         ensures made { MakesCall result (ReadSectors offset buffer.new) (calls_of self.old)
             (calls_of self.new) (failures_of self.old) (failures_of self.new) }
+        ensures one { IsOneCall F.gives F.fails result (ReadSectors offset buffer.new)
+            (file_of self.old) (file_of self.new) }
         ensures making { making_of self.new ≡ making_of self.old }
     {
-        let outcome = self.file.read_exact_at(buffer.as_flattened_mut(), offset);
+        let outcome = self.file.read_sectors_told(buffer, offset);
         self.note(outcome, &Called::ReadSectors(offset, buffer))
     }
 
@@ -138,9 +145,11 @@ impl<F: FileExt + OpenFile + Drop> TracedFile<F> {
     pub(crate) fn write(&mut self, bytes: &[u8], offset: u64) -> Result<(), DiskFault>
         ensures made { MakesCall result (Write offset bytes.now) (calls_of self.old)
             (calls_of self.new) (failures_of self.old) (failures_of self.new) }
+        ensures one { IsOneCall F.gives F.fails result (Write offset bytes.now) (file_of self.old)
+            (file_of self.new) }
         ensures making { making_of self.new ≡ making_of self.old }
     {
-        let outcome = self.file.write_all_at(bytes, offset);
+        let outcome = self.file.write_told(bytes, offset);
         self.note(outcome, &Called::Write(offset, bytes))
     }
 
@@ -148,9 +157,11 @@ impl<F: FileExt + OpenFile + Drop> TracedFile<F> {
     pub(crate) fn sync(&mut self) -> Result<(), DiskFault>
         ensures made { MakesCall result SyncData (calls_of self.old) (calls_of self.new)
             (failures_of self.old) (failures_of self.new) }
+        ensures one { IsOneCall F.gives F.fails result SyncData (file_of self.old)
+            (file_of self.new) }
         ensures making { making_of self.new ≡ making_of self.old }
     {
-        let outcome = self.file.sync_data();
+        let outcome = self.file.sync_data_told();
         self.note(outcome, &Called::SyncData)
     }
 }
