@@ -81,12 +81,12 @@ impl<'d> Held<'d> {
         requires paged { pager.now ≡ seat.terminal }
         ensures { result ≡ record { desk = desk.now; seat = seat; last = found; found = found } }
     {
-        let last = found;
+        let known = found;
         Held {
             desk,
             pager,
             seat,
-            last,
+            last: known,
             found,
         }
     }
