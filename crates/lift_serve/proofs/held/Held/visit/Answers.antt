@@ -3,8 +3,8 @@ use Rattle.lift_base.specs.Output.{sink_of}
 use Rattle.lift_kiosk.specs.Desk.{DeskPortState}
 use Rattle.lift_kiosk.specs.Lines.{source_of}
 use Rattle.lift_serve.specs.HeldInside.{seen}
-use Rattle.lift_serve.specs.Visits.{HeldState, IsVisit, Visits}
-use Rattle.lift_serve.proofs.Sessions.{served_on, made_visit, still_seated}
+use Rattle.lift_serve.specs.Visits.{HeldState, Visits}
+use Rattle.lift_serve.proofs.Sessions.{served_on, made_visit, still_seated, visit_of}
 use Rattle.lift_serve.proofs.held.Held.visit.Goals as goal
 
 pub invariant_of-result : goal.invariant_of-result
@@ -15,7 +15,7 @@ invariant_of-result g c =
     let mid : DeskPortState = c.session_of-last.new.port.port in
     let new = c.new-port.ensures.port ∙ c.new.ensures in
     let is = c.into_seat-seat.ensures.seat ∙ ap (λ (p : DeskPortState). p.seat) c.into_port.ensures in
-    let visit = subst (λ terminal. IsVisit terminal c.session_of-last.result.end _ _) c.terminal.ensures c.session_of-last.ensures.visit in
+    let visit = visit_of c.self.inside.seat.terminal _ c.session_of-last.result.end _ _ c.terminal-terminal.ensures c.session_of-last.ensures.visit in
     let made = made_visit held c.session_of-last.result.last c.into_seat-seat.result c.session_of-last.result.end
     (source_of g.I.Read.remaining c.args.reader.now) (source_of g.I.Read.remaining c.session_of-last.new.reader)
     (sink_of g.O.Write.contents c.args.writer.now) (sink_of g.O.Write.contents c.session_of-last.new.writer) first mid
@@ -33,7 +33,7 @@ returns g c =
     let mid : DeskPortState = c.session_of-last.new.port.port in
     let new = c.new-port.ensures.port ∙ c.new.ensures in
     let is = c.into_seat-seat.ensures.seat ∙ ap (λ (p : DeskPortState). p.seat) c.into_port.ensures in
-    let visit = subst (λ terminal. IsVisit terminal c.session_of-last.result.end _ _) c.terminal.ensures c.session_of-last.ensures.visit in
+    let visit = visit_of c.self.inside.seat.terminal _ c.session_of-last.result.end _ _ c.terminal-terminal.ensures c.session_of-last.ensures.visit in
     let made = made_visit held c.session_of-last.result.last c.into_seat-seat.result c.session_of-last.result.end
     (source_of g.I.Read.remaining c.args.reader.now) (source_of g.I.Read.remaining c.session_of-last.new.reader)
     (sink_of g.O.Write.contents c.args.writer.now) (sink_of g.O.Write.contents c.session_of-last.new.writer) first mid
