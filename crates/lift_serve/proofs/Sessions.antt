@@ -33,6 +33,10 @@ car_visit terminal end before after near session =
     let car : nat_lt terminal 16 ≡ true = grind (arith, nat_tests) in
     subst (λ is_car. IsVisitAs is_car end before after) (sym car) session
 
+-- a visit of the same terminal
+pub visit_of : (own terminal : ℕ) (end : End) (before after : Standing) → terminal ≡ own → IsVisit terminal end before after → IsVisit own end before after
+visit_of own terminal end before after same visit = subst (λ (t : ℕ). IsVisit t end before after) same visit
+
 one_more : (terminal : ℕ) (last : LastLetter) (port : PortView) (vs : List Visit) (last' : LastLetter) (port' : PortView) → AreVisits terminal last port vs last' port'
     → (v : Visit) → v.before.last ≡ last' → v.before.port ≡ port' → IsVisit terminal v.end v.before v.after
     → AreVisits terminal last port (vs ++ v ∷ []) v.after.last (unrested v.after.port)
