@@ -1,0 +1,113 @@
+//! Both parts of one split, held together.
+ghost use Rattle.std.specs.Prelude.{◌≡◌, IfOk};
+ghost use Rattle.lift_desk.specs.Seats.{IsClerkOf, OwesNothing};
+ghost use Rattle.lift_parts.specs.Parts.{AreOfOne};
+
+use crate::terminals::clerk_of;
+use lift_building::Building;
+use lift_clerk::{Clerk, Counts};
+use lift_desk::{ClerkSeat, Desk};
+use lift_disk::Disk;
+use lift_keeper::KeeperFault;
+use lift_policy::Policy;
+use lift_relay::{Allocator, FlushCounts, Flusher, Gate, RunFault, rejoin, run, split, tell};
+use std::alloc::Global;
+use std::process::Abort;
+use std::sync::Wait;
+use std::thread::Threads;
+
+/// Both parts of one split.
+#[derive(Drop)]
+pub struct Relay<'a, D: Disk + Drop, P: Policy + Drop> {
+    allocator: Allocator<'a, 'a, P>,
+    flusher: Flusher<'a, 'a, D>,
+    ghost of_one: { AreOfOne allocator flusher },
+}
+
+impl<'a, D: Disk + Drop, P: Policy + Drop> Relay<'a, D, P> {
+    pub(crate) fn of(rt: &impl Abort, alloc: Global, clerk: Clerk<'a, 'a, D, P>) -> Self
+        ensures { result.allocator.desk ≡ clerk.entry.desk }
+    {
+        match split(alloc, clerk) {
+            Ok((allocator, flusher)) => Relay { allocator, flusher },
+            Err(_) => panic!(rt; "memory"),
+        }
+    }
+
+    /// The parts of a clerk at a desk, of a device that begins as it is.
+    pub(crate) fn begin(
+        rt: &impl Abort,
+        alloc: Global,
+        desk: &'a Desk,
+        seat: ClerkSeat,
+        disk: D,
+        building: &'a Building,
+        policy: P,
+    ) -> Self
+        requires clerk { IsClerkOf desk.now seat }
+        requires owes { OwesNothing seat }
+    {
+        let clerk = clerk_of(rt, desk, seat, disk, building, policy);
+        Self::of(rt, alloc, clerk)
+    }
+
+    pub(crate) fn allocate<R: Wait>(&mut self, rt: &R) -> Counts {
+        self.allocator.turn(rt)
+    }
+
+    pub(crate) fn flush<R: Wait>(&mut self, rt: &R) -> Result<FlushCounts, KeeperFault> {
+        self.flusher.turn(rt)
+    }
+
+    pub(crate) fn tell(&mut self) {
+        tell(&mut self.allocator, &mut self.flusher);
+    }
+
+    pub(crate) fn has_batch_in_hand(&self) -> bool {
+        self.allocator.has_batch_in_hand()
+    }
+
+    /// Whether so many batches were sent and received.
+    pub(crate) fn has_moved(&self, sent: u64, received: u64) -> bool {
+        self.allocator.sent() == sent && self.flusher.received() == received
+    }
+
+    pub(crate) fn run<R: Threads + Wait + Sync, G: Gate + Sync>(
+        &mut self,
+        rt: &R,
+        gate: &G,
+    ) -> Option<RunFault>
+    where
+        P: Send,
+        ensures { self.new.allocator.desk ≡ self.old.allocator.desk }
+    {
+        run(rt, &mut self.allocator, &mut self.flusher, gate)
+    }
+
+    /// How many calls the clerk of both parts shows, if they may join.
+    pub(crate) fn open_calls(self) -> Option<u32> {
+        match self.rejoined() {
+            Ok(clerk) => Some(clerk.keeper().register().open_count()),
+            Err(_) => None,
+        }
+    }
+
+    pub(crate) fn rejoined(self) -> Result<Clerk<'a, 'a, D, P>, Self>
+        ensures { IfOk result (λ clerk. clerk.desk ≡ self.entry.allocator.desk) }
+    {
+        match rejoin(self.allocator, self.flusher) {
+            Ok(clerk) => Ok(clerk),
+            Err((allocator, flusher)) => Err(Relay { allocator, flusher }),
+        }
+    }
+
+    /// The clerk of both parts, which may join.
+    pub(crate) fn joined(self, rt: &impl Abort) -> Clerk<'a, 'a, D, P>
+        ensures { result.desk ≡ self.entry.allocator.desk }
+    {
+        match self.rejoined() {
+            Ok(clerk) => clerk,
+            Err(_) => panic!(rt; "handed back"),
+        }
+    }
+}

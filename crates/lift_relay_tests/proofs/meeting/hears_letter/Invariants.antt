@@ -1,5 +1,0 @@
-use Rattle.lift_desk.specs.Seats.{IsSeatOf}
-use Rattle.lift_relay_tests.proofs.meeting.hears_letter.Given as goal
-
-abbrev pub invariant-loop : goal.invariant-loop
-invariant-loop l = record { stays : IsSeatOf l.desk l.seat }
