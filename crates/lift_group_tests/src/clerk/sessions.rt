@@ -1,4 +1,6 @@
 //! Sessions and drives of terminals whose clerk turns while their port rests.
+ghost use Rattle.std.specs.Prelude.{◌≡◌};
+
 use crate::groups::{call, floor, formatted, group, letter, number, place};
 use crate::terminals::{Terminals, Who, clerk_of, open};
 use lift_base::text::{Counted, Watched};
@@ -145,7 +147,9 @@ fn up(at: u8) -> Position {
 }
 
 /// Both cars are placed, and car A takes a call from floor 0 to floor 5.
-fn sends_car_a(rt: &impl Abort, group: &mut Terminals, clerk: &mut Clerk<MemDisk, Etd>) {
+fn sends_car_a(rt: &impl Abort, group: &mut Terminals, clerk: &mut Clerk<MemDisk, Etd>)
+    ensures { group.new.desk.now ≡ group.old.desk.now }
+{
     assert!(rt; group.ask(Who::CarA, 0, place(0, Dir::Up)));
     assert!(rt; group.ask(Who::CarB, 0, place(9, Dir::Down)) && turns(clerk));
     assert!(rt; group.ask(Who::Kiosk0, 1, call(5)) && turns(clerk));
