@@ -1,10 +1,10 @@
 //! A terminal's place between its sessions.
 
-ghost use Rattle.std.specs.Prelude.{◌≡◌, ◌≤◌, ◌<◌};
+ghost use Rattle.std.specs.Prelude.{◌≡◌};
 ghost use Rattle.lift_base.specs.Output.{sink_of};
 ghost use Rattle.lift_desk.specs.Seats.{IsSeatOf};
 ghost use Rattle.lift_kiosk.specs.Lines.{source_of};
-ghost use Rattle.lift_serve.specs.Visits.{IsNewSeat, Visits};
+ghost use Rattle.lift_serve.specs.Visits.{IsNewSeat, Speaks, Visits};
 
 use crate::pace::AskBell;
 use crate::pager::Pager;
@@ -13,7 +13,7 @@ use lift_base::Terminal;
 use lift_base::text::{Counted, Watched};
 use lift_car::CarLines;
 use lift_desk::{Desk, Seat};
-use lift_kiosk::{DeskPort, End, Kiosk, LastLetter, Limits, SessionEnd, converse};
+use lift_kiosk::{DeskPort, Dialect, End, Kiosk, LastLetter, Limits, SessionEnd, converse};
 use std::io::{Read, Write};
 use std::marker::Model;
 use std::sync::Wait;
@@ -81,15 +81,15 @@ impl<'d> Held<'d> {
         self.seat.terminal()
     }
 
-    /// A session of a kiosk.
-    fn visit_as_kiosk<R: Wait + Clock, I: Read + Drop, O: Write + Drop>(
+    /// A session in the dialect of the terminal.
+    fn visit_as<T: Dialect, R: Wait + Clock, I: Read + Drop, O: Write + Drop>(
         self,
         rt: &R,
         bell: &AskBell,
         reader: &mut Counted<I>,
         writer: &mut Watched<O>,
     ) -> (Held<'d>, End)
-        requires { 16 ≤ self.seat.terminal }
+        requires { Speaks T.wants T.keeps self.seat.terminal }
         ensures { Visits self.entry result.1 result.0 (source_of I.remaining reader.old)
             (source_of I.remaining reader.new)
             (sink_of O.contents writer.old) (sink_of O.contents writer.new) }
@@ -102,44 +102,7 @@ impl<'d> Held<'d> {
             found,
         } = self;
         let mut port = RestingPort::new(DeskPort::new(desk, seat), rt, bell, pager);
-        let SessionEnd { last, end } = converse::<Kiosk, I, O, RestingPort<'d, '_, R>>(
-            reader, writer, &mut port, last, LIMITS,
-        );
-        let seat = port.into_port().into_seat();
-        (
-            Held {
-                desk,
-                pager,
-                seat,
-                last,
-                found,
-            },
-            end,
-        )
-    }
-
-    /// A session of a car.
-    fn visit_as_car<R: Wait + Clock, I: Read + Drop, O: Write + Drop>(
-        self,
-        rt: &R,
-        bell: &AskBell,
-        reader: &mut Counted<I>,
-        writer: &mut Watched<O>,
-    ) -> (Held<'d>, End)
-        requires { self.seat.terminal < 16 }
-        ensures { Visits self.entry result.1 result.0 (source_of I.remaining reader.old)
-            (source_of I.remaining reader.new)
-            (sink_of O.contents writer.old) (sink_of O.contents writer.new) }
-    {
-        let Held {
-            desk,
-            pager,
-            seat,
-            last,
-            found,
-        } = self;
-        let mut port = RestingPort::new(DeskPort::new(desk, seat), rt, bell, pager);
-        let SessionEnd { last, end } = converse::<CarLines, I, O, RestingPort<'d, '_, R>>(
+        let SessionEnd { last, end } = converse::<T, I, O, RestingPort<'d, '_, R>>(
             reader, writer, &mut port, last, LIMITS,
         );
         let seat = port.into_port().into_seat();
@@ -156,6 +119,7 @@ impl<'d> Held<'d> {
     }
 
     /// A session, from what the one before it left.
+    #[tactic(auto, using(crate::proofs::Sessions::kiosk_speaks, crate::proofs::Sessions::car_speaks))]
     pub fn visit<R: Wait + Clock, I: Read + Drop, O: Write + Drop>(
         self,
         rt: &R,
@@ -168,9 +132,9 @@ impl<'d> Held<'d> {
             (sink_of O.contents writer.old) (sink_of O.contents writer.new) }
     {
         if self.seat.terminal().is_kiosk() {
-            self.visit_as_kiosk(rt, bell, reader, writer)
+            self.visit_as::<Kiosk, R, I, O>(rt, bell, reader, writer)
         } else {
-            self.visit_as_car(rt, bell, reader, writer)
+            self.visit_as::<CarLines, R, I, O>(rt, bell, reader, writer)
         }
     }
 }

@@ -7,7 +7,7 @@ ghost use Rattle.lift_parts.specs.Parts.{AreOfOne, AreParts};
 ghost use Rattle.lift_serve.specs.Relaying.{HaveRunOn, first_told, told, undone};
 
 use crate::connections::{Left, Over};
-use crate::relaying::{Parts, unrun};
+use crate::relaying::Parts;
 use crate::serving::{ServeFault, Served, unserved};
 use lift_clerk::Clerk;
 use lift_desk::{Desk, DeskParts};
@@ -112,7 +112,8 @@ impl Lacking {
         unserved(keeper, self.told())
     }
 
-    /// Both parts as they were, where no thread could be made, of which this tells.
+    /// Both parts as they were, where no thread could be made before their run, of which this tells.
+    #[tactic(auto, using(crate::proofs::Relayings::not_run))]
     pub(crate) fn unrun<'d, 'b, D: Disk + Drop, P: Policy + Drop>(
         self,
         parts: Parts<'d, 'b, D, P>,
@@ -124,7 +125,18 @@ impl Lacking {
             (Some (RunFault.Spawn tt)) }
         ensures told { result.refusal ≡ told (undone (Some (RunFault.Spawn tt))) }
     {
-        unrun(parts, self.told())
+        let Parts {
+            allocator,
+            flusher,
+            fault: _,
+            refusal: _,
+        } = parts;
+        Parts {
+            allocator,
+            flusher,
+            fault: None,
+            refusal: Some(self.told()),
+        }
     }
 }
 
@@ -357,25 +369,35 @@ fn undone_by(fault: &Option<RunFault>) -> Option<Refusal>
     })
 }
 
-/// Both parts run while the gate goes on, the flusher on this thread. The fault, and what the run
-/// was refused.
-pub(crate) fn run_both<'d, 'b, R, G, D, P>(
+/// Both parts run while the gate goes on, the flusher on this thread, and are given back behind the
+/// last batch.
+pub fn run_parts<'d, 'b, R, G, D, P>(
     rt: &R,
-    allocator: &mut Allocator<'d, 'b, P>,
-    flusher: &mut Flusher<'d, 'b, D>,
     gate: &G,
-) -> (Option<RunFault>, Option<Refusal>)
+    parts: Parts<'d, 'b, D, P>,
+) -> Parts<'d, 'b, D, P>
 where
     R: Threads + Wait + Sync,
     G: Gate + Sync,
     D: Disk + Drop,
     P: Policy + Drop + Send,
-    requires of_one { AreOfOne allocator.old flusher.old }
-    ensures ran { HaveRunOn (P.chooses allocator.old.policy) D.state allocator.old allocator.new
-        flusher.old flusher.new result.0 }
-    ensures told { result.1 ≡ told (undone result.0) }
+    requires of_one { AreOfOne parts.allocator parts.flusher }
+    ensures ran { HaveRunOn (P.chooses parts.entry.allocator.policy) D.state parts.entry.allocator
+        result.allocator parts.entry.flusher result.flusher result.fault }
+    ensures told { result.refusal ≡ told (undone result.fault) }
 {
-    let fault = run(rt, allocator, flusher, gate);
+    let Parts {
+        mut allocator,
+        mut flusher,
+        fault: _,
+        refusal: _,
+    } = parts;
+    let fault = run(rt, &mut allocator, &mut flusher, gate);
     let refusal = undone_by(&fault);
-    (fault, refusal)
+    Parts {
+        allocator,
+        flusher,
+        fault,
+        refusal,
+    }
 }

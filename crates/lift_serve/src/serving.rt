@@ -13,13 +13,13 @@ use crate::attending::{Attended, attend};
 use crate::connections::{Connections, Ending, Left, Over, Ticket};
 use crate::keep_alive::watch;
 use crate::lacks::{
-    Lack, Lacking, Lacks, Noted, Refusal, listen_again, open_desk, part, read_ahead, share,
-    share_again, start_accepting, start_session,
+    Lack, Lacking, Lacks, Noted, Refusal, listen_again, open_desk, part, read_ahead, run_parts,
+    share, share_again, start_accepting, start_session,
 };
 use crate::lobby::Lobby;
 use crate::pace::{Bells, Pace};
 use crate::pager::Pager;
-use crate::relaying::{Parts, run_parts, turn_rejoined};
+use crate::relaying::{Parts, turn_rejoined};
 use crate::seating::{lobby_of, new_pagers};
 use crate::waking::WakingWriter;
 use lift_base::text::{Counted, Watched};
@@ -231,15 +231,15 @@ fn accept_all<'s, 'd: 's, E, R: Threads + Wait + Clock + Sync>(
     unreachable!()
 }
 
-/// Accepts connections until all have ended that were to end, and returns when each thread of one
-/// has.
+/// Accepts connections until all have ended that were to end, and once each thread of one has, has
+/// both parts end.
 fn welcome<R: Threads + Wait + Clock + Sync>(
     rt: &R,
     alloc: Global,
     listener: &TcpListener,
     shared: Shared<'_, '_>,
 ) -> Over {
-    thread::scope(
+    let over = thread::scope(
         thread::scope_env(),
         rt,
         move |scope| -> Over
@@ -249,17 +249,7 @@ fn welcome<R: Threads + Wait + Clock + Sync>(
             shared.see_off(rt);
             over
         },
-    )
-}
-
-/// Accepts connections, and then has both parts end.
-fn welcome_all<R: Threads + Wait + Clock + Sync>(
-    rt: &R,
-    alloc: Global,
-    listener: &TcpListener,
-    shared: Shared<'_, '_>,
-) -> Over {
-    let over = welcome(rt, alloc, listener, shared);
+    );
     shared.closing.store(1, Ordering::SeqCst);
     shared.bells.ring_all();
     over
@@ -297,7 +287,7 @@ where
                 result.allocator parts.entry.flusher result.flusher fault
                 × (result.refusal ≡ told (undone fault)) }
         {
-            let work = move || welcome_all(rt, alloc, listener, shared);
+            let work = move || welcome(rt, alloc, listener, shared);
             if let Err(lacking) = start_accepting(scope, work) {
                 return lacking.unrun(parts);
             }

@@ -1,10 +1,10 @@
-use Rattle.std.proofs.Common.{ap, subst, sym, ◌∙◌, arith}
+use Rattle.std.proofs.Common.{ap, subst, sym, ◌∙◌}
 use Rattle.lift_base.specs.Output.{sink_of}
 use Rattle.lift_kiosk.specs.Desk.{DeskPortState}
 use Rattle.lift_kiosk.specs.Lines.{source_of}
 use Rattle.lift_serve.specs.Visits.{HeldState, Visits}
-use Rattle.lift_serve.proofs.Sessions.{served_on, made_visit, still_seated, kiosk_visit}
-use Rattle.lift_serve.proofs.held.Held.visit_as_kiosk.Goals as goal
+use Rattle.lift_serve.proofs.Sessions.{served_on, made_visit, still_seated, visit_in}
+use Rattle.lift_serve.proofs.held.Held.visit_as.Goals as goal
 
 pub invariant_of-result : goal.invariant_of-result
 invariant_of-result g c =
@@ -14,7 +14,7 @@ invariant_of-result g c =
     let mid : DeskPortState = c.converse-last.new.port.port in
     let new = c.new-port.ensures.port ∙ c.new.ensures in
     let is = c.into_seat-seat.ensures.seat ∙ ap (λ (p : DeskPortState). p.seat) c.into_port.ensures in
-    let visit = kiosk_visit c.self.inside.seat.terminal c.converse-last.result.end _ _ (omega (arith, ap (λ (h : HeldState). h.seat.terminal) c.self.view_is, c.requires)) c.converse-last.ensures.converses.session in
+    let visit = visit_in g.T.Dialect.wants g.T.Dialect.keeps c.self.inside.seat.terminal _ c.converse-last.result.end _ _ (ap (λ (h : HeldState). h.seat.terminal) c.self.view_is) c.requires c.converse-last.ensures.converses.session in
     let made = made_visit held c.converse-last.result.last c.into_seat-seat.result c.converse-last.result.end
     (source_of g.I.Read.remaining c.args.reader.now) (source_of g.I.Read.remaining c.converse-last.new.reader)
     (sink_of g.O.Write.contents c.args.writer.now) (sink_of g.O.Write.contents c.converse-last.new.writer) first mid
@@ -32,7 +32,7 @@ returns g c =
     let mid : DeskPortState = c.converse-last.new.port.port in
     let new = c.new-port.ensures.port ∙ c.new.ensures in
     let is = c.into_seat-seat.ensures.seat ∙ ap (λ (p : DeskPortState). p.seat) c.into_port.ensures in
-    let visit = kiosk_visit c.self.inside.seat.terminal c.converse-last.result.end _ _ (omega (arith, ap (λ (h : HeldState). h.seat.terminal) c.self.view_is, c.requires)) c.converse-last.ensures.converses.session in
+    let visit = visit_in g.T.Dialect.wants g.T.Dialect.keeps c.self.inside.seat.terminal _ c.converse-last.result.end _ _ (ap (λ (h : HeldState). h.seat.terminal) c.self.view_is) c.requires c.converse-last.ensures.converses.session in
     let made = made_visit held c.converse-last.result.last c.into_seat-seat.result c.converse-last.result.end
     (source_of g.I.Read.remaining c.args.reader.now) (source_of g.I.Read.remaining c.converse-last.new.reader)
     (sink_of g.O.Write.contents c.args.writer.now) (sink_of g.O.Write.contents c.converse-last.new.writer) first mid
