@@ -3,9 +3,9 @@
 ghost use Rattle.std.specs.Prelude.{◌≡◌, ◌≤◌, ℕ, List, Err, IfOk, IfErr, IfSome, IfNone, length};
 ghost use Rattle.std.specs.Str.Lines.{strip_carriage_return};
 ghost use Rattle.lift_base.specs.Output.{sink_of};
-ghost use Rattle.lift_kiosk.specs.Lines.{GivesLine, Keeps65, source_of};
+ghost use Rattle.lift_kiosk.specs.Lines.{GivesLine, Keeps65, Source, source_of};
 ghost use Rattle.lift_serve.specs.Connections.{Attends, CallsUpTo, EndsWithoutLine, IsSaid};
-ghost use Rattle.lift_serve.specs.Connections.{first_reads};
+ghost use Rattle.lift_serve.specs.Connections.{Names, first_reads};
 ghost use Rattle.lift_serve.specs.FirstLine.{SpeaksFor};
 ghost use Rattle.lift_serve.specs.Lobby.{AskedState, IsSamePlace};
 
@@ -134,28 +134,21 @@ fn terminal_in(building: &Building, line: &Line) -> Option<Terminal>
     terminal_of(line, building.cars(), building.kiosks())
 }
 
-/// What comes of a connection.
+/// What comes of a connection whose first line names this terminal.
 fn outcome_of<'d, R: Wait + Clock, I: Read + Drop, O: Write + Drop>(
     rt: &R,
     lobby: &Mutex<Lobby<'d>>,
     ticket: Ticket,
     bell: &AskBell,
-    building: &Building,
+    terminal: Terminal,
     reader: &mut Counted<I>,
     writer: &mut Watched<O>,
 ) -> Outcome<'d>
-    ensures { Attends (length building.now.cars) (length building.now.kiosks) result
-        (source_of I.remaining reader.old) (source_of I.remaining reader.new)
+    ensures { (cars kiosks : ℕ) (source : Source)
+        → Names cars kiosks terminal source (source_of I.remaining reader.old)
+        → Attends cars kiosks result source (source_of I.remaining reader.new)
         (sink_of O.contents writer.old) (sink_of O.contents writer.new) }
 {
-    let line = match read_first(reader) {
-        Ok(line) => line,
-        Err(no_line) => return Outcome::NoLine(no_line),
-    };
-    let Some(terminal) = terminal_in(building, &line) else {
-        say(writer, b"BAD\n");
-        return Outcome::Bad;
-    };
     let (held, vacancy) = match take(rt, lobby, ticket, terminal) {
         Ok(taken) => taken,
         Err(NoSeat::Taken(absent)) => {
@@ -187,6 +180,15 @@ pub fn attend<'d, R: Wait + Clock, I: Read + Drop, O: Write + Drop>(
         (source_of I.remaining reader.old) (source_of I.remaining reader.new)
         (sink_of O.contents writer.old) (sink_of O.contents writer.new) }
 {
-    let outcome = outcome_of(rt, lobby, ticket, bell, building, reader, writer);
+    let outcome = match read_first(reader) {
+        Ok(line) => match terminal_in(building, &line) {
+            Some(terminal) => outcome_of(rt, lobby, ticket, bell, terminal, reader, writer),
+            None => {
+                say(writer, b"BAD\n");
+                Outcome::Bad
+            }
+        },
+        Err(no_line) => Outcome::NoLine(no_line),
+    };
     Attended { outcome }
 }
