@@ -21,9 +21,8 @@ use Rattle.lift_replay.specs.Replaying.{ReportsFront, ReportsInput}
 use Rattle.lift_program.specs.Faults.{fault_text, usage_text}
 use Rattle.lift_program.specs.Output.{IsTold}
 use Rattle.lift_program.specs.Serving.{IsServing}
-use Rattle.lift_program.specs.Images.{IsToBeServed, IsToBeShown, image_state_of, shown_state_of}
-use Rattle.lift_program.specs.declared.image.ImageDisk.{ImageDisk}
-use Rattle.lift_program.specs.declared.shown.ShownImage.{ShownImage}
+use Rattle.lift_program.specs.Images.{IsToBeServed, IsToBeShown, ServedImage, ShownImage}
+use Rattle.lift_program.specs.Images.{served_state_of, shown_state_of}
 use Rattle.lift_program.specs.Showing.{IsShown, IsOpeningFault, ShowsPart}
 use Rattle.lift_program.specs.Stages.{HasBuilding, HasNoBuilding, OpensJournal, OpensNoJournal}
 use Rattle.lift_program.specs.Stages.{ReadsBuilding, ReadsJournal}
@@ -145,7 +144,7 @@ IsShowFault Thread = ⊥
 abbrev pub IsServeFault : Fault → Type 0
 IsServeFault (Building fault) = HasNoBuilding fault
 IsServeFault (Journal fault) = IsOpeningFault fault
-    × OpensNoJournal ImageDisk IsToBeServed image_state_of fault
+    × OpensNoJournal ServedImage IsToBeServed served_state_of fault
 IsServeFault (File OfBuilding) = Unit {0}
 IsServeFault (File OfImage) = ReadsBuilding
 IsServeFault (File Input) = ⊥

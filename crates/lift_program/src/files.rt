@@ -14,11 +14,10 @@ ghost use Rattle.lift_program.specs.declared.fault.Role.TheVariants.{Building as
 ghost use Rattle.lift_program.specs.declared.fault.Role.TheVariants.{Image as OfImage};
 
 use crate::fault::{Fault, Role};
-use crate::image::ImageDisk;
-use crate::shown::ShownImage;
+use crate::unwritten::{ShownImage, UnwrittenFile};
 use lift_base::text::Counted;
 use lift_building::Building;
-use lift_disk::{FileDisk, FileFault};
+use lift_disk::{Buffered, BufferedFile, FileDisk, FileFault};
 use lift_keeper::Keeper;
 use lift_replay::{InputFault, read_all};
 use std::alloc::Global;
@@ -169,7 +168,7 @@ pub fn image_to_show<F: Files<File = File>>(rt: &F, path: &str) -> Result<ShownI
     ensures fault { IfErr result (IsFileFault OfImage) }
 {
     let file = image_in(rt, path)?;
-    Ok(ShownImage::over(file))
+    Ok(Buffered::over(UnwrittenFile::over(file)))
 }
 
 /// The keeper that the recovery gives, over the journal in a file.
@@ -178,13 +177,13 @@ pub fn keeper_in<'b, F: Files<File = File>>(
     rt: &F,
     path: &str,
     building: &'b Building,
-) -> Result<Keeper<'b, ImageDisk>, Fault>
+) -> Result<Keeper<'b, BufferedFile>, Fault>
     ensures opened { IfOk result (HasKeeperOf building.now) }
     ensures settled { IfOk result (λ keeper. keeper.state.batch ≡ []) }
     ensures fault { IfErr result (IsKeeperFault building.now) }
 {
     let file = image_in(rt, path)?;
-    match Keeper::open(ImageDisk::over(file), building) {
+    match Keeper::open(Buffered::over(file), building) {
         Ok(keeper) => Ok(keeper),
         Err((_, fault)) => Err(Fault::Journal(fault)),
     }

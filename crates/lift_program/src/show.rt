@@ -15,7 +15,7 @@ ghost use Rattle.lift_program.specs.declared.fault.Role.TheVariants.{Output};
 use crate::fault::{Fault, Role};
 use crate::files::{building_in, image_to_show};
 use crate::output::Outflow;
-use crate::shown::ShownImage;
+use crate::unwritten::ShownImage;
 use lift_base::text::put_all;
 use lift_building::Building;
 use lift_disk::Disk;
