@@ -248,10 +248,16 @@ IsReport input (Served port fault) before after = Appends before after (serving_
 IsReport input (Failed fault) before after = IsReportOfFault fault before after
 IsReport input OtherWords before after = after ≡ before
 
--- The status of an end that these words come to over this input, with its report, and whose line
--- was told, if it has one. It is a fault of the standard output only where that has failed, a
--- serving at a port only where that was listened at, and a fault of the port only where it was
--- refused.
+-- An end is a fault of the standard output only where that has failed, a serving at a port only
+-- where that was listened at, and a fault of the port only where it was refused.
+pub record HasCause (has_failed : Type 0) (has_listened : ℕ → Type 0) (was_refused : Type 0)
+    (end : End) : Type 0 where
+  pub unwritten : end ≡ Failed (File Output) → has_failed
+  pub here : (port : ℕ) (fault : Option Fault) → end ≡ Served port fault → has_listened port
+  pub refused : end ≡ Failed Network → was_refused
+
+-- The status of an end that these words come to over this input, with its report, which has its
+-- cause, and whose line was told, if it has one.
 pub record IsStatusFor {E : Type 0} (contents : E
     → Option (List ℕ)) (words : List Text) (input before after : Option (List ℕ))
     (has_failed : Type 0) (has_listened : ℕ → Type 0) (was_refused : Type 0)
@@ -262,6 +268,4 @@ pub record IsStatusFor {E : Type 0} (contents : E
   pub is_status : status ≡ status_of end
   pub told : IfSome (line_of end) (IsTold contents old new)
   pub quiet : line_of end ≡ None → new ≡ old
-  pub unwritten : end ≡ Failed (File Output) → has_failed
-  pub here : (port : ℕ) (fault : Option Fault) → end ≡ Served port fault → has_listened port
-  pub refused : end ≡ Failed Network → was_refused
+  pub caused : HasCause has_failed has_listened was_refused end

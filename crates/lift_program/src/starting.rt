@@ -1,15 +1,14 @@
 //! From the program's words to its status.
 
-ghost use Rattle.std.specs.Prelude.{ℕ, ◌≡◌, ◌≢◌, ◌≤◌, Option, None, false, true, map, IfSome};
+ghost use Rattle.std.specs.Prelude.{◌≡◌, ◌≢◌, ◌≤◌, None, false, true, map, IfSome};
 ghost use Rattle.std.specs.IoError.{error_kind};
 ghost use Rattle.lift_replay.specs.Reading.{IsRead};
 ghost use Rattle.lift_replay.specs.declared.lines.Verdict.TheVariants.{Good};
 ghost use Rattle.lift_program.specs.declared.fault.Role.TheVariants.{Input, Output};
-ghost use Rattle.lift_program.specs.Ends.{IsEndFor, IsEndOf, IsReport, IsStatusFor, IsUnread};
-ghost use Rattle.lift_program.specs.Ends.{WritesFor, line_of};
+ghost use Rattle.lift_program.specs.Ends.{HasCause, IsEndFor, IsEndOf, IsReport, IsStatusFor};
+ghost use Rattle.lift_program.specs.Ends.{IsUnread, WritesFor, line_of};
 ghost use Rattle.lift_program.specs.Listening.{HasListened, WasRefused};
 ghost use Rattle.lift_program.specs.Output.{HasFailed, IsTold};
-ghost use Rattle.lift_program.specs.declared.fault.Fault.{Fault};
 ghost use Rattle.lift_program.specs.Words.{Asks, IsInRange};
 ghost use Rattle.lift_program.specs.declared.words.Request.TheVariants.{Replay};
 
@@ -52,11 +51,8 @@ fn done<
     ensures few_calls { input.new.calls ≤ 2097152 }
     ensures read { request.entry ≡ Replay → result ≡ End.Failed (Fault.File Output)
         → IsRead R.remaining input.old input.new }
-    ensures failed { result ≡ End.Failed (Fault.File Output)
-        → HasFailed W.gives W.flushes writer.old writer.new }
-    ensures here { (port : ℕ) (fault : Option Fault) → result ≡ End.Served port fault
-        → HasListened F.gives rt.now port }
-    ensures refused { result ≡ End.Failed Fault.Network → WasRefused F.gives rt.now }
+    ensures caused { HasCause (HasFailed W.gives W.flushes writer.old writer.new)
+        (HasListened F.gives rt.now) (WasRefused F.gives rt.now) result }
 {
     match request {
         Request::Replay => match replay(alloc, input, writer) {
@@ -140,11 +136,8 @@ fn carry_out<
     ensures read { Asks (map S.text words.now) Replay → result ≡ End.Failed (Fault.File Output)
         → IsRead R.remaining input.old input.new }
     // The standard output is told only where it failed, and the port only where it was refused.
-    ensures failed { result ≡ End.Failed (Fault.File Output)
-        → HasFailed W.gives W.flushes writer.old writer.new }
-    ensures here { (port : ℕ) (fault : Option Fault) → result ≡ End.Served port fault
-        → HasListened F.gives rt.now port }
-    ensures refused { result ≡ End.Failed Fault.Network → WasRefused F.gives rt.now }
+    ensures caused { HasCause (HasFailed W.gives W.flushes writer.old writer.new)
+        (HasListened F.gives rt.now) (WasRefused F.gives rt.now) result }
 {
     let end = match request_of(alloc, words) {
         Ok(Some(request)) => done(rt, alloc, request, input, writer),
