@@ -1,6 +1,6 @@
 -- How the program ends, and what it says of it.
 use Rattle.std.specs.Prelude.{ℕ, ◌≡◌, ◌≢◌, ◌⊎◌, ◌+◌, ◌*◌, List, [], ◌∷◌, ◌++◌, Option, Some, None}
-use Rattle.std.specs.Prelude.{IfSome, true, false, codes, take}
+use Rattle.std.specs.Prelude.{IfSome, Result, Ok, Err, true, false, codes, take}
 use Rattle.std.specs.Fmt.{decimal}
 use Rattle.std.specs.IoError.{error_kind}
 use Rattle.std.specs.declared.io.ErrorKind.TheVariants.{OutOfMemory}
@@ -16,6 +16,7 @@ use Rattle.lift_disk.specs.declared.file.FileFault.TheVariants.{System, NotAFile
 use Rattle.lift_journal.specs.Calls.{format_calls}
 use Rattle.lift_journal.specs.declared.fault.JournalFault.TheVariants.{Disk}
 use Rattle.lift_keeper.specs.declared.fault.KeeperFault.TheVariants.{Journal as OfJournal}
+use Rattle.lift_replay.specs.declared.lines.Verdict.{Verdict}
 use Rattle.lift_replay.specs.declared.lines.Verdict.TheVariants.{Good, Bad}
 use Rattle.lift_replay.specs.Replaying.{ReportsFront, ReportsInput}
 use Rattle.lift_program.specs.Faults.{fault_text, usage_text}
@@ -161,6 +162,15 @@ IsServingFault (File role) = ⊥
 IsServingFault Memory = Unit {0}
 IsServingFault Network = Unit {0}
 IsServingFault Thread = Unit {0}
+
+-- no call of the reader was made yet
+abbrev pub IsUncalled : {R : Type 0} → InputState R → Type 0
+IsUncalled old = (old.calls ≡ 0) × (old.failed ≡ false) × (old.ended ≡ false)
+
+-- What was written is the report of the input, with this verdict; or a front of it.
+abbrev pub ReportsAll : (input before after : Option (List ℕ)) → Result Verdict Fault → Type 0
+ReportsAll input before after (Ok verdict) = ReportsInput input before after verdict
+ReportsAll input before after (Err fault) = ReportsFront input before after
 
 -- A script couldn't be read: a call of its reader failed, or all were used and its end was not
 -- found.

@@ -6,7 +6,7 @@ ghost use Rattle.std.specs.Str.{IsUtf8};
 ghost use Rattle.lift_disk.specs.FileCalls.FileCall.{SetLength, SyncAll};
 ghost use Rattle.lift_disk.specs.Files.{file_making_of, file_state_of};
 ghost use Rattle.lift_replay.specs.Reading.{TakesUpTo};
-ghost use Rattle.lift_program.specs.Ends.{IsFileFault, IsImageFault, IsUnread};
+ghost use Rattle.lift_program.specs.Ends.{IsFileFault, IsImageFault, IsUncalled, IsUnread};
 ghost use Rattle.lift_program.specs.Images.{IsToBeShown};
 ghost use Rattle.lift_program.specs.Stages.{HasBuilding, HasKeeperOf, IsBuildingFault};
 ghost use Rattle.lift_program.specs.Stages.{IsKeeperFault, TakesAll, most_text};
@@ -38,9 +38,7 @@ const MOST_CALLS: u32 = 2_097_152;
 /// The bytes of a building's file. Reading stops behind one byte more than there may be, and the
 /// file is refused then.
 fn bytes_of<R: Read + Drop>(alloc: Global, reader: &mut Counted<R>) -> Result<Vec<u8>, Fault>
-    requires fresh { reader.old.calls ≡ 0 }
-    requires unhurt { reader.old.failed ≡ false }
-    requires before_end { reader.old.ended ≡ false }
+    requires uncalled { IsUncalled reader.old }
     ensures whole { IfOk result (λ bytes.
         IfSome (R.remaining reader.old.reader) (λ all. bytes.items ≡ all)) }
     ensures bound { IfOk result (λ bytes. vec_len bytes ≤ most_text) }

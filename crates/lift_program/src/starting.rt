@@ -1,12 +1,12 @@
 //! From the program's words to its status.
 
-ghost use Rattle.std.specs.Prelude.{◌≡◌, ◌≢◌, ◌≤◌, None, false, true, map, IfSome};
+ghost use Rattle.std.specs.Prelude.{◌≡◌, ◌≢◌, ◌≤◌, None, true, map, IfSome};
 ghost use Rattle.std.specs.IoError.{error_kind};
 ghost use Rattle.lift_replay.specs.Reading.{IsRead};
 ghost use Rattle.lift_replay.specs.declared.lines.Verdict.TheVariants.{Good};
 ghost use Rattle.lift_program.specs.declared.fault.Role.TheVariants.{Input, Output};
 ghost use Rattle.lift_program.specs.Ends.{HasCause, IsEndFor, IsEndOf, IsReport, IsStatusFor};
-ghost use Rattle.lift_program.specs.Ends.{IsUnread, WritesFor, line_of};
+ghost use Rattle.lift_program.specs.Ends.{IsUncalled, IsUnread, WritesFor, line_of};
 ghost use Rattle.lift_program.specs.Listening.{HasListened, WasRefused};
 ghost use Rattle.lift_program.specs.Output.{HasFailed, IsTold};
 ghost use Rattle.lift_program.specs.Words.{Asks, IsInRange};
@@ -38,9 +38,7 @@ fn done<
     W: Outflow,
 >(rt: &F, alloc: Global, request: Request<'_>, input: &mut Counted<R>, writer: &mut W) -> End
     requires range { IsInRange request }
-    requires fresh { input.old.calls ≡ 0 }
-    requires unhurt { input.old.failed ≡ false }
-    requires before_end { input.old.ended ≡ false }
+    requires uncalled { IsUncalled input.old }
     ensures end { IsEndFor request.entry result }
     ensures only { WritesFor (R.remaining input.old.reader) request.entry
         (W.contents writer.old) (W.contents writer.new) }
@@ -115,9 +113,7 @@ fn carry_out<
     writer: &mut W,
     errors: &mut Watched<E>,
 ) -> End
-    requires fresh { input.old.calls ≡ 0 }
-    requires unhurt { input.old.failed ≡ false }
-    requires before_end { input.old.ended ≡ false }
+    requires uncalled { IsUncalled input.old }
     // It ends as the words ask, and nothing is written but a front of what they ask for,
     ensures end { IsEndOf (R.remaining input.old.reader) (map S.text words.now)
         (W.contents writer.old) (W.contents writer.new) result }
