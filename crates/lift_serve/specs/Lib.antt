@@ -1,5 +1,6 @@
 pub mod Connections
 pub mod FirstLine
+pub mod HeldInside
 pub mod Lobby
 pub mod Open
 pub mod Relaying

@@ -39,21 +39,14 @@ pub struct Held<'d> {
 }
 
 impl<'d> Model for Held<'d> {
-    ghost use Rattle.std.specs.Prelude.{◌≡◌};
-    ghost use Rattle.lift_serve.specs.Visits.{HeldState, IsServed};
+    ghost use Rattle.lift_serve.specs.HeldInside.{IsHeld, seen};
+    ghost use Rattle.lift_serve.specs.Visits.{HeldState};
 
     ghost Value = { HeldState };
 
-    ghost view = { λ h. record {
-      desk = h.desk.now;
-      seat = h.seat;
-      last = h.last;
-      found = h.found;
-    } };
+    ghost view = { seen };
 
-    ghost invariant = { λ h.
-        IsServed (record { desk = h.desk.now; seat = h.seat; last = h.last; found = h.found })
-        × (h.pager.now ≡ h.seat.terminal) };
+    ghost invariant = { IsHeld };
 }
 
 impl<'d> Held<'d> {

@@ -2,13 +2,14 @@ use Rattle.std.proofs.Common.{ap, subst, sym, ◌∙◌}
 use Rattle.lift_base.specs.Output.{sink_of}
 use Rattle.lift_kiosk.specs.Desk.{DeskPortState}
 use Rattle.lift_kiosk.specs.Lines.{source_of}
+use Rattle.lift_serve.specs.HeldInside.{seen}
 use Rattle.lift_serve.specs.Visits.{HeldState, Visits}
 use Rattle.lift_serve.proofs.Sessions.{served_on, made_visit, still_seated, visit_in}
 use Rattle.lift_serve.proofs.held.Held.visit_as.Goals as goal
 
 pub invariant_of-result : goal.invariant_of-result
 invariant_of-result g c =
-    let held : HeldState = record { desk = c.self.inside.desk.now; seat = c.self.inside.seat; last = c.self.inside.last; found = c.self.inside.found } in
+    let held : HeldState = seen c.self.inside in
     let held' : HeldState = record { desk = c.self.inside.desk.now; seat = c.into_seat-seat.result; last = c.converse-last.result.last; found = c.self.inside.found } in
     let first : DeskPortState = c.new-port.result.port in
     let mid : DeskPortState = c.converse-last.new.port.port in
@@ -26,7 +27,7 @@ invariant_of-result g c =
 
 pub returns : goal.returns
 returns g c =
-    let held : HeldState = record { desk = c.self.inside.desk.now; seat = c.self.inside.seat; last = c.self.inside.last; found = c.self.inside.found } in
+    let held : HeldState = seen c.self.inside in
     let held' : HeldState = record { desk = c.self.inside.desk.now; seat = c.into_seat-seat.result; last = c.converse-last.result.last; found = c.self.inside.found } in
     let first : DeskPortState = c.new-port.result.port in
     let mid : DeskPortState = c.converse-last.new.port.port in
