@@ -12,31 +12,26 @@ use Rattle.lift_kiosk.specs.Lines.{Source}
 use Rattle.lift_kiosk.specs.Kiosk.{WantsCall, keeps_letter}
 use Rattle.lift_kiosk.specs.Port.{PortPlace, PortView}
 use Rattle.lift_kiosk.specs.Session.{IsSession, Standing, standing}
-use Rattle.lift_base.specs.declared.command.Reply.{Reply}
-use Rattle.lift_kiosk.specs.declared.dialect.Wanted.{Wanted}
 use Rattle.lift_kiosk.specs.declared.terms.End.{End}
 use Rattle.lift_kiosk.specs.declared.terms.LastLetter.{LastLetter}
 use Rattle.lift_car.specs.Lines.{WantsMove, keeps_stop}
-use Rattle.lift_serve.specs.Visits.{AreVisits, HeldState, IsNewSeat, IsServed, IsVisit, IsVisitAs, Speaks, Visit, Visits, limits, unrested, view_of}
+use Rattle.lift_serve.specs.Visits.{AreVisits, HeldState, IsNewSeat, IsServed, IsVisit, IsVisitAs, Visit, Visits, limits, unrested, view_of}
 
 pub are_new : (first : ℕ) (desk : List TableId) → All IsNewSeat (seats_from first desk)
 are_new first [] = All-nil IsNewSeat
 are_new first (table ∷ tables) = All-cons IsNewSeat _ _ refl (are_new (suc first) tables)
 
-pub kiosk_speaks : (terminal : ℕ) → 16 ≤ terminal → Speaks WantsCall keeps_letter terminal
-kiosk_speaks terminal far end before after session =
+pub kiosk_visit : (terminal : ℕ) (end : End) (before after : Standing) → 16 ≤ terminal
+    → IsSession WantsCall keeps_letter limits end before after → IsVisit terminal end before after
+kiosk_visit terminal end before after far session =
     let kiosk : nat_lt terminal 16 ≡ false = grind (arith, nat_tests) in
     subst (λ is_car. IsVisitAs is_car end before after) (sym kiosk) session
 
-pub car_speaks : (terminal : ℕ) → terminal < 16 → Speaks WantsMove keeps_stop terminal
-car_speaks terminal near end before after session =
+pub car_visit : (terminal : ℕ) (end : End) (before after : Standing) → terminal < 16
+    → IsSession WantsMove keeps_stop limits end before after → IsVisit terminal end before after
+car_visit terminal end before after near session =
     let car : nat_lt terminal 16 ≡ true = grind (arith, nat_tests) in
     subst (λ is_car. IsVisitAs is_car end before after) (sym car) session
-
--- a session in the dialect of the terminal
-pub visit_in : (wants : List ℕ → Wanted → Type 0) (keeps : LastLetter → ℕ → Reply → LastLetter) (own terminal : ℕ) (end : End) (before after : Standing) → own ≡ terminal
-    → Speaks wants keeps terminal → IsSession wants keeps limits end before after → IsVisit own end before after
-visit_in wants keeps own terminal end before after same speaks session = subst (λ t. IsVisit t end before after) (sym same) (speaks end before after session)
 
 one_more : (terminal : ℕ) (last : LastLetter) (port : PortView) (vs : List Visit) (last' : LastLetter) (port' : PortView) → AreVisits terminal last port vs last' port'
     → (v : Visit) → v.before.last ≡ last' → v.before.port ≡ port' → IsVisit terminal v.end v.before v.after

@@ -4,7 +4,6 @@ use Rattle.std.specs.Prelude.{slice_get}
 use Rattle.lift_desk.specs.Rule.{no_asks}
 use Rattle.atomic_table.specs.Seated.{TableId}
 use Rattle.lift_base.specs.Output.{Sink}
-use Rattle.lift_base.specs.declared.command.Reply.{Reply}
 use Rattle.lift_base.specs.declared.history.Content.{Content}
 use Rattle.lift_base.specs.declared.history.Content.TheVariants.{Letter, Stopped}
 use Rattle.lift_base.specs.declared.history.Last.{Last}
@@ -14,7 +13,6 @@ use Rattle.lift_kiosk.specs.Lines.{Source}
 use Rattle.lift_kiosk.specs.Kiosk.{WantsCall, keeps_letter}
 use Rattle.lift_kiosk.specs.Port.{PortView}
 use Rattle.lift_kiosk.specs.Session.{IsSession, Standing, standing}
-use Rattle.lift_kiosk.specs.declared.dialect.Wanted.{Wanted}
 use Rattle.lift_kiosk.specs.declared.terms.End.{End}
 use Rattle.lift_kiosk.specs.declared.terms.LastLetter.{LastLetter}
 use Rattle.lift_kiosk.specs.declared.terms.Limits.{Limits}
@@ -36,12 +34,6 @@ IsVisitAs false end before after = IsSession WantsCall keeps_letter limits end b
 -- a session of the terminal: terminals below 16 are cars
 abbrev pub IsVisit : (terminal : ℕ) → End → (before after : Standing) → Type 0
 IsVisit terminal end before after = IsVisitAs (nat_lt terminal 16) end before after
-
--- A session in this dialect, by its lines and by what its answers tell, is one of the terminal.
-abbrev pub Speaks : (wants : List ℕ → Wanted → Type 0) (keeps : LastLetter → ℕ → Reply
-    → LastLetter) → (terminal : ℕ) → Type 0
-Speaks wants keeps terminal = (end : End) (before after : Standing)
-    → IsSession wants keeps limits end before after → IsVisit terminal end before after
 
 pub record Visit : Type 0 where
   pub end : End

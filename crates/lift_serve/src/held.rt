@@ -4,7 +4,8 @@ ghost use Rattle.std.specs.Prelude.{◌≡◌};
 ghost use Rattle.lift_base.specs.Output.{sink_of};
 ghost use Rattle.lift_desk.specs.Seats.{IsSeatOf};
 ghost use Rattle.lift_kiosk.specs.Lines.{source_of};
-ghost use Rattle.lift_serve.specs.Visits.{IsNewSeat, Speaks, Visits};
+ghost use Rattle.lift_kiosk.specs.Session.{standing};
+ghost use Rattle.lift_serve.specs.Visits.{IsNewSeat, IsVisit, Visits};
 
 use crate::pace::AskBell;
 use crate::pager::Pager;
@@ -13,7 +14,7 @@ use lift_base::Terminal;
 use lift_base::text::{Counted, Watched};
 use lift_car::CarLines;
 use lift_desk::{Desk, Seat};
-use lift_kiosk::{DeskPort, Dialect, End, Kiosk, LastLetter, Limits, SessionEnd, converse};
+use lift_kiosk::{DeskPort, End, Kiosk, LastLetter, Limits, Port, SessionEnd, converse};
 use std::io::{Read, Write};
 use std::marker::Model;
 use std::sync::Wait;
@@ -25,6 +26,29 @@ const LIMITS: Limits = Limits {
     looks: 60_000,
     reads: 100_000_000,
 };
+
+/// A session of a terminal, in its dialect.
+#[tactic(auto, using(crate::proofs::Sessions::kiosk_visit, crate::proofs::Sessions::car_visit))]
+fn session_of<I: Read + Drop, O: Write + Drop, P: Port>(
+    terminal: Terminal,
+    reader: &mut Counted<I>,
+    writer: &mut Watched<O>,
+    port: &mut P,
+    last: LastLetter,
+) -> SessionEnd
+    ensures visit { IsVisit terminal result.end
+        (standing last (P.view port.old) (source_of I.remaining reader.old)
+        (sink_of O.contents writer.old))
+        (standing result.last (P.view port.new) (source_of I.remaining reader.new)
+        (sink_of O.contents writer.new)) }
+    ensures stays { P.place port.new ≡ P.place port.old }
+{
+    if terminal.is_kiosk() {
+        converse::<Kiosk, I, O, P>(reader, writer, port, last, LIMITS)
+    } else {
+        converse::<CarLines, I, O, P>(reader, writer, port, last, LIMITS)
+    }
+}
 
 /// A terminal's seat and its own pager, with the last command that is known to be in, and the one
 /// that the recovery found. One session at a time has it. What is known came from what was found by
@@ -74,45 +98,7 @@ impl<'d> Held<'d> {
         self.seat.terminal()
     }
 
-    /// A session in the dialect of the terminal.
-    fn visit_as<T: Dialect, R: Wait + Clock, I: Read + Drop, O: Write + Drop>(
-        self,
-        rt: &R,
-        bell: &AskBell,
-        reader: &mut Counted<I>,
-        writer: &mut Watched<O>,
-    ) -> (Held<'d>, End)
-        requires { Speaks T.wants T.keeps self.seat.terminal }
-        ensures { Visits self.entry result.1 result.0 (source_of I.remaining reader.old)
-            (source_of I.remaining reader.new)
-            (sink_of O.contents writer.old) (sink_of O.contents writer.new) }
-    {
-        let Held {
-            desk,
-            pager,
-            seat,
-            last,
-            found,
-        } = self;
-        let mut port = RestingPort::new(DeskPort::new(desk, seat), rt, bell, pager);
-        let SessionEnd { last, end } = converse::<T, I, O, RestingPort<'d, '_, R>>(
-            reader, writer, &mut port, last, LIMITS,
-        );
-        let seat = port.into_port().into_seat();
-        (
-            Held {
-                desk,
-                pager,
-                seat,
-                last,
-                found,
-            },
-            end,
-        )
-    }
-
     /// A session, from what the one before it left.
-    #[tactic(auto, using(crate::proofs::Sessions::kiosk_speaks, crate::proofs::Sessions::car_speaks))]
     pub fn visit<R: Wait + Clock, I: Read + Drop, O: Write + Drop>(
         self,
         rt: &R,
@@ -124,10 +110,26 @@ impl<'d> Held<'d> {
             (source_of I.remaining reader.new)
             (sink_of O.contents writer.old) (sink_of O.contents writer.new) }
     {
-        if self.seat.terminal().is_kiosk() {
-            self.visit_as::<Kiosk, R, I, O>(rt, bell, reader, writer)
-        } else {
-            self.visit_as::<CarLines, R, I, O>(rt, bell, reader, writer)
-        }
+        let Held {
+            desk,
+            pager,
+            seat,
+            last,
+            found,
+        } = self;
+        let terminal = seat.terminal();
+        let mut port = RestingPort::new(DeskPort::new(desk, seat), rt, bell, pager);
+        let SessionEnd { last, end } = session_of(terminal, reader, writer, &mut port, last);
+        let seat = port.into_port().into_seat();
+        (
+            Held {
+                desk,
+                pager,
+                seat,
+                last,
+                found,
+            },
+            end,
+        )
     }
 }
