@@ -81,12 +81,11 @@ impl<'d> Held<'d> {
         requires paged { pager.now ≡ seat.terminal }
         ensures { result ≡ record { desk = desk.now; seat = seat; last = found; found = found } }
     {
-        let last = found;
         Held {
             desk,
             pager,
             seat,
-            last,
+            last: found,
             found,
         }
     }
