@@ -81,11 +81,12 @@ impl<'d> Held<'d> {
         requires paged { pager.now ≡ seat.terminal }
         ensures { result ≡ record { desk = desk.now; seat = seat; last = found; found = found } }
     {
+        let known = found;
         Held {
             desk,
             pager,
             seat,
-            last: found,
+            last: known,
             found,
         }
     }
