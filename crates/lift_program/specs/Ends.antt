@@ -260,7 +260,7 @@ IsReport input OtherWords before after = after ≡ before
 
 -- An end is a fault of the standard output only where that has failed, a serving at a port only
 -- where that was listened at, and a fault of the port only where it was refused.
-pub record HasCause (has_failed : Type 0) (has_listened : ℕ → Type 0) (was_refused : Type 0)
+pub record IsCaused (has_failed : Type 0) (has_listened : ℕ → Type 0) (was_refused : Type 0)
     (end : End) : Type 0 where
   pub unwritten : end ≡ Failed (File Output) → has_failed
   pub here : (port : ℕ) (fault : Option Fault) → end ≡ Served port fault → has_listened port
@@ -278,4 +278,4 @@ pub record IsStatusFor {E : Type 0} (contents : E
   pub is_status : status ≡ status_of end
   pub told : IfSome (line_of end) (IsTold contents old new)
   pub quiet : line_of end ≡ None → new ≡ old
-  pub caused : HasCause has_failed has_listened was_refused end
+  pub caused : IsCaused has_failed has_listened was_refused end

@@ -5,7 +5,7 @@ ghost use Rattle.std.specs.IoError.{error_kind};
 ghost use Rattle.lift_replay.specs.Reading.{IsRead};
 ghost use Rattle.lift_replay.specs.declared.lines.Verdict.TheVariants.{Good};
 ghost use Rattle.lift_program.specs.declared.fault.Role.TheVariants.{Input, Output};
-ghost use Rattle.lift_program.specs.Ends.{HasCause, IsEndFor, IsEndOf, IsReport, IsStatusFor};
+ghost use Rattle.lift_program.specs.Ends.{IsCaused, IsEndFor, IsEndOf, IsReport, IsStatusFor};
 ghost use Rattle.lift_program.specs.Ends.{IsUncalled, IsUnread, WritesFor, line_of};
 ghost use Rattle.lift_program.specs.Listening.{HasListened, WasRefused};
 ghost use Rattle.lift_program.specs.Output.{HasFailed, IsTold};
@@ -49,7 +49,7 @@ fn done<
     ensures few_calls { input.new.calls ≤ 2097152 }
     ensures read { request.entry ≡ Replay → result ≡ End.Failed (Fault.File Output)
         → IsRead R.remaining input.old input.new }
-    ensures caused { HasCause (HasFailed W.gives W.flushes writer.old writer.new)
+    ensures caused { IsCaused (HasFailed W.gives W.flushes writer.old writer.new)
         (HasListened F.gives rt.now) (WasRefused F.gives rt.now) result }
 {
     match request {
@@ -132,7 +132,7 @@ fn carry_out<
     ensures read { Asks (map S.text words.now) Replay → result ≡ End.Failed (Fault.File Output)
         → IsRead R.remaining input.old input.new }
     // The standard output is told only where it failed, and the port only where it was refused.
-    ensures caused { HasCause (HasFailed W.gives W.flushes writer.old writer.new)
+    ensures caused { IsCaused (HasFailed W.gives W.flushes writer.old writer.new)
         (HasListened F.gives rt.now) (WasRefused F.gives rt.now) result }
 {
     let end = match request_of(alloc, words) {
