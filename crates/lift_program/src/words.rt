@@ -172,19 +172,13 @@ fn found_in<'a>(matches: &ArgMatches<'a>) -> Option<Request<'a>>
 {
     match matches.subcommand() {
         None => Some(Request::Replay),
-        Some((name, matches)) => {
-            if name == "replay" {
-                Some(Request::Replay)
-            } else if name == "format" {
-                format_of(matches)
-            } else if name == "show" {
-                show_of(matches)
-            } else if name == "serve" {
-                serve_of(matches)
-            } else {
-                None
-            }
-        }
+        Some((name, matches)) => match name.as_bytes() {
+            b"replay" => Some(Request::Replay),
+            b"format" => format_of(matches),
+            b"show" => show_of(matches),
+            b"serve" => serve_of(matches),
+            _ => None,
+        },
     }
 }
 
