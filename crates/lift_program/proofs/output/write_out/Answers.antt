@@ -1,4 +1,6 @@
-use Rattle.std.proofs.Common.{◌∙◌, inr, sym}
+use Rattle.std.proofs.Common.{◌∙◌, inr, length, rules, subst, sym}
+use Rattle.std.proofs.Math.Seq.{take-length}
+use Rattle.std.specs.Io.KnownBytes.{Appends}
 use Rattle.lift_program.proofs.Flushing.{put_failed, takes_put}
 use Rattle.lift_program.proofs.output.write_out.Goals as goal
 
@@ -28,3 +30,9 @@ returns-in-Err-clause-settled g c =
       failed = λ same. inr (c.put_all.new.writer, taken, c.in-Err.ensures.failed);
       wanting = λ same. (c.put_all.new.writer, taken, inr c.in-Err.ensures.failed);
     }
+
+pub returns-in-Err-clause-front : goal.returns-in-Err-clause-front
+returns-in-Err-clause-front g c = (
+  length c.args.bytes.now,
+  subst (Appends (g.W.Write.contents c.args.writer.now) (g.W.Write.contents c.settle.new.self)) (sym (take-length c.args.bytes.now)) (search rules),
+)
