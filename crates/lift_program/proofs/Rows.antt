@@ -6,9 +6,8 @@ use Rattle.std.proofs.lemmas.Fmt.{decimal_injective}
 use Rattle.clap.specs.Words.{Row, Text, first_of, first_value, rows_of}
 use Rattle.clap.specs.declared.parser.matches.Found.{Found}
 use Rattle.clap.proofs.WalkLemmas.{first_value-rows}
-use Rattle.lift_program.specs.Words.{IsCount, IsFormat, IsPolicy, IsShow, IsServe, IsHalf}
+use Rattle.lift_program.specs.Words.{AsksNothing, IsCount, IsFormat, IsHalf, IsOver, IsPolicy, IsServe, IsShow}
 use Rattle.lift_policy.specs.declared.shipped.Shipped.{Shipped}
-use Rattle.lift_program.specs.declared.words.Request.{Request}
 use Rattle.lift_program.specs.declared.words.Request.TheVariants.{Replay, Format, Show, Serve}
 
 pub if_none : {A : Type 0} (r : Option A) (P : Type 0) → P → IfNone r P
@@ -20,35 +19,29 @@ pub text_in : (f : Found) (id : Text) (given is : Option (Bor Text)) → option_
     → first_of id (rows_of f) ≡ option_map (λ s. s.now) is
 text_in f id given is same given_is = sym (first_value-rows f id) ∙ sym same ∙ ap (option_map (λ s. s.now)) given_is
 
-pub no_image : (rows : List Row) → first_of (codes "image") rows ≡ None → (request : Request) → IsFormat rows request → ⊥
-no_image rows none Replay is = is
-no_image rows none (Show image building) is = is
-no_image rows none (Serve image building port sessions policy) is = is
-no_image rows none (Format image building half) is = let bad = sym is.0 ∙ none in cc
+pub no_image : (rows : List Row) → first_of (codes "image") rows ≡ None → (image building : Text) → IsOver rows image building → ⊥
+no_image rows none image building is = let bad = sym is.0 ∙ none in cc
 
-pub no_building : (rows : List Row) → first_of (codes "building") rows ≡ None → (request : Request) → IsFormat rows request → ⊥
-no_building rows none Replay is = is
-no_building rows none (Show image building) is = is
-no_building rows none (Serve image building port sessions policy) is = is
-no_building rows none (Format image building half) is = let bad = sym is.1 ∙ none in cc
+pub no_building : (rows : List Row) → first_of (codes "building") rows ≡ None → (image building : Text) → IsOver rows image building → ⊥
+no_building rows none image building is = let bad = sym is.1 ∙ none in cc
 
-pub no_half : (rows : List Row) (word : Option Text) → first_of (codes "half") rows ≡ word → ((half : ℕ) → IsHalf word half → ⊥) → (request : Request) → IsFormat rows request → ⊥
+pub no_files_to_format : (rows : List Row) → ((image building : Text) → IsOver rows image building → ⊥) → AsksNothing (IsFormat rows)
+no_files_to_format rows none Replay is = is
+no_files_to_format rows none (Show image building) is = is
+no_files_to_format rows none (Serve image building port sessions policy) is = is
+no_files_to_format rows none (Format image building half) is = none image.now building.now is.0
+
+pub no_half : (rows : List Row) (word : Option Text) → first_of (codes "half") rows ≡ word → ((half : ℕ) → IsHalf word half → ⊥) → AsksNothing (IsFormat rows)
 no_half rows word same none Replay is = is
 no_half rows word same none (Show image building) is = is
 no_half rows word same none (Serve image building port sessions policy) is = is
-no_half rows word same none (Format image building half) is = none half (subst (λ w. IsHalf w half) same is.2)
+no_half rows word same none (Format image building half) is = none half (subst (λ w. IsHalf w half) same is.1)
 
-pub no_image_to_show : (rows : List Row) → first_of (codes "image") rows ≡ None → (request : Request) → IsShow rows request → ⊥
-no_image_to_show rows none Replay is = is
-no_image_to_show rows none (Format image building half) is = is
-no_image_to_show rows none (Serve image building port sessions policy) is = is
-no_image_to_show rows none (Show image building) is = let bad = sym is.0 ∙ none in cc
-
-pub no_building_to_show : (rows : List Row) → first_of (codes "building") rows ≡ None → (request : Request) → IsShow rows request → ⊥
-no_building_to_show rows none Replay is = is
-no_building_to_show rows none (Format image building half) is = is
-no_building_to_show rows none (Serve image building port sessions policy) is = is
-no_building_to_show rows none (Show image building) is = let bad = sym is.1 ∙ none in cc
+pub no_files_to_show : (rows : List Row) → ((image building : Text) → IsOver rows image building → ⊥) → AsksNothing (IsShow rows)
+no_files_to_show rows none Replay is = is
+no_files_to_show rows none (Format image building half) is = is
+no_files_to_show rows none (Serve image building port sessions policy) is = is
+no_files_to_show rows none (Show image building) is = none image.now building.now is
 
 -- a number below 64 spells no other one
 pub too_small : (word : Option Text) (text : Text) (number : ℕ) → word ≡ Some text → text ≡ decimal number → number < 64 → (half : ℕ) → IsHalf word half → ⊥
@@ -57,35 +50,29 @@ too_small word text number same spelled small half is = go (subst (λ w. IsHalf 
     go : IsHalf (Some text) half → ⊥
     go said = let equal = decimal_injective number half (omega arith) (omega (arith, said)) (sym spelled ∙ said.0) in omega (arith, equal, said, small)
 
-pub no_image_to_serve : (rows : List Row) → first_of (codes "image") rows ≡ None → (request : Request) → IsServe rows request → ⊥
-no_image_to_serve rows none Replay is = is
-no_image_to_serve rows none (Format image building half) is = is
-no_image_to_serve rows none (Show image building) is = is
-no_image_to_serve rows none (Serve image building port sessions policy) is = let bad = sym is.0 ∙ none in cc
+pub no_files_to_serve : (rows : List Row) → ((image building : Text) → IsOver rows image building → ⊥) → AsksNothing (IsServe rows)
+no_files_to_serve rows none Replay is = is
+no_files_to_serve rows none (Format image building half) is = is
+no_files_to_serve rows none (Show image building) is = is
+no_files_to_serve rows none (Serve image building port sessions policy) is = none image.now building.now is.0
 
-pub no_building_to_serve : (rows : List Row) → first_of (codes "building") rows ≡ None → (request : Request) → IsServe rows request → ⊥
-no_building_to_serve rows none Replay is = is
-no_building_to_serve rows none (Format image building half) is = is
-no_building_to_serve rows none (Show image building) is = is
-no_building_to_serve rows none (Serve image building port sessions policy) is = let bad = sym is.1 ∙ none in cc
-
-pub no_port : (rows : List Row) (word : Option Text) → first_of (codes "port") rows ≡ word → ((count : ℕ) → IsCount 65535 word count → ⊥) → (request : Request) → IsServe rows request → ⊥
+pub no_port : (rows : List Row) (word : Option Text) → first_of (codes "port") rows ≡ word → ((count : ℕ) → IsCount 65535 word count → ⊥) → AsksNothing (IsServe rows)
 no_port rows word same none Replay is = is
 no_port rows word same none (Format image building half) is = is
 no_port rows word same none (Show image building) is = is
-no_port rows word same none (Serve image building port sessions policy) is = none port (subst (λ w. IsCount 65535 w port) same is.2)
+no_port rows word same none (Serve image building port sessions policy) is = none port (subst (λ w. IsCount 65535 w port) same is.1)
 
-pub no_sessions : (rows : List Row) (word : Option Text) → first_of (codes "sessions") rows ≡ word → ((count : ℕ) → IsCount 1000000 word count → ⊥) → (request : Request) → IsServe rows request → ⊥
+pub no_sessions : (rows : List Row) (word : Option Text) → first_of (codes "sessions") rows ≡ word → ((count : ℕ) → IsCount 1000000 word count → ⊥) → AsksNothing (IsServe rows)
 no_sessions rows word same none Replay is = is
 no_sessions rows word same none (Format image building half) is = is
 no_sessions rows word same none (Show image building) is = is
-no_sessions rows word same none (Serve image building port sessions policy) is = none sessions (subst (λ w. IsCount 1000000 w sessions) same is.3)
+no_sessions rows word same none (Serve image building port sessions policy) is = none sessions (subst (λ w. IsCount 1000000 w sessions) same is.2)
 
-pub no_policy : (rows : List Row) (word : Option Text) → first_of (codes "policy") rows ≡ word → ((policy : Shipped) → IsPolicy word policy → ⊥) → (request : Request) → IsServe rows request → ⊥
+pub no_policy : (rows : List Row) (word : Option Text) → first_of (codes "policy") rows ≡ word → ((policy : Shipped) → IsPolicy word policy → ⊥) → AsksNothing (IsServe rows)
 no_policy rows word same none Replay is = is
 no_policy rows word same none (Format image building half) is = is
 no_policy rows word same none (Show image building) is = is
-no_policy rows word same none (Serve image building port sessions policy) is = none policy (subst (λ w. IsPolicy w policy) same is.4)
+no_policy rows word same none (Serve image building port sessions policy) is = none policy (subst (λ w. IsPolicy w policy) same is.3)
 
 -- nought is no count
 pub no_count : (most : ℕ) (word : Option Text) (text : Text) (number : ℕ) → most < 2 ^ 32 → word ≡ Some text → text ≡ decimal number → number < 1 → (count : ℕ) → IsCount most word count → ⊥

@@ -12,10 +12,8 @@ use Rattle.lift_keeper.specs.Keeper.{KeeperView}
 use Rattle.lift_keeper.specs.Reopening.{RefusesReopening, Reopens}
 use Rattle.lift_keeper.specs.declared.fault.KeeperFault.{KeeperFault}
 use Rattle.lift_keeper.specs.declared.fault.KeeperFault.TheVariants.{Journal as OfJournal, OtherBuilding, BadEntry}
-use Rattle.lift_program.specs.Images.{IsOnlyRead, IsToBeServed, IsToBeShown, file_of, image_state_of, shown_file_of, shown_state_of}
+use Rattle.lift_program.specs.Images.{IsOnlyRead, IsToBeServed, IsToBeShown, ServedImage, ShownImage, served_state_of, shown_file_of, shown_state_of}
 use Rattle.lift_disk.specs.Below.{below}
-use Rattle.lift_program.specs.declared.shown.ShownImage.{ShownImage}
-use Rattle.lift_program.specs.declared.image.ImageDisk.{ImageDisk}
 use Rattle.lift_disk.specs.Files.{file_making_of, file_state_of}
 use Rattle.lift_disk.specs.declared.file.FileDisk.{FileDisk}
 use Rattle.lift_program.specs.Ends.{IsFileFault, IsFormatFault, IsMadeWith, IsReplayFault, IsReportOfFault, IsServeFault, IsShowFault, IsShowingFault}
@@ -50,16 +48,16 @@ building_no_file (NoRoom no_memory) same = cc
 pub has_building : (plan : Plan) (text : List ℕ) → length text ≤ most_text → IsTextOf text plan → HasBuilding plan
 has_building plan text short described = record { text = text; short = short; described = described }
 
-pub has_keeper : (plan : Plan) (opened : ImageDisk) (keeper : KeeperView ImageDisk) → (image_state_of opened).calls ≡ 0 → (image_state_of opened).failures ≡ 0
-    → (file_state_of (file_of opened)).calls ≡ 0 → file_making_of (file_of opened) ≡ []
-    → Reopens plan (image_state_of opened) (image_state_of keeper.writer.device) keeper.writer.register keeper.writer.half keeper.writer.is_second keeper.writer.used
+pub has_keeper : (plan : Plan) (opened : ServedImage) (keeper : KeeperView ServedImage) → (served_state_of opened).calls ≡ 0 → (served_state_of opened).failures ≡ 0
+    → (file_state_of (below opened)).calls ≡ 0 → file_making_of (below opened) ≡ []
+    → Reopens plan (served_state_of opened) (served_state_of keeper.writer.device) keeper.writer.register keeper.writer.half keeper.writer.is_second keeper.writer.used
     → keeper.writer.is_broken ≡ false → keeper.writer.plan ≡ plan → HasKeeperOf plan keeper
 has_keeper plan opened keeper uncalled unhurt untouched unmade recovers whole own =
     record { opened = opened; fresh = record { uncalled = uncalled; unhurt = unhurt; untouched = untouched; unmade = unmade }; recovers = recovers; whole = whole; own = own }
 
-pub has_no_keeper : (plan : Plan) (opened left : ImageDisk) (fault : KeeperFault) → (image_state_of opened).calls ≡ 0 → (image_state_of opened).failures ≡ 0
-    → (file_state_of (file_of opened)).calls ≡ 0 → file_making_of (file_of opened) ≡ []
-    → RefusesReopening plan (image_state_of opened) (image_state_of left) fault → HasNoKeeperOf ImageDisk IsToBeServed image_state_of plan fault
+pub has_no_keeper : (plan : Plan) (opened left : ServedImage) (fault : KeeperFault) → (served_state_of opened).calls ≡ 0 → (served_state_of opened).failures ≡ 0
+    → (file_state_of (below opened)).calls ≡ 0 → file_making_of (below opened) ≡ []
+    → RefusesReopening plan (served_state_of opened) (served_state_of left) fault → HasNoKeeperOf ServedImage IsToBeServed served_state_of plan fault
 has_no_keeper plan opened left fault uncalled unhurt untouched unmade refused =
     record { opened = opened; fresh = record { uncalled = uncalled; unhurt = unhurt; untouched = untouched; unmade = unmade }; left = left; refused = refused }
 
@@ -73,7 +71,7 @@ is_made plan half disk has made size calls writes failures =
 pub reads_building : (plan : Plan) → HasBuilding plan → ReadsBuilding
 reads_building plan has = (plan, has)
 
-pub opens_journal : (plan : Plan) (keeper : KeeperView ImageDisk) → HasBuilding plan → HasKeeperOf plan keeper → OpensJournal
+pub opens_journal : (plan : Plan) (keeper : KeeperView ServedImage) → HasBuilding plan → HasKeeperOf plan keeper → OpensJournal
 opens_journal plan keeper has opened = (plan, keeper, has, opened)
 
 -- the image's file, or want of memory
@@ -87,7 +85,7 @@ file_refuses fault (inl is) = subst IsBuildingFault (sym is) tt
 file_refuses fault (inr is) = subst IsBuildingFault (sym is) tt
 
 -- the standard output behind the recovery, or want of memory
-pub output_serves : (plan : Plan) (keeper : KeeperView ImageDisk) (fault : Fault) → HasBuilding plan → HasKeeperOf plan keeper → IsFileFault Output fault → IsServeFault fault
+pub output_serves : (plan : Plan) (keeper : KeeperView ServedImage) (fault : Fault) → HasBuilding plan → HasKeeperOf plan keeper → IsFileFault Output fault → IsServeFault fault
 output_serves plan keeper fault has opened (inl is) = subst IsServeFault (sym is) (plan, keeper, has, opened)
 output_serves plan keeper fault has opened (inr is) = subst IsServeFault (sym is) tt
 
@@ -154,7 +152,7 @@ image_shows plan fault has (inr is) = subst IsShowFault (sym is) tt
 
 -- an image that was shown was only read
 pub only_read : (opened left : ShownImage) → IsToBeShown opened → (shown_state_of left).failures ≡ (shown_state_of opened).failures → IsOnlyRead (shown_file_of left)
-only_read opened left fresh same = record { unwritten = (below left.device).unwritten; unhurt = omega (arith, same ∙ fresh.unhurt) }
+only_read opened left fresh same = record { unwritten = (below left).unwritten; unhurt = omega (arith, same ∙ fresh.unhurt) }
 
 -- what the showing of a journal on an image is undone for
 pub showing_shows : (plan : Plan) (opened left : ShownImage) (before after : Option (List ℕ)) (fault : Fault) → HasBuilding plan

@@ -9,9 +9,8 @@ use Rattle.lift_replay.specs.Replaying.{ReportsFront, ReportsInput}
 use Rattle.lift_replay.specs.Report.{register_text}
 use Rattle.lift_replay.specs.declared.lines.Verdict.{Verdict}
 use Rattle.lift_program.specs.Ends.{SaysFront, serving_text}
-use Rattle.lift_program.specs.Images.{IsToBeShown, shown_state_of}
+use Rattle.lift_program.specs.Images.{IsToBeShown, ShownImage, shown_state_of}
 use Rattle.lift_program.specs.Showing.{Shows, ShowsFront, ShowsPart}
-use Rattle.lift_program.specs.declared.shown.ShownImage.{ShownImage}
 
 -- where nothing was written, nothing of the port was
 pub nothing_said : (port : ℕ) (written : Option (List ℕ)) → SaysFront port written written

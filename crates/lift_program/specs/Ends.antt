@@ -1,6 +1,6 @@
 -- How the program ends, and what it says of it.
 use Rattle.std.specs.Prelude.{ℕ, ◌≡◌, ◌≢◌, ◌⊎◌, ◌+◌, ◌*◌, List, [], ◌∷◌, ◌++◌, Option, Some, None}
-use Rattle.std.specs.Prelude.{IfSome, true, false, codes, take}
+use Rattle.std.specs.Prelude.{IfSome, Result, Ok, Err, true, false, codes, take}
 use Rattle.std.specs.Fmt.{decimal}
 use Rattle.std.specs.IoError.{error_kind}
 use Rattle.std.specs.declared.io.ErrorKind.TheVariants.{OutOfMemory}
@@ -16,14 +16,14 @@ use Rattle.lift_disk.specs.declared.file.FileFault.TheVariants.{System, NotAFile
 use Rattle.lift_journal.specs.Calls.{format_calls}
 use Rattle.lift_journal.specs.declared.fault.JournalFault.TheVariants.{Disk}
 use Rattle.lift_keeper.specs.declared.fault.KeeperFault.TheVariants.{Journal as OfJournal}
+use Rattle.lift_replay.specs.declared.lines.Verdict.{Verdict}
 use Rattle.lift_replay.specs.declared.lines.Verdict.TheVariants.{Good, Bad}
 use Rattle.lift_replay.specs.Replaying.{ReportsFront, ReportsInput}
 use Rattle.lift_program.specs.Faults.{fault_text, usage_text}
 use Rattle.lift_program.specs.Output.{IsTold}
 use Rattle.lift_program.specs.Serving.{IsServing}
-use Rattle.lift_program.specs.Images.{IsToBeServed, IsToBeShown, image_state_of, shown_state_of}
-use Rattle.lift_program.specs.declared.image.ImageDisk.{ImageDisk}
-use Rattle.lift_program.specs.declared.shown.ShownImage.{ShownImage}
+use Rattle.lift_program.specs.Images.{IsToBeServed, IsToBeShown, ServedImage, ShownImage}
+use Rattle.lift_program.specs.Images.{served_state_of, shown_state_of}
 use Rattle.lift_program.specs.Showing.{IsShown, IsOpeningFault, ShowsPart}
 use Rattle.lift_program.specs.Stages.{HasBuilding, HasNoBuilding, OpensJournal, OpensNoJournal}
 use Rattle.lift_program.specs.Stages.{ReadsBuilding, ReadsJournal}
@@ -145,7 +145,7 @@ IsShowFault Thread = ⊥
 abbrev pub IsServeFault : Fault → Type 0
 IsServeFault (Building fault) = HasNoBuilding fault
 IsServeFault (Journal fault) = IsOpeningFault fault
-    × OpensNoJournal ImageDisk IsToBeServed image_state_of fault
+    × OpensNoJournal ServedImage IsToBeServed served_state_of fault
 IsServeFault (File OfBuilding) = Unit {0}
 IsServeFault (File OfImage) = ReadsBuilding
 IsServeFault (File Input) = ⊥
@@ -162,6 +162,15 @@ IsServingFault (File role) = ⊥
 IsServingFault Memory = Unit {0}
 IsServingFault Network = Unit {0}
 IsServingFault Thread = Unit {0}
+
+-- no call of the reader was made yet
+abbrev pub IsUncalled : {R : Type 0} → InputState R → Type 0
+IsUncalled old = (old.calls ≡ 0) × (old.failed ≡ false) × (old.ended ≡ false)
+
+-- What was written is the report of the input, with this verdict; or a front of it.
+abbrev pub ReportsAll : (input before after : Option (List ℕ)) → Result Verdict Fault → Type 0
+ReportsAll input before after (Ok verdict) = ReportsInput input before after verdict
+ReportsAll input before after (Err fault) = ReportsFront input before after
 
 -- A script couldn't be read: a call of its reader failed, or all were used and its end was not
 -- found.
@@ -249,10 +258,16 @@ IsReport input (Served port fault) before after = Appends before after (serving_
 IsReport input (Failed fault) before after = IsReportOfFault fault before after
 IsReport input OtherWords before after = after ≡ before
 
--- The status of an end that these words come to over this input, with its report, and whose line
--- was told, if it has one. It is a fault of the standard output only where that has failed, a
--- serving at a port only where that was listened at, and a fault of the port only where it was
--- refused.
+-- An end is a fault of the standard output only where that has failed, a serving at a port only
+-- where that was listened at, and a fault of the port only where it was refused.
+pub record IsCaused (has_failed : Type 0) (has_listened : ℕ → Type 0) (was_refused : Type 0)
+    (end : End) : Type 0 where
+  pub unwritten : end ≡ Failed (File Output) → has_failed
+  pub here : (port : ℕ) (fault : Option Fault) → end ≡ Served port fault → has_listened port
+  pub refused : end ≡ Failed Network → was_refused
+
+-- The status of an end that these words come to over this input, with its report, which has its
+-- cause, and whose line was told, if it has one.
 pub record IsStatusFor {E : Type 0} (contents : E
     → Option (List ℕ)) (words : List Text) (input before after : Option (List ℕ))
     (has_failed : Type 0) (has_listened : ℕ → Type 0) (was_refused : Type 0)
@@ -263,6 +278,4 @@ pub record IsStatusFor {E : Type 0} (contents : E
   pub is_status : status ≡ status_of end
   pub told : IfSome (line_of end) (IsTold contents old new)
   pub quiet : line_of end ≡ None → new ≡ old
-  pub unwritten : end ≡ Failed (File Output) → has_failed
-  pub here : (port : ℕ) (fault : Option Fault) → end ≡ Served port fault → has_listened port
-  pub refused : end ≡ Failed Network → was_refused
+  pub caused : IsCaused has_failed has_listened was_refused end

@@ -1,7 +1,10 @@
 -- What is written, and what is known where it was not.
-use Rattle.std.specs.Prelude.{ℕ, ◌≡◌, ◌⊎◌, Bool, true, false, Option, List}
+use Rattle.std.specs.Prelude.{ℕ, ◌≡◌, ◌⊎◌, Bool, true, false, Option, List, OnOk, Result, Err}
 use Rattle.lift_base.specs.Output.{OutputState, Takes, TakesFront, sink_of}
 use Rattle.lift_replay.specs.Writing.{TakesEach, FailsAtLast}
+use Rattle.lift_program.specs.declared.fault.Fault.{Fault}
+use Rattle.lift_program.specs.declared.fault.Fault.TheVariants.{File, Memory}
+use Rattle.lift_program.specs.declared.fault.Role.TheVariants.{Output}
 
 -- All of these bytes were written, or the writer failed behind a front of them.
 abbrev pub IsTold : {W : Type 0} → (W → Option (List ℕ)) → (old new : OutputState W) → List ℕ
@@ -28,3 +31,12 @@ abbrev pub HasFailed : {W : Type 0} → (gives : W → List ℕ → Option ℕ �
     → (flushes : W → Bool → W → Type 0) → (old new : W) → Type 0
 HasFailed {W} gives flushes old new =
     FailsAtLast gives old new ⊎ ((last : W) × TakesEach gives old last × flushes last false new)
+
+-- How the standard output was called: what is written ends well only with a flush behind it that
+-- did not fail; the output is told as the fault only where it has failed, and memory only where no
+-- call failed but a flush.
+pub record IsSettled {W : Type 0} (gives : W → List ℕ → Option ℕ → W → Type 0)
+    (flushes : W → Bool → W → Type 0) (old new : W) (result : Result Unit Fault) : Type 0 where
+  pub flushed : OnOk result (IsFlushed gives flushes old new)
+  pub failed : result ≡ Err (File Output) → HasFailed gives flushes old new
+  pub wanting : result ≡ Err Memory → WasTaken gives flushes old new

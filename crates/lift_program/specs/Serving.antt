@@ -2,8 +2,7 @@
 use Rattle.std.specs.Prelude.{ℕ, ◌≡◌, false, List, Option}
 use Rattle.lift_building.specs.Describes.{IsTextOf}
 use Rattle.lift_building.specs.Plan.{Plan}
-use Rattle.lift_program.specs.Images.{IsToBeServed, image_state_of}
-use Rattle.lift_program.specs.declared.image.ImageDisk.{ImageDisk}
+use Rattle.lift_program.specs.Images.{IsToBeServed, ServedImage, served_state_of}
 use Rattle.lift_keeper.specs.Keeper.{KeeperView}
 use Rattle.lift_keeper.specs.Reopening.{Reopens}
 use Rattle.lift_policy.specs.Choices.{IsShipped}
@@ -20,15 +19,15 @@ pub record IsServing (policy : Shipped) (fault : Option Fault) : Type 0 where
   pub text : List ℕ
   pub plan : Plan
   pub described : IsTextOf text plan
-  pub opened : ImageDisk
+  pub opened : ServedImage
   pub fresh : IsToBeServed opened
-  pub keeper : KeeperView ImageDisk
-  pub recovers : Reopens plan (image_state_of opened)
-      (image_state_of keeper.writer.device) keeper.writer.register keeper.writer.half
+  pub keeper : KeeperView ServedImage
+  pub recovers : Reopens plan (served_state_of opened)
+      (served_state_of keeper.writer.device) keeper.writer.register keeper.writer.half
       keeper.writer.is_second keeper.writer.used
   pub whole : keeper.writer.is_broken ≡ false
   pub own : keeper.writer.plan ≡ plan
-  pub last : KeeperView ImageDisk
+  pub last : KeeperView ServedImage
   pub other : Option ServeFault
-  pub comes : ComesTo (IsShipped policy) image_state_of policy keeper last other
+  pub comes : ComesTo (IsShipped policy) served_state_of policy keeper last other
   pub told : fault ≡ served_fault last.writer.is_broken other

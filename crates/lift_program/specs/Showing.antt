@@ -15,8 +15,8 @@ use Rattle.lift_register.specs.Belongs.{BelongsTo}
 use Rattle.lift_register.specs.Register.{RegisterState}
 use Rattle.lift_register.specs.WellFormed.{IsWellFormed}
 use Rattle.lift_replay.specs.Report.{register_text}
-use Rattle.lift_program.specs.Images.{IsOnlyRead, IsToBeShown, shown_file_of, shown_state_of}
-use Rattle.lift_program.specs.declared.shown.ShownImage.{ShownImage}
+use Rattle.lift_program.specs.Images.{IsOnlyRead, IsToBeShown, ShownImage, shown_file_of}
+use Rattle.lift_program.specs.Images.{shown_state_of}
 
 -- The recovery has opened a device of the building: this is the register that it gave, and it is
 -- possible in the building.

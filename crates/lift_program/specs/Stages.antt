@@ -7,9 +7,8 @@ use Rattle.lift_building.specs.Gives.{IsFirstFault}
 use Rattle.lift_building.specs.Plan.{Plan}
 use Rattle.lift_building.specs.declared.fault.BuildingFault.{BuildingFault}
 use Rattle.lift_disk.specs.Disk.{DiskState}
-use Rattle.lift_program.specs.Images.{IsToBeServed, IsToBeShown, image_state_of, shown_state_of}
-use Rattle.lift_program.specs.declared.image.ImageDisk.{ImageDisk}
-use Rattle.lift_program.specs.declared.shown.ShownImage.{ShownImage}
+use Rattle.lift_program.specs.Images.{IsToBeServed, IsToBeShown, ServedImage, ShownImage}
+use Rattle.lift_program.specs.Images.{served_state_of, shown_state_of}
 use Rattle.lift_keeper.specs.Keeper.{KeeperView}
 use Rattle.lift_keeper.specs.Reopening.{RefusesReopening, Reopens}
 use Rattle.lift_keeper.specs.declared.fault.KeeperFault.{KeeperFault}
@@ -43,11 +42,11 @@ pub record HasNoBuilding (fault : BuildingFault) : Type 0 where
   pub first : IsFirstFault text fault
 
 -- an image was opened, and the recovery from it, of this building, gave this keeper
-pub record HasKeeperOf (plan : Plan) (keeper : KeeperView ImageDisk) : Type 0 where
-  pub opened : ImageDisk
+pub record HasKeeperOf (plan : Plan) (keeper : KeeperView ServedImage) : Type 0 where
+  pub opened : ServedImage
   pub fresh : IsToBeServed opened
-  pub recovers : Reopens plan (image_state_of opened)
-      (image_state_of keeper.writer.device) keeper.writer.register keeper.writer.half
+  pub recovers : Reopens plan (served_state_of opened)
+      (served_state_of keeper.writer.device) keeper.writer.register keeper.writer.half
       keeper.writer.is_second keeper.writer.used
   pub whole : keeper.writer.is_broken ≡ false
   pub own : keeper.writer.plan ≡ plan
@@ -67,7 +66,7 @@ ReadsBuilding = (plan : Plan) × HasBuilding plan
 
 -- the building was read, and the recovery opened a journal of it
 abbrev pub OpensJournal : Type 0
-OpensJournal = (plan : Plan) × (keeper : KeeperView ImageDisk) × HasBuilding plan
+OpensJournal = (plan : Plan) × (keeper : KeeperView ServedImage) × HasBuilding plan
     × HasKeeperOf plan keeper
 
 -- the building was read, and the recovery, from an image that was opened, gave a register
@@ -101,7 +100,7 @@ IsBuildingFault Thread = ⊥
 -- refusal
 abbrev pub IsKeeperFault : Plan → Fault → Type 0
 IsKeeperFault plan (Building fault) = ⊥
-IsKeeperFault plan (Journal fault) = HasNoKeeperOf ImageDisk IsToBeServed image_state_of plan fault
+IsKeeperFault plan (Journal fault) = HasNoKeeperOf ServedImage IsToBeServed served_state_of plan fault
 IsKeeperFault plan (File OfBuilding) = ⊥
 IsKeeperFault plan (File OfImage) = Unit {0}
 IsKeeperFault plan (File Input) = ⊥

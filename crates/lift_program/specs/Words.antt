@@ -60,11 +60,15 @@ abbrev pub IsHalf : Option Text → ℕ → Type 0
 IsHalf None half = half ≡ 64
 IsHalf (Some word) half = (word ≡ decimal half) × (64 ≤ half) × (half ≤ 1000000)
 
+-- the image and the building that a command is over
+abbrev pub IsOver : List Row → (image building : Text) → Type 0
+IsOver rows image building = (first_of (codes "image") rows ≡ Some image)
+    × (first_of (codes "building") rows ≡ Some building)
+
 -- what the words behind `format` ask for
 abbrev pub IsFormat : List Row → Request → Type 0
 IsFormat rows Replay = ⊥
-IsFormat rows (Format image building half) = (first_of (codes "image") rows ≡ Some image.now)
-    × (first_of (codes "building") rows ≡ Some building.now)
+IsFormat rows (Format image building half) = IsOver rows image.now building.now
     × IsHalf (first_of (codes "half") rows) half
 IsFormat rows (Show image building) = ⊥
 IsFormat rows (Serve image building port sessions policy) = ⊥
@@ -74,8 +78,7 @@ abbrev pub IsShow : List Row → Request → Type 0
 IsShow rows Replay = ⊥
 IsShow rows (Format image building half) = ⊥
 IsShow rows (Serve image building port sessions policy) = ⊥
-IsShow rows (Show image building) = (first_of (codes "image") rows ≡ Some image.now)
-    × (first_of (codes "building") rows ≡ Some building.now)
+IsShow rows (Show image building) = IsOver rows image.now building.now
 
 -- a number from 1 to the most that the option's word spells
 abbrev pub IsCount : (most : ℕ) → Option Text → ℕ → Type 0
@@ -98,9 +101,7 @@ abbrev pub IsServe : List Row → Request → Type 0
 IsServe rows Replay = ⊥
 IsServe rows (Format image building half) = ⊥
 IsServe rows (Show image building) = ⊥
-IsServe rows (Serve image building port sessions policy) =
-    (first_of (codes "image") rows ≡ Some image.now)
-    × (first_of (codes "building") rows ≡ Some building.now)
+IsServe rows (Serve image building port sessions policy) = IsOver rows image.now building.now
     × IsCount 65535 (first_of (codes "port") rows) port
     × IsCount 1000000 (first_of (codes "sessions") rows) sessions
     × IsPolicy (first_of (codes "policy") rows) policy
@@ -116,6 +117,10 @@ IsFor (Some command) request = ((command.0 ≡ codes "replay") × (request ≡ R
 -- The grammar of the commands takes the words, and they ask for this.
 abbrev pub Asks : List Text → Request → Type 0
 Asks words request = (fault_of liftd_app words ≡ []) × IsFor (subcommand_of liftd_app words) request
+
+-- none of these requests is there
+abbrev pub AsksNothing : (Request → Type 0) → Type 0
+AsksNothing is_asked = (request : Request) → is_asked request → ⊥
 
 -- 64 to 1,000,000 sectors in a half
 abbrev pub IsInRange : Request → Type 0

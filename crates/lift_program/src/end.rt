@@ -6,7 +6,7 @@ ghost use Rattle.lift_program.specs.Output.{IsTold};
 
 use crate::fault::Fault;
 use crate::output::tell;
-use crate::shown::ShownImage;
+use crate::unwritten::ShownImage;
 use lift_base::text::Watched;
 use lift_disk::FileDisk;
 use lift_replay::Verdict;

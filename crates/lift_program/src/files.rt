@@ -6,7 +6,7 @@ ghost use Rattle.std.specs.Str.{IsUtf8};
 ghost use Rattle.lift_disk.specs.FileCalls.FileCall.{SetLength, SyncAll};
 ghost use Rattle.lift_disk.specs.Files.{file_making_of, file_state_of};
 ghost use Rattle.lift_replay.specs.Reading.{TakesUpTo};
-ghost use Rattle.lift_program.specs.Ends.{IsFileFault, IsImageFault, IsUnread};
+ghost use Rattle.lift_program.specs.Ends.{IsFileFault, IsImageFault, IsUncalled, IsUnread};
 ghost use Rattle.lift_program.specs.Images.{IsToBeShown};
 ghost use Rattle.lift_program.specs.Stages.{HasBuilding, HasKeeperOf, IsBuildingFault};
 ghost use Rattle.lift_program.specs.Stages.{IsKeeperFault, TakesAll, most_text};
@@ -14,11 +14,10 @@ ghost use Rattle.lift_program.specs.declared.fault.Role.TheVariants.{Building as
 ghost use Rattle.lift_program.specs.declared.fault.Role.TheVariants.{Image as OfImage};
 
 use crate::fault::{Fault, Role};
-use crate::image::ImageDisk;
-use crate::shown::ShownImage;
+use crate::unwritten::{ShownImage, UnwrittenFile};
 use lift_base::text::Counted;
 use lift_building::Building;
-use lift_disk::{FileDisk, FileFault};
+use lift_disk::{Buffered, BufferedFile, FileDisk, FileFault};
 use lift_keeper::Keeper;
 use lift_replay::{InputFault, read_all};
 use std::alloc::Global;
@@ -39,9 +38,7 @@ const MOST_CALLS: u32 = 2_097_152;
 /// The bytes of a building's file. Reading stops behind one byte more than there may be, and the
 /// file is refused then.
 fn bytes_of<R: Read + Drop>(alloc: Global, reader: &mut Counted<R>) -> Result<Vec<u8>, Fault>
-    requires fresh { reader.old.calls ≡ 0 }
-    requires unhurt { reader.old.failed ≡ false }
-    requires before_end { reader.old.ended ≡ false }
+    requires uncalled { IsUncalled reader.old }
     ensures whole { IfOk result (λ bytes.
         IfSome (R.remaining reader.old.reader) (λ all. bytes.items ≡ all)) }
     ensures bound { IfOk result (λ bytes. vec_len bytes ≤ most_text) }
@@ -169,7 +166,7 @@ pub fn image_to_show<F: Files<File = File>>(rt: &F, path: &str) -> Result<ShownI
     ensures fault { IfErr result (IsFileFault OfImage) }
 {
     let file = image_in(rt, path)?;
-    Ok(ShownImage::over(file))
+    Ok(Buffered::over(UnwrittenFile::over(file)))
 }
 
 /// The keeper that the recovery gives, over the journal in a file.
@@ -178,13 +175,13 @@ pub fn keeper_in<'b, F: Files<File = File>>(
     rt: &F,
     path: &str,
     building: &'b Building,
-) -> Result<Keeper<'b, ImageDisk>, Fault>
+) -> Result<Keeper<'b, BufferedFile>, Fault>
     ensures opened { IfOk result (HasKeeperOf building.now) }
     ensures settled { IfOk result (λ keeper. keeper.state.batch ≡ []) }
     ensures fault { IfErr result (IsKeeperFault building.now) }
 {
     let file = image_in(rt, path)?;
-    match Keeper::open(ImageDisk::over(file), building) {
+    match Keeper::open(Buffered::over(file), building) {
         Ok(keeper) => Ok(keeper),
         Err((_, fault)) => Err(Fault::Journal(fault)),
     }

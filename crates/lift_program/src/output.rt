@@ -1,10 +1,13 @@
-//! What is written where no more can be done if it fails.
+//! What is written to the standard output, and where no more can be done if it fails.
 
-ghost use Rattle.std.specs.Prelude.{Bool, true, false, OnOk, OnErr, ⊤};
-ghost use Rattle.std.specs.Io.KnownBytes.{Keeps};
-ghost use Rattle.lift_program.specs.Output.{IsTold};
+ghost use Rattle.std.specs.Prelude.{ℕ, Bool, true, false, OnOk, OnErr, IfErr, take, ⊤};
+ghost use Rattle.std.specs.Io.KnownBytes.{Appends, Keeps};
+ghost use Rattle.lift_program.specs.Ends.{IsFileFault};
+ghost use Rattle.lift_program.specs.Output.{IsSettled, IsTold};
+ghost use Rattle.lift_program.specs.declared.fault.Role.TheVariants.{Output};
 
-use lift_base::text::{Outlet, Watched};
+use crate::fault::{Fault, Role};
+use lift_base::text::{Outlet, Watched, put_all};
 use std::io;
 use std::io::Write;
 
@@ -25,6 +28,24 @@ impl<W: Write> Outflow for W {
 
     fn settle(&mut self) -> io::Result<()> {
         self.flush()
+    }
+}
+
+/// Writes all of the bytes to the standard output, and has it pass them on.
+pub fn write_out<W: Outflow>(writer: &mut W, bytes: &[u8]) -> Result<(), Fault>
+    ensures written { OnOk result
+        (Appends (W.contents writer.old) (W.contents writer.new) bytes.now) }
+    ensures front { OnErr result ((n : ℕ)
+        × Appends (W.contents writer.old) (W.contents writer.new) (take n bytes.now)) }
+    ensures fault { IfErr result (IsFileFault Output) }
+    ensures settled { IsSettled W.gives W.flushes writer.old writer.new result }
+{
+    if put_all(writer, bytes).is_err() {
+        return Err(Fault::File(Role::Output));
+    }
+    match writer.settle() {
+        Ok(()) => Ok(()),
+        Err(error) => Err(Fault::of_file(Role::Output, error)),
     }
 }
 

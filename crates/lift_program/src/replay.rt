@@ -1,10 +1,9 @@
 //! The carrying out of a script.
 
-ghost use Rattle.std.specs.Prelude.{◌≡◌, ◌≤◌, ◌+◌, true, false, IfOk, IfErr, OnOk, OnErr};
+ghost use Rattle.std.specs.Prelude.{◌≡◌, ◌≤◌, ◌+◌, true, IfErr, OnOk};
 ghost use Rattle.lift_replay.specs.Reading.{IsRead, TakesUpTo, most_bytes};
-ghost use Rattle.lift_replay.specs.Replaying.{ReportsFront, ReportsInput};
 ghost use Rattle.lift_program.specs.declared.fault.Role.TheVariants.{Input, Output};
-ghost use Rattle.lift_program.specs.Ends.{IsReplayFault, IsUnread};
+ghost use Rattle.lift_program.specs.Ends.{IsReplayFault, IsUncalled, IsUnread, ReportsAll};
 ghost use Rattle.lift_program.specs.Output.{HasFailed, IsFlushed};
 
 use crate::fault::{Fault, Role};
@@ -20,18 +19,12 @@ pub fn replay<R: Read + Drop, W: Outflow>(
     input: &mut Counted<R>,
     writer: &mut W,
 ) -> Result<Verdict, Fault>
-    requires fresh { input.old.calls ≡ 0 }
-    requires unhurt { input.old.failed ≡ false }
-    requires before_end { input.old.ended ≡ false }
+    requires uncalled { IsUncalled input.old }
     ensures good { result ≡ Ok Verdict.Good → input.new.ended ≡ true }
     // What was written is the report of the reader's input, and the verdict is that of it; else it
     // is a front of it.
-    ensures report { IfOk result (λ verdict.
-        ReportsInput (R.remaining input.old.reader) (W.contents writer.old)
-        (W.contents writer.new) verdict) }
-    ensures front { OnErr result
-        (ReportsFront (R.remaining input.old.reader) (W.contents writer.old)
-        (W.contents writer.new)) }
+    ensures report { ReportsAll (R.remaining input.old.reader) (W.contents writer.old)
+        (W.contents writer.new) result }
     ensures fault { IfErr result IsReplayFault }
     ensures unread { result ≡ Err (Fault.File Input) → IsUnread input.new }
     ensures unwritten { result ≡ Err (Fault.File Input)

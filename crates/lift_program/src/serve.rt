@@ -7,17 +7,16 @@ ghost use Rattle.lift_program.specs.Ends.{IsFileFault, IsReportOfFault, IsServeF
 ghost use Rattle.lift_program.specs.Ends.{IsServingFault, SaysFront, serving_text};
 ghost use Rattle.lift_program.specs.Faults.{served_fault};
 ghost use Rattle.lift_program.specs.Listening.{HasListened, local};
-ghost use Rattle.lift_program.specs.Output.{HasFailed, IsFlushed, WasTaken};
+ghost use Rattle.lift_program.specs.Output.{HasFailed, IsSettled};
 ghost use Rattle.lift_program.specs.Serving.{IsServing};
 ghost use Rattle.lift_program.specs.declared.fault.Role.TheVariants.{Output};
 
-use crate::fault::{Fault, Role};
+use crate::fault::Fault;
 use crate::files::{building_in, keeper_in};
 use crate::listening::Listens;
-use crate::output::Outflow;
+use crate::output::{Outflow, write_out};
 use arrayvec::ArrayString;
 use itoa::Buffer;
-use lift_base::text::put_all;
 use lift_journal::JournalFault;
 use lift_keeper::KeeperFault;
 use lift_policy::Shipped;
@@ -47,27 +46,17 @@ fn fault_of(is_broken: bool, fault: Option<Refusal>) -> Option<Fault>
 fn say<W: Outflow>(port: u16, writer: &mut W) -> Result<(), Fault>
     ensures said { OnOk result
         (Appends (W.contents writer.old) (W.contents writer.new) (serving_text port)) }
-    ensures front { SaysFront port (W.contents writer.old) (W.contents writer.new) }
+    ensures front { OnErr result
+        (SaysFront port (W.contents writer.old) (W.contents writer.new)) }
     ensures fault { IfErr result (IsFileFault Output) }
-    ensures flushed { OnOk result (IsFlushed W.gives W.flushes writer.old writer.new) }
-    ensures failed { result ≡ Err (Fault.File Output)
-        → HasFailed W.gives W.flushes writer.old writer.new }
-    // Memory is wanting only where no call failed but a flush.
-    ensures wanting { result ≡ Err Fault.Memory
-        → WasTaken W.gives W.flushes writer.old writer.new }
+    ensures settled { IsSettled W.gives W.flushes writer.old writer.new result }
 {
     let mut digits = Buffer::new();
     let mut line: ArrayString<64> = ArrayString::new();
     line.push_str("serving ");
     line.push_str(digits.format(port));
     line.push_str("\n");
-    if put_all(writer, line.as_str().as_bytes()).is_err() {
-        return Err(Fault::File(Role::Output));
-    }
-    match writer.settle() {
-        Ok(()) => Ok(()),
-        Err(error) => Err(Fault::of_file(Role::Output, error)),
-    }
+    write_out(writer, line.as_str().as_bytes())
 }
 
 /// A socket that listens on this machine alone.

@@ -7,16 +7,15 @@ ghost use Rattle.lift_keeper.specs.declared.fault.KeeperFault.{KeeperFault as Re
 ghost use Rattle.lift_replay.specs.Report.{register_text};
 ghost use Rattle.lift_program.specs.Ends.{IsFileFault, IsReportOfFault, IsShowFault};
 ghost use Rattle.lift_program.specs.Ends.{IsShowingFault};
-ghost use Rattle.lift_program.specs.Output.{HasFailed, IsFlushed, WasTaken};
+ghost use Rattle.lift_program.specs.Output.{HasFailed, IsSettled};
 ghost use Rattle.lift_program.specs.Showing.{IsShown, Shows, ShowsFront, ShowsPart};
 ghost use Rattle.lift_program.specs.declared.fault.Fault.TheVariants.{Journal as OfJournal};
 ghost use Rattle.lift_program.specs.declared.fault.Role.TheVariants.{Output};
 
-use crate::fault::{Fault, Role};
+use crate::fault::Fault;
 use crate::files::{building_in, image_to_show};
-use crate::output::Outflow;
-use crate::shown::ShownImage;
-use lift_base::text::put_all;
+use crate::output::{Outflow, write_out};
+use crate::unwritten::ShownImage;
 use lift_building::Building;
 use lift_disk::Disk;
 use lift_keeper::Keeper;
@@ -33,22 +32,11 @@ fn write_rows<W: Outflow>(alloc: Global, register: &Register, writer: &mut W) ->
         × Appends (W.contents writer.old) (W.contents writer.new)
         (take n (register_text register.now))) }
     ensures fault { IfErr result (IsFileFault Output) }
-    ensures flushed { OnOk result (IsFlushed W.gives W.flushes writer.old writer.new) }
-    ensures failed { result ≡ Err (Fault.File Output)
-        → HasFailed W.gives W.flushes writer.old writer.new }
-    // Memory is wanting only where no call failed but a flush.
-    ensures wanting { result ≡ Err Fault.Memory
-        → WasTaken W.gives W.flushes writer.old writer.new }
+    ensures settled { IsSettled W.gives W.flushes writer.old writer.new result }
 {
     let mut report = String::new(alloc);
     push_rows(&mut report, register)?;
-    if put_all(writer, report.as_bytes()).is_err() {
-        return Err(Fault::File(Role::Output));
-    }
-    match writer.settle() {
-        Ok(()) => Ok(()),
-        Err(error) => Err(Fault::of_file(Role::Output, error)),
-    }
+    write_out(writer, report.as_bytes())
 }
 
 /// Opens the keeper of a building on a device, and writes the open calls that it shows: the

@@ -1,15 +1,14 @@
 //! From the program's words to its status.
 
-ghost use Rattle.std.specs.Prelude.{ℕ, ◌≡◌, ◌≢◌, ◌≤◌, Option, None, false, true, map, IfSome};
+ghost use Rattle.std.specs.Prelude.{◌≡◌, ◌≢◌, ◌≤◌, None, true, map, IfSome};
 ghost use Rattle.std.specs.IoError.{error_kind};
 ghost use Rattle.lift_replay.specs.Reading.{IsRead};
 ghost use Rattle.lift_replay.specs.declared.lines.Verdict.TheVariants.{Good};
 ghost use Rattle.lift_program.specs.declared.fault.Role.TheVariants.{Input, Output};
-ghost use Rattle.lift_program.specs.Ends.{IsEndFor, IsEndOf, IsReport, IsStatusFor, IsUnread};
-ghost use Rattle.lift_program.specs.Ends.{WritesFor, line_of};
+ghost use Rattle.lift_program.specs.Ends.{IsCaused, IsEndFor, IsEndOf, IsReport, IsStatusFor};
+ghost use Rattle.lift_program.specs.Ends.{IsUncalled, IsUnread, WritesFor, line_of};
 ghost use Rattle.lift_program.specs.Listening.{HasListened, WasRefused};
 ghost use Rattle.lift_program.specs.Output.{HasFailed, IsTold};
-ghost use Rattle.lift_program.specs.declared.fault.Fault.{Fault};
 ghost use Rattle.lift_program.specs.Words.{Asks, IsInRange};
 ghost use Rattle.lift_program.specs.declared.words.Request.TheVariants.{Replay};
 
@@ -39,9 +38,7 @@ fn done<
     W: Outflow,
 >(rt: &F, alloc: Global, request: Request<'_>, input: &mut Counted<R>, writer: &mut W) -> End
     requires range { IsInRange request }
-    requires fresh { input.old.calls ≡ 0 }
-    requires unhurt { input.old.failed ≡ false }
-    requires before_end { input.old.ended ≡ false }
+    requires uncalled { IsUncalled input.old }
     ensures end { IsEndFor request.entry result }
     ensures only { WritesFor (R.remaining input.old.reader) request.entry
         (W.contents writer.old) (W.contents writer.new) }
@@ -52,11 +49,8 @@ fn done<
     ensures few_calls { input.new.calls ≤ 2097152 }
     ensures read { request.entry ≡ Replay → result ≡ End.Failed (Fault.File Output)
         → IsRead R.remaining input.old input.new }
-    ensures failed { result ≡ End.Failed (Fault.File Output)
-        → HasFailed W.gives W.flushes writer.old writer.new }
-    ensures here { (port : ℕ) (fault : Option Fault) → result ≡ End.Served port fault
-        → HasListened F.gives rt.now port }
-    ensures refused { result ≡ End.Failed Fault.Network → WasRefused F.gives rt.now }
+    ensures caused { IsCaused (HasFailed W.gives W.flushes writer.old writer.new)
+        (HasListened F.gives rt.now) (WasRefused F.gives rt.now) result }
 {
     match request {
         Request::Replay => match replay(alloc, input, writer) {
@@ -119,9 +113,7 @@ fn carry_out<
     writer: &mut W,
     errors: &mut Watched<E>,
 ) -> End
-    requires fresh { input.old.calls ≡ 0 }
-    requires unhurt { input.old.failed ≡ false }
-    requires before_end { input.old.ended ≡ false }
+    requires uncalled { IsUncalled input.old }
     // It ends as the words ask, and nothing is written but a front of what they ask for,
     ensures end { IsEndOf (R.remaining input.old.reader) (map S.text words.now)
         (W.contents writer.old) (W.contents writer.new) result }
@@ -140,11 +132,8 @@ fn carry_out<
     ensures read { Asks (map S.text words.now) Replay → result ≡ End.Failed (Fault.File Output)
         → IsRead R.remaining input.old input.new }
     // The standard output is told only where it failed, and the port only where it was refused.
-    ensures failed { result ≡ End.Failed (Fault.File Output)
-        → HasFailed W.gives W.flushes writer.old writer.new }
-    ensures here { (port : ℕ) (fault : Option Fault) → result ≡ End.Served port fault
-        → HasListened F.gives rt.now port }
-    ensures refused { result ≡ End.Failed Fault.Network → WasRefused F.gives rt.now }
+    ensures caused { IsCaused (HasFailed W.gives W.flushes writer.old writer.new)
+        (HasListened F.gives rt.now) (WasRefused F.gives rt.now) result }
 {
     let end = match request_of(alloc, words) {
         Ok(Some(request)) => done(rt, alloc, request, input, writer),

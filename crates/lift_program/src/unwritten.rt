@@ -3,7 +3,7 @@ ghost use Rattle.std.specs.Prelude.{◌≡◌};
 ghost use Rattle.lift_disk.specs.Files.{file_state_of};
 
 use lift_base::ProofCount;
-use lift_disk::{Ahead, Disk, DiskFault, FileDisk, RunDisk};
+use lift_disk::{Ahead, Buffered, Disk, DiskFault, FileDisk, RunDisk};
 
 /// A file that is never written: a write of it fails, and is no call of the file.
 #[derive(Drop)]
@@ -12,6 +12,9 @@ pub struct UnwrittenFile {
     refused: ProofCount,
     ghost unwritten: { (file_state_of file).writes ≡ 0 },
 }
+
+/// The file of a journal that is shown. It is read 16 sectors at once, and never written.
+pub type ShownImage = Buffered<UnwrittenFile>;
 
 impl UnwrittenFile {
     ghost use Rattle.lift_program.specs.Unwritten.{unwritten_file_of, unwritten_state_of};

@@ -1,11 +1,10 @@
 //! What the program's words ask for.
 
 ghost use Rattle.std.specs.Prelude.{◌≡◌, ◌≤◌, ℕ, map, option_map, IfOk, IfSome, IfNone};
-ghost use Rattle.clap.specs.Words.{rows_of, found_of, subcommand_rows_of};
-ghost use Rattle.lift_program.specs.Words.{Asks, IsCount, IsFor, IsFormat, IsShow, IsServe, IsHalf};
-ghost use Rattle.lift_program.specs.Words.{IsInRange, IsPolicy, IsPolicyWord};
+ghost use Rattle.clap.specs.Words.{Text, rows_of, found_of, subcommand_rows_of};
+ghost use Rattle.lift_program.specs.Words.{Asks, AsksNothing, IsCount, IsFor, IsFormat, IsShow};
+ghost use Rattle.lift_program.specs.Words.{IsHalf, IsInRange, IsOver, IsPolicy, IsPolicyWord, IsServe};
 ghost use Rattle.lift_policy.specs.declared.shipped.Shipped.{Shipped as ShippedValue};
-ghost use Rattle.lift_program.specs.declared.words.Request.{Request as Wanted};
 
 use crate::grammar::grammar;
 use clap::ArgMatches;
@@ -68,15 +67,25 @@ fn half_of(word: Option<&str>) -> Option<u32>
     if half < LEAST_HALF { None } else { Some(half) }
 }
 
+/// The image and the building that a command is over.
+fn files_of<'a>(matches: &ArgMatches<'a>) -> Option<(&'a str, &'a str)>
+    ensures some { IfSome result (λ files.
+        IsOver (rows_of (found_of matches.now)) files.0.now files.1.now) }
+    ensures none { IfNone result ((image building : Text)
+        → IsOver (rows_of (found_of matches.now)) image building → ⊥) }
+{
+    let image = matches.get_str("image")?;
+    let building = matches.get_str("building")?;
+    Some((image, building))
+}
+
 /// What the words behind `format` ask for.
 fn format_of<'a>(matches: &ArgMatches<'a>) -> Option<Request<'a>>
     ensures some { IfSome result (λ request. IsFormat (rows_of (found_of matches.now)) request) }
     ensures range { IfSome result (λ request. IsInRange request) }
-    ensures none { IfNone result ((request : Wanted)
-        → IsFormat (rows_of (found_of matches.now)) request → ⊥) }
+    ensures none { IfNone result (AsksNothing (IsFormat (rows_of (found_of matches.now)))) }
 {
-    let image = matches.get_str("image")?;
-    let building = matches.get_str("building")?;
+    let (image, building) = files_of(matches)?;
     let half = half_of(matches.get_str("half"))?;
     Some(Request::Format {
         image,
@@ -89,11 +98,9 @@ fn format_of<'a>(matches: &ArgMatches<'a>) -> Option<Request<'a>>
 fn show_of<'a>(matches: &ArgMatches<'a>) -> Option<Request<'a>>
     ensures some { IfSome result (λ request. IsShow (rows_of (found_of matches.now)) request) }
     ensures range { IfSome result (λ request. IsInRange request) }
-    ensures none { IfNone result ((request : Wanted)
-        → IsShow (rows_of (found_of matches.now)) request → ⊥) }
+    ensures none { IfNone result (AsksNothing (IsShow (rows_of (found_of matches.now)))) }
 {
-    let image = matches.get_str("image")?;
-    let building = matches.get_str("building")?;
+    let (image, building) = files_of(matches)?;
     Some(Request::Show { image, building })
 }
 
@@ -142,11 +149,9 @@ fn policy_of(word: Option<&str>) -> Option<Shipped>
 fn serve_of<'a>(matches: &ArgMatches<'a>) -> Option<Request<'a>>
     ensures some { IfSome result (λ request. IsServe (rows_of (found_of matches.now)) request) }
     ensures range { IfSome result (λ request. IsInRange request) }
-    ensures none { IfNone result ((request : Wanted)
-        → IsServe (rows_of (found_of matches.now)) request → ⊥) }
+    ensures none { IfNone result (AsksNothing (IsServe (rows_of (found_of matches.now)))) }
 {
-    let image = matches.get_str("image")?;
-    let building = matches.get_str("building")?;
+    let (image, building) = files_of(matches)?;
     let port = count_of(matches.get_str("port"), MOST_PORT)?;
     let sessions = count_of(matches.get_str("sessions"), MOST_SESSIONS)?;
     let policy = policy_of(matches.get_str("policy"))?;
@@ -163,24 +168,17 @@ fn serve_of<'a>(matches: &ArgMatches<'a>) -> Option<Request<'a>>
 fn found_in<'a>(matches: &ArgMatches<'a>) -> Option<Request<'a>>
     ensures some { IfSome result (λ request. IsFor (subcommand_rows_of matches.now) request) }
     ensures range { IfSome result (λ request. IsInRange request) }
-    ensures none { IfNone result ((request : Wanted)
-        → IsFor (subcommand_rows_of matches.now) request → ⊥) }
+    ensures none { IfNone result (AsksNothing (IsFor (subcommand_rows_of matches.now))) }
 {
     match matches.subcommand() {
         None => Some(Request::Replay),
-        Some((name, matches)) => {
-            if name == "replay" {
-                Some(Request::Replay)
-            } else if name == "format" {
-                format_of(matches)
-            } else if name == "show" {
-                show_of(matches)
-            } else if name == "serve" {
-                serve_of(matches)
-            } else {
-                None
-            }
-        }
+        Some((name, matches)) => match name.as_bytes() {
+            b"replay" => Some(Request::Replay),
+            b"format" => format_of(matches),
+            b"show" => show_of(matches),
+            b"serve" => serve_of(matches),
+            _ => None,
+        },
     }
 }
 
@@ -194,7 +192,7 @@ pub fn request_of<'a, S: AsStr>(
         IfSome found (λ request. Asks (map S.text words.now) request)) }
     ensures range { IfOk result (λ found. IfSome found (λ request. IsInRange request)) }
     ensures other { IfOk result (λ found.
-        IfNone found ((request : Wanted) → Asks (map S.text words.now) request → ⊥)) }
+        IfNone found (AsksNothing (Asks (map S.text words.now)))) }
 {
     match grammar(alloc)?.try_get_matches_from(words) {
         Ok(matches) => Ok(found_in(&matches)),

@@ -36,7 +36,7 @@ returns-in_err-listener-clause-failed g c =
     other_than _ c.from_residual-in_err-listener.result _ _ c.from_residual-in_err-listener.ensures.1 (λ same. absurd (network_no_output _ c.in_err-listener.ensures.fault same))
 
 pub returns-in_err-say-clause-failed : goal.returns-in_err-say-clause-failed
-returns-in_err-say-clause-failed g c = other_than _ c.from_residual-in_err-say.result _ _ c.from_residual-in_err-say.ensures.1 (λ same. c.in_err-say.ensures.failed (ap Err same))
+returns-in_err-say-clause-failed g c = other_than _ c.from_residual-in_err-say.result _ _ c.from_residual-in_err-say.ensures.1 (λ same. c.in_err-say.ensures.settled.failed (ap Err same))
 
 pub returns-in_err-building-clause-refused : goal.returns-in_err-building-clause-refused
 returns-in_err-building-clause-refused g c = other_than _ c.from_residual.result _ _ c.from_residual.ensures.1 (λ same. absurd (subst IsBuildingFault same c.in_err-building.ensures.fault))

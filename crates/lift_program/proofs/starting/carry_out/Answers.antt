@@ -18,18 +18,19 @@ returns-clause-end g c =
           (search rules)
     ]
 
-pub returns-clause-here : goal.returns-clause-here
-returns-clause-here g c = λ port fault is.
-    elim c.match-request_of.branch [
-      | in-Ok-Some w ↦ w.done-end.ensures.here port fault (sym w.end-is ∙ is)
-      | in-Ok-None w ↦ absurd (let other = sym w.end-is ∙ is in cc)
-      | in-Err w ↦ absurd (let other = sym w.end-is ∙ is in cc)
-    ]
-
-pub returns-clause-refused : goal.returns-clause-refused
-returns-clause-refused g c = λ is.
-    elim c.match-request_of.branch [
-      | in-Ok-Some w ↦ w.done-end.ensures.refused (sym w.end-is ∙ is)
-      | in-Ok-None w ↦ absurd (let other = sym w.end-is ∙ is in cc)
-      | in-Err w ↦ absurd (let other = sym w.end-is ∙ is in cc)
-    ]
+pub returns-clause-caused : goal.returns-clause-caused
+returns-clause-caused g c = record {
+  unwritten = search rules;
+  here = λ port fault is.
+      elim c.match-request_of.branch [
+        | in-Ok-Some w ↦ w.done-end.ensures.caused.here port fault (sym w.end-is ∙ is)
+        | in-Ok-None w ↦ absurd (let other = sym w.end-is ∙ is in cc)
+        | in-Err w ↦ absurd (let other = sym w.end-is ∙ is in cc)
+      ];
+  refused = λ is.
+      elim c.match-request_of.branch [
+        | in-Ok-Some w ↦ w.done-end.ensures.caused.refused (sym w.end-is ∙ is)
+        | in-Ok-None w ↦ absurd (let other = sym w.end-is ∙ is in cc)
+        | in-Err w ↦ absurd (let other = sym w.end-is ∙ is in cc)
+      ];
+}

@@ -17,8 +17,6 @@ returns g c =
         is_status = c.status.ensures;
         told = c.carry_out-end.ensures.told;
         quiet = c.carry_out-end.ensures.quiet;
-        unwritten = c.carry_out-end.ensures.failed;
-        here = c.carry_out-end.ensures.here;
-        refused = c.carry_out-end.ensures.refused;
+        caused = c.carry_out-end.ensures.caused;
       };
     }

@@ -1,33 +1,21 @@
-use Rattle.std.proofs.Common.{rules, codes, ◌≡◌, None, Some, refl, subst, sym}
+use Rattle.std.proofs.Common.{codes, refl, subst, sym}
 use Rattle.clap.specs.Words.{found_of, rows_of}
 use Rattle.lift_program.specs.Words.{IsHalf}
-use Rattle.lift_program.proofs.Rows.{if_none, text_in, no_image, no_building, no_half}
+use Rattle.lift_program.proofs.Rows.{if_none, text_in, no_files_to_format, no_half}
 use Rattle.lift_program.proofs.words.format_of.Goals as goal
 
 pub returns-in_err-image-clause-none : goal.returns-in_err-image-clause-none
-returns-in_err-image-clause-none c =
-    let found = found_of c.args.matches.now in
-    let none : c.get_str.result ≡ None = search rules in
-    if_none c.from_residual.result _ (no_image (rows_of found) (text_in found (codes "image") c.get_str.result None c.get_str.ensures none))
-
-pub returns-in_err-building-clause-none : goal.returns-in_err-building-clause-none
-returns-in_err-building-clause-none c =
-    let found = found_of c.args.matches.now in
-    let none : c.get_str-2.result ≡ None = search rules in
-    if_none c.from_residual-in_err-building.result _ (no_building (rows_of found) (text_in found (codes "building") c.get_str-2.result None c.get_str-2.ensures none))
+returns-in_err-image-clause-none c = if_none c.from_residual.result _ (no_files_to_format (rows_of (found_of c.args.matches.now)) c.in_err-image.ensures.none)
 
 pub returns-in_err-half-clause-none : goal.returns-in_err-half-clause-none
 returns-in_err-half-clause-none c =
     let found = found_of c.args.matches.now in
-    if_none c.from_residual-in_err-half.result _ (no_half (rows_of found) _ (text_in found (codes "half") c.get_str-3.result c.get_str-3.result c.get_str-3.ensures refl) c.in_err-half.ensures.none)
+    if_none c.from_residual-in_err-half.result _ (no_half (rows_of found) _ (text_in found (codes "half") c.get_str.result c.get_str.result c.get_str.ensures refl) c.in_err-half.ensures.none)
 
 pub returns-clause-some : goal.returns-clause-some
 returns-clause-some c =
     let found = found_of c.args.matches.now in
-    let image : c.get_str.result ≡ Some c.in_ok-image.image = search rules in
-    let building : c.get_str-2.result ≡ Some c.in_ok-building.building = search rules in
-    let half = text_in found (codes "half") c.get_str-3.result c.get_str-3.result c.get_str-3.ensures refl in (
-      text_in found (codes "image") c.get_str.result _ c.get_str.ensures image,
-      text_in found (codes "building") c.get_str-2.result _ c.get_str-2.ensures building,
+    let half = text_in found (codes "half") c.get_str.result c.get_str.result c.get_str.ensures refl in (
+      c.in_ok-image.ensures.some,
       subst (λ w. IsHalf w c.in_ok-half.half) (sym half) c.in_ok-half.ensures.some,
     )

@@ -1,46 +1,34 @@
-use Rattle.std.proofs.Common.{rules, codes, ◌≡◌, None, Some, refl, subst, sym}
+use Rattle.std.proofs.Common.{codes, refl, subst, sym}
 use Rattle.clap.specs.Words.{found_of, rows_of}
 use Rattle.lift_program.specs.Words.{IsCount, IsPolicy}
-use Rattle.lift_program.proofs.Rows.{if_none, text_in, no_image_to_serve, no_building_to_serve, no_port, no_sessions, no_policy}
+use Rattle.lift_program.proofs.Rows.{if_none, text_in, no_files_to_serve, no_port, no_sessions, no_policy}
 use Rattle.lift_program.proofs.words.serve_of.Goals as goal
 
 pub returns-in_err-image-clause-none : goal.returns-in_err-image-clause-none
-returns-in_err-image-clause-none c =
-    let found = found_of c.args.matches.now in
-    let none : c.get_str.result ≡ None = search rules in
-    if_none c.from_residual.result _ (no_image_to_serve (rows_of found) (text_in found (codes "image") c.get_str.result None c.get_str.ensures none))
-
-pub returns-in_err-building-clause-none : goal.returns-in_err-building-clause-none
-returns-in_err-building-clause-none c =
-    let found = found_of c.args.matches.now in
-    let none : c.get_str-2.result ≡ None = search rules in
-    if_none c.from_residual-in_err-building.result _ (no_building_to_serve (rows_of found) (text_in found (codes "building") c.get_str-2.result None c.get_str-2.ensures none))
+returns-in_err-image-clause-none c = if_none c.from_residual.result _ (no_files_to_serve (rows_of (found_of c.args.matches.now)) c.in_err-image.ensures.none)
 
 pub returns-in_err-port-clause-none : goal.returns-in_err-port-clause-none
 returns-in_err-port-clause-none c =
     let found = found_of c.args.matches.now in
-    if_none c.from_residual-in_err-port.result _ (no_port (rows_of found) _ (text_in found (codes "port") c.get_str-3.result c.get_str-3.result c.get_str-3.ensures refl) c.in_err-port.ensures.none)
+    if_none c.from_residual-in_err-port.result _ (no_port (rows_of found) _ (text_in found (codes "port") c.get_str.result c.get_str.result c.get_str.ensures refl) c.in_err-port.ensures.none)
 
 pub returns-in_err-sessions-clause-none : goal.returns-in_err-sessions-clause-none
 returns-in_err-sessions-clause-none c =
     let found = found_of c.args.matches.now in
-    if_none c.from_residual-in_err-sessions.result _ (no_sessions (rows_of found) _ (text_in found (codes "sessions") c.get_str-4.result c.get_str-4.result c.get_str-4.ensures refl) c.in_err-sessions.ensures.none)
+    if_none c.from_residual-in_err-sessions.result _ (no_sessions (rows_of found) _ (text_in found (codes "sessions") c.get_str-2.result c.get_str-2.result c.get_str-2.ensures refl) c.in_err-sessions.ensures.none)
 
 pub returns-in_err-policy-clause-none : goal.returns-in_err-policy-clause-none
 returns-in_err-policy-clause-none c =
     let found = found_of c.args.matches.now in
-    if_none c.from_residual-in_err-policy.result _ (no_policy (rows_of found) _ (text_in found (codes "policy") c.get_str-5.result c.get_str-5.result c.get_str-5.ensures refl) c.in_err-policy.ensures.none)
+    if_none c.from_residual-in_err-policy.result _ (no_policy (rows_of found) _ (text_in found (codes "policy") c.get_str-3.result c.get_str-3.result c.get_str-3.ensures refl) c.in_err-policy.ensures.none)
 
 pub returns-clause-some : goal.returns-clause-some
 returns-clause-some c =
     let found = found_of c.args.matches.now in
-    let image : c.get_str.result ≡ Some c.in_ok-image.image = search rules in
-    let building : c.get_str-2.result ≡ Some c.in_ok-building.building = search rules in
-    let port = text_in found (codes "port") c.get_str-3.result c.get_str-3.result c.get_str-3.ensures refl in
-    let sessions = text_in found (codes "sessions") c.get_str-4.result c.get_str-4.result c.get_str-4.ensures refl in
-    let policy = text_in found (codes "policy") c.get_str-5.result c.get_str-5.result c.get_str-5.ensures refl in (
-      text_in found (codes "image") c.get_str.result _ c.get_str.ensures image,
-      text_in found (codes "building") c.get_str-2.result _ c.get_str-2.ensures building,
+    let port = text_in found (codes "port") c.get_str.result c.get_str.result c.get_str.ensures refl in
+    let sessions = text_in found (codes "sessions") c.get_str-2.result c.get_str-2.result c.get_str-2.ensures refl in
+    let policy = text_in found (codes "policy") c.get_str-3.result c.get_str-3.result c.get_str-3.ensures refl in (
+      c.in_ok-image.ensures.some,
       subst (λ w. IsCount 65535 w c.in_ok-port.port) (sym port) c.in_ok-port.ensures.some,
       subst (λ w. IsCount 1000000 w c.in_ok-sessions.sessions) (sym sessions) c.in_ok-sessions.ensures.some,
       subst (λ w. IsPolicy w c.in_ok-policy.policy) (sym policy) c.in_ok-policy.ensures.some,
