@@ -1,10 +1,11 @@
 //! Sectors on a file, by its calls alone.
-ghost use Rattle.std.specs.Prelude.{◌≡◌, ◌+◌, ◌*◌, ◌++◌, [], ◌∷◌, OnOk, OnErr};
+ghost use Rattle.std.specs.Prelude.{◌≡◌, ◌≤◌, ◌+◌, ◌*◌, ◌++◌, [], ◌∷◌, OnOk, OnErr, take};
 ghost use Rattle.lift_disk.specs.Disk.{FailsAsTold, GoesOn, HasCause};
 ghost use Rattle.lift_disk.specs.Trace.{Records};
 ghost use Rattle.lift_disk.specs.Trace.Access.{Read};
-ghost use Rattle.lift_disk.specs.FileCalls.FileCall.{Read as ReadBytes};
+ghost use Rattle.lift_disk.specs.FileCalls.FileCall.{Read as ReadBytes, ReadSectors};
 ghost use Rattle.lift_disk.specs.FileCalls.{in_bytes, without_given};
+ghost use Rattle.lift_disk.specs.Runs.{GivesRun};
 ghost use Rattle.lift_disk.specs.Traced.{calls_of, failures_of, making_of};
 
 use crate::runs::{Ahead, RunDisk};
@@ -122,13 +123,32 @@ impl<F: FileExt + OpenFile + Drop> Disk for SectorFile<F> {
 }
 
 impl<F: FileExt + OpenFile + Drop> RunDisk for SectorFile<F> {
-    ghost use Rattle.lift_disk.specs.Files.{HasGiven, calls_below};
+    ghost use Rattle.lift_disk.specs.Files.{HasGiven, calls_below, sector_file_state_of};
 
     ghost has_given = { λ d. HasGiven (calls_below d) };
 
     fn announce(&mut self, _sector: u32) {}
 
-    fn read_run(&mut self, sector: u32, count: usize, buffer: &mut Ahead) -> Result<(), DiskFault> {
+    fn read_run(&mut self, sector: u32, count: usize, buffer: &mut Ahead) -> Result<(), DiskFault>
+        requires count { count ≤ 16 }
+        requires inside { sector + count ≤ (sector_file_state_of self.old).size }
+        // beside what each device promises: its file was asked for so many sectors and no more
+        ensures asked { OnOk result (calls_below self.new
+            ≡ calls_below self.old ++ ReadSectors (sector * 512) (take count buffer.new) ∷ []) }
+        ensures goes_on { GoesOn (sector_file_state_of self.old) (sector_file_state_of self.new) }
+        ensures cause { HasCause result (sector_file_state_of self.old)
+            (sector_file_state_of self.new) }
+        ensures counted { OnErr result ((sector_file_state_of self.new).failures
+            ≡ (sector_file_state_of self.old).failures + 1) }
+        ensures told { FailsAsTold result (sector_file_state_of self.old)
+            (sector_file_state_of self.new) }
+        ensures writes { (sector_file_state_of self.new).writes
+            ≡ (sector_file_state_of self.old).writes }
+        ensures recorded { Records result (Read sector) (sector_file_state_of self.old).trace
+            (sector_file_state_of self.new).trace }
+        ensures given { OnOk result
+            (GivesRun (HasGiven (calls_below self.new)) sector count buffer.new) }
+    {
         self.calls = ProofCount::next(&self.calls);
         let run = &mut buffer[..count];
         if self.file.read_sectors(run, offset_of(sector)).is_err() {
