@@ -1,5 +1,5 @@
 -- What is known of a device over another one.
-use Rattle.std.specs.Prelude.{ℕ, ◌≡◌, ◌≤◌, ◌-◌, List, slice_get, Some}
+use Rattle.std.specs.Prelude.{ℕ, ◌≡◌, ◌⊎◌, ◌≤◌, ◌<◌, ◌+◌, ◌-◌, List, [], length, slice_get, Some}
 use Rattle.lift_disk.specs.Disk.{DiskState}
 use Rattle.lift_disk.specs.Runs.{buffered, waiting}
 use Rattle.lift_disk.specs.declared.disk.Disk.{Ghosts}
@@ -26,6 +26,16 @@ abbrev pub IsHeldBack : {R : Type 0} {runs : RunGhosts R} {disk : Ghosts R}
     → Buffered R runs disk → ℕ → List ℕ → Type 0
 IsHeldBack d sector bytes = (d.from ≤ sector)
     × (slice_get d.pending.items (sector - d.from) ≡ Some bytes)
+
+-- this sector is the next behind those that are still to be written, which are fewer than 16
+abbrev pub IsNextHeld : {R : Type 0} {runs : RunGhosts R} {disk : Ghosts R}
+    → Buffered R runs disk → ℕ → Type 0
+IsNextHeld d sector = (d.from + length d.pending.items ≡ sector) × (length d.pending.items < 16)
+
+-- a write of this sector can wait with those that are still to be made, or none is
+abbrev pub CanWait : {R : Type 0} {runs : RunGhosts R} {disk : Ghosts R}
+    → Buffered R runs disk → ℕ → Type 0
+CanWait d sector = (held_back d ≡ []) ⊎ IsNextHeld d sector
 
 -- the other one, as if these were written
 abbrev pub as_written : {R : Type 0} {runs : RunGhosts R} {disk : Ghosts R}

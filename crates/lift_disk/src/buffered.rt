@@ -1,15 +1,16 @@
 //! A device that reads ahead, and holds neighbouring writes back until it makes them as one.
-ghost use Rattle.std.specs.Prelude.{◌≡◌, ◌≤◌, ◌<◌, ◌+◌, [], ℕ, List, length, slice_get, Some};
-ghost use Rattle.std.specs.Prelude.{IsTrue, OnOk, OnErr, IfSome, IfNone, ◌⊎◌, ◌-◌};
-ghost use Rattle.lift_disk.specs.Disk.{FailsAsTold, GoesOn, HasCause, IsSteadyAt, KeepsImage};
-ghost use Rattle.lift_disk.specs.Disk.{KeepsSynced, MayLeave, StaysLoose, StaysWritten};
-ghost use Rattle.lift_disk.specs.Disk.{TouchesNothing};
-ghost use Rattle.lift_disk.specs.Runs.{CountsFault, GivesRun, HoldsRun, IsInRun, KeepsWrites};
-ghost use Rattle.lift_disk.specs.Runs.{Opens, Rests};
+ghost use Rattle.std.specs.Prelude.{◌≡◌, ◌≤◌, ◌<◌, ◌+◌, ◌++◌, [], ◌∷◌, ℕ, List, length, Some};
+ghost use Rattle.std.specs.Prelude.{slice_get, slice_set, IsTrue, OnOk, OnErr, IfSome, IfNone};
+ghost use Rattle.std.specs.Prelude.{◌↔◌, ◌⊎◌, ◌-◌};
+ghost use Rattle.lift_disk.specs.Disk.{FailsAsTold, FailsAsToldOrShort, GoesOn, HasCause};
+ghost use Rattle.lift_disk.specs.Disk.{IsSteadyAt, KeepsImage, KeepsSynced, MayLeave, SetsSector};
+ghost use Rattle.lift_disk.specs.Disk.{Settles, StaysLoose, StaysWritten, Touches, TouchesNothing};
+ghost use Rattle.lift_disk.specs.Runs.{Announces, CountsFault, GivesRun, HoldsRun, IsInRun};
+ghost use Rattle.lift_disk.specs.Runs.{KeepsWrites, Opens, Rests};
 ghost use Rattle.lift_disk.specs.Runs.{left_with, left_without, run_loose, run_whole};
 ghost use Rattle.lift_disk.specs.Runs.{with_run};
 ghost use Rattle.lift_disk.specs.Trace.{Records};
-ghost use Rattle.lift_disk.specs.Trace.Access.{Read};
+ghost use Rattle.lift_disk.specs.Trace.Access.{Read, Write};
 
 use crate::runs::{Ahead, MOST_AHEAD, RunDisk};
 use crate::trace::{Made, ProofTrace};
@@ -46,7 +47,8 @@ pub struct Buffered<R: RunDisk + Drop> {
 }
 
 impl<R: RunDisk + Drop> Buffered<R> {
-    ghost use Rattle.lift_disk.specs.Below.{IsHeldBack, as_written, below, held_back};
+    ghost use Rattle.lift_disk.specs.Below.{CanWait, IsHeldBack, IsNextHeld, as_written, below};
+    ghost use Rattle.lift_disk.specs.Below.{held_back};
 
     /// A device of which nothing was read or written yet. It makes no call of the other one and
     /// announces nothing.
@@ -128,6 +130,7 @@ impl<R: RunDisk + Drop> Buffered<R> {
         ensures keeps { OnOk result
             (KeepsWrites (as_written R.state self.old) (as_written R.state self.new)) }
         ensures none { self.new.pending.items ≡ [] }
+        ensures idle { self.old.pending.items ≡ [] → self.new.device ≡ self.old.device }
         ensures forgets { self.new.ahead_count ≡ 0 }
         ensures faults { CountsFault result (R.state self.old.device) (R.state self.new.device) }
         ensures counts { (self.new.calls ≡ self.old.calls) × (self.new.writes ≡ self.old.writes) }
@@ -144,8 +147,7 @@ impl<R: RunDisk + Drop> Buffered<R> {
 
     /// Whether the sector is the next behind those that are held back, and one more has room.
     fn is_next(&self, sector: u32) -> bool
-        ensures { IsTrue result → (self.now.from + length self.now.pending.items ≡ sector)
-            × (length self.now.pending.items < 16) }
+        ensures { IsTrue result ↔ IsNextHeld self.now sector }
     {
         let held = self.pending.len();
         held < MOST_HELD && self.from as usize + held == sector as usize
@@ -157,6 +159,10 @@ impl<R: RunDisk + Drop> Buffered<R> {
         ensures opens { Opens sector (as_written R.state self.old) (as_written R.state self.new) }
         ensures keeps { OnOk result
             (KeepsWrites (as_written R.state self.old) (as_written R.state self.new)) }
+        ensures waits { CanWait self.old sector
+            → Announces sector (R.state self.old.device) (R.state self.new.device) }
+        ensures held { OnOk result (CanWait self.old sector
+            → self.new.pending.items ≡ self.old.pending.items) }
         ensures next { OnOk result (self.new.from + length self.new.pending.items ≡ sector) }
         ensures room { OnOk result (length self.new.pending.items < 16) }
         ensures faults { CountsFault result (R.state self.old.device) (R.state self.new.device) }
@@ -225,7 +231,8 @@ impl<R: RunDisk + Drop> Buffered<R> {
 }
 
 impl<R: RunDisk + Drop> Disk for Buffered<R> {
-    ghost use Rattle.lift_disk.specs.Below.{IsHeldBack, below, buffered_state_of};
+    ghost use Rattle.lift_disk.specs.Below.{CanWait, IsHeldBack, below, buffered_state_of};
+    ghost use Rattle.lift_disk.specs.Below.{held_back};
     ghost use Rattle.lift_disk.specs.Runs.{buffered};
 
     ghost state = { λ d. buffered (R.state d.device) d.from d.pending.items d.calls.count
@@ -300,7 +307,44 @@ impl<R: RunDisk + Drop> Disk for Buffered<R> {
         Ok(())
     }
 
-    fn write(&mut self, sector: u32, bytes: &[u8; 512]) -> Result<(), DiskFault> {
+    fn write(&mut self, sector: u32, bytes: &[u8; 512]) -> Result<(), DiskFault>
+        requires { sector < (buffered_state_of R.state self.old).size }
+        // beside what each device promises: where this write can wait with those that are held
+        // back, it is held back too, and the other device has no call
+        ensures waits { CanWait self.old sector
+            → Announces sector (R.state (below self.old)) (R.state (below self.new)) }
+        ensures held { OnOk result (CanWait self.old sector
+            → held_back self.new ≡ held_back self.old ++ bytes.now ∷ []) }
+        ensures goes_on { GoesOn (buffered_state_of R.state self.old)
+            (buffered_state_of R.state self.new) }
+        ensures cause { HasCause result (buffered_state_of R.state self.old)
+            (buffered_state_of R.state self.new) }
+        ensures counted { OnErr result ((buffered_state_of R.state self.new).failures
+            ≡ (buffered_state_of R.state self.old).failures + 1) }
+        ensures told { FailsAsToldOrShort result (buffered_state_of R.state self.old)
+            (buffered_state_of R.state self.new) }
+        ensures writes { (buffered_state_of R.state self.new).writes
+            ≡ (buffered_state_of R.state self.old).writes + 1 }
+        ensures recorded { Records result (Write sector bytes.now)
+            (buffered_state_of R.state self.old).trace
+            (buffered_state_of R.state self.new).trace }
+        ensures settles { OnOk result ((buffered_state_of R.state self.old).is_honest
+            → Settles sector bytes.now (buffered_state_of R.state self.old)
+            (buffered_state_of R.state self.new)) }
+        ensures touched { (buffered_state_of R.state self.old).is_honest
+            → Touches sector (buffered_state_of R.state self.old)
+            (buffered_state_of R.state self.new) }
+        ensures steady { OnOk result ((buffered_state_of R.state self.old).is_honest
+            → (buffered_state_of R.state self.old).is_steady
+            → IsSteadyAt (slice_set (buffered_state_of R.state self.old).image sector bytes.now)
+            (buffered_state_of R.state self.new)) }
+        ensures image { OnOk result (SetsSector sector bytes.now
+            (buffered_state_of R.state self.old) (buffered_state_of R.state self.new)) }
+        ensures image_err { OnErr result (KeepsImage (buffered_state_of R.state self.old)
+            (buffered_state_of R.state self.new)) }
+        ensures kept { KeepsSynced (buffered_state_of R.state self.old)
+            (buffered_state_of R.state self.new) }
+    {
         self.calls = ProofCount::next(&self.calls);
         self.writes = ProofCount::next(&self.writes);
         self.make_room(sector)?;
