@@ -8,7 +8,7 @@ use Rattle.lift_disk.specs.Runs.{GivesRun}
 use Rattle.lift_disk.specs.Trace.{Access}
 use Rattle.lift_disk.specs.Trace.Access.{Read as ReadSector, Write as WriteSector, Sync as SyncSectors}
 use Rattle.lift_disk.specs.FileCalls.{FileCall, in_bytes, without_given}
-use Rattle.lift_disk.specs.FileCalls.FileCall.{Read, ReadSectors, Write, SyncData, SetLength, SyncAll}
+use Rattle.lift_disk.specs.FileCalls.FileCall.{Read, ReadSectors, Write, SyncData, SetLength, SyncAll, GetLength}
 
 in_bytes-push : (calls : List Access) (call : Access) → in_bytes (calls ++ call ∷ []) ≡ in_bytes calls ++ in_bytes (call ∷ [])
 in_bytes-push [] call = refl
@@ -24,6 +24,7 @@ without_given-push (Write offset bytes ∷ calls) call = ap (λ (l : List FileCa
 without_given-push (SyncData ∷ calls) call = ap (λ (l : List FileCall). SyncData ∷ l) (without_given-push calls call)
 without_given-push (SetLength bytes ∷ calls) call = ap (λ (l : List FileCall). SetLength bytes ∷ l) (without_given-push calls call)
 without_given-push (SyncAll ∷ calls) call = ap (λ (l : List FileCall). SyncAll ∷ l) (without_given-push calls call)
+without_given-push (GetLength bytes ∷ calls) call = ap (λ (l : List FileCall). GetLength bytes ∷ l) (without_given-push calls call)
 
 pub one_more : (calls after : List Access) (of_files filed : List FileCall) (call : Access) (of_file : FileCall) → without_given of_files ≡ in_bytes calls → after ≡ calls ++ call ∷ [] → filed ≡ of_files ++ of_file ∷ []
     → without_given (of_file ∷ []) ≡ in_bytes (call ∷ []) → without_given filed ≡ in_bytes after

@@ -1,7 +1,7 @@
 -- The calls of a file that have succeeded, in their order, and the calls of a device that they
 -- stand for.
 use Rattle.std.specs.Prelude.{◌≡◌, ◌++◌, ◌+◌, ◌*◌, ◌==◌, [], ◌∷◌, ℕ, List, Result, OnOk, OnErr}
-use Rattle.std.specs.Prelude.{refl, cond, get_or}
+use Rattle.std.specs.Prelude.{refl, cond, get_or, IfOk}
 use Rattle.std.specs.Coded.{Coded, code_by, coded×, coded_ℕ, coded_list}
 use Rattle.lift_disk.specs.Trace.{Access}
 use Rattle.lift_disk.specs.Trace.Access.{Read as ReadSector, Write as WriteSector}
@@ -20,6 +20,8 @@ pub data FileCall : Type 0 where
   SetLength : ℕ → FileCall
   -- all of the file is made safe
   SyncAll : FileCall
+  -- the file's length in bytes, which it told
+  GetLength : ℕ → FileCall
 
 -- how the logic stores a call
 abbrev pub to_parts : FileCall → ℕ × (ℕ × List (List ℕ))
@@ -29,12 +31,14 @@ to_parts SyncData = (2, (0, []))
 to_parts (SetLength bytes) = (3, (bytes, []))
 to_parts SyncAll = (4, (0, []))
 to_parts (ReadSectors offset run) = (5, (offset, run))
+to_parts (GetLength bytes) = (6, (bytes, []))
 
 abbrev pub of_parts : ℕ × (ℕ × List (List ℕ)) → FileCall
 of_parts p = cond (p.0 == 0) (Read p.1.0 (get_or p.1.1 0 []))
     (cond (p.0 == 1) (Write p.1.0 (get_or p.1.1 0 []))
     (cond (p.0 == 2) SyncData
-    (cond (p.0 == 3) (SetLength p.1.0) (cond (p.0 == 4) SyncAll (ReadSectors p.1.0 p.1.1)))))
+    (cond (p.0 == 3) (SetLength p.1.0)
+    (cond (p.0 == 4) SyncAll (cond (p.0 == 5) (ReadSectors p.1.0 p.1.1) (GetLength p.1.0))))))
 
 pub there_and_back : (call : FileCall) → of_parts (to_parts call) ≡ call
 there_and_back (Read offset bytes) = refl
@@ -43,6 +47,7 @@ there_and_back SyncData = refl
 there_and_back (SetLength bytes) = refl
 there_and_back SyncAll = refl
 there_and_back (ReadSectors offset run) = refl
+there_and_back (GetLength bytes) = refl
 
 abbrev pub file_calls_code : Coded (List FileCall)
 file_calls_code = coded_list
@@ -67,11 +72,18 @@ without_given (Write offset bytes ∷ calls) = Write offset bytes ∷ without_gi
 without_given (SyncData ∷ calls) = SyncData ∷ without_given calls
 without_given (SetLength bytes ∷ calls) = SetLength bytes ∷ without_given calls
 without_given (SyncAll ∷ calls) = SyncAll ∷ without_given calls
+without_given (GetLength bytes ∷ calls) = GetLength bytes ∷ without_given calls
 
 -- Exactly one call of a file: this one if it succeeded, else one that failed.
 pub record IsOneCall {F T E : Type 0} (gives : F → FileCall → F → Type 0) (fails : F → F → Type 0)
     (result : Result T E) (call : FileCall) (old new : F) : Type 0 where
   pub made : OnOk result (gives old call new)
+  pub failed : OnErr result (fails old new)
+
+-- The same of a call that gave an answer: it succeeded with this one.
+pub record IsOneAnswer {F T E : Type 0} (gives : F → FileCall → F → Type 0)
+    (fails : F → F → Type 0) (result : Result T E) (call : T → FileCall) (old new : F) : Type 0 where
+  pub made : IfOk result (λ answer. gives old (call answer) new)
   pub failed : OnErr result (fails old new)
 
 -- One call more if it succeeded, else one failure more.

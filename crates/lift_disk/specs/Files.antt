@@ -2,7 +2,7 @@
 use Rattle.std.specs.Prelude.{ℕ, ◌≡◌, ◌≤◌, ◌-◌, ◌*◌, ◌/◌, if◌then◌else◌, nat_lt, List, [], ◌∷◌}
 use Rattle.std.specs.Prelude.{◌++◌, false, slice_get, Some}
 use Rattle.lift_disk.specs.FileCalls.{FileCall}
-use Rattle.lift_disk.specs.FileCalls.FileCall.{ReadSectors}
+use Rattle.lift_disk.specs.FileCalls.FileCall.{ReadSectors, GetLength}
 use Rattle.lift_disk.specs.Traced.{making_of, calls_of, failures_of}
 use Rattle.lift_disk.specs.Disk.{DiskState}
 use Rattle.lift_disk.specs.declared.sectors.SectorFile.{SectorFile}
@@ -61,3 +61,10 @@ file_making_of d = making_below d.device
 
 abbrev pub file_calls_of : FileDisk → List FileCall
 file_calls_of d = calls_below d.device
+
+-- Its file was there and was not made: it was asked for its length once, before the calls of the
+-- device, and the sectors are the whole ones of what it told.
+pub record IsMeasured (d : FileDisk) : Type 0 where
+  pub bytes : ℕ
+  pub asked : file_making_of d ≡ GetLength bytes ∷ []
+  pub size : (file_state_of d).size ≡ sectors_in bytes

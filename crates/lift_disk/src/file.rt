@@ -44,13 +44,14 @@ pub struct FileDisk {
 pub type BufferedFile = Buffered<FileDisk>;
 
 impl FileDisk {
-    ghost use Rattle.lift_disk.specs.Files.{file_state_of, file_making_of, file_calls_of};
+    ghost use Rattle.lift_disk.specs.Files.{IsMeasured, file_state_of, file_making_of};
+    ghost use Rattle.lift_disk.specs.Files.{file_calls_of};
 
     /// Opens a file that is there. Its whole sectors count, 4,294,967,295 at most; the end that is
     /// less than one doesn't. A pipe or a terminal isn't opened, so that nothing waits for its
     /// other end.
     pub fn open<R: Files<File = File>>(rt: &R, path: &str) -> Result<FileDisk, FileFault>
-        ensures making { IfOk result (λ disk. file_making_of disk ≡ []) }
+        ensures measured { IfOk result IsMeasured }
         ensures uncalled { IfOk result (λ disk. file_calls_of disk ≡ []) }
         ensures failures { IfOk result (λ disk. (file_state_of disk).failures ≡ 0) }
         ensures calls { IfOk result (λ disk. (file_state_of disk).calls ≡ 0) }
@@ -60,7 +61,7 @@ impl FileDisk {
         if !fs::metadata(rt, path).map_err(FileFault::System)?.is_file() {
             return Err(FileFault::NotAFile);
         }
-        let file = TracedFile::open(rt, path).map_err(FileFault::System)?;
+        let mut file = TracedFile::open(rt, path).map_err(FileFault::System)?;
         let bytes = file.length().map_err(FileFault::System)?;
         Ok(FileDisk::over(file, whole_sectors(bytes)))
     }

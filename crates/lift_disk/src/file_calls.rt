@@ -17,6 +17,8 @@ pub(crate) enum Called<'a> {
     SyncData,
     SetLength(u64),
     SyncAll,
+    /// It told this length.
+    GetLength(u64),
 }
 
 #[derive(Drop)]

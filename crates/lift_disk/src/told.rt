@@ -1,8 +1,8 @@
 //! A file whose calls are told.
 ghost use Rattle.std.specs.Prelude.{⊤};
-ghost use Rattle.lift_disk.specs.FileCalls.{FileCall, IsOneCall};
+ghost use Rattle.lift_disk.specs.FileCalls.{FileCall, IsOneAnswer, IsOneCall};
 ghost use Rattle.lift_disk.specs.FileCalls.FileCall.{Read, ReadSectors, Write, SyncData};
-ghost use Rattle.lift_disk.specs.FileCalls.FileCall.{SetLength, SyncAll};
+ghost use Rattle.lift_disk.specs.FileCalls.FileCall.{GetLength, SetLength, SyncAll};
 
 use std::fs::OpenFile;
 use std::io;
@@ -40,6 +40,10 @@ pub trait ToldFile {
     /// Makes all of it safe, its length too.
     fn sync_all_told(&mut self) -> io::Result<()>
         ensures one { IsOneCall gives fails result SyncAll self.old self.new };
+
+    /// How many bytes it has.
+    fn length_told(&mut self) -> io::Result<u64>
+        ensures one { IsOneAnswer gives fails result GetLength self.old self.new };
 }
 
 impl<F: FileExt + OpenFile> ToldFile for F {
@@ -69,5 +73,9 @@ impl<F: FileExt + OpenFile> ToldFile for F {
 
     fn sync_all_told(&mut self) -> io::Result<()> {
         self.sync_all()
+    }
+
+    fn length_told(&mut self) -> io::Result<u64> {
+        Ok(self.metadata()?.len())
     }
 }

@@ -1,14 +1,14 @@
 //! A file whose calls are listed.
-ghost use Rattle.std.specs.Prelude.{◌≡◌, ◌↔◌, [], ◌∷◌, IfOk, IsOk};
-ghost use Rattle.lift_disk.specs.FileCalls.{IsOneCall, MakesCall};
+ghost use Rattle.std.specs.Prelude.{◌≡◌, ◌↔◌, ◌++◌, [], ◌∷◌, IfOk, IsOk, OnErr};
+ghost use Rattle.lift_disk.specs.FileCalls.{IsOneAnswer, IsOneCall, MakesCall};
 ghost use Rattle.lift_disk.specs.FileCalls.FileCall.{Read, ReadSectors, Write, SyncData};
-ghost use Rattle.lift_disk.specs.FileCalls.FileCall.{SetLength, SyncAll};
+ghost use Rattle.lift_disk.specs.FileCalls.FileCall.{GetLength, SetLength, SyncAll};
 
 use crate::DiskFault;
 use crate::file_calls::{Called, ProofFileCalls};
 use crate::told::ToldFile;
 use lift_base::ProofCount;
-use std::fs::{File, Files, OpenFile, OpenOptions};
+use std::fs::{File, Files, OpenOptions};
 use std::io;
 
 /// A file with the list of its calls that have succeeded and the count of those that have failed,
@@ -52,11 +52,6 @@ impl TracedFile<File> {
             .open(rt, path)?;
         TracedFile::sized(file, bytes)
     }
-
-    /// How many bytes the file has.
-    pub(crate) fn length(&self) -> io::Result<u64> {
-        Ok(self.file.metadata()?.len())
-    }
 }
 
 impl<F: ToldFile + Drop> TracedFile<F> {
@@ -91,6 +86,21 @@ impl<F: ToldFile + Drop> TracedFile<F> {
         traced.file.sync_all_told()?;
         traced.making = traced.making.then(&Called::SyncAll);
         Ok(traced)
+    }
+
+    /// How many bytes the file has. It is listed with the calls that made the file.
+    pub(crate) fn length(&mut self) -> io::Result<u64>
+        ensures one { IsOneAnswer F.gives F.fails result GetLength (file_of self.old)
+            (file_of self.new) }
+        ensures making { IfOk result (λ bytes.
+            making_of self.new ≡ making_of self.old ++ GetLength bytes ∷ []) }
+        ensures unlisted { OnErr result (making_of self.new ≡ making_of self.old) }
+        ensures calls { calls_of self.new ≡ calls_of self.old }
+        ensures failures { failures_of self.new ≡ failures_of self.old }
+    {
+        let bytes = self.file.length_told()?;
+        self.making = self.making.then(&Called::GetLength(bytes));
+        Ok(bytes)
     }
 
     /// Lists a call of the file that succeeded, or counts one that failed.

@@ -14,7 +14,7 @@ use Rattle.lift_keeper.specs.declared.fault.KeeperFault.{KeeperFault}
 use Rattle.lift_keeper.specs.declared.fault.KeeperFault.TheVariants.{Journal as OfJournal, OtherBuilding, BadEntry}
 use Rattle.lift_program.specs.Images.{IsOnlyRead, IsToBeServed, IsToBeShown, ServedImage, ShownImage, served_state_of, shown_file_of, shown_state_of}
 use Rattle.lift_disk.specs.Below.{below}
-use Rattle.lift_disk.specs.Files.{file_making_of, file_state_of}
+use Rattle.lift_disk.specs.Files.{IsMeasured, file_state_of}
 use Rattle.lift_disk.specs.declared.file.FileDisk.{FileDisk}
 use Rattle.lift_program.specs.Ends.{IsFileFault, IsFormatFault, IsMadeWith, IsReplayFault, IsReportOfFault, IsServeFault, IsShowFault, IsShowingFault}
 use Rattle.lift_program.specs.Faults.{of_building}
@@ -49,17 +49,17 @@ pub has_building : (plan : Plan) (text : List ℕ) → length text ≤ most_text
 has_building plan text short described = record { text = text; short = short; described = described }
 
 pub has_keeper : (plan : Plan) (opened : ServedImage) (keeper : KeeperView ServedImage) → (served_state_of opened).calls ≡ 0 → (served_state_of opened).failures ≡ 0
-    → (file_state_of (below opened)).calls ≡ 0 → file_making_of (below opened) ≡ []
+    → (file_state_of (below opened)).calls ≡ 0 → IsMeasured (below opened)
     → Reopens plan (served_state_of opened) (served_state_of keeper.writer.device) keeper.writer.register keeper.writer.half keeper.writer.is_second keeper.writer.used
     → keeper.writer.is_broken ≡ false → keeper.writer.plan ≡ plan → HasKeeperOf plan keeper
-has_keeper plan opened keeper uncalled unhurt untouched unmade recovers whole own =
-    record { opened = opened; fresh = record { uncalled = uncalled; unhurt = unhurt; untouched = untouched; unmade = unmade }; recovers = recovers; whole = whole; own = own }
+has_keeper plan opened keeper uncalled unhurt untouched measured recovers whole own =
+    record { opened = opened; fresh = record { uncalled = uncalled; unhurt = unhurt; untouched = untouched; measured = measured }; recovers = recovers; whole = whole; own = own }
 
 pub has_no_keeper : (plan : Plan) (opened left : ServedImage) (fault : KeeperFault) → (served_state_of opened).calls ≡ 0 → (served_state_of opened).failures ≡ 0
-    → (file_state_of (below opened)).calls ≡ 0 → file_making_of (below opened) ≡ []
+    → (file_state_of (below opened)).calls ≡ 0 → IsMeasured (below opened)
     → RefusesReopening plan (served_state_of opened) (served_state_of left) fault → HasNoKeeperOf ServedImage IsToBeServed served_state_of plan fault
-has_no_keeper plan opened left fault uncalled unhurt untouched unmade refused =
-    record { opened = opened; fresh = record { uncalled = uncalled; unhurt = unhurt; untouched = untouched; unmade = unmade }; left = left; refused = refused }
+has_no_keeper plan opened left fault uncalled unhurt untouched measured refused =
+    record { opened = opened; fresh = record { uncalled = uncalled; unhurt = unhurt; untouched = untouched; measured = measured }; left = left; refused = refused }
 
 -- what the making of a journal leaves
 pub is_made : (plan : Plan) (half : ℕ) (disk : FileDisk) → HasBuilding plan → (file_state_of disk).trace ≡ format_calls (shape_of plan half)

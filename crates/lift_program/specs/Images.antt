@@ -1,8 +1,8 @@
 -- What is said of the devices over a journal's file.
-use Rattle.std.specs.Prelude.{◌≡◌, []}
+use Rattle.std.specs.Prelude.{◌≡◌}
 use Rattle.lift_disk.specs.Below.{below, buffered_state_of}
 use Rattle.lift_disk.specs.Disk.{DiskState}
-use Rattle.lift_disk.specs.Files.{file_making_of, file_state_of}
+use Rattle.lift_disk.specs.Files.{IsMeasured, file_state_of}
 use Rattle.lift_disk.specs.contracts.file.FileDiskDisk.TheImpl.{ghosts as of_file}
 use Rattle.lift_disk.specs.contracts.file.FileDiskRunDisk.TheImpl.{ghosts as runs_of_file}
 use Rattle.lift_disk.specs.declared.buffered.Buffered.{Buffered}
@@ -33,13 +33,13 @@ shown_state_of d = buffered_state_of unwritten_state_of d
 abbrev pub shown_file_of : ShownImage → FileDisk
 shown_file_of d = unwritten_file_of (below d)
 
--- An image was opened: its file was there and was not made, no call was made of it or of its file,
--- and none has failed.
+-- An image was opened: its file was there and was not made, but asked for its length once, which
+-- gives its sectors; no other call was made of it or of its file, and none has failed.
 pub record IsOpened (image : DiskState) (file : FileDisk) : Type 0 where
   pub uncalled : image.calls ≡ 0
   pub unhurt : image.failures ≡ 0
   pub untouched : (file_state_of file).calls ≡ 0
-  pub unmade : file_making_of file ≡ []
+  pub measured : IsMeasured file
 
 -- one that is to be served
 abbrev pub IsToBeServed : ServedImage → Type 0

@@ -4,7 +4,7 @@ ghost use Rattle.std.specs.Prelude.{◌≡◌, ◌≢◌, ◌≤◌, ◌+◌, �
 ghost use Rattle.std.specs.Prelude.{Err, false, length, vec_len};
 ghost use Rattle.std.specs.Str.{IsUtf8};
 ghost use Rattle.lift_disk.specs.FileCalls.FileCall.{SetLength, SyncAll};
-ghost use Rattle.lift_disk.specs.Files.{file_making_of, file_state_of};
+ghost use Rattle.lift_disk.specs.Files.{IsMeasured, file_making_of, file_state_of};
 ghost use Rattle.lift_replay.specs.Reading.{TakesUpTo};
 ghost use Rattle.lift_program.specs.Ends.{IsFileFault, IsImageFault, IsUncalled, IsUnread};
 ghost use Rattle.lift_program.specs.Images.{IsToBeShown};
@@ -154,7 +154,7 @@ pub fn image_in<F: Files<File = File>>(rt: &F, path: &str) -> Result<FileDisk, F
     ensures failures { IfOk result (λ disk. (file_state_of disk).failures ≡ 0) }
     ensures calls { IfOk result (λ disk. (file_state_of disk).calls ≡ 0) }
     ensures writes { IfOk result (λ disk. (file_state_of disk).writes ≡ 0) }
-    ensures unmade { IfOk result (λ disk. file_making_of disk ≡ []) }
+    ensures measured { IfOk result IsMeasured }
     ensures fault { IfErr result (IsFileFault OfImage) }
 {
     FileDisk::open(rt, path).map_err(refused)
