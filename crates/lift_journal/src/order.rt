@@ -1,7 +1,7 @@
 //! The order of the records in a chain.
-ghost use Rattle.std.specs.Prelude.{◌≡◌, ◌↔◌, IsTrue};
+ghost use Rattle.std.specs.Prelude.{◌≡◌, ◌↔◌, IsTrue, Some};
 ghost use Rattle.lift_journal.specs.Order.{IsEntry, MayFollow, MayFollowRow, MayFollowLast};
-ghost use Rattle.lift_journal.specs.Order.{IsInOrderBehind, last_behind, MayEnd};
+ghost use Rattle.lift_journal.specs.Order.{IsInOrder, IsInOrderBehind, last_behind, MayEnd};
 
 use lift_base::{Letter, Record, Terminal};
 
@@ -37,15 +37,35 @@ fn may_follow_last(terminal: Terminal, next: &Record) -> bool
     }
 }
 
+fn may_stand_behind(last: &Record, next: &Record) -> bool
+    ensures { IsTrue result ↔ MayFollow (Some last.now) next.now }
+{
+    match *last {
+        Record::Row(row) => may_follow_row(row.car, next),
+        Record::Last { terminal, .. } => may_follow_last(terminal, next),
+        Record::Entry(_) | Record::Done { .. } => is_entry(next),
+    }
+}
+
 fn may_follow(last: &Option<Record>, next: &Record) -> bool
     ensures { IsTrue result ↔ MayFollow last.now next.now }
 {
-    match *last {
+    match last {
         None => true,
-        Some(Record::Row(row)) => may_follow_row(row.car, next),
-        Some(Record::Last { terminal, .. }) => may_follow_last(terminal, next),
-        Some(Record::Entry(_) | Record::Done { .. }) => is_entry(next),
+        Some(last) => may_stand_behind(last, next),
     }
+}
+
+/// Whether these records may stand in this order, whatever stands before them.
+fn is_in_order(records: &[Record]) -> bool
+    ensures { IsTrue result ↔ IsInOrder records.now }
+{
+    for k in 1..records.len() {
+        if !may_stand_behind(&records[k - 1], &records[k]) {
+            return false;
+        }
+    }
+    true
 }
 
 /// Goes on behind these records, if they may stand in this order behind that one.
@@ -53,12 +73,13 @@ pub fn pass_records(last: &mut Option<Record>, records: &[Record]) -> bool
     ensures ordered { IsTrue result ↔ IsInOrderBehind last.old records.now }
     ensures passed { IsTrue result → last.new ≡ last_behind last.old records.now }
 {
-    for next in records {
-        if !may_follow(last, next) {
-            return false;
-        }
-        *last = Some(*next);
+    if records.is_empty() {
+        return true;
     }
+    if !may_follow(last, &records[0]) || !is_in_order(records) {
+        return false;
+    }
+    *last = Some(records[records.len() - 1]);
     true
 }
 

@@ -1,14 +1,15 @@
 //! The reading of a batch.
-ghost use Rattle.std.specs.Prelude.{◌≡◌, ◌≤◌, ◌-◌, ◌++◌, ◌↔◌, IsTrue, IfSome, IfNone, Some, List};
-ghost use Rattle.std.specs.Prelude.{IsFalse, [], ◌∷◌, ◌<◌, length, take, drop, replicate};
+ghost use Rattle.std.specs.Prelude.{◌≡◌, ◌≤◌, ◌-◌, ◌+◌, ◌++◌, ◌↔◌, IsTrue, IfSome, IfNone, Some};
+ghost use Rattle.std.specs.Prelude.{List, IsFalse, [], ◌∷◌, ◌<◌, length, take, drop, replicate};
 ghost use Rattle.lift_base.specs.declared.history.Record.{Record as RecordValue};
 ghost use Rattle.lift_record.specs.Header.{IsHeaderSpelling};
-ghost use Rattle.lift_record.specs.Record.{IsSpellingOf};
+ghost use Rattle.lift_record.specs.Record.{IsSpellingOf, dir_byte};
+ghost use Rattle.lift_record.specs.declared.version.Version.{Version as VersionValue};
 ghost use Rattle.lift_journal.specs.Seen.{IsRecordsIn, IsTailOf};
 
 use crate::bytes::{put, sixteen};
 use arrayvec::ArrayVec;
-use lift_base::{Record, push_some};
+use lift_base::{Dir, Entry, Floor, Letter, Number, Record, push_some};
 use lift_record::{Header, Version, decode, decode_header};
 
 /// The header at the front of a body, if it is one and has this number.
@@ -27,6 +28,54 @@ pub fn header_of(first: &[u8; 512], number: u32) -> Option<Header>
 /// The kind of a stop's record.
 const STOP: u8 = 2;
 
+fn dir_of(byte: u8) -> Option<Dir>
+    ensures { IfSome result (λ dir. dir_byte dir ≡ byte) }
+{
+    match byte {
+        0 => Some(Dir::Up),
+        1 => Some(Dir::Down),
+        _ => None,
+    }
+}
+
+/// The stop that these bytes spell, in either version. Most records are stops, and here each of
+/// their numbers is looked at once.
+fn stop_of(bytes: &[u8; 16]) -> Option<Record>
+    ensures { IfSome result (λ content. (version : VersionValue)
+        → IsSpellingOf version bytes.now content) }
+{
+    let [
+        kind,
+        car,
+        floor,
+        dir,
+        third,
+        party,
+        status,
+        blank,
+        a,
+        b,
+        c,
+        d,
+        e,
+        f,
+        g,
+        h,
+    ] = *bytes;
+    let content = u32::from_be_bytes([third, party, status, blank]);
+    let number = u32::from_be_bytes([a, b, c, d]);
+    let end = u32::from_be_bytes([e, f, g, h]);
+    if kind != STOP || content != 0 || number == 0 || end != 0 {
+        return None;
+    }
+    Some(Record::Entry(Entry::Stop {
+        car: Letter::new(car)?,
+        number: Number::new(number)?,
+        floor: Floor::new(floor)?,
+        dir: dir_of(dir)?,
+    }))
+}
+
 /// Adds the record that these bytes spell, if they spell one.
 fn push_decoded(version: Version, bytes: &[u8; 16], records: &mut ArrayVec<Record, 63>) -> bool
     requires room { length records.old.items < 63 }
@@ -40,32 +89,46 @@ fn push_decoded(version: Version, bytes: &[u8; 16], records: &mut ArrayVec<Recor
     found.is_some()
 }
 
-/// The same, as a call of its own.
+/// Adds the record that the text spells at this place, if one is spelled there.
 #[inline(never)]
-fn push_apart(version: Version, bytes: &[u8; 16], records: &mut ArrayVec<Record, 63>) -> bool
+fn push_any(
+    version: Version,
+    text: &[u8; 1024],
+    at: usize,
+    records: &mut ArrayVec<Record, 63>,
+) -> bool
+    requires whole { at + 16 ≤ 1024 }
     requires room { length records.old.items < 63 }
-    ensures pushed { IsTrue result → (content : RecordValue) × IsSpellingOf version bytes.now content
+    ensures pushed { IsTrue result → (content : RecordValue)
+        × IsSpellingOf version (take 16 (drop at text.now)) content
         × (records.new.items ≡ records.old.items ++ content ∷ []) }
     ensures none { IsFalse result → (content : RecordValue)
-        → ¬ IsSpellingOf version bytes.now content }
+        → ¬ IsSpellingOf version (take 16 (drop at text.now)) content }
 {
-    push_decoded(version, bytes, records)
+    push_decoded(version, &sixteen(text, at), records)
 }
 
-/// The same. Most records are stops, and where the compiler knows their kind it reads them in half
-/// the steps.
-fn push_next(version: Version, bytes: &[u8; 16], records: &mut ArrayVec<Record, 63>) -> bool
+/// The same, where a stop takes fewer steps.
+fn push_next(
+    version: Version,
+    text: &[u8; 1024],
+    at: usize,
+    records: &mut ArrayVec<Record, 63>,
+) -> bool
+    requires whole { at + 16 ≤ 1024 }
     requires room { length records.old.items < 63 }
-    ensures pushed { IsTrue result → (content : RecordValue) × IsSpellingOf version bytes.now content
+    ensures pushed { IsTrue result → (content : RecordValue)
+        × IsSpellingOf version (take 16 (drop at text.now)) content
         × (records.new.items ≡ records.old.items ++ content ∷ []) }
     ensures none { IsFalse result → (content : RecordValue)
-        → ¬ IsSpellingOf version bytes.now content }
+        → ¬ IsSpellingOf version (take 16 (drop at text.now)) content }
 {
-    if bytes[0] == STOP {
-        push_decoded(version, bytes, records)
-    } else {
-        push_apart(version, bytes, records)
+    let stop = stop_of(&sixteen(text, at));
+    if stop.is_none() {
+        return push_any(version, text, at, records);
     }
+    push_some(records, stop);
+    true
 }
 
 /// So many records behind the header of this text, if they are spelled there.
@@ -78,7 +141,7 @@ fn read_records(version: Version, text: &[u8; 1024], count: usize) -> Option<Arr
 {
     let mut records = ArrayVec::new();
     for k in 0..count {
-        if !push_next(version, &sixteen(text, 16 + 16 * k), &mut records) {
+        if !push_next(version, text, 16 + 16 * k, &mut records) {
             return None;
         }
     }

@@ -1,36 +1,24 @@
-use Rattle.std.proofs.Common.{◌≡◌, ◌+◌, suc, take, get_or, sym, subst, ap, ◌∙◌, Option, Some, arith}
+use Rattle.std.proofs.Common.{◌≡◌, ◌==◌, false, ◌+◌, ◌-◌, ◌<◌, ◌≤◌, ℕ, zero, suc, List, [], ◌∷◌, length, take, get_or, refl, sym, subst, ap, ◌∙◌, Option, Some, None, arith}
+use Rattle.std.proofs.lemmas.List.{take_all}
 use Rattle.lift_base.specs.declared.history.Record.{Record}
-use Rattle.lift_journal.specs.Order.{MayFollow, IsInOrderBehind, last_behind}
-use Rattle.lift_journal.specs.lemmas.Orders.{order_at, order_more, last_more}
+use Rattle.lift_journal.specs.Order.{last_behind}
+use Rattle.lift_journal.specs.lemmas.Orders.{last_more}
 use Rattle.lift_journal.proofs.order.pass_records.Goals as goal
 
-pub returns-then-not-may_follow-clause-ordered : goal.returns-then-not-may_follow-clause-ordered
-returns-then-not-may_follow-clause-ordered c =
-    let next = c.next-item.result in
-    let records = c.args.records.now in
-    let k = c.loop-next.next-index in (
-      λ is. absurd (cc is),
-      λ order.
-          let there : MayFollow (last_behind c.args.last.now (take k records)) (get_or records k next) = order_at c.args.last.now records k next c.loop-next-test.true order in
-          let here : MayFollow c.loop-next.last next =
-          subst (λ (r : Record). MayFollow c.loop-next.last r) (sym c.next-item.is)
-          (subst (λ (l : Option Record). MayFollow l (get_or records k next)) (sym c.loop-next.invariant.passed) there) in
-          sym c.if-not-may_follow.true ∙ c.may_follow.ensures.1 here,
-    )
+-- the last of some records
+last_is : (last : Option Record) (records : List Record) (blank : Record) → 1 ≤ length records
+    → last_behind last records ≡ Some (get_or records (length records - 1) blank)
+last_is last records blank some =
+    let whole : length records ≤ suc (length records - 1) = omega arith in
+    ap (last_behind last) (sym (take_all (suc (length records - 1)) records whole))
+    ∙ last_more last records (length records - 1) blank (omega (arith, some))
 
-pub loop-next-preserved : goal.loop-next-preserved
-loop-next-preserved c =
-    let next = c.next-item.result in
+some_then : (n : ℕ) → (n == 0) ≡ false → 1 ≤ n
+some_then zero is = absurd (cc is)
+some_then (suc n) is = omega arith
+
+pub returns-clause-passed : goal.returns-clause-passed
+returns-clause-passed c _ =
     let records = c.args.records.now in
-    let k = c.loop-next.next-index in
-    let more : suc k ≡ k + 1 = omega arith in
-    let here : MayFollow c.loop-next.last next = c.may_follow.ensures.0 c.if-not-may_follow.false in
-    let there : MayFollow (last_behind c.args.last.now (take k records)) (get_or records k next) =
-    subst (λ (l : Option Record). MayFollow l (get_or records k next)) c.loop-next.invariant.passed
-    (subst (λ (r : Record). MayFollow c.loop-next.last r) c.next-item.is here) in
-    record {
-      ordered = subst (λ n. IsInOrderBehind c.args.last.now (take n records)) more
-          (order_more c.args.last.now records k next c.loop-next-test.true c.loop-next.invariant.ordered there);
-      passed = ap (λ (r : Record). Some r) c.next-item.is ∙ sym (last_more c.args.last.now records k next c.loop-next-test.true)
-          ∙ ap (λ n. last_behind c.args.last.now (take n records)) more;
-    }
+    let end = c.index-records-records.result in
+    ap (λ (r : Record). Some r) c.index-records-records.is ∙ sym (last_is c.args.last.now records end (some_then (length records) (sym c.is_empty.ensures ∙ c.if-is_empty.false)))

@@ -20,7 +20,7 @@ loop-k-preserved c =
     let pushed = c.push_next.ensures.pushed c.if-not-push_next.false in
     let spells = pushed.1 in
     let same : take 16 (drop (16 * c.loop-k.k) (drop 16 text)) ≡ spelling_of c.args.version pushed.0 =
-    sym (piece_is text c.loop-k.k) ∙ sym c.sixteen.ensures ∙ spells.spelled in
+    sym (piece_is text c.loop-k.k) ∙ spells.spelled in
     subst (IsRecordsIn c.args.version (drop 16 text) (c.loop-k.k + 1)) (sym pushed.2)
     (records_more c.args.version (drop 16 text) c.loop-k.k c.loop-k.records.items pushed.0 c.loop-k.invariant
     (record { is_record = (spells.typed, spells.lawful); sayable = spells.sayable })
@@ -31,8 +31,8 @@ returns-then-not-push_next-clause-none c records there =
     let text = c.args.text.now in
     let next = get_or records c.loop-k.k (Done 0) in
     let lawful : IsRecordIn c.args.version next = there.lawful c.loop-k.k (Done 0) (omega (arith, there.counted, c.loop-k-test.true)) in
-    let spelled : c.sixteen.result ≡ spelling_of c.args.version next =
-    c.sixteen.ensures ∙ piece_is text c.loop-k.k ∙ record_at c.args.version (drop 16 text) c.args.count c.loop-k.k records (Done 0) there c.loop-k-test.true in
+    let spelled : take 16 (drop (16 + 16 * c.loop-k.k) text) ≡ spelling_of c.args.version next =
+    piece_is text c.loop-k.k ∙ record_at c.args.version (drop 16 text) c.args.count c.loop-k.k records (Done 0) there c.loop-k-test.true in
     c.push_next.ensures.none c.if-not-push_next.true next (record {
       typed = lawful.is_record.0;
       lawful = lawful.is_record.1;
