@@ -10,7 +10,7 @@ use lift_building::Building;
 use lift_cost::{NewCall, total_cost};
 use lift_decider::Decider;
 use lift_policy::{Eligible, Etd, FewestOpen, Policy, View};
-use std::alloc::Global;
+use std::alloc::{AllocError, Global};
 
 /// What is decided again and again. The open calls are the same after each round.
 #[derive(Clone, Copy)]
@@ -214,7 +214,9 @@ fn least_plainly(building: &Building, view: &View, call: &NewCall, letters: &[Le
 
 /// Allots the open calls, and then decides as often as the load says.
 pub(crate) fn decide(alloc: Global, load: &Load) -> Result<Decided, Fault> {
-    let building = Building::read(alloc, &text_of(alloc, load.cars)?)?;
+    let text = text_of(alloc, load.cars)?;
+    // the building is this program's own, so that only memory may want
+    let building = Building::read(alloc, &text).map_err(|_fault| Fault::Memory(AllocError))?;
     let mut decider = Decider::new(&building);
     place_all(&mut decider, load.cars);
     fill(&mut decider, load.calls);

@@ -1,66 +1,49 @@
 //! Why a workload ends undone.
-use lift_building::BuildingFault;
 use lift_disk::{DiskFault, FileFault};
 use lift_journal::JournalFault;
 use std::alloc::AllocError;
 use std::io;
+use thiserror::Error;
 
-#[derive(Clone, Copy)]
+#[derive(Debug, Drop, Error)]
 pub(crate) enum Fault {
     /// The words are those of no workload.
+    #[error("words")]
     Words,
-    /// A file refused a call.
-    File,
+    /// The system refused a call of a file or of the standard output.
+    #[error("file")]
+    File(#[from] io::Error),
+    /// What stands there is no plain file.
+    #[error("not a file")]
+    NotAFile,
+    /// A call of a device failed.
+    #[error("device")]
+    Device,
     /// The journal refused.
+    #[error("journal")]
     Journal,
     /// A growth was refused.
-    Memory,
-}
-
-impl Fault {
-    pub(crate) fn name(&self) -> &'static str {
-        match self {
-            Fault::Words => "words",
-            Fault::File => "file",
-            Fault::Journal => "journal",
-            Fault::Memory => "memory",
-        }
-    }
-}
-
-impl From<AllocError> for Fault {
-    fn from(_error: AllocError) -> Fault {
-        Fault::Memory
-    }
-}
-
-impl From<io::Error> for Fault {
-    fn from(_error: io::Error) -> Fault {
-        Fault::File
-    }
+    #[error("memory")]
+    Memory(#[from] AllocError),
 }
 
 impl From<FileFault> for Fault {
-    fn from(_fault: FileFault) -> Fault {
-        Fault::File
+    fn from(fault: FileFault) -> Fault {
+        match fault {
+            FileFault::System(error) => Fault::File(error),
+            FileFault::NotAFile => Fault::NotAFile,
+        }
     }
 }
 
 impl From<DiskFault> for Fault {
     fn from(_fault: DiskFault) -> Fault {
-        Fault::File
+        Fault::Device
     }
 }
 
 impl From<JournalFault> for Fault {
     fn from(_fault: JournalFault) -> Fault {
         Fault::Journal
-    }
-}
-
-/// The building is this program's own, so that only memory may want.
-impl From<BuildingFault> for Fault {
-    fn from(_fault: BuildingFault) -> Fault {
-        Fault::Memory
     }
 }

@@ -67,7 +67,7 @@ fn main(rt: HostRuntime) -> ExitCode {
         Ok(()) => ExitCode::from(0),
         Err(fault) => {
             // where the line can't be written, the status alone tells
-            let _ = eprintln!(rt; "lift_bench: {}", fault.name());
+            let _ = eprintln!(rt; "lift_bench: {fault}");
             ExitCode::from(1)
         }
     }

@@ -1,5 +1,5 @@
 -- What each line of a script spells.
-use Rattle.std.specs.Prelude.{ℕ, ◌≡◌, ◌<◌, ◌≤◌, List, [], ◌∷◌, codes}
+use Rattle.std.specs.Prelude.{ℕ, ◌≡◌, ◌<◌, ◌≤◌, List, [], ◌∷◌, codes, Option, Some, None}
 use Rattle.std.specs.Fmt.{decimal}
 use Rattle.lift_base.specs.Text.{AreWords, ArePartyWords, letter_text, dir_text}
 use Rattle.lift_disk.specs.declared.outcome.Outcome.{Outcome}
@@ -49,6 +49,12 @@ IsInRange (Cost kiosk floor party) = (kiosk < 47) × (floor < 64) × (1 ≤ part
 IsInRange Rows = Unit {0}
 IsInRange (Fuse calls) = calls ≤ 1000000
 IsInRange (Cut outcome) = IsOutcomeInRange outcome
+
+-- What is read from these words: a line that they ask for, and none exactly where they ask for none
+-- in range.
+abbrev pub IsReadAs : List (List ℕ) → Option ScriptLine → Type 0
+IsReadAs words (Some wanted) = AskFor words wanted × IsInRange wanted
+IsReadAs words None = (wanted : ScriptLine) → IsInRange wanted → AskFor words wanted → ⊥
 
 -- The words of this line ask for this. What spells nothing in range is malformed.
 abbrev pub Spells : List ℕ → ScriptLine → Type 0

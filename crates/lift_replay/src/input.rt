@@ -4,10 +4,9 @@ ghost use Rattle.std.specs.Prelude.{◌≡◌, ℕ, List, ◌+◌, ◌≤◌, �
 ghost use Rattle.std.specs.Prelude.{OnErr, OnOk, IfSome, ◌⊎◌, true, false};
 ghost use Rattle.std.specs.Io.KnownBytes.{Consumes, IsAtEnd, Keeps};
 ghost use Rattle.lift_replay.specs.Reading.{IsOfUse, TakesByEach, TakesUpTo};
-ghost use Rattle.lift_replay.specs.declared.input.InputFault.TheVariants.{Memory as NoMemory};
 
 use lift_base::text::{Counted, ReadFault};
-use std::alloc::{AllocError, Global};
+use std::alloc::Global;
 use std::io::Read;
 
 /// Why the bytes were not read.
@@ -17,14 +16,6 @@ pub enum InputFault {
     Read,
     /// A growth was refused.
     Memory,
-}
-
-impl From<AllocError> for InputFault {
-    ghost from_gives = { λ _ fault. fault ≡ NoMemory };
-
-    fn from(_error: AllocError) -> InputFault {
-        InputFault::Memory
-    }
 }
 
 const CHUNK: usize = 4096;
@@ -60,7 +51,9 @@ fn read_some<R: Read + Drop>(
     let part = &mut buffer[..room];
     match input.read(part) {
         Ok(count) => {
-            bytes.extend_from_slice(&part[..count])?;
+            if bytes.extend_from_slice(&part[..count]).is_err() {
+                return Err(InputFault::Memory);
+            }
             Ok(count != 0)
         }
         Err(_) => Err(InputFault::Read),

@@ -16,7 +16,7 @@ ghost use Rattle.lift_disk.specs.declared.outcome.Outcome.{Outcome as Cut};
 use crate::line::ScriptLine;
 use crate::parsing::parse;
 use crate::report::{push_bad, push_fault, push_rows, push_spent, push_turn, push_waiting};
-use crate::shown::{push_costs_between, push_stops};
+use crate::shown::{Offer, push_stops};
 use crate::station::Station;
 use lift_base::{Body, Floor, Letter, Number, Party, Terminal};
 use lift_building::Building;
@@ -160,7 +160,12 @@ fn show_costs(
     let building = station.building;
     let from = building.kiosk_floor(kiosk);
     let call = NewCall { from, to, party };
-    push_costs_between(report, building, &keeper.view(), &call)
+    let offer = Offer {
+        building,
+        view: &keeper.view(),
+        call: &call,
+    };
+    offer.push_line(report)
 }
 
 /// The open calls, where they are known to be safe.
@@ -177,25 +182,14 @@ fn show_rows(report: &mut String, station: &Station) -> Result<(), AllocError>
     push_rows(report, keeper.register())
 }
 
-/// A kiosk asks for a car, or is told why it can't.
-fn push_call(
-    report: &mut String,
-    station: &mut Station,
-    kiosk: u8,
-    number: Number,
-    body: Body,
-) -> Result<(), AllocError>
-    requires { kiosk < length station.old.building.now.kiosks }
-    ensures asks { OnOk result ((told : List ℕ)
-        × Asks station.old.terminals.seats.items station.new.terminals.seats.items
-        station.old.clerk.seat station.new.clerk.seat (16 + kiosk) number body told
-        × (string_bytes report.new ≡ string_bytes report.old ++ told)) }
-    ensures building { station.new.building ≡ station.old.building }
-    ensures clerk { KeepsKeeper station.old.clerk station.new.clerk }
+/// The terminal of a kiosk of the building.
+fn terminal_of(building: &Building, kiosk: u8) -> Terminal
+    requires { kiosk < length building.now.kiosks }
+    ensures { result ≡ 16 + kiosk }
 {
-    let _limit = station.building.kiosks();
+    let _limit = building.kiosks();
     match Terminal::of_kiosk(kiosk) {
-        Some(terminal) => push_ask(report, station, terminal, number, body),
+        Some(terminal) => terminal,
         None => unreachable!(),
     }
 }
@@ -245,7 +239,10 @@ fn carry_out(
             number,
             floor,
             party,
-        } => push_call(report, station, kiosk, number, Body::Call(floor, party))?,
+        } => {
+            let terminal = terminal_of(station.building, kiosk);
+            push_ask(report, station, terminal, number, Body::Call(floor, party))?;
+        }
         ScriptLine::Turn => push_turn_of(report, station)?,
         ScriptLine::Stops { car } => show_stops(report, station, car)?,
         ScriptLine::Cost {

@@ -3,17 +3,18 @@
 ghost use Rattle.std.specs.Prelude.{◌≡◌, ◌≢◌, ◌<◌, ◌≤◌, ◌⊎◌, ◌∷◌, [], ℕ, List, map, IfSome, IfNone};
 ghost use Rattle.std.specs.Prelude.{codes};
 ghost use Rattle.std.specs.Fmt.{decimal};
-ghost use Rattle.lift_base.specs.Text.{letter_text, dir_text};
-ghost use Rattle.lift_replay.specs.Grammar.{Spells, AskFor, outcome_words, IsOutcomeInRange};
-ghost use Rattle.lift_replay.specs.Grammar.{IsInRange};
+ghost use Rattle.lift_base.specs.Text.{dir_text};
+ghost use Rattle.lift_base.specs.declared.travel.Dir.{Dir as Direction};
+ghost use Rattle.lift_base.specs.lemmas.Texts.{texts};
+ghost use Rattle.lift_replay.specs.Grammar.{Spells, IsReadAs, outcome_words, IsOutcomeInRange};
 ghost use Rattle.lift_disk.specs.declared.outcome.Outcome.{Outcome as Left};
 ghost use Rattle.lift_replay.specs.declared.line.ScriptLine.{ScriptLine as Wanted};
 
 use crate::line::ScriptLine;
-use lift_base::Floor;
 use lift_base::text::{
     dir_of_word, letter_of_word, number_of_word, number_up_to, party_of_words, words_of,
 };
+use lift_base::{Dir, Floor};
 use lift_disk::Outcome;
 
 /// The floor, 0 to 63, that a word names.
@@ -68,183 +69,119 @@ fn outcome_of(words: &[&str]) -> Option<Outcome>
     }
 }
 
-fn place_of(words: &[&str]) -> Option<ScriptLine>
-    ensures some { IfSome result (λ wanted.
-        AskFor (codes "place" ∷ map (λ word. word.now) words.now) wanted × IsInRange wanted) }
-    ensures none { IfNone result ((wanted : Wanted) → IsInRange wanted
-        → AskFor (codes "place" ∷ map (λ word. word.now) words.now) wanted → ⊥) }
+/// The floor and the direction that two words name.
+fn at_of(floor: &str, dir: &str) -> Option<(Floor, Dir)>
+    ensures some { IfSome result (λ at. (floor.now ≡ decimal at.0) × (at.0 < 64)
+        × (dir.now ≡ dir_text at.1)) }
+    ensures none { IfNone result (((at : ℕ) → at < 64 → floor.now ≢ decimal at)
+        ⊎ ((to : Direction) → dir.now ≢ dir_text to)) }
 {
-    match words {
-        [car, floor, dir] => {
-            let car = letter_of_word(car)?;
-            let floor = floor_of(floor)?;
-            let dir = dir_of_word(dir)?;
-            Some(ScriptLine::Place { car, floor, dir })
-        }
-        _ => None,
-    }
+    let floor = floor_of(floor)?;
+    let dir = dir_of_word(dir)?;
+    Some((floor, dir))
+}
+
+fn place_of(words: &[&str]) -> Option<ScriptLine>
+    ensures { IsReadAs (codes "place" ∷ texts words.now) result }
+{
+    let [car, floor, dir] = words else {
+        return None;
+    };
+    let car = letter_of_word(car)?;
+    let (floor, dir) = at_of(floor, dir)?;
+    Some(ScriptLine::Place { car, floor, dir })
 }
 
 fn call_of(words: &[&str]) -> Option<ScriptLine>
-    ensures some { IfSome result (λ wanted.
-        AskFor (codes "call" ∷ map (λ word. word.now) words.now) wanted × IsInRange wanted) }
-    ensures none { IfNone result ((wanted : Wanted) → IsInRange wanted
-        → AskFor (codes "call" ∷ map (λ word. word.now) words.now) wanted → ⊥) }
+    ensures { IsReadAs (codes "call" ∷ texts words.now) result }
 {
-    match words {
-        [kiosk, number, floor, party @ ..] => {
-            let kiosk = kiosk_of(kiosk)?;
-            let number = number_of_word(number)?;
-            let floor = floor_of(floor)?;
-            let party = party_of_words(party)?;
-            Some(ScriptLine::Call {
-                kiosk,
-                number,
-                floor,
-                party,
-            })
-        }
-        _ => None,
-    }
+    let [kiosk, number, floor, party @ ..] = words else {
+        return None;
+    };
+    Some(ScriptLine::Call {
+        kiosk: kiosk_of(kiosk)?,
+        number: number_of_word(number)?,
+        floor: floor_of(floor)?,
+        party: party_of_words(party)?,
+    })
 }
 
 fn stop_of(words: &[&str]) -> Option<ScriptLine>
-    ensures some { IfSome result (λ wanted.
-        AskFor (codes "stop" ∷ map (λ word. word.now) words.now) wanted × IsInRange wanted) }
-    ensures none { IfNone result ((wanted : Wanted) → IsInRange wanted
-        → AskFor (codes "stop" ∷ map (λ word. word.now) words.now) wanted → ⊥) }
+    ensures { IsReadAs (codes "stop" ∷ texts words.now) result }
 {
-    match words {
-        [car, number, floor, dir] => {
-            let car = letter_of_word(car)?;
-            let number = number_of_word(number)?;
-            let floor = floor_of(floor)?;
-            let dir = dir_of_word(dir)?;
-            Some(ScriptLine::Stop {
-                car,
-                number,
-                floor,
-                dir,
-            })
-        }
-        _ => None,
-    }
+    let [car, number, floor, dir] = words else {
+        return None;
+    };
+    let car = letter_of_word(car)?;
+    let number = number_of_word(number)?;
+    let (floor, dir) = at_of(floor, dir)?;
+    Some(ScriptLine::Stop {
+        car,
+        number,
+        floor,
+        dir,
+    })
 }
 
 fn stops_of(words: &[&str]) -> Option<ScriptLine>
-    ensures some { IfSome result (λ wanted.
-        AskFor (codes "stops" ∷ map (λ word. word.now) words.now) wanted × IsInRange wanted) }
-    ensures none { IfNone result ((wanted : Wanted) → IsInRange wanted
-        → AskFor (codes "stops" ∷ map (λ word. word.now) words.now) wanted → ⊥) }
+    ensures { IsReadAs (codes "stops" ∷ texts words.now) result }
 {
-    match words {
-        [car] => {
-            let car = letter_of_word(car)?;
-            Some(ScriptLine::Stops { car })
-        }
-        _ => None,
-    }
+    let [car] = words else { return None };
+    let car = letter_of_word(car)?;
+    Some(ScriptLine::Stops { car })
 }
 
 fn cost_of(words: &[&str]) -> Option<ScriptLine>
-    ensures some { IfSome result (λ wanted.
-        AskFor (codes "cost" ∷ map (λ word. word.now) words.now) wanted × IsInRange wanted) }
-    ensures none { IfNone result ((wanted : Wanted) → IsInRange wanted
-        → AskFor (codes "cost" ∷ map (λ word. word.now) words.now) wanted → ⊥) }
+    ensures { IsReadAs (codes "cost" ∷ texts words.now) result }
 {
-    match words {
-        [kiosk, floor, party @ ..] => {
-            let kiosk = kiosk_of(kiosk)?;
-            let floor = floor_of(floor)?;
-            let party = party_of_words(party)?;
-            Some(ScriptLine::Cost {
-                kiosk,
-                floor,
-                party,
-            })
-        }
-        _ => None,
-    }
+    let [kiosk, floor, party @ ..] = words else {
+        return None;
+    };
+    Some(ScriptLine::Cost {
+        kiosk: kiosk_of(kiosk)?,
+        floor: floor_of(floor)?,
+        party: party_of_words(party)?,
+    })
 }
 
 fn fuse_of(words: &[&str]) -> Option<ScriptLine>
-    ensures some { IfSome result (λ wanted.
-        AskFor (codes "fuse" ∷ map (λ word. word.now) words.now) wanted × IsInRange wanted) }
-    ensures none { IfNone result ((wanted : Wanted) → IsInRange wanted
-        → AskFor (codes "fuse" ∷ map (λ word. word.now) words.now) wanted → ⊥) }
+    ensures { IsReadAs (codes "fuse" ∷ texts words.now) result }
 {
-    match words {
-        [calls] => {
-            let calls = number_up_to(calls, 1_000_000)?;
-            Some(ScriptLine::Fuse { calls })
-        }
-        _ => None,
-    }
+    let [calls] = words else { return None };
+    let calls = number_up_to(calls, 1_000_000)?;
+    Some(ScriptLine::Fuse { calls })
 }
 
 fn cut_of(words: &[&str]) -> Option<ScriptLine>
-    ensures some { IfSome result (λ wanted.
-        AskFor (codes "cut" ∷ map (λ word. word.now) words.now) wanted × IsInRange wanted) }
-    ensures none { IfNone result ((wanted : Wanted) → IsInRange wanted
-        → AskFor (codes "cut" ∷ map (λ word. word.now) words.now) wanted → ⊥) }
+    ensures { IsReadAs (codes "cut" ∷ texts words.now) result }
 {
     let outcome = outcome_of(words)?;
     Some(ScriptLine::Cut { outcome })
 }
 
-fn turn_of(words: &[&str]) -> Option<ScriptLine>
-    ensures some { IfSome result (λ wanted.
-        AskFor (codes "turn" ∷ map (λ word. word.now) words.now) wanted × IsInRange wanted) }
-    ensures none { IfNone result ((wanted : Wanted) → IsInRange wanted
-        → AskFor (codes "turn" ∷ map (λ word. word.now) words.now) wanted → ⊥) }
+/// A line that no words may stand behind.
+fn alone(words: &[&str], line: ScriptLine) -> Option<ScriptLine>
+    ensures some { IfSome result (λ wanted. (wanted ≡ line) × (words.now ≡ [])) }
+    ensures none { IfNone result (words.now ≢ []) }
 {
-    if words.is_empty() {
-        Some(ScriptLine::Turn)
-    } else {
-        None
-    }
-}
-
-fn rows_of(words: &[&str]) -> Option<ScriptLine>
-    ensures some { IfSome result (λ wanted.
-        AskFor (codes "rows" ∷ map (λ word. word.now) words.now) wanted × IsInRange wanted) }
-    ensures none { IfNone result ((wanted : Wanted) → IsInRange wanted
-        → AskFor (codes "rows" ∷ map (λ word. word.now) words.now) wanted → ⊥) }
-{
-    if words.is_empty() {
-        Some(ScriptLine::Rows)
-    } else {
-        None
-    }
+    if words.is_empty() { Some(line) } else { None }
 }
 
 /// What a line's words ask for, by the first one.
 fn asked_by(first: &str, others: &[&str]) -> Option<ScriptLine>
-    ensures some { IfSome result (λ wanted.
-        AskFor (first.now ∷ map (λ word. word.now) others.now) wanted × IsInRange wanted) }
-    ensures none { IfNone result ((wanted : Wanted) → IsInRange wanted
-        → AskFor (first.now ∷ map (λ word. word.now) others.now) wanted → ⊥) }
+    ensures { IsReadAs (first.now ∷ texts others.now) result }
 {
-    if first == "place" {
-        place_of(others)
-    } else if first == "call" {
-        call_of(others)
-    } else if first == "stop" {
-        stop_of(others)
-    } else if first == "turn" {
-        turn_of(others)
-    } else if first == "stops" {
-        stops_of(others)
-    } else if first == "cost" {
-        cost_of(others)
-    } else if first == "rows" {
-        rows_of(others)
-    } else if first == "fuse" {
-        fuse_of(others)
-    } else if first == "cut" {
-        cut_of(others)
-    } else {
-        None
+    match first {
+        "place" => place_of(others),
+        "call" => call_of(others),
+        "stop" => stop_of(others),
+        "turn" => alone(others, ScriptLine::Turn),
+        "stops" => stops_of(others),
+        "cost" => cost_of(others),
+        "rows" => alone(others, ScriptLine::Rows),
+        "fuse" => fuse_of(others),
+        "cut" => cut_of(others),
+        _ => None,
     }
 }
 

@@ -43,87 +43,73 @@ pub fn push_stops(report: &mut String, view: &View, car: Letter) -> Result<(), A
     report.push('\n')
 }
 
-/// What a call would cost a car that may take it.
-fn push_cost_of(
-    report: &mut String,
-    building: &Building,
-    view: &View,
-    call: &NewCall,
-    car: Letter,
-) -> Result<(), AllocError>
-    requires possible { IsViewIn building.now view.now }
-    requires from { call.now.from < building.now.floors }
-    requires to { call.now.to < building.now.floors }
-    requires eligible { is_eligible building.now view.now call.now car ≡ true }
-    ensures { OnOk result (string_bytes report.new ≡ string_bytes report.old
-        ++ cost_text car (total_cost_at building.now view.now call.now car)) }
-{
-    match Etd::cost(building, view, call, car) {
-        Some(cost) => push_cost(report, car, cost),
-        None => unreachable!(),
-    }
+/// A call from a floor of the building, and the view by which the building's cars may take it.
+#[derive(Drop)]
+pub struct Offer<'a> {
+    pub building: &'a Building,
+    pub view: &'a View<'a>,
+    pub call: &'a NewCall,
+    ghost from: { call.now.from < building.now.floors },
 }
 
-/// What a call would cost each car that may take it, or that there is none.
-fn push_costs(
-    report: &mut String,
-    building: &Building,
-    view: &View,
-    call: &NewCall,
-) -> Result<(), AllocError>
-    requires possible { IsViewIn building.now view.now }
-    requires from { call.now.from < building.now.floors }
-    requires to { call.now.to < building.now.floors }
-    ensures { OnOk result (string_bytes report.new
-        ≡ string_bytes report.old ++ prices_text (total_cost_at building.now view.now call.now)
-        (eligible_cars building.now view.now call.now)) }
-{
-    match Eligible::among(building, view, *call) {
-        None => report.push_str(" -"),
-        Some(eligible) => {
-            for car in eligible.letters() {
-                push_cost_of(report, building, view, call, *car)?;
-            }
-            Ok(())
+impl<'a> Offer<'a> {
+    /// What the call would cost a car that may take it.
+    fn push_cost_of(&self, report: &mut String, car: Letter) -> Result<(), AllocError>
+        requires possible { IsViewIn self.now.building.now self.now.view.now }
+        requires to { self.now.call.now.to < self.now.building.now.floors }
+        requires eligible { is_eligible self.now.building.now self.now.view.now self.now.call.now car
+            ≡ true }
+        ensures { OnOk result (string_bytes report.new ≡ string_bytes report.old ++ cost_text car
+            (total_cost_at self.now.building.now self.now.view.now self.now.call.now car)) }
+    {
+        match Etd::cost(self.building, self.view, self.call, car) {
+            Some(cost) => push_cost(report, car, cost),
+            None => unreachable!(),
         }
     }
-}
 
-/// The costs of a call between two floors, or the cause for which it would be refused wherever the
-/// cars are.
-fn push_between(
-    report: &mut String,
-    building: &Building,
-    view: &View,
-    call: &NewCall,
-) -> Result<(), AllocError>
-    requires possible { IsViewIn building.now view.now }
-    requires from { call.now.from < building.now.floors }
-    ensures { OnOk result (string_bytes report.new ≡ string_bytes report.old
-        ++ between_text building.now view.now call.now) }
-{
-    if call.to.get() >= building.floors() {
-        push_refused(report, Reason::NoSuchFloor)
-    } else if call.to == call.from {
-        push_refused(report, Reason::SameFloor)
-    } else {
-        push_costs(report, building, view, call)
+    /// What the call would cost each car that may take it, or that there is none.
+    fn push_costs(&self, report: &mut String) -> Result<(), AllocError>
+        requires possible { IsViewIn self.now.building.now self.now.view.now }
+        requires to { self.now.call.now.to < self.now.building.now.floors }
+        ensures { OnOk result (string_bytes report.new ≡ string_bytes report.old ++ prices_text
+            (total_cost_at self.now.building.now self.now.view.now self.now.call.now)
+            (eligible_cars self.now.building.now self.now.view.now self.now.call.now)) }
+    {
+        match Eligible::among(self.building, self.view, *self.call) {
+            None => report.push_str(" -"),
+            Some(eligible) => {
+                for car in eligible.letters() {
+                    self.push_cost_of(report, *car)?;
+                }
+                Ok(())
+            }
+        }
     }
-}
 
-/// The line of what a call would cost.
-pub fn push_costs_between(
-    report: &mut String,
-    building: &Building,
-    view: &View,
-    call: &NewCall,
-) -> Result<(), AllocError>
-    requires possible { IsViewIn building.now view.now }
-    requires from { call.now.from < building.now.floors }
-    ensures { OnOk result (string_bytes report.new ≡ string_bytes report.old
-        ++ costs_text building.now view.now call.now) }
-{
-    report.push_str("cost")?;
-    push_between(report, building, view, call)?;
-    report.push('\n')
+    /// The costs, or the cause for which the call would be refused wherever the cars are.
+    fn push_between(&self, report: &mut String) -> Result<(), AllocError>
+        requires { IsViewIn self.now.building.now self.now.view.now }
+        ensures { OnOk result (string_bytes report.new ≡ string_bytes report.old
+            ++ between_text self.now.building.now self.now.view.now self.now.call.now) }
+    {
+        if self.call.to.get() >= self.building.floors() {
+            push_refused(report, Reason::NoSuchFloor)
+        } else if self.call.to == self.call.from {
+            push_refused(report, Reason::SameFloor)
+        } else {
+            self.push_costs(report)
+        }
+    }
+
+    /// The line of what the call would cost.
+    pub fn push_line(&self, report: &mut String) -> Result<(), AllocError>
+        requires { IsViewIn self.now.building.now self.now.view.now }
+        ensures { OnOk result (string_bytes report.new ≡ string_bytes report.old
+            ++ costs_text self.now.building.now self.now.view.now self.now.call.now) }
+    {
+        report.push_str("cost")?;
+        self.push_between(report)?;
+        report.push('\n')
+    }
 }

@@ -2,16 +2,16 @@ use Rattle.std.proofs.Common.{◌++◌, ◌∙◌, ap, string_bytes, subst, leng
 use Rattle.lift_policy.specs.Choices.{total_cost_at}
 use Rattle.lift_replay.specs.Shown.{prices_text}
 use Rattle.lift_replay.proofs.Prices.{eligible_at, prices_all}
-use Rattle.lift_replay.proofs.shown.push_costs.Goals as goal
+use Rattle.lift_replay.proofs.shown.Offer.push_costs.Goals as goal
 
 pub push_cost_of-requires-clause-eligible : goal.push_cost_of-requires-clause-eligible
 push_cost_of-requires-clause-eligible c =
-    eligible_at c.args.building.now c.args.view.now c.args.call.now c.letters-car-items.result.now c.loop-car.car-index c.car-item.result
+    eligible_at c.args.self.now.building.now c.args.self.now.view.now c.args.self.now.call.now c.letters-car-items.result.now c.loop-car.car-index c.car-item.result
     (c.letters-car-items.ensures.value ∙ c.in-Some.ensures.some) c.loop-car-test.true c.car-item.is
 
 pub returns-after-loop-car : goal.returns-after-loop-car
 returns-after-loop-car c =
-    let cost = total_cost_at c.args.building.now c.args.view.now c.args.call.now in
+    let cost = total_cost_at c.args.self.now.building.now c.args.self.now.view.now c.args.self.now.call.now in
     let before = string_bytes c.args.report.now in
     let P : List ℕ → Type 0 = λ cars. 0 < length cars in
     c.loop-car.invariant
