@@ -50,13 +50,13 @@ module _ {D P : Type 0} (chooses : P → Choice) (laws : CallLaws D P chooses) w
   restart : (plan : Plan) (entries : List Entry) (given : List Taken) (image : Image) (clerk : ClerkState D P) → IsBuilding plan → MayCut plan entries given image
       → BeginsOver plan image clerk → IsRunOf clerk entries given
   restart plan entries given image clerk sound c b =
-      let k = laws.recovery c.there clerk entries image c.reached (c.building ∙ sym b.same_plan) b.begins c.keeps
+      let k = laws.crashes.recovery c.there clerk entries image c.reached (c.building ∙ sym b.same_plan) b.begins c.keeps
       (subst (λ (p : Plan). (other : RegisterState) → IsImageOf p other image → other ≡ clerk.keeper.writer.register) (sym b.same_plan) b.only) in
       record { world = k.1; shows = k.4; waits = k.6; safe_is = k.5; given_is = k.3 ∙ c.given_is; building = subst (λ (p : Plan). IsBuilding p) (sym b.same_plan) sound }
 
   start_run : (clerk : ClerkState D P) → IsBuilding clerk.keeper.writer.plan → Begins clerk → clerk.keeper.writer.register ≡ empty → IsRunOf clerk [] []
   start_run clerk sound b none =
-      let k = laws.first clerk b none in
+      let k = laws.reopenings.start clerk b none in
       record { world = start clerk.keeper.writer.plan; shows = k.0; waits = k.1; safe_is = refl; given_is = refl; building = sound }
 
   module _ (before after : ClerkState D P) (safe : List Entry) (given : List Taken) (r : IsRunOf before safe given) where
@@ -81,29 +81,29 @@ module _ {D P : Type 0} (chooses : P → Choice) (laws : CallLaws D P chooses) w
     turn_run : (counts : Counts) (t : Turns (chooses before.policy) before after counts)
         → IsRunOf after (safe ++ t.turn.decided.batch) (given ++ with_replies (commands_of 0 t.turn.visits) t.turn.replies)
     turn_run counts t =
-        let k = laws.turn before.policy r.world before after counts t r.shows (all_agree r.world r.waits (commands_of 0 t.turn.visits)) in
+        let k = laws.turns.turns before.policy r.world before after counts t r.shows (all_agree r.world r.waits (commands_of 0 t.turn.visits)) in
         go_on _ _ (λ (xs : List Entry). xs ++ t.turn.decided.batch) (k.1 0) t.same_plan
 
     failure_run : (t : Fails (chooses before.policy) before after) → IsRunOf after safe (given ++ with_replies (commands_of 0 t.turn.visits) t.turn.replies)
     failure_run t =
-        let k = laws.failure before.policy r.world before after t r.shows (all_agree r.world r.waits (commands_of 0 t.turn.visits)) in
+        let k = laws.turns.failures before.policy r.world before after t r.shows (all_agree r.world r.waits (commands_of 0 t.turn.visits)) in
         go_on _ _ (λ (xs : List Entry). xs) (k.1 0) t.same_plan
 
     broken_run : (t : IsBrokenTurn before after) → before.keeper.writer.is_broken ≡ true → IsRunOf after safe (given ++ with_replies (commands_of 0 t.visits) t.replies)
     broken_run t was =
-        let k = laws.broken r.world before after t was r.shows (all_agree r.world r.waits (commands_of 0 t.visits)) in
+        let k = laws.turns.broken r.world before after t was r.shows (all_agree r.world r.waits (commands_of 0 t.visits)) in
         go_on _ _ (λ (xs : List Entry). xs) k.1 (ap (λ (x : KeeperView D). x.writer.plan) t.rests)
 
     reopening_run : (o : Reopens before after) → IsRunOf after (kept_of safe before.keeper.writer.doubt o.one_of) given
     reopening_run o =
-        let k = laws.reopening r.world before after o r.shows in
+        let k = laws.reopenings.reopenings r.world before after o r.shows in
         subst (λ (ts : List Taken). IsRunOf after (kept_of safe before.keeper.writer.doubt o.one_of) ts) (append-nil given)
         (go_on _ _ (λ (xs : List Entry). kept_of xs before.keeper.writer.doubt o.one_of) k.3 o.same_plan)
 
     same_run : Stays before after → after.keeper.writer.is_broken ≡ before.keeper.writer.is_broken → IsRunOf after safe given
     same_run s same = record {
       world = r.world;
-      shows = laws.nothing r.world before after s same r.shows;
+      shows = laws.reopenings.nothing r.world before after s same r.shows;
       waits = r.waits;
       safe_is = r.safe_is;
       given_is = r.given_is;
@@ -112,7 +112,7 @@ module _ {D P : Type 0} (chooses : P → Choice) (laws : CallLaws D P chooses) w
 
     fault_run : (was : Bool) → before.keeper.writer.is_broken ≡ was → Stays before after → after.keeper.writer.is_broken ≡ true → IsRunOf after safe given
     fault_run true e s is = same_run s (is ∙ sym e)
-    fault_run false e s is = with_nothing (go_on _ _ (λ (xs : List Entry). xs) (laws.fault r.world before after s e is r.shows) s.same_plan)
+    fault_run false e s is = with_nothing (go_on _ _ (λ (xs : List Entry). xs) (laws.reopenings.faults r.world before after s e is r.shows) s.same_plan)
 
     stay_run : Stays before after → (after.keeper.writer.is_broken ≡ true) ⊎ (after.keeper.writer.is_broken ≡ before.keeper.writer.is_broken) → IsRunOf after safe given
     stay_run s (inl is) = fault_run before.keeper.writer.is_broken refl s is
@@ -121,7 +121,7 @@ module _ {D P : Type 0} (chooses : P → Choice) (laws : CallLaws D P chooses) w
     tell_run : (terminal : ℕ) (words : List ℕ) → IsToldAt before after terminal words → IsRunOf after safe given
     tell_run terminal words is = record {
       world = r.world;
-      shows = laws.told r.world before after terminal words is r.shows;
+      shows = laws.told.nothing r.world before after terminal words is r.shows;
       waits = r.waits;
       safe_is = r.safe_is;
       given_is = r.given_is;
@@ -154,19 +154,19 @@ module _ {D P : Type 0} (chooses : P → Choice) (laws : CallLaws D P chooses) w
     either_way keep commands count left (inr k) = at_gate keep commands count left k
 
     cut_between : (left : Image) (doubt : IsInDoubt plan before.keeper.writer.register before.keeper.writer.doubt left) → MayCut plan (kept_of safe before.keeper.writer.doubt doubt) given left
-    cut_between left doubt = here (λ (xs : List Entry). kept_of xs before.keeper.writer.doubt doubt) left (laws.cut r.world before left r.shows doubt)
+    cut_between left doubt = here (λ (xs : List Entry). kept_of xs before.keeper.writer.doubt doubt) left (laws.crashes.between r.world before left r.shows doubt)
 
     cut_within : (counts : Counts) (left : Image) (t : Turns (chooses before.policy) before after counts)
         (either : IsEither plan before.keeper.writer.register after.keeper.state.register left) → MayCut plan (kept_of safe t.turn.decided.batch either) given left
     cut_within counts left t either =
         either_way (λ (xs : List Entry). kept_of xs t.turn.decided.batch either) (commands_of 0 t.turn.visits) (length t.turn.decided.batch) left
-        (laws.within before.policy r.world before after counts left t r.shows (all_agree r.world r.waits (commands_of 0 t.turn.visits)) either)
+        (laws.crashes.within before.policy r.world before after counts left t r.shows (all_agree r.world r.waits (commands_of 0 t.turn.visits)) either)
 
     cut_within_failure : (left : Image) (t : Fails (chooses before.policy) before after)
         (either : IsEither plan before.keeper.writer.register after.keeper.state.register left) → MayCut plan (kept_of safe after.keeper.state.batch either) given left
     cut_within_failure left t either =
         either_way (λ (xs : List Entry). kept_of xs after.keeper.state.batch either) (commands_of 0 t.turn.visits) (length after.keeper.state.batch) left
-        (laws.within_failed before.policy r.world before after left t r.shows (all_agree r.world r.waits (commands_of 0 t.turn.visits)) either)
+        (laws.crashes.within_failed before.policy r.world before after left t r.shows (all_agree r.world r.waits (commands_of 0 t.turn.visits)) either)
 
   run_of : (clerk : ClerkState D P) (safe : List Entry) (given : List Taken) → History chooses clerk safe given → IsRunOf clerk safe given
   run_of clerk safe given (Began sound b none) = start_run clerk sound b none
@@ -189,12 +189,12 @@ module _ {D P : Type 0} (chooses : P → Choice) (laws : CallLaws D P chooses) w
 
   pub crashes_show_given : CrashesShowGiven D P chooses
   crashes_show_given clerk safe given left h doubt =
-      let r = run_of clerk safe given h in show laws.letters _ _ given left r.building (cut_between clerk clerk safe given r left doubt)
+      let r = run_of clerk safe given h in show laws.crashes.letters _ _ given left r.building (cut_between clerk clerk safe given r left doubt)
 
   pub crashes_in_turns_show_given : CrashesInTurnsShowGiven D P chooses
   crashes_in_turns_show_given before after safe given counts left h t either =
-      let r = run_of before safe given h in show laws.letters _ _ given left r.building (cut_within before after safe given r counts left t either)
+      let r = run_of before safe given h in show laws.crashes.letters _ _ given left r.building (cut_within before after safe given r counts left t either)
 
   pub crashes_in_failures_show_given : CrashesInFailuresShowGiven D P chooses
   crashes_in_failures_show_given before after safe given left h t either =
-      let r = run_of before safe given h in show laws.letters _ _ given left r.building (cut_within_failure before after safe given r left t either)
+      let r = run_of before safe given h in show laws.crashes.letters _ _ given left r.building (cut_within_failure before after safe given r left t either)

@@ -146,7 +146,7 @@ module _ {D P : Type 0} (chooses : P → Choice) (laws : GroupLaws D P chooses) 
 
   pub begin : PastsBegin D P chooses
   begin clerk terminals sound b none new =
-      let k = laws.calls.first clerk b none in
+      let k = laws.calls.reopenings.start clerk b none in
       record { history = Began sound b none; group = new_group (start clerk.keeper.writer.plan) clerk terminals k.0 b k.1 new; safe_is = refl; given_is = refl }
 
   pub go_on_over_asks : PastsGoOnOverAsks D P chooses
@@ -166,7 +166,7 @@ module _ {D P : Type 0} (chooses : P → Choice) (laws : GroupLaws D P chooses) 
   pub stay_over_tells : PastsStayOverTells D P chooses
   stay_over_tells w before after terminals safe given t words p is = record {
     history = Told p.history t words is;
-    group = record { clerks = laws.calls.told w before after t words is p.group.clerks; theirs = p.group.theirs };
+    group = record { clerks = laws.calls.told.nothing w before after t words is p.group.clerks; theirs = p.group.theirs };
     safe_is = p.safe_is;
     given_is = p.given_is;
   }
@@ -175,7 +175,7 @@ module _ {D P : Type 0} (chooses : P → Choice) (laws : GroupLaws D P chooses) 
   go_on_over_turns before after counts w terminals safe given p t takes =
       let cs : List Command = commands_of 0 t.turn.visits in
       let stand = stood w before after terminals t.turn.visits t.turn.replies p.group t.turn.serves takes in
-      let k = laws.calls.turn before.policy w before after counts t p.group.clerks (stand_agree w cs stand) in (
+      let k = laws.calls.turns.turns before.policy w before after counts t p.group.clerks (stand_agree w cs stand) in (
         k.0,
         λ folds. follow w _ given _ (λ (xs : List Entry). xs ++ t.turn.decided.batch) safe after terminals p.group.theirs p.safe_is p.given_is (stand_waits w cs t.turn.replies stand)
             (Turned p.history t) (k.1 folds),
@@ -185,7 +185,7 @@ module _ {D P : Type 0} (chooses : P → Choice) (laws : GroupLaws D P chooses) 
   go_on_over_failures before after w terminals safe given p t takes =
       let cs : List Command = commands_of 0 t.turn.visits in
       let stand = stood w before after terminals t.turn.visits t.turn.replies p.group t.turn.serves takes in
-      let k = laws.calls.failure before.policy w before after t p.group.clerks (stand_agree w cs stand) in (
+      let k = laws.calls.turns.failures before.policy w before after t p.group.clerks (stand_agree w cs stand) in (
         k.0,
         λ folds. follow w _ given _ (λ (xs : List Entry). xs) safe after terminals p.group.theirs p.safe_is p.given_is (stand_waits w cs t.turn.replies stand) (Failed p.history t) (k.1 folds),
       )
@@ -194,14 +194,14 @@ module _ {D P : Type 0} (chooses : P → Choice) (laws : GroupLaws D P chooses) 
   go_on_over_broken_turns before after w terminals safe given p t was takes =
       let cs : List Command = commands_of 0 t.visits in
       let stand = stood w before after terminals t.visits t.replies p.group t.serves takes in
-      let k = laws.calls.broken w before after t was p.group.clerks (stand_agree w cs stand) in (
+      let k = laws.calls.turns.broken w before after t was p.group.clerks (stand_agree w cs stand) in (
         k.0,
         follow w _ given _ (λ (xs : List Entry). xs) safe after terminals p.group.theirs p.safe_is p.given_is (stand_waits w cs t.replies stand) (TurnedWhileBroken p.history t was) k.1,
       )
 
   pub go_on_over_reopenings : PastsGoOnOverReopenings D P chooses
   go_on_over_reopenings w before after terminals safe given p r =
-      let k = laws.calls.reopening w before after r p.group.clerks in
+      let k = laws.calls.reopenings.reopenings w before after r p.group.clerks in
       let keep : List Entry → List Entry = λ xs. kept_of xs before.keeper.writer.doubt r.one_of in (
         k.0,
         with_nothing w _ given (keep safe) after terminals
@@ -216,7 +216,7 @@ module _ {D P : Type 0} (chooses : P → Choice) (laws : GroupLaws D P chooses) 
     possible = refl;
     past = record {
       history = h;
-      group = record { clerks = laws.calls.nothing w before after s same p.group.clerks; theirs = p.group.theirs };
+      group = record { clerks = laws.calls.reopenings.nothing w before after s same p.group.clerks; theirs = p.group.theirs };
       safe_is = p.safe_is;
       given_is = p.given_is;
     };
@@ -229,7 +229,7 @@ module _ {D P : Type 0} (chooses : P → Choice) (laws : GroupLaws D P chooses) 
   fault w before after terminals safe given p h s is false e = (
     Fault ∷ [],
     with_nothing w (Fault ∷ []) given safe after terminals
-        (follow w (Fault ∷ []) given [] (λ (xs : List Entry). xs) safe after terminals p.group.theirs p.safe_is p.given_is tt (and_nothing after safe given h) (laws.calls.fault w before after s e is p.group.clerks)),
+        (follow w (Fault ∷ []) given [] (λ (xs : List Entry). xs) safe after terminals p.group.theirs p.safe_is p.given_is tt (and_nothing after safe given h) (laws.calls.reopenings.faults w before after s e is p.group.clerks)),
   )
 
   refusal : (w : World) (before after : ClerkState D P) (terminals : ℕ → TerminalView) (safe : List Entry) (given : List Taken) → IsPastOf chooses w before terminals safe given
@@ -246,7 +246,7 @@ module _ {D P : Type 0} (chooses : P → Choice) (laws : GroupLaws D P chooses) 
       → IsReached w → w.building ≡ before.keeper.writer.plan → w.given ≡ given → IsKept w entries image → entries ≡ now → BeginsOver before.keeper.writer.plan image after
       → ((t : ℕ) → fresh t ≡ no_asks) → History chooses after now given → (kept : Kept) × GoesOn chooses w (Cut kept ∷ Reopen kept ∷ []) after fresh now given
   over w given entries now image before after fresh reached building same_given keeps same b new h =
-      let k = laws.calls.recovery w after entries image reached (building ∙ sym b.same_plan) b.begins keeps
+      let k = laws.calls.crashes.recovery w after entries image reached (building ∙ sym b.same_plan) b.begins keeps
       (subst (λ (p : Plan). (other : RegisterState) → IsImageOf p other image → other ≡ after.keeper.writer.register) (sym b.same_plan) b.only) in (
         k.0,
         record {
@@ -259,7 +259,7 @@ module _ {D P : Type 0} (chooses : P → Choice) (laws : GroupLaws D P chooses) 
   pub go_on_over_cuts : PastsGoOnOverCuts D P chooses
   go_on_over_cuts w before after terminals fresh safe given image p doubt b new =
       over w given (kept_of (safe_list w) before.keeper.writer.doubt doubt) (kept_of safe before.keeper.writer.doubt doubt) image before after fresh p.group.clerks.reached p.group.clerks.building
-      p.given_is (laws.calls.cut w before image p.group.clerks doubt) (ap (λ (xs : List Entry). kept_of xs before.keeper.writer.doubt doubt) p.safe_is) b new (CutBetween p.history doubt b)
+      p.given_is (laws.calls.crashes.between w before image p.group.clerks doubt) (ap (λ (xs : List Entry). kept_of xs before.keeper.writer.doubt doubt) p.safe_is) b new (CutBetween p.history doubt b)
 
   -- within a turn
   within : (w : World) (before after : ClerkState D P) (terminals fresh : ℕ → TerminalView) (safe batch : List Entry) (given : List Taken) (image : Image) (commands : List Command) (count : ℕ)
@@ -281,11 +281,11 @@ module _ {D P : Type 0} (chooses : P → Choice) (laws : GroupLaws D P chooses) 
       let cs : List Command = commands_of 0 t.turn.visits in
       let stand = stood w before there terminals t.turn.visits t.turn.replies p.group t.turn.serves takes in
       within w before after terminals fresh safe t.turn.decided.batch given image cs (length t.turn.decided.batch) (λ (xs : List Entry). kept_of xs t.turn.decided.batch either) p
-      (laws.calls.within before.policy w before there counts image t p.group.clerks (stand_agree w cs stand) either) b new (CutWithin p.history t either b)
+      (laws.calls.crashes.within before.policy w before there counts image t p.group.clerks (stand_agree w cs stand) either) b new (CutWithin p.history t either b)
 
   pub go_on_over_cut_failures : PastsGoOnOverCutFailures D P chooses
   go_on_over_cut_failures w before there after terminals fresh safe given image p t takes either b new =
       let cs : List Command = commands_of 0 t.turn.visits in
       let stand = stood w before there terminals t.turn.visits t.turn.replies p.group t.turn.serves takes in
       within w before after terminals fresh safe there.keeper.state.batch given image cs (length there.keeper.state.batch) (λ (xs : List Entry). kept_of xs there.keeper.state.batch either) p
-      (laws.calls.within_failed before.policy w before there image t p.group.clerks (stand_agree w cs stand) either) b new (CutWithinFailure p.history t either b)
+      (laws.calls.crashes.within_failed before.policy w before there image t p.group.clerks (stand_agree w cs stand) either) b new (CutWithinFailure p.history t either b)

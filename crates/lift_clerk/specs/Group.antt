@@ -31,7 +31,6 @@ use Rattle.lift_clerk.specs.Turn.{IsBrokenTurn, IsEither}
 use Rattle.lift_clerk.specs.Visits.{commands_of}
 use Rattle.lift_clerk.specs.Machine.{ask_of, answer_words, IsMachineOf, Turns, Fails, Reopens}
 use Rattle.lift_clerk.specs.Machine.{Stays, Begins, kept_of, events_of_turn, events_while_broken}
-use Rattle.lift_clerk.specs.Machine.{TerminalsKeepIt}
 use Rattle.lift_clerk.specs.Laws.{CallLaws}
 use Rattle.lift_clerk.specs.History.{History, BeginsOver}
 
@@ -283,10 +282,32 @@ PastsGoOnOverCutFailures D P chooses =
     → (events : List Event) × GoesOn chooses w events after fresh
     (kept_of safe there.keeper.state.batch either) given
 
+-- What each terminal asked and heard is what the machine's terminal asked and heard.
+pub record TerminalsAreTheMachines (D P : Type 0) : Type 0 where
+  pub asks : AsksAreAsks D P
+  pub hears : HearsAreHears D P
+  pub told : ToldAnswersAreHeard D P
+  pub reads : ReadsAreNoEvents D P
+
+-- A clerk's past goes on over all that can happen to its group.
+pub record PastsGoOn (D P : Type 0) (chooses : P → Choice) : Type 0 where
+  pub begins : PastsBegin D P chooses
+  pub asks : PastsGoOnOverAsks D P chooses
+  pub hears : PastsGoOnOverHears D P chooses
+  pub reads : PastsStayOverReads D P chooses
+  pub tells : PastsStayOverTells D P chooses
+  pub turns : PastsGoOnOverTurns D P chooses
+  pub failures : PastsGoOnOverFailures D P chooses
+  pub broken : PastsGoOnOverBrokenTurns D P chooses
+  pub reopenings : PastsGoOnOverReopenings D P chooses
+  pub refusals : PastsGoOnOverRefusals D P chooses
+  pub cuts : PastsGoOnOverCuts D P chooses
+  pub cut_turns : PastsGoOnOverCutTurns D P chooses
+  pub cut_failures : PastsGoOnOverCutFailures D P chooses
+
 -- what is known of a group's calls, and of what terminals asked and heard at each point of a run
 pub record GroupLaws (D P : Type 0) (chooses : P → Choice) : Type 0 where
   pub calls : CallLaws D P chooses
-  pub terminals : TerminalsKeepIt D P
   pub hears : (building : Plan) (events : List Event) → HearsInOrder (run events (start building))
   pub one_by_one : (building : Plan) (events : List Event)
       → AllAskOneByOne (run events (start building))

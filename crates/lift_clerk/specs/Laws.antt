@@ -19,10 +19,12 @@ use Rattle.lift_world.specs.Turns.{BrokenTurnsEndAtRest, ReopeningsEndAtRest}
 use Rattle.lift_world.specs.Turns.{RunningReopeningsEndAtRest, FailedReopeningsEndAtRest}
 use Rattle.lift_world.specs.Turns.{CutsEndAtRest}
 use Rattle.lift_clerk.specs.Machine.{TurnsAreTurns, FailuresAreFailures, BrokenTurnsAreBroken}
+use Rattle.lift_clerk.specs.Machine.{TerminalsKeepIt, ToldLooksAgree, TellsMakeKnown}
 use Rattle.lift_clerk.specs.Machine.{ReopeningsAreReopenings, FailedReopeningsAreFaults}
 use Rattle.lift_clerk.specs.Machine.{NothingIsNoEvent, TellsAreNoEvents}
-use Rattle.lift_clerk.specs.Machine.{BeginsAtStart, BeginsAfterCrash, CrashesAreCuts}
-use Rattle.lift_clerk.specs.Machine.{CrashesWithinTurns, CrashesWithinFailures, CutsShowLetters}
+use Rattle.lift_clerk.specs.Machine.{BeginsAtStart, BeginsAfterCut, BeginsAfterCrash}
+use Rattle.lift_clerk.specs.Machine.{CrashesAreCuts, CrashesWithinTurns, CrashesWithinFailures}
+use Rattle.lift_clerk.specs.Machine.{CutsShowLetters}
 
 pub record Laws : Type 0 where
   pub asks : (w : World) → AsksStand w
@@ -54,18 +56,42 @@ pub record Laws : Type 0 where
   pub joined : (w : World) → RunsJoin w
   pub registers : RegistersJoin
 
--- what is known of each call of a clerk
-pub record CallLaws (D P : Type 0) (chooses : P → Choice) : Type 0 where
-  pub turn : (policy : P) → TurnsAreTurns D P (chooses policy)
-  pub failure : (policy : P) → FailuresAreFailures D P (chooses policy)
+-- A clerk's group is in some world of the machine between any two calls. Each turn is a list of
+-- possible events from there to the group's next world, and what terminals do between leads to such
+-- a world too.
+pub record TurnsAreTheMachines (D P : Type 0) (chooses : P → Choice) : Type 0 where
+  pub turns : (policy : P) → TurnsAreTurns D P (chooses policy)
+  pub failures : (policy : P) → FailuresAreFailures D P (chooses policy)
   pub broken : BrokenTurnsAreBroken D P
-  pub reopening : ReopeningsAreReopenings D P
-  pub fault : FailedReopeningsAreFaults D P
+  pub terminals : TerminalsKeepIt D P
+
+-- So is each reopening. A clerk at a new desk begins in the machine's first world, or in the one
+-- that a power cut and its recovery leave.
+pub record ReopeningsAreTheMachines (D P : Type 0) : Type 0 where
+  pub reopenings : ReopeningsAreReopenings D P
+  pub faults : FailedReopeningsAreFaults D P
   pub nothing : NothingIsNoEvent D P
-  pub told : TellsAreNoEvents D P
-  pub first : BeginsAtStart D P
-  pub recovery : BeginsAfterCrash D P
-  pub cut : CrashesAreCuts D P
+  pub start : BeginsAtStart D P
+  pub recovery : BeginsAfterCut D P
+
+-- Whatever a crash may leave is what some power cut keeps. A clerk goes on from there, and shows
+-- each letter that was given before.
+pub record CrashesAreTheMachines (D P : Type 0) (chooses : P → Choice) : Type 0 where
+  pub between : CrashesAreCuts D P
   pub within : (policy : P) → CrashesWithinTurns D P (chooses policy)
   pub within_failed : (policy : P) → CrashesWithinFailures D P (chooses policy)
+  pub recovery : BeginsAfterCrash D P
   pub letters : CutsShowLetters
+
+-- A clerk that was told of all asks finds those that wait. To tell it is no event.
+pub record ToldAsksAreFound (D P : Type 0) : Type 0 where
+  pub looks : ToldLooksAgree D P
+  pub nothing : TellsAreNoEvents D P
+  pub known : TellsMakeKnown D P
+
+-- what is known of each call of a clerk
+pub record CallLaws (D P : Type 0) (chooses : P → Choice) : Type 0 where
+  pub turns : TurnsAreTheMachines D P chooses
+  pub reopenings : ReopeningsAreTheMachines D P
+  pub crashes : CrashesAreTheMachines D P chooses
+  pub told : ToldAsksAreFound D P

@@ -4,14 +4,7 @@ ghost use Rattle.std.specs.Prelude.{ℕ, ◌≡◌, ◌↔◌, length, Err, IfOk
 ghost use mathlib.Core.List.{IsPrefix};
 ghost use Rattle.lift_desk.specs.Seats.{IsSeatOf, IsToldAnswer, Waits};
 ghost use Rattle.lift_clerk.specs.Group.{AtSeat, Asks, Hears};
-ghost use Rattle.lift_clerk.specs.Group.{GroupLaws, AsksAreAsks, HearsAreHears};
-ghost use Rattle.lift_clerk.specs.Group.{ToldAnswersAreHeard, ReadsAreNoEvents};
-ghost use Rattle.lift_clerk.specs.Group.{PastsBegin, PastsGoOnOverAsks, PastsGoOnOverHears};
-ghost use Rattle.lift_clerk.specs.Group.{PastsStayOverReads, PastsStayOverTells};
-ghost use Rattle.lift_clerk.specs.Group.{PastsGoOnOverTurns, PastsGoOnOverFailures};
-ghost use Rattle.lift_clerk.specs.Group.{PastsGoOnOverBrokenTurns, PastsGoOnOverReopenings};
-ghost use Rattle.lift_clerk.specs.Group.{PastsGoOnOverRefusals, PastsGoOnOverCuts};
-ghost use Rattle.lift_clerk.specs.Group.{PastsGoOnOverCutTurns, PastsGoOnOverCutFailures};
+ghost use Rattle.lift_clerk.specs.Group.{GroupLaws, TerminalsAreTheMachines, PastsGoOn};
 ghost use Rattle.lift_clerk.specs.Group.{TurnGoesOn, FailureGoesOn, BrokenTurnGoesOn};
 ghost use Rattle.lift_clerk.specs.Past.{PastsAreRuns};
 ghost use Rattle.lift_clerk.specs.Once.{TurnsOnce};
@@ -19,7 +12,7 @@ ghost use Rattle.lift_clerk.specs.Once.{TurnsOnce};
 use crate::clerk::Clerk;
 use crate::counts::Counts;
 use crate::history::call_laws;
-use crate::machine::{turn_once, turns_are_the_machines};
+use crate::machine::turn_once;
 use lift_base::{Body, Number, Reply};
 use lift_desk::{AskRefusal, Desk, Seat};
 use lift_disk::Disk;
@@ -33,7 +26,6 @@ fn group_laws<D: Disk, P: Policy>()
     ensures { GroupLaws D P P.chooses }
 {
     call_laws::<D, P>();
-    turns_are_the_machines::<D, P>();
     every_run();
 }
 
@@ -42,10 +34,7 @@ fn group_laws<D: Disk, P: Policy>()
 /// is the one that its terminal hears next. A `hear` that gives nothing, a `meet` and a `tell` are
 /// no events.
 pub fn terminals_are_the_machines<D: Disk, P: Policy>()
-    ensures asks { AsksAreAsks D P }
-    ensures hears { HearsAreHears D P }
-    ensures told { ToldAnswersAreHeard D P }
-    ensures reads { ReadsAreNoEvents D P }
+    ensures { TerminalsAreTheMachines D P }
 {
     group_laws::<D, P>();
 }
@@ -56,19 +45,7 @@ pub fn terminals_are_the_machines<D: Disk, P: Policy>()
 /// possible events from there to the next such world, of the clerk alone; a power cut and what
 /// follows too.
 pub fn pasts_go_on<D: Disk, P: Policy>()
-    ensures begins { PastsBegin D P P.chooses }
-    ensures asks { PastsGoOnOverAsks D P P.chooses }
-    ensures hears { PastsGoOnOverHears D P P.chooses }
-    ensures reads { PastsStayOverReads D P P.chooses }
-    ensures tells { PastsStayOverTells D P P.chooses }
-    ensures turns { PastsGoOnOverTurns D P P.chooses }
-    ensures failures { PastsGoOnOverFailures D P P.chooses }
-    ensures broken { PastsGoOnOverBrokenTurns D P P.chooses }
-    ensures reopenings { PastsGoOnOverReopenings D P P.chooses }
-    ensures refusals { PastsGoOnOverRefusals D P P.chooses }
-    ensures cuts { PastsGoOnOverCuts D P P.chooses }
-    ensures cut_turns { PastsGoOnOverCutTurns D P P.chooses }
-    ensures cut_failures { PastsGoOnOverCutFailures D P P.chooses }
+    ensures { PastsGoOn D P P.chooses }
 {
     group_laws::<D, P>();
 }

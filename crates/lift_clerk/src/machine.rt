@@ -1,15 +1,9 @@
 //! What the machine of events is while a clerk runs.
 
-ghost use Rattle.lift_clerk.specs.Laws.{Laws};
-ghost use Rattle.lift_clerk.specs.Machine.{TurnsAreTurns, FailuresAreFailures};
-ghost use Rattle.lift_clerk.specs.Machine.{BrokenTurnsAreBroken, TerminalsKeepIt};
-ghost use Rattle.lift_clerk.specs.Machine.{ToldLooksAgree, TellsAreNoEvents, TellsMakeKnown};
-ghost use Rattle.lift_clerk.specs.Machine.{MovesWhereTold};
-ghost use Rattle.lift_clerk.specs.Machine.{ReopeningsAreReopenings, FailedReopeningsAreFaults};
-ghost use Rattle.lift_clerk.specs.Machine.{NothingIsNoEvent, BeginsAtStart, BeginsAfterCut};
-ghost use Rattle.lift_clerk.specs.Machine.{CrashesAreCuts, CrashesWithinTurns};
-ghost use Rattle.lift_clerk.specs.Machine.{CrashesWithinFailures, CutsShowLetters};
-ghost use Rattle.lift_clerk.specs.Machine.{BeginsAfterCrash, Moves};
+ghost use Rattle.lift_world.specs.Policies.{RunsAreAny};
+ghost use Rattle.lift_clerk.specs.Laws.{Laws, TurnsAreTheMachines, ReopeningsAreTheMachines};
+ghost use Rattle.lift_clerk.specs.Laws.{CrashesAreTheMachines, ToldAsksAreFound};
+ghost use Rattle.lift_clerk.specs.Machine.{Moves, MovesWhereTold};
 ghost use Rattle.lift_clerk.specs.Once.{TurnsOnce, ReopensOnce};
 
 use crate::clerk::Clerk;
@@ -24,10 +18,12 @@ use lift_world::{
     turns_are_events, turns_end_at_rest,
 };
 
-// What is proved of the machine, whatever runs it.
-fn machine_laws()
-    ensures { Laws }
+// What is proved of the machine, whatever runs it, by this or any policy.
+fn machine_laws<P: Policy>()
+    ensures laws { Laws }
+    ensures covered { (policy : P) → RunsAreAny (P.chooses policy) }
 {
+    policies_are_covered::<P>();
     every_run();
     events_are_possible();
     turns_are_events();
@@ -42,13 +38,9 @@ fn machine_laws()
 /// a turn that answers Ok, one that the device failed, and one while broken. What terminals ask and
 /// hear between two calls leads to such a world too.
 pub fn turns_are_the_machines<D: Disk, P: Policy>()
-    ensures turns { (policy : P) → TurnsAreTurns D P (P.chooses policy) }
-    ensures failures { (policy : P) → FailuresAreFailures D P (P.chooses policy) }
-    ensures broken { BrokenTurnsAreBroken D P }
-    ensures terminals { TerminalsKeepIt D P }
+    ensures { TurnsAreTheMachines D P P.chooses }
 {
-    policies_are_covered::<P>();
-    machine_laws();
+    machine_laws::<P>();
 }
 
 /// So is each reopening: it keeps what the register tells that it kept, and one that the device
@@ -56,36 +48,25 @@ pub fn turns_are_the_machines<D: Disk, P: Policy>()
 /// begins in the machine's first world over an empty journal, and after a crash in the one that a
 /// power cut and its recovery leave.
 pub fn reopenings_are_the_machines<D: Disk, P: Policy>()
-    ensures reopenings { ReopeningsAreReopenings D P }
-    ensures faults { FailedReopeningsAreFaults D P }
-    ensures nothing { NothingIsNoEvent D P }
-    ensures start { BeginsAtStart D P }
-    ensures recovery { BeginsAfterCut D P }
+    ensures { ReopeningsAreTheMachines D P }
 {
-    machine_laws();
+    machine_laws::<P>();
 }
 
 /// Whatever a crash may leave, between two calls or at any moment within a turn, is what some power
 /// cut of the machine keeps. A clerk over a keeper that opens it goes on from there. So it holds
 /// every entry that was acknowledged, and shows each letter that was given before that call.
 pub fn crashes_are_the_machines<D: Disk, P: Policy>()
-    ensures between { CrashesAreCuts D P }
-    ensures within { (policy : P) → CrashesWithinTurns D P (P.chooses policy) }
-    ensures within_failed { (policy : P) → CrashesWithinFailures D P (P.chooses policy) }
-    ensures recovery { BeginsAfterCrash D P }
-    ensures letters { CutsShowLetters }
+    ensures { CrashesAreTheMachines D P P.chooses }
 {
-    policies_are_covered::<P>();
-    machine_laws();
+    machine_laws::<P>();
 }
 
 /// A clerk that was told of all that terminals asked in this world finds what waits there: its
 /// looks agree with the world, as the laws of turns want it. To tell it is no event, and makes it
 /// know the asks of that terminal.
 pub fn told_asks_are_found<D: Disk, P: Policy>()
-    ensures looks { ToldLooksAgree D P }
-    ensures nothing { TellsAreNoEvents D P }
-    ensures known { TellsMakeKnown D P }
+    ensures { ToldAsksAreFound D P }
 {}
 
 /// One turn, and which turn of the machine it is.

@@ -38,31 +38,14 @@ pub struct Allocator<'d, 'b, P: Policy + Drop> {
 
 impl<'d, 'b, P: Policy + Drop> Model for Allocator<'d, 'b, P> {
     ghost use Rattle.lift_parts.specs.Allocator.{AllocatorState, IsAllocator};
-    ghost use Rattle.std.specs.Option.{option_to_list};
 
     ghost Value = { AllocatorState P };
 
-    ghost view = { λ a. record {
-      desk = a.desk.now;
-      seat = a.seat;
-      plan = a.decider.plan;
-      state = a.decider.state;
-      start = a.start.value.state;
-      policy = a.policy;
-      end = a.end;
-      hand = option_to_list a.hand;
-    } };
+    ghost use Rattle.lift_relay.specs.AllocatorInside.{seen};
 
-    ghost invariant = { λ a. IsAllocator (P.chooses a.policy) (record {
-      desk = a.desk.now;
-      seat = a.seat;
-      plan = a.decider.plan;
-      state = a.decider.state;
-      start = a.start.value.state;
-      policy = a.policy;
-      end = a.end;
-      hand = option_to_list a.hand;
-    }) };
+    ghost view = { seen };
+
+    ghost invariant = { λ a. IsAllocator (P.chooses a.policy) (seen a) };
 }
 
 impl<'d, 'b, P: Policy + Drop> Allocator<'d, 'b, P> {
@@ -132,29 +115,32 @@ impl<'d, 'b, P: Policy + Drop> Allocator<'d, 'b, P> {
         self.decider.register()
     }
 
-    /// Compares it with the other end of its line. Both stay as they are.
-    pub(crate) fn compare(&mut self, receiver: ReceiveEnd) -> ReceiveEnd
-        requires line { receiver.line ≡ self.old.end.line }
-        requires building { receiver.building ≡ self.old.plan }
-        requires desk { receiver.desk ≡ self.old.desk }
-        ensures allocator { self.new ≡ self.old }
-        ensures receiver { result ≡ receiver }
-        ensures queued { Queued self.new.end result }
+    /// It and the other end of its line, once they were compared. Both are as they were.
+    pub(crate) fn compared(mut self, receiver: ReceiveEnd) -> (Self, ReceiveEnd, ())
+        requires line { receiver.line ≡ self.end.line }
+        requires building { receiver.building ≡ self.plan }
+        requires desk { receiver.desk ≡ self.desk }
+        ensures allocator { result.0 ≡ self.entry }
+        ensures receiver { result.1 ≡ receiver }
+        ensures queued { Queued result.0.end result.1 }
     {
-        self.end.compare(receiver)
+        let receiver = self.end.compare(receiver);
+        (self, receiver, ())
     }
 
-    /// Tells it and the other end of its line how much was sent and how much was received.
-    pub(crate) fn tell(&mut self, receiver: ReceiveEnd) -> ReceiveEnd
-        requires line { receiver.line ≡ self.old.end.line }
-        requires building { receiver.building ≡ self.old.plan }
-        requires desk { receiver.desk ≡ self.old.desk }
-        ensures allocator { self.new
-            ≡ record self.old { end = record self.old.end { gone = receiver.received } } }
-        ensures receiver { result ≡ record receiver { known = self.old.end.sent } }
-        ensures queued { Queued self.new.end result }
+    /// It and the other end of its line, once they were told how much was sent and how much was
+    /// received.
+    pub(crate) fn told(mut self, receiver: ReceiveEnd) -> (Self, ReceiveEnd, ())
+        requires line { receiver.line ≡ self.end.line }
+        requires building { receiver.building ≡ self.plan }
+        requires desk { receiver.desk ≡ self.desk }
+        ensures allocator { result.0
+            ≡ record self.entry { end = record self.entry.end { gone = receiver.received } } }
+        ensures receiver { result.1 ≡ record receiver { known = self.entry.end.sent } }
+        ensures queued { Queued result.0.end result.1 }
     {
-        self.end.tell(receiver)
+        let receiver = self.end.tell(receiver);
+        (self, receiver, ())
     }
 
     /// What it is made of, without its end of the line.

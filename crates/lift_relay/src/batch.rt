@@ -26,34 +26,19 @@ pub struct Batch {
 }
 
 impl Model for Batch {
-    ghost use Rattle.lift_parts.specs.Batch.{BatchState, IsBatch, turns_of};
+    ghost use Rattle.lift_parts.specs.Batch.{BatchState, IsBatch};
 
     ghost Value = { BatchState };
 
-    ghost view = { λ b. record {
-      commands = b.commands.items;
-      entries = b.entries.items;
-      building = b.building.value;
-      before = b.before.value;
-      desk = b.desk.value;
-      turns =
-          turns_of b.seats.value;
-    } };
+    ghost use Rattle.lift_relay.specs.BatchInside.{seen};
 
-    ghost invariant = { λ b.
-        IsBatch (record {
-          commands = b.commands.items;
-          entries = b.entries.items;
-          building = b.building.value;
-          before = b.before.value;
-          desk = b.desk.value;
-          turns =
-              turns_of b.seats.value;
-        }) };
+    ghost view = { seen };
+
+    ghost invariant = { λ b. IsBatch (seen b) };
 }
 
 impl Batch {
-    ghost use Rattle.lift_register.specs.Register.{RegisterState};
+    ghost use Rattle.lift_relay.specs.BatchInside.{batch_of};
 
     /// A batch that was decided in this building and on this register, of commands that these seats
     /// of this desk took next.
@@ -68,24 +53,10 @@ impl Batch {
         requires fits { FitFrom building.now before.value entries.items }
         requires at_desk { AreBelow (length desk.now) (commands_in commands.items) }
         requires noted { AreNoted desk.now (turns_of seats.value) commands.items }
-        requires decided { IsDecided (record {
-          commands = commands.items;
-          entries = entries.items;
-          building = building.now;
-          before = before.value;
-          desk = desk.now;
-          turns =
-              turns_of seats.value;
-        }) }
-        ensures { result ≡ record {
-          commands = commands.items;
-          entries = entries.items;
-          building = building.now;
-          before = before.value;
-          desk = desk.now;
-          turns =
-              turns_of seats.value;
-        } }
+        requires decided { IsDecided
+            (batch_of commands.items entries.items building.now before.value desk.now seats.value) }
+        ensures { result
+            ≡ batch_of commands.items entries.items building.now before.value desk.now seats.value }
     {
         Batch {
             commands,

@@ -42,15 +42,11 @@ impl<'d, 'b, D: Disk> Model for Flusher<'d, 'b, D> {
 
     ghost Value = { FlusherState D };
 
-    ghost view = { λ f. record {
-      desk = f.desk.now;
-      seat = f.seat;
-      writer = f.writer;
-      end = f.end;
-    } };
+    ghost use Rattle.lift_relay.specs.FlusherInside.{seen};
 
-    ghost invariant = { λ f.
-        IsFlusher (record { desk = f.desk.now; seat = f.seat; writer = f.writer; end = f.end }) };
+    ghost view = { seen };
+
+    ghost invariant = { λ f. IsFlusher (seen f) };
 }
 
 /// Looks once at the terminal of a command, which the look gives, as its note says; and answers it:
@@ -188,21 +184,7 @@ impl<'d, 'b, D: Disk> Flusher<'d, 'b, D> {
         ensures allocator { allocator.new ≡ allocator.old }
         ensures queued { Queued allocator.new.end self.new.end }
     {
-        with_both(
-            &mut self.end,
-            allocator,
-            |end: ReceiveEnd, allocator: Allocator<P>| -> (ReceiveEnd, Allocator<P>, ())
-                requires line { end.line ≡ allocator.end.line }
-                requires building { end.building ≡ allocator.plan }
-                requires desk { end.desk ≡ allocator.desk }
-                ensures same { (result.0 ≡ end) × (result.1 ≡ allocator.entry) }
-                ensures queued { Queued result.1.end result.0 }
-            {
-                let mut allocator = allocator;
-                let end = allocator.compare(end);
-                (end, allocator, ())
-            },
-        )
+        with_both(allocator, &mut self.end, Allocator::compared)
     }
 
     /// Tells it and the other part, at the other end of its line, how much was sent and how much
@@ -214,22 +196,7 @@ impl<'d, 'b, D: Disk> Flusher<'d, 'b, D> {
         ensures allocator { allocator.new ≡ record allocator.old { end = record allocator.old.end { gone = self.old.end.received } } }
         ensures queued { Queued allocator.new.end self.new.end }
     {
-        with_both(
-            &mut self.end,
-            allocator,
-            |end: ReceiveEnd, allocator: Allocator<P>| -> (ReceiveEnd, Allocator<P>, ())
-                requires line { end.line ≡ allocator.end.line }
-                requires building { end.building ≡ allocator.plan }
-                requires desk { end.desk ≡ allocator.desk }
-                ensures end { result.0 ≡ record end { known = allocator.entry.end.sent } }
-                ensures allocator { result.1 ≡ record allocator.entry { end = record allocator.entry.end { gone = end.received } } }
-                ensures queued { Queued result.1.end result.0 }
-            {
-                let mut allocator = allocator;
-                let end = allocator.tell(end);
-                (end, allocator, ())
-            },
-        )
+        with_both(allocator, &mut self.end, Allocator::told)
     }
 
     /// What it is made of, without its end of the line.

@@ -186,7 +186,7 @@ module _ {D P : Type 0} (chooses : P
       asked_then,
       goes_once w asked_then (Asking t ask.number ask.body) possible,
       record {
-        clerks = laws.terminals w asked_then clerk
+        clerks = laws.calls.turns.terminals w asked_then clerk
             (Asking t ask.number ask.body) refl possible g.clerks;
         theirs = λ u.
             each_asked u (eqb u t) refl;
@@ -283,7 +283,7 @@ module _ {D P : Type 0} (chooses : P
         heard_then,
         goes_once w heard_then (Hear t) can_hear,
         record {
-          clerks = laws.terminals w heard_then clerk (Hear t) refl can_hear g.clerks;
+          clerks = laws.calls.turns.terminals w heard_then clerk (Hear t) refl can_hear g.clerks;
           theirs = λ u. each_heard u (eqb u t) refl;
         },
         refl,
