@@ -1,5 +1,5 @@
 -- What is read of a batch.
-use Rattle.std.specs.Prelude.{◌≡◌, ◌+◌, ◌*◌, ◌-◌, ◌++◌, ◌<◌, ◌≤◌, ℕ, List, Option, Some, None}
+use Rattle.std.specs.Prelude.{◌≡◌, ◌+◌, ◌*◌, ◌-◌, ◌++◌, ◌<◌, ◌≤◌, ℕ, List}
 use Rattle.std.specs.Prelude.{length, take, replicate, All}
 use Rattle.std.specs.List.{flat_map}
 use Rattle.lift_base.specs.declared.history.Record.{Record}
@@ -40,9 +40,10 @@ pub record FitsBelow (gate end : ℕ) (stored : Stored) : Type 0 where
   pub below : gate + 1 + bodies (length stored.records.items) < end
 
 -- this stands behind an open gate
-abbrev pub ShowsBody : Image → ℕ → ℕ → ℕ → Option Stored → Type 0
-ShowsBody image gate end number None = (batch : Batch) → ¬ IsBatchAt image gate end number batch
-ShowsBody image gate end number (Some stored) = IsBatchAt image gate end number (batch_of stored)
+abbrev pub ShowsBody : Image → ℕ → ℕ → ℕ → AtGate → Type 0
+ShowsBody image gate end number Closed = ⊥
+ShowsBody image gate end number (BatchAt stored) = IsBatchAt image gate end number (batch_of stored)
+ShowsBody image gate end number Damaged = (batch : Batch) → ¬ IsBatchAt image gate end number batch
 
 -- this stands at a gate
 abbrev pub ShowsAt : Image → ℕ → ℕ → ℕ → AtGate → Type 0

@@ -1,6 +1,6 @@
 //! The journal's reads: they write nothing and stop at the first call that fails.
 ghost use Rattle.std.specs.Prelude.{◌≡◌, ◌≤◌, ◌<◌, ◌+◌, ◌-◌, ◌++◌, if◌then◌else◌, length, take};
-ghost use Rattle.std.specs.Prelude.{OnOk, OnErr, IfOk, IfSome, true, false};
+ghost use Rattle.std.specs.Prelude.{◌≢◌, OnOk, OnErr, IfOk, true, false};
 ghost use Rattle.lift_disk.specs.Disk.{IsSynced};
 ghost use Rattle.lift_record.specs.Header.{IsHeaderSpelling};
 ghost use Rattle.lift_journal.specs.Layout.{sector_at, is_marked, bodies, Batch as BatchValue, size_of};
@@ -71,77 +71,77 @@ fn read_second<D: Disk>(disk: &mut D, sector: u32, is_wanted: bool) -> Result<[u
     read_sector(disk, sector)
 }
 
-/// The batch behind an open gate, whose header is read: its second body sector, if it has one.
+/// What stands at an open gate, behind which this header is read: the second body sector is read,
+/// if it has one.
 fn read_rest<D: Disk>(
     disk: &mut D,
     gate: u32,
     end: u32,
     header: Header,
     first: &[u8; 512],
-) -> Result<Option<Stored>, DiskFault>
+) -> Result<AtGate, DiskFault>
     requires below { gate + 2 < end }
     requires inside { end ≤ (D.state disk.old).size }
     requires header { IsHeaderSpelling (take 16 first.now) header }
     ensures looks { Looks result (D.state disk.old) (D.state disk.new) }
-    ensures fits { IfOk result (λ found. IfSome found (λ stored. FitsBelow gate end stored)) }
-    ensures seen { IfOk result (λ found. (D.state disk.old).is_honest → IsSynced (D.state disk.old)
+    ensures unclosed { IfOk result (λ at. at ≢ AtGate.Closed) }
+    ensures fits { IfOk result (λ at. (stored : _) → at ≡ AtGate.Batch stored
+        → FitsBelow gate end stored) }
+    ensures seen { IfOk result (λ at. (D.state disk.old).is_honest → IsSynced (D.state disk.old)
         → sector_at (D.state disk.old).image (gate + 1) ≡ first.now
-        → ShowsBody (D.state disk.old).image gate end header.number found) }
+        → ShowsBody (D.state disk.old).image gate end header.number at) }
     ensures row { OnOk result (HasRead (gate + 2) 1 end (D.state disk.old) (D.state disk.new)) }
     ensures unread { OnErr result (HasRead (gate + 2) 0 end (D.state disk.old) (D.state disk.new)) }
     ensures unfinished { OnErr result ((D.state disk.old).is_honest → IsSynced (D.state disk.old)
         → sector_at (D.state disk.old).image (gate + 1) ≡ first.now → (batch : BatchValue)
         → IsBatchAt (D.state disk.old).image gate end header.number batch → size_of batch ≡ 2) }
-    ensures whole { IfOk result (λ found. IfSome found (λ stored.
-        (D.state disk.new).trace ≡ (D.state disk.old).trace
-        ++ reads_from (gate + 2) (bodies (length stored.records.items) - 1))) }
+    ensures whole { IfOk result (λ at. (stored : _) → at ≡ AtGate.Batch stored
+        → (D.state disk.new).trace ≡ (D.state disk.old).trace
+        ++ reads_from (gate + 2) (bodies (length stored.records.items) - 1)) }
 {
     let count = header.count as usize;
     let bodies = body_count(count) as u32;
     if bodies >= end - gate - 1 {
-        return Ok(None);
+        return Ok(AtGate::Damaged);
     }
     let second = read_second(disk, gate + 2, bodies == 2)?;
     match parse(header.version, count, first, &second) {
-        Some(records) => Ok(Some(Stored {
+        Some(records) => Ok(AtGate::Batch(Stored {
             version: header.version,
             records,
         })),
-        None => Ok(None),
+        None => Ok(AtGate::Damaged),
     }
 }
 
-/// The batch of this number behind an open gate, if one is there whose next gate stands below the
-/// end.
-fn read_body<D: Disk>(
-    disk: &mut D,
-    gate: u32,
-    end: u32,
-    number: u32,
-) -> Result<Option<Stored>, DiskFault>
+/// What stands at an open gate: the batch of this number, if one is there whose next gate stands
+/// below the end.
+fn read_body<D: Disk>(disk: &mut D, gate: u32, end: u32, number: u32) -> Result<AtGate, DiskFault>
     requires below { gate < end }
     requires inside { end ≤ (D.state disk.old).size }
     requires numbered { 1 ≤ number }
     ensures looks { Looks result (D.state disk.old) (D.state disk.new) }
-    ensures fits { IfOk result (λ found. IfSome found (λ stored. FitsBelow gate end stored)) }
-    ensures seen { IfOk result (λ found. (D.state disk.old).is_honest → IsSynced (D.state disk.old)
-        → ShowsBody (D.state disk.old).image gate end number found) }
+    ensures unclosed { IfOk result (λ at. at ≢ AtGate.Closed) }
+    ensures fits { IfOk result (λ at. (stored : _) → at ≡ AtGate.Batch stored
+        → FitsBelow gate end stored) }
+    ensures seen { IfOk result (λ at. (D.state disk.old).is_honest → IsSynced (D.state disk.old)
+        → ShowsBody (D.state disk.old).image gate end number at) }
     ensures row { OnOk result (HasRead (gate + 1) 2 end (D.state disk.old) (D.state disk.new)) }
     ensures unread { OnErr result (HasRead (gate + 1) 1 end (D.state disk.old) (D.state disk.new)) }
     ensures unfinished { OnErr result ((D.state disk.old).is_honest → IsSynced (D.state disk.old)
         → (batch : BatchValue) → IsBatchAt (D.state disk.old).image gate end number batch
         → HasRead (gate + 1) (size_of batch - 1) end (D.state disk.old) (D.state disk.new)) }
-    ensures whole { IfOk result (λ found. IfSome found (λ stored.
-        (D.state disk.new).trace ≡ (D.state disk.old).trace
-        ++ reads_from (gate + 1) (bodies (length stored.records.items)))) }
+    ensures whole { IfOk result (λ at. (stored : _) → at ≡ AtGate.Batch stored
+        → (D.state disk.new).trace ≡ (D.state disk.old).trace
+        ++ reads_from (gate + 1) (bodies (length stored.records.items))) }
 {
     if end - gate <= 2 {
-        return Ok(None);
+        return Ok(AtGate::Damaged);
     }
     let first = read_sector(disk, gate + 1)?;
     match header_of(&first, number) {
         Some(header) => read_rest(disk, gate, end, header, &first),
-        None => Ok(None),
+        None => Ok(AtGate::Damaged),
     }
 }
 
@@ -192,9 +192,5 @@ pub fn look<D: Disk>(disk: &mut D, gate: u32, end: u32, number: u32) -> Result<A
     if !read_mark(disk, gate)? {
         return Ok(AtGate::Closed);
     }
-    match read_body(disk, gate, end, number) {
-        Ok(Some(stored)) => Ok(AtGate::Batch(stored)),
-        Ok(None) => Ok(AtGate::Damaged),
-        Err(fault) => Err(fault),
-    }
+    read_body(disk, gate, end, number)
 }

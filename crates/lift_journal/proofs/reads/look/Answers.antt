@@ -1,67 +1,81 @@
-use Rattle.lift_journal.specs.lemmas.Looking.{reads_then, well_then, failed_then}
-use Rattle.std.proofs.Common.{◌+◌, ◌-◌, length, sym, subst, arith}
+use Rattle.std.proofs.Common.{◌≡◌, ◌≢◌, ◌+◌, ◌-◌, ◌∙◌, length, sym, subst, arith, Result, Ok, Err, OnOk, true, ℕ}
+use Rattle.std.specs.Prelude.{IfOk}
 use Rattle.lift_disk.specs.Disk.{Image}
-use Rattle.lift_journal.specs.Layout.{size_of}
+use Rattle.lift_journal.specs.declared.reads.AtGate.{AtGate}
+use Rattle.lift_journal.specs.declared.reads.AtGate.TheVariants.{Closed, Batch, Damaged}
+use Rattle.lift_journal.specs.Layout.{IsOpen, sector_at, bodies, size_of}
+use Rattle.lift_journal.specs.Seen.{ShowsBody, ShowsAt}
 use Rattle.lift_journal.specs.Walk.{IsBatchAt}
+use Rattle.lift_journal.specs.lemmas.Looking.{looks_then, err_weaker}
 use Rattle.lift_journal.proofs.Seeing.{bodies_few}
 use Rattle.lift_journal.proofs.Following.{row_then, rows_then}
 use Rattle.lift_journal.proofs.reads.look.Goals as goal
 
-pub returns-in-Ok-Some-clause-looks : goal.returns-in-Ok-Some-clause-looks
-returns-in-Ok-Some-clause-looks g c =
+if_ok : {T E : Type 0} (r : Result T E) (P Q : T → Type 0) → ((x : T) → P x → Q x) → IfOk r P → IfOk r Q
+if_ok (Ok x) P Q then is = then x is
+if_ok (Err e) P Q then is = tt
+
+on_ok : {T E : Type 0} (r : Result T E) (P : Type 0) (Q : T → Type 0) → ((x : T) → P → Q x) → OnOk r P → IfOk r Q
+on_ok (Ok x) P Q then is = then x is
+on_ok (Err e) P Q then is = tt
+
+-- the gate is open, and this stands behind it
+shows_at : (image : Image) (gate end number : ℕ) (at : AtGate) → IsOpen (sector_at image gate)
+    → ShowsBody image gate end number at → ShowsAt image gate end number at
+shows_at image gate end number Closed opened shows = absurd shows
+shows_at image gate end number (Batch stored) opened shows = (opened, shows)
+shows_at image gate end number Damaged opened shows = (opened, shows)
+
+pub returns-clause-looks : goal.returns-clause-looks
+returns-clause-looks g c =
+    looks_then c.read_body.result (g.D.Disk.state c.args.disk.now) (g.D.Disk.state c.read_mark.new.disk) (g.D.Disk.state c.read_body.new.disk)
+    c.read_mark.ensures.looks.only c.in_ok-read_mark.ensures.looks.ok c.read_body.ensures.looks
+
+pub returns-clause-seen : goal.returns-clause-seen
+returns-clause-seen g c =
     let old = g.D.Disk.state c.args.disk.now in
     let mid = g.D.Disk.state c.read_mark.new.disk in
-    let new = g.D.Disk.state c.read_body.new.disk in
-    record {
-      only = reads_then old mid new c.read_mark.ensures.looks.only c.read_body.ensures.looks.only;
-      ok = well_then old mid new c.read_mark.ensures.looks.only c.in_ok-read_mark.ensures.looks.ok c.in-Ok-Some.ensures.looks.ok;
-      err = tt;
-    }
+    if_ok c.read_body.result _ _ (λ at shows honest synced.
+    (let kept = c.in_ok-read_mark.ensures.looks.ok.kept honest synced in
+    let opened : IsOpen (sector_at old.image c.args.gate) = c.in_ok-read_mark.ensures.gives honest synced ∙ c.if-not-branch.false in
+    shows_at old.image c.args.gate c.args.end c.args.number at opened
+    (subst (λ (l : Image). ShowsBody l c.args.gate c.args.end c.args.number at) kept.same
+    (shows (c.read_mark.ensures.looks.only.runs.honest.1 honest) kept.synced)))) c.read_body.ensures.seen
 
-pub returns-in-Ok-None-clause-looks : goal.returns-in-Ok-None-clause-looks
-returns-in-Ok-None-clause-looks g c =
-    let old = g.D.Disk.state c.args.disk.now in
-    let mid = g.D.Disk.state c.read_mark.new.disk in
-    let new = g.D.Disk.state c.read_body.new.disk in
-    record {
-      only = reads_then old mid new c.read_mark.ensures.looks.only c.read_body.ensures.looks.only;
-      ok = well_then old mid new c.read_mark.ensures.looks.only c.in_ok-read_mark.ensures.looks.ok c.in-Ok-None.ensures.looks.ok;
-      err = tt;
-    }
-
-pub returns-in-Err-clause-looks : goal.returns-in-Err-clause-looks
-returns-in-Err-clause-looks g c =
-    let old = g.D.Disk.state c.args.disk.now in
-    let mid = g.D.Disk.state c.read_mark.new.disk in
-    let new = g.D.Disk.state c.read_body.new.disk in
-    record {
-      only = reads_then old mid new c.read_mark.ensures.looks.only c.read_body.ensures.looks.only;
-      ok = tt;
-      err = failed_then old mid new c.read_mark.ensures.looks.only c.in_ok-read_mark.ensures.looks.ok c.in-Err.ensures.looks.err;
-    }
-
-pub returns-in-Ok-None-clause-damaged : goal.returns-in-Ok-None-clause-damaged
-returns-in-Ok-None-clause-damaged g c _ =
-    let row = c.in-Ok-None.ensures.row in (
+pub returns-clause-damaged : goal.returns-clause-damaged
+returns-clause-damaged g c =
+    on_ok c.read_body.result _ _ (λ at row _. (
       row.0,
       row.1,
       omega (arith, row.2, c.requires.below),
       rows_then (g.D.Disk.state c.args.disk.now) (g.D.Disk.state c.read_mark.new.disk) (g.D.Disk.state c.read_body.new.disk) c.args.gate 1 row.0 (c.args.gate + 1) (omega arith)
           c.in_ok-read_mark.ensures.read row.3,
-    )
+    )) c.read_body.ensures.row
 
-pub returns-in-Err-clause-unread : goal.returns-in-Err-clause-unread
-returns-in-Err-clause-unread g c =
+pub returns-clause-unread : goal.returns-clause-unread
+returns-clause-unread g c =
+    err_weaker c.read_body.result _ _ (λ row.
     row_then (g.D.Disk.state c.args.disk.now) (g.D.Disk.state c.read_mark.new.disk) (g.D.Disk.state c.read_body.new.disk) c.args.gate 1 (c.args.gate + 1) 1 c.args.end (omega arith)
-    c.in_ok-read_mark.ensures.read c.in-Err.ensures.unread
+    c.in_ok-read_mark.ensures.read row) c.read_body.ensures.unread
 
-pub returns-in-Err-clause-unfinished : goal.returns-in-Err-clause-unfinished
-returns-in-Err-clause-unfinished g c honest synced batch there =
+pub returns-clause-unfinished : goal.returns-clause-unfinished
+returns-clause-unfinished g c =
     let old = g.D.Disk.state c.args.disk.now in
     let mid = g.D.Disk.state c.read_mark.new.disk in
     let new = g.D.Disk.state c.read_body.new.disk in
-    let kept = c.in_ok-read_mark.ensures.looks.ok.kept honest synced in
+    err_weaker c.read_body.result _ _ (λ unfinished honest synced batch there.
+    (let kept = c.in_ok-read_mark.ensures.looks.ok.kept honest synced in
     let there_now = subst (λ (l : Image). IsBatchAt l c.args.gate c.args.end c.args.number batch) (sym kept.same) there in
-    let behind = c.in-Err.ensures.unfinished (c.read_mark.ensures.looks.only.runs.honest.1 honest) kept.synced batch there_now in
+    let behind = unfinished (c.read_mark.ensures.looks.only.runs.honest.1 honest) kept.synced batch there_now in
     let row = row_then old mid new c.args.gate 1 (c.args.gate + 1) (size_of batch - 1) c.args.end (omega arith) c.in_ok-read_mark.ensures.read behind in
-    (row.0, omega (arith, row.1, bodies_few (length batch.records)), row.2, row.3)
+    (row.0, omega (arith, row.1, bodies_few (length batch.records)), row.2, row.3))) c.read_body.ensures.unfinished
+
+pub returns-clause-whole : goal.returns-clause-whole
+returns-clause-whole g c =
+    if_ok c.read_body.result _ _ (λ at whole stored is.
+    rows_then (g.D.Disk.state c.args.disk.now) (g.D.Disk.state c.read_mark.new.disk) (g.D.Disk.state c.read_body.new.disk) c.args.gate 1 (bodies (length stored.records.items)) (c.args.gate + 1) (omega arith)
+    c.in_ok-read_mark.ensures.read (whole stored is)) c.read_body.ensures.whole
+
+pub returns-clause-closed : goal.returns-clause-closed
+returns-clause-closed g c =
+    if_ok c.read_body.result _ _ (λ at unclosed is. absurd (unclosed is)) c.read_body.ensures.unclosed
