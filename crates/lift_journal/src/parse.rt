@@ -131,21 +131,27 @@ fn push_next(
     true
 }
 
-/// So many records behind the header of this text, if they are spelled there.
-fn read_records(version: Version, text: &[u8; 1024], count: usize) -> Option<ArrayVec<Record, 63>>
-    requires { count ≤ 63 }
-    ensures some { IfSome result (λ records.
-        IsRecordsIn version (drop 16 text.now) count records.items) }
-    ensures none { IfNone result ((records : List RecordValue)
-        → ¬ IsRecordsIn version (drop 16 text.now) count records) }
+/// Puts so many records behind the header of this text into a list, if they are spelled there.
+#[inline(never)]
+fn read_records(
+    version: Version,
+    text: &[u8; 1024],
+    count: usize,
+    records: &mut ArrayVec<Record, 63>,
+) -> bool
+    requires few { count ≤ 63 }
+    requires empty { records.old.items ≡ [] }
+    ensures some { IsTrue result
+        → IsRecordsIn version (drop 16 text.now) count records.new.items }
+    ensures none { IsFalse result → (others : List RecordValue)
+        → ¬ IsRecordsIn version (drop 16 text.now) count others }
 {
-    let mut records = ArrayVec::new();
     for k in 0..count {
-        if !push_next(version, text, 16 + 16 * k, &mut records) {
-            return None;
+        if !push_next(version, text, 16 + 16 * k, records) {
+            return false;
         }
     }
-    Some(records)
+    true
 }
 
 /// As many zeros as two sectors have bytes.
@@ -179,5 +185,9 @@ pub fn parse(
     if !is_zero_from(&text, 16 + 16 * count) {
         return None;
     }
-    read_records(version, &text, count)
+    let mut records = ArrayVec::new();
+    if !read_records(version, &text, count, &mut records) {
+        return None;
+    }
+    Some(records)
 }

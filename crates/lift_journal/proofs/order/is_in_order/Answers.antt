@@ -28,7 +28,7 @@ loop-k-preserved c =
     let last = c.index-records-k.result in
     let next = c.index-records-k-in-loop-k.result in
     let more : suc k ≡ k + 1 = omega arith in
-    let here : MayFollow (Some last) next = c.may_stand_behind.ensures.0 c.if-not-may_stand_behind.false in
+    let here : MayFollow (Some last) next = c.may_come_next.ensures.0 c.if-not-may_come_next.false in
     let there : MayFollow (last_behind None (take k records)) (get_or records k next) =
     subst (λ (l : Option Record). MayFollow l (get_or records k next)) (ap (λ (r : Record). Some r) c.index-records-k.is ∙ sym (before_is records k last inv.behind c.loop-k-test.true))
     (subst (λ (r : Record). MayFollow (Some last) r) c.index-records-k-in-loop-k.is here) in
@@ -38,8 +38,8 @@ loop-k-preserved c =
           (order_more None records k next c.loop-k-test.true inv.ordered there);
     }
 
-pub returns-then-not-may_stand_behind : goal.returns-then-not-may_stand_behind
-returns-then-not-may_stand_behind c =
+pub returns-then-not-may_come_next : goal.returns-then-not-may_come_next
+returns-then-not-may_come_next c =
     let records = c.args.records.now in
     let k = c.loop-k.k in
     let inv = c.loop-k.invariant in
@@ -51,5 +51,5 @@ returns-then-not-may_stand_behind c =
           let here : MayFollow (Some last) next =
           subst (λ (r : Record). MayFollow (Some last) r) (sym c.index-records-k-in-loop-k.is)
           (subst (λ (l : Option Record). MayFollow l (get_or records k next)) (before_is records k last inv.behind c.loop-k-test.true ∙ sym (ap (λ (r : Record). Some r) c.index-records-k.is)) there) in
-          sym c.if-not-may_stand_behind.true ∙ c.may_stand_behind.ensures.1 here,
+          sym c.if-not-may_come_next.true ∙ c.may_come_next.ensures.1 here,
     )

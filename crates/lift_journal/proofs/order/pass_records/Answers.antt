@@ -1,4 +1,4 @@
-use Rattle.std.proofs.Common.{◌≡◌, ◌==◌, false, ◌+◌, ◌-◌, ◌<◌, ◌≤◌, ℕ, zero, suc, List, [], ◌∷◌, length, take, get_or, refl, sym, subst, ap, ◌∙◌, Option, Some, None, arith}
+use Rattle.std.proofs.Common.{◌≡◌, ◌==◌, false, ◌-◌, ◌≤◌, ℕ, zero, suc, List, length, get_or, sym, ap, ◌∙◌, Option, Some, arith}
 use Rattle.std.proofs.lemmas.List.{take_all}
 use Rattle.lift_base.specs.declared.history.Record.{Record}
 use Rattle.lift_journal.specs.Order.{last_behind}

@@ -1,5 +1,4 @@
-use Rattle.std.proofs.Common.{◌≡◌, ℕ, List, sym, subst}
-use Rattle.lift_base.specs.declared.history.Record.{Record}
+use Rattle.std.proofs.Common.{ℕ, List, sym, subst}
 use Rattle.lift_record.specs.Record.{IsSpellingOf}
 use Rattle.lift_journal.proofs.parse.push_any.Goals as goal
 

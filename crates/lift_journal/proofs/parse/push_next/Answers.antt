@@ -1,4 +1,4 @@
-use Rattle.std.proofs.Common.{◌≡◌, ◌≢◌, Bool, true, false, not, is_some, ◌++◌, ◌∷◌, [], ℕ, List, Option, Some, None, take, drop, refl, sym, subst}
+use Rattle.std.proofs.Common.{◌≡◌, ◌≢◌, Bool, true, false, not, is_some, ◌++◌, ◌∷◌, [], ℕ, List, Option, Some, None, refl, subst}
 use Rattle.std.specs.Option.{IfSome, option_to_list}
 use Rattle.lift_base.specs.declared.history.Record.{Record}
 use Rattle.lift_record.specs.declared.version.Version.{Version}

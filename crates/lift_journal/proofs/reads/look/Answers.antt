@@ -1,4 +1,4 @@
-use Rattle.std.proofs.Common.{◌≡◌, ◌≢◌, ◌+◌, ◌-◌, ◌∙◌, length, sym, subst, arith, Result, Ok, Err, OnOk, true, ℕ}
+use Rattle.std.proofs.Common.{◌+◌, ◌-◌, ◌∙◌, length, sym, subst, arith, Result, Ok, Err, OnOk, ℕ}
 use Rattle.std.specs.Prelude.{IfOk}
 use Rattle.lift_disk.specs.Disk.{Image}
 use Rattle.lift_journal.specs.declared.reads.AtGate.{AtGate}
