@@ -162,8 +162,9 @@ pub fn read_mark<D: Disk>(disk: &mut D, sector: u32) -> Result<bool, DiskFault>
         ++ reads_from sector 1) }
     ensures unread { OnErr result ((D.state disk.new).trace ≡ (D.state disk.old).trace) }
 {
-    let bytes = read_sector(disk, sector)?;
-    Ok(has_mark(&bytes))
+    let mut buffer = [0; 512];
+    disk.read(sector, &mut buffer)?;
+    Ok(has_mark(&buffer))
 }
 
 /// What stands at this gate, by at most three reads.

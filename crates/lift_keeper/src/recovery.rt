@@ -84,6 +84,8 @@ impl<'b> Recovery<'b> {
     }
 
     /// Takes in a part of a checkpoint, if it fits.
+    // (few records are such parts: apart from the loop, it costs the others nothing)
+    #[inline(never)]
     fn take_base(&mut self, content: &Record) -> bool
         requires room { self.old.taken + 1 < 2 ^ 32 }
         ensures fits { IsTrue result ↔ BaseFits self.old.plan self.old.register content.now }
@@ -113,13 +115,13 @@ impl<'b> Recovery<'b> {
     {
         match *content {
             Record::Entry(ref entry) => self.take_entry(entry),
-            Record::Row(_) => self.take_base(content),
-            Record::Last { .. } => self.take_base(content),
-            Record::Done { .. } => self.take_base(content),
+            Record::Row(_) | Record::Last { .. } | Record::Done { .. } => self.take_base(content),
         }
     }
 
     /// Takes in these records, up to the first that doesn't fit.
+    // (as a function of its own it keeps in registers what it looks at for each record)
+    #[inline(never)]
     pub fn take_all(&mut self, records: &[Record]) -> bool
         requires room { self.old.taken + length records.now + 1 < 2 ^ 32 }
         ensures pass { IsTrue result
