@@ -5,11 +5,8 @@ ghost use Rattle.lift_base.specs.declared.history.Record.TheVariants.{Entry as E
 ghost use Rattle.lift_base.specs.Records.{IsRecord};
 ghost use Rattle.lift_base.specs.declared.history.Entry.{Entry as EntryValue};
 ghost use Rattle.lift_base.specs.declared.history.Content.{Content as ContentValue};
-ghost use Rattle.lift_register.specs.Register.{register_of, last_of, waiting_row};
-ghost use Rattle.lift_register.specs.Balanced.{IsBalanced};
-ghost use Rattle.lift_register.specs.Belongs.{BelongsTo};
-ghost use Rattle.lift_register.specs.WellFormed.{IsWellFormed};
-ghost use Rattle.lift_register.specs.Fits.{Fits};
+ghost use Rattle.lift_register.specs.Prelude.{last_of, waiting_row, register_of, Fits, BelongsTo};
+ghost use Rattle.lift_register.specs.Prelude.{IsBalanced, IsWellFormed};
 ghost use Rattle.lift_policy.specs.Step.{view_of, accepting, standing, next_from};
 ghost use Rattle.lift_policy.specs.Laws.{IsStateIn};
 ghost use Rattle.lift_decider.specs.Decider.{IsBatch, starting};

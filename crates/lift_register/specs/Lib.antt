@@ -9,4 +9,5 @@ pub mod Rows
 pub mod Steps
 pub mod Joins
 pub mod Follows
+pub mod Prelude
 pub mod lemmas
