@@ -1,8 +1,7 @@
 -- What a keeper holds: what decisions read and change, and what is safe on its device.
 use Rattle.std.specs.Prelude.{◌≡◌, Bool, false}
 use Rattle.lift_building.specs.Plan.{Plan}
-use Rattle.lift_register.specs.Register.{RegisterState, register_of}
-use Rattle.lift_register.specs.Fits.{FitFrom}
+use Rattle.lift_register.specs.Prelude.{RegisterState, register_of, FitFrom}
 use Rattle.lift_policy.specs.Step.{State}
 use Rattle.lift_keeper.specs.Writer.{WriterView}
 

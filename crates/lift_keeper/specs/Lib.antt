@@ -9,4 +9,5 @@ pub mod Keeper
 pub mod Calls
 pub mod Commits
 pub mod Recovers
+pub mod Prelude
 pub mod lemmas

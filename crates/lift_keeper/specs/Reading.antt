@@ -4,10 +4,7 @@ use Rattle.std.specs.Prelude.{◌≡◌, ◌≢◌, ◌<◌, ◌⊎◌, ℕ, Boo
 use Rattle.lift_base.specs.declared.history.Record.{Record}
 use Rattle.lift_base.specs.declared.history.Shape.{Shape}
 use Rattle.lift_building.specs.Plan.{Plan, shape_of}
-use Rattle.lift_register.specs.Balanced.{IsBalanced}
-use Rattle.lift_register.specs.Belongs.{BelongsTo}
-use Rattle.lift_register.specs.Register.{RegisterState}
-use Rattle.lift_register.specs.WellFormed.{IsWellFormed}
+use Rattle.lift_register.specs.Prelude.{RegisterState, BelongsTo, IsBalanced, IsWellFormed}
 use Rattle.lift_keeper.specs.declared.fault.KeeperFault.{KeeperFault}
 use Rattle.lift_keeper.specs.declared.fault.KeeperFault.TheVariants.{Journal, OtherBuilding}
 use Rattle.lift_keeper.specs.declared.fault.KeeperFault.TheVariants.{BadEntry}

@@ -6,12 +6,9 @@ use Rattle.lift_base.specs.declared.history.Record.{Record}
 use Rattle.lift_base.specs.declared.history.Record.TheVariants.{Entry as EntryRecord, Row, Last, Done}
 use Rattle.lift_building.specs.Plan.{Plan}
 use Rattle.lift_journal.specs.Layout.{Batch, records_of}
-use Rattle.lift_register.specs.Register.{RegisterState, register_of, empty}
-use Rattle.lift_register.specs.Fits.{Fits, FitFrom}
+use Rattle.lift_register.specs.Prelude.{RegisterState, empty, register_of, Fits, FitFrom, BelongsTo}
+use Rattle.lift_register.specs.Prelude.{IsBalanced, IsWellFormed}
 use Rattle.lift_register.specs.Base.{BaseFits, BaseFitFrom, with_record, with_records}
-use Rattle.lift_register.specs.Belongs.{BelongsTo}
-use Rattle.lift_register.specs.Balanced.{IsBalanced}
-use Rattle.lift_register.specs.WellFormed.{IsWellFormed}
 
 -- the record can be taken in now, as an entry or as a part of a checkpoint
 abbrev pub RecordFits : Plan → RegisterState → Record → Type 0

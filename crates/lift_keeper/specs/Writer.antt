@@ -6,11 +6,9 @@ use Rattle.lift_base.specs.declared.history.Record.{Record}
 use Rattle.lift_base.specs.declared.history.Shape.{Shape}
 use Rattle.lift_building.specs.Plan.{Plan, shape_of}
 use Rattle.lift_disk.specs.Disk.{DiskState, Image, LeavesNow}
-use Rattle.lift_register.specs.Register.{RegisterState, register_of}
+use Rattle.lift_register.specs.Prelude.{RegisterState, register_of, BelongsTo, IsBalanced}
+use Rattle.lift_register.specs.Prelude.{IsWellFormed}
 use Rattle.lift_register.specs.Base.{base_records}
-use Rattle.lift_register.specs.Belongs.{BelongsTo}
-use Rattle.lift_register.specs.Balanced.{IsBalanced}
-use Rattle.lift_register.specs.WellFormed.{IsWellFormed}
 use Rattle.lift_journal.specs.Checkpoint.{sectors_for}
 use Rattle.lift_journal.specs.Journal.{JournalView, StandsFor}
 use Rattle.lift_journal.specs.Layout.{Batch, records_of, Holds, Picks, bodies, used}

@@ -4,11 +4,8 @@ ghost use Rattle.std.specs.Prelude.{◌≡◌, length, All, map};
 ghost use Rattle.lift_base.specs.declared.history.Entry.{Entry as EntryValue};
 ghost use Rattle.lift_base.specs.declared.history.Record.TheVariants.{Entry as EntryRecord};
 ghost use Rattle.lift_base.specs.Records.{IsLawful};
-ghost use Rattle.lift_register.specs.Register.{register_of};
-ghost use Rattle.lift_register.specs.Fits.{FitFrom};
-ghost use Rattle.lift_register.specs.Belongs.{BelongsTo};
-ghost use Rattle.lift_register.specs.Balanced.{IsBalanced};
-ghost use Rattle.lift_register.specs.WellFormed.{IsWellFormed};
+ghost use Rattle.lift_register.specs.Prelude.{register_of, FitFrom, BelongsTo, IsBalanced};
+ghost use Rattle.lift_register.specs.Prelude.{IsWellFormed};
 ghost use Rattle.lift_journal.specs.Order.{IsEntry};
 
 use arrayvec::ArrayVec;

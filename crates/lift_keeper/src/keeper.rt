@@ -3,19 +3,13 @@
 ghost use Rattle.std.specs.Prelude.{◌≡◌, ◌<◌, ◌≤◌, ◌+◌, ◌++◌, ◌⊎◌, ◌↔◌, [], length, true, false, Ok};
 ghost use Rattle.std.specs.Prelude.{Err, IfOk, IfErr, OnOk, OnErr};
 ghost use Rattle.lift_disk.specs.Disk.{LeavesNow};
-ghost use Rattle.lift_register.specs.Register.{register_of};
-ghost use Rattle.lift_register.specs.WellFormed.{IsWellFormed};
-ghost use Rattle.lift_register.specs.Belongs.{BelongsTo};
-ghost use Rattle.lift_register.specs.Balanced.{IsBalanced};
+ghost use Rattle.lift_register.specs.Prelude.{register_of, BelongsTo, IsBalanced, IsWellFormed};
 ghost use Rattle.lift_policy.specs.View.{positions_of, AreSchedulesOf};
 ghost use Rattle.lift_policy.specs.Step.{Step, view_of};
 ghost use Rattle.lift_decider.specs.Decider.{starting, IsPossible};
-ghost use Rattle.lift_keeper.specs.Commits.{Commits};
-ghost use Rattle.lift_keeper.specs.Images.{IsImageOf, IsImageIn, IsInDoubt};
-ghost use Rattle.lift_keeper.specs.Recovers.{Recovers};
-ghost use Rattle.lift_keeper.specs.Reopening.{Reopens, RefusesReopening};
+ghost use Rattle.lift_keeper.specs.Prelude.{IsImageOf, IsImageIn, IsInDoubt, Commits, Recovers};
+ghost use Rattle.lift_keeper.specs.Prelude.{Reopens, RefusesReopening, StopsOpening};
 ghost use Rattle.lift_journal.specs.Calls.{opening_of};
-ghost use Rattle.lift_keeper.specs.Calls.{StopsOpening};
 
 use crate::copies::copy_of;
 use crate::fault::KeeperFault;

@@ -2,12 +2,9 @@
 
 ghost use Rattle.std.specs.Prelude.{◌≡◌, ◌≤◌, ◌<◌, ◌+◌, ◌^◌, ◌↔◌, ◌∷◌, [], ◌*◌, IsTrue, IsFalse};
 ghost use Rattle.std.specs.Prelude.{IfSome, IfNone, length, true, false};
-ghost use Rattle.lift_register.specs.Register.{register_of};
-ghost use Rattle.lift_register.specs.Fits.{Fits};
+ghost use Rattle.lift_register.specs.Prelude.{register_of, Fits, BelongsTo, IsBalanced};
+ghost use Rattle.lift_register.specs.Prelude.{IsWellFormed};
 ghost use Rattle.lift_register.specs.Base.{BaseFits, with_record};
-ghost use Rattle.lift_register.specs.Belongs.{BelongsTo};
-ghost use Rattle.lift_register.specs.Balanced.{IsBalanced};
-ghost use Rattle.lift_register.specs.WellFormed.{IsWellFormed};
 ghost use Rattle.lift_keeper.specs.Recovery.{beginning, leaves_open, Passes, passed, AllPass};
 ghost use Rattle.lift_keeper.specs.Recovery.{all_passed, StopsAt};
 

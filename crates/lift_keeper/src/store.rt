@@ -7,8 +7,7 @@ ghost use Rattle.lift_base.specs.declared.history.Record.TheVariants.{Entry as E
 ghost use Rattle.lift_base.specs.Records.{IsLawful};
 ghost use Rattle.lift_building.specs.Plan.{Plan};
 ghost use Rattle.lift_disk.specs.Disk.{LeavesOnly, RunsOn};
-ghost use Rattle.lift_register.specs.Register.{register_of};
-ghost use Rattle.lift_register.specs.Fits.{FitFrom};
+ghost use Rattle.lift_register.specs.Prelude.{register_of, FitFrom};
 ghost use Rattle.lift_journal.specs.Layout.{bodies};
 ghost use Rattle.lift_journal.specs.Order.{IsEntry};
 ghost use Rattle.lift_journal.specs.Steps.{Makes};

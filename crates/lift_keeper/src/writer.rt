@@ -3,16 +3,10 @@
 ghost use Rattle.std.specs.Prelude.{◌≡◌, ◌<◌, ◌++◌, ◌⊎◌, [], true, false};
 ghost use Rattle.std.specs.Prelude.{IfOk, IfErr, OnOk, OnErr};
 ghost use Rattle.lift_disk.specs.Disk.{LeavesNow};
-ghost use Rattle.lift_register.specs.Fits.{FitFrom};
-ghost use Rattle.lift_register.specs.Belongs.{BelongsTo};
-ghost use Rattle.lift_register.specs.Balanced.{IsBalanced};
-ghost use Rattle.lift_register.specs.WellFormed.{IsWellFormed};
-ghost use Rattle.lift_keeper.specs.Commits.{Commits};
-ghost use Rattle.lift_keeper.specs.Images.{IsImageOf, IsImageIn, IsInDoubt};
-ghost use Rattle.lift_keeper.specs.Recovers.{Recovers};
-ghost use Rattle.lift_keeper.specs.Reopening.{Reopens, RefusesReopening};
+ghost use Rattle.lift_register.specs.Prelude.{FitFrom, BelongsTo, IsBalanced, IsWellFormed};
+ghost use Rattle.lift_keeper.specs.Prelude.{IsImageOf, IsImageIn, IsInDoubt, Commits, Recovers};
+ghost use Rattle.lift_keeper.specs.Prelude.{Reopens, RefusesReopening, StopsOpening};
 ghost use Rattle.lift_journal.specs.Calls.{opening_of};
-ghost use Rattle.lift_keeper.specs.Calls.{StopsOpening};
 ghost use Rattle.lift_keeper.specs.Writer.{Guards};
 
 use crate::copies::{apply_all, put_records};

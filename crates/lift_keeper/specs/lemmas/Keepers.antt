@@ -4,9 +4,7 @@ use Rattle.std.proofs.lemmas.List.{append-nil}
 use Rattle.lift_base.specs.declared.history.Entry.{Entry}
 use Rattle.lift_base.specs.declared.command.Body.{Body}
 use Rattle.lift_building.specs.Plan.{Plan}
-use Rattle.lift_register.specs.Register.{RegisterState, register_of}
-use Rattle.lift_register.specs.Fits.{Fits, FitFrom}
-use Rattle.lift_register.specs.WellFormed.{IsWellFormed}
+use Rattle.lift_register.specs.Prelude.{RegisterState, register_of, Fits, FitFrom, IsWellFormed}
 use Rattle.lift_register.specs.lemmas.EntryLemmas.{register_of-nothing}
 use Rattle.lift_register.specs.lemmas.HistoryLemmas.{register_of-append}
 use Rattle.lift_register.specs.lemmas.Laws.{FitFrom-append}
