@@ -5,8 +5,7 @@ use Rattle.std.specs.Option.{option_map_or}
 use Rattle.lift_base.specs.declared.travel.Position.{Position}
 use Rattle.lift_base.specs.declared.history.Row.{Row}
 use Rattle.lift_building.specs.Plan.{Plan}
-use Rattle.lift_register.specs.Register.{rows_of}
-use Rattle.lift_register.specs.Fits.{persons_of}
+use Rattle.lift_register.specs.Prelude.{rows_of, persons_of}
 use Rattle.lift_stops.specs.StopList.{halt_at, stop_list}
 use Rattle.lift_cost.specs.declared.call.NewCall.{NewCall}
 use Rattle.lift_cost.specs.Cost.{total_cost, arrival_at, waiting_row, with_call}

@@ -2,8 +2,7 @@
 use Rattle.std.specs.Prelude.{ℕ, ◌+◌, ◌<◌, ◌≤◌, ◌&&◌, Bool, nat_le, is_some, List, [], ◌∷◌, length}
 use Rattle.std.specs.Prelude.{filter}
 use Rattle.lift_building.specs.Plan.{Plan, serves_floor, places_of}
-use Rattle.lift_register.specs.Register.{RegisterState, rows_of, cars}
-use Rattle.lift_register.specs.Fits.{persons_of}
+use Rattle.lift_register.specs.Prelude.{RegisterState, cars, rows_of, persons_of}
 use Rattle.lift_cost.specs.declared.call.NewCall.{NewCall}
 use Rattle.lift_policy.specs.View.{ViewState, position_of}
 

@@ -11,9 +11,8 @@ use Rattle.lift_base.specs.declared.command.Reason.{Reason}
 use Rattle.lift_base.specs.declared.command.Reply.{Reply}
 use Rattle.lift_base.specs.declared.command.Reply.TheVariants.{Car, Stopped, Refused, Unknown}
 use Rattle.lift_building.specs.Plan.{Plan, IsBuilding}
-use Rattle.lift_register.specs.Register.{RegisterState, register_of, kept_of, last_of}
-use Rattle.lift_register.specs.Balanced.{IsBalanced}
-use Rattle.lift_register.specs.Fits.{Fits}
+use Rattle.lift_register.specs.Prelude.{RegisterState, last_of, kept_of, register_of, Fits}
+use Rattle.lift_register.specs.Prelude.{IsBalanced}
 use Rattle.lift_policy.specs.declared.command.Command.{Command}
 use Rattle.lift_cost.specs.declared.call.NewCall.{NewCall}
 use Rattle.lift_policy.specs.Terminals.{kiosk_floor}

@@ -3,9 +3,7 @@ use Rattle.std.specs.Prelude.{ℕ, ◌≡◌, ◌<◌, List, map, Option, Some, 
 use Rattle.std.specs.Prelude.{slice_index_or}
 use Rattle.lift_base.specs.declared.travel.Position.{Position}
 use Rattle.lift_building.specs.Plan.{Plan}
-use Rattle.lift_register.specs.Register.{RegisterState, rows_of}
-use Rattle.lift_register.specs.WellFormed.{IsWellFormed}
-use Rattle.lift_register.specs.Belongs.{BelongsTo}
+use Rattle.lift_register.specs.Prelude.{RegisterState, rows_of, BelongsTo, IsWellFormed}
 use Rattle.lift_stops.specs.Schedule.{ScheduleState}
 
 pub record ViewState : Type 0 where

@@ -4,9 +4,9 @@ use Rattle.std.specs.Prelude.{length, map, filter, count_by, All, Contains, IsTr
 use Rattle.lift_base.specs.declared.history.Entry.{Entry}
 use Rattle.lift_base.specs.declared.history.Entry.TheVariants.{Allot}
 use Rattle.lift_base.specs.declared.history.Row.{Row}
-use Rattle.lift_register.specs.Register.{Call, calls_in, status, rows_of, waiting_row, empty}
+use Rattle.lift_register.specs.Prelude.{empty, rows_of, waiting_row, FitFrom}
+use Rattle.lift_register.specs.Register.{Call, calls_in, status}
 use Rattle.lift_register.specs.Status.{Done}
-use Rattle.lift_register.specs.Fits.{FitFrom}
 use Rattle.lift_stops.specs.StopList.{StopsInOrder}
 use Rattle.lift_world.specs.declared.event.Kept.{Kept}
 use Rattle.lift_world.specs.declared.event.Phase.TheVariants.{Idle}

@@ -4,8 +4,7 @@ use Rattle.std.specs.Prelude.{All, IsTrue}
 use Rattle.lift_base.specs.declared.history.Record.TheVariants.{Entry as EntryRecord}
 use Rattle.lift_base.specs.Records.{IsRecord, IsTypedCommand}
 use Rattle.lift_base.specs.declared.history.Entry.{Entry}
-use Rattle.lift_register.specs.Register.{empty}
-use Rattle.lift_register.specs.Fits.{FitFrom}
+use Rattle.lift_register.specs.Prelude.{empty, FitFrom}
 use Rattle.lift_policy.specs.Laws.{IsTypedBody}
 use Rattle.lift_world.specs.declared.event.Kept.{Kept}
 use Rattle.lift_world.specs.declared.event.Event.{Event}

@@ -4,9 +4,7 @@ use Rattle.std.specs.Prelude.{false}
 use Rattle.lift_base.specs.declared.travel.Position.{Position}
 use Rattle.lift_base.specs.declared.history.Entry.{Entry}
 use Rattle.lift_building.specs.Plan.{Plan}
-use Rattle.lift_register.specs.Register.{RegisterState}
-use Rattle.lift_register.specs.Fits.{Fits}
-use Rattle.lift_register.specs.Balanced.{IsBalanced}
+use Rattle.lift_register.specs.Prelude.{RegisterState, Fits, IsBalanced}
 use Rattle.lift_policy.specs.declared.command.Command.{Command}
 use Rattle.lift_world.specs.declared.event.Phase.{Phase}
 use Rattle.lift_world.specs.declared.event.Power.{Power}

@@ -15,8 +15,7 @@ use Rattle.lift_base.specs.declared.command.Body.{Body}
 use Rattle.lift_base.specs.declared.command.Body.TheVariants.{Call, Stop, Place}
 use Rattle.lift_base.specs.declared.command.Reply.{Reply}
 use Rattle.lift_building.specs.Plan.{Plan, CarPlan, serves_floor}
-use Rattle.lift_register.specs.Register.{cars, kept_of}
-use Rattle.lift_register.specs.Fits.{Fits}
+use Rattle.lift_register.specs.Prelude.{cars, kept_of, Fits}
 use Rattle.lift_policy.specs.Terminals.{has_car, has_kiosk, kiosk_floor}
 use Rattle.lift_policy.specs.Eligible.{Choice, is_eligible, eligible_cars}
 use Rattle.lift_policy.specs.Step.{State, Step, Proceeds, Allots, Repeats, view_of, call_at}

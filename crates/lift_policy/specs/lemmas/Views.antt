@@ -12,8 +12,7 @@ use Rattle.lift_base.specs.declared.travel.Position.{Position}
 use Rattle.lift_base.specs.declared.history.Row.{Row}
 use Rattle.lift_building.specs.Plan.{Plan, IsBuilding}
 use Rattle.lift_building.specs.lemmas.Getters.{serves_within}
-use Rattle.lift_register.specs.Register.{RegisterState, rows_of}
-use Rattle.lift_register.specs.Belongs.{BelongsTo}
+use Rattle.lift_register.specs.Prelude.{RegisterState, rows_of, BelongsTo}
 use Rattle.lift_stops.specs.Schedule.{ScheduleState}
 use Rattle.lift_policy.specs.View.{ViewState, position_of, positions_of, AreSchedulesOf}
 

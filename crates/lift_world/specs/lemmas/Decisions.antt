@@ -31,9 +31,8 @@ use Rattle.lift_base.specs.declared.command.Reply.TheVariants.{Car, Stopped, Pla
 use Rattle.lift_base.specs.declared.command.Reply.TheVariants.{Unknown}
 use Rattle.lift_base.specs.Travel.{same_dir}
 use Rattle.lift_building.specs.Plan.{Plan, IsBuilding, CarPlan, car_at, places_of, serves_floor}
-use Rattle.lift_register.specs.Register.{last_of, kept_of, rows_of, cars, register_of, last_number}
-use Rattle.lift_register.specs.Register.{empty}
-use Rattle.lift_register.specs.Fits.{Fits, persons_of}
+use Rattle.lift_register.specs.Prelude.{empty, cars, rows_of, last_of, last_number, kept_of}
+use Rattle.lift_register.specs.Prelude.{register_of, Fits, persons_of}
 use Rattle.lift_register.specs.lemmas.HistoryLemmas.{register_of-append}
 use Rattle.lift_cost.specs.declared.call.NewCall.{NewCall}
 use Rattle.lift_policy.specs.Terminals.{kiosk_floor, has_kiosk, has_car}
