@@ -3,9 +3,12 @@ use arrayvec::ArrayVec;
 use lift_base::Record;
 use lift_record::Version;
 
+/// The records of a batch.
+pub type Records = ArrayVec<Record, 63>;
+
 /// A batch as it was read.
 #[derive(Drop)]
 pub struct Stored {
     pub version: Version,
-    pub records: ArrayVec<Record, 63>,
+    pub records: Records,
 }

@@ -7,6 +7,7 @@ ghost use Rattle.lift_record.specs.Record.{IsSpellingOf, dir_byte};
 ghost use Rattle.lift_record.specs.declared.version.Version.{Version as VersionValue};
 ghost use Rattle.lift_journal.specs.Seen.{IsRecordsIn, IsTailOf};
 
+use crate::batch::Records;
 use crate::bytes::{put, sixteen};
 use arrayvec::ArrayVec;
 use lift_base::{Dir, Entry, Floor, Letter, Number, Record, push_some};
@@ -77,7 +78,8 @@ fn stop_of(bytes: &[u8; 16]) -> Option<Record>
 }
 
 /// Adds the record that these bytes spell, if they spell one.
-fn push_decoded(version: Version, bytes: &[u8; 16], records: &mut ArrayVec<Record, 63>) -> bool
+#[inline(never)]
+fn push_decoded(version: Version, bytes: &[u8; 16], records: &mut Records) -> bool
     requires room { length records.old.items < 63 }
     ensures pushed { IsTrue result → (content : RecordValue) × IsSpellingOf version bytes.now content
         × (records.new.items ≡ records.old.items ++ content ∷ []) }
@@ -89,32 +91,9 @@ fn push_decoded(version: Version, bytes: &[u8; 16], records: &mut ArrayVec<Recor
     found.is_some()
 }
 
-/// Adds the record that the text spells at this place, if one is spelled there.
-#[inline(never)]
-fn push_any(
-    version: Version,
-    text: &[u8; 1024],
-    at: usize,
-    records: &mut ArrayVec<Record, 63>,
-) -> bool
-    requires whole { at + 16 ≤ 1024 }
-    requires room { length records.old.items < 63 }
-    ensures pushed { IsTrue result → (content : RecordValue)
-        × IsSpellingOf version (take 16 (drop at text.now)) content
-        × (records.new.items ≡ records.old.items ++ content ∷ []) }
-    ensures none { IsFalse result → (content : RecordValue)
-        → ¬ IsSpellingOf version (take 16 (drop at text.now)) content }
-{
-    push_decoded(version, &sixteen(text, at), records)
-}
-
-/// The same, where a stop takes fewer steps.
-fn push_next(
-    version: Version,
-    text: &[u8; 1024],
-    at: usize,
-    records: &mut ArrayVec<Record, 63>,
-) -> bool
+/// Adds the record that the text spells at this place, if one is spelled there. A stop takes fewer
+/// steps.
+fn push_next(version: Version, text: &[u8; 1024], at: usize, records: &mut Records) -> bool
     requires whole { at + 16 ≤ 1024 }
     requires room { length records.old.items < 63 }
     ensures pushed { IsTrue result → (content : RecordValue)
@@ -125,7 +104,7 @@ fn push_next(
 {
     let stop = stop_of(&sixteen(text, at));
     if stop.is_none() {
-        return push_any(version, text, at, records);
+        return push_decoded(version, &sixteen(text, at), records);
     }
     push_some(records, stop);
     true
@@ -133,12 +112,7 @@ fn push_next(
 
 /// Puts so many records behind the header of this text into a list, if they are spelled there.
 #[inline(never)]
-fn read_records(
-    version: Version,
-    text: &[u8; 1024],
-    count: usize,
-    records: &mut ArrayVec<Record, 63>,
-) -> bool
+fn read_records(version: Version, text: &[u8; 1024], count: usize, records: &mut Records) -> bool
     requires few { count ≤ 63 }
     requires empty { records.old.items ≡ [] }
     ensures some { IsTrue result
@@ -172,7 +146,7 @@ pub fn parse(
     count: usize,
     first: &[u8; 512],
     second: &[u8; 512],
-) -> Option<ArrayVec<Record, 63>>
+) -> Option<Records>
     requires { count ≤ 63 }
     ensures some { IfSome result (λ records. (length records.items ≡ count)
         × IsTailOf version records.items (drop 16 (first.now ++ second.now))) }
