@@ -123,18 +123,12 @@ impl Group {
             call.now.from call.now.to car call.now.party) }
         ensures inside { IsStateIn building.now self.new }
     {
-        let entry = Entry::Allot {
-            kiosk: command.terminal,
-            number: command.number,
-            from: call.from,
-            to: call.to,
-            car,
-            party: call.party,
-        };
+        let row = row_of(command, call, car);
+        let entry = row.allotment();
         prove!(command.terminal.get() < 63 && car.get() < 16);
         join(building, &mut self.register, &mut self.batch, &entry);
         let place = usize::from(car.get());
-        insert(&mut self.schedules[place], &row_of(command, call, car));
+        insert(&mut self.schedules[place], &row);
     }
 
     /// A car stands at a position.
