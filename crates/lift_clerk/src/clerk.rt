@@ -5,8 +5,7 @@ ghost use Rattle.lift_desk.specs.Rule.{IsInOrder};
 ghost use Rattle.lift_desk.specs.Seats.{IsClerkOf, IsSeatOf, OwesNothing, seat_with, view_at};
 ghost use Rattle.lift_desk.specs.Steps.{with_told_answers, lists_of};
 ghost use Rattle.lift_decider.specs.Decider.{starting};
-ghost use Rattle.lift_keeper.specs.Commits.{CommitsTo};
-ghost use Rattle.lift_keeper.specs.Recovers.{Recovers};
+ghost use Rattle.lift_keeper.specs.Prelude.{CommitsTo, Recovers};
 ghost use Rattle.lift_clerk.specs.Clerk.{IsClerk, IsToldAt};
 ghost use Rattle.lift_clerk.specs.Turn.{IsTurn, IsFailedTurn, IsBrokenTurn, entries_in};
 
