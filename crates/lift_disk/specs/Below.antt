@@ -1,7 +1,10 @@
 -- What is known of a device over another one.
 use Rattle.std.specs.Prelude.{ℕ, ◌≡◌, ◌⊎◌, ◌≤◌, ◌<◌, ◌+◌, ◌-◌, List, [], length, slice_get, Some}
+use Rattle.std.specs.Prelude.{◌++◌, ◌∷◌, min, Result, OnOk}
 use Rattle.lift_disk.specs.Disk.{DiskState}
-use Rattle.lift_disk.specs.Runs.{buffered, waiting}
+use Rattle.lift_disk.specs.Runs.{Announces, MakesCalls, buffered, run_calls, waiting}
+use Rattle.lift_disk.specs.Trace.Access.{Read}
+use Rattle.lift_disk.specs.declared.disk.DiskFault.{DiskFault}
 use Rattle.lift_disk.specs.declared.disk.Disk.{Ghosts}
 use Rattle.lift_disk.specs.declared.runs.RunDisk.{Ghosts as RunGhosts}
 use Rattle.lift_disk.specs.declared.buffered.Buffered.{Buffered}
@@ -41,3 +44,35 @@ CanWait d sector = (held_back d ≡ []) ⊎ IsNextHeld d sector
 abbrev pub as_written : {R : Type 0} {runs : RunGhosts R} {disk : Ghosts R}
     → (R → DiskState) → Buffered R runs disk → DiskState
 as_written state d = waiting (state d.device) d.from d.pending.items
+
+-- One call of the other one: a read of 16 sectors from this one on, or of as many as there are. By
+-- what that device says of it, it gave these.
+pub record AsksAhead {R : Type 0} (state : R → DiskState)
+    (read_run_gives : R → ℕ → ℕ → List (List ℕ) → Result (Unit {0}) DiskFault → R → Type 0)
+    (old : R) (sector : ℕ) (result : Result (Unit {0}) DiskFault) (new : R) : Type 0 where
+  pub run : List (List ℕ)
+  pub asked : read_run_gives old sector (min ((state old).size - sector) 16) run result new
+  pub made : MakesCalls result (Read sector ∷ []) (state old) (state new)
+
+-- These bytes are still to be written, or a call of the other one gave them. It has no call for
+-- this read, or one.
+pub record GivesBelow {R : Type 0} {runs : RunGhosts R} {disk : Ghosts R} (state : R → DiskState)
+    (has_given : R → ℕ → List ℕ → Type 0)
+    (read_run_gives : R → ℕ → ℕ → List (List ℕ) → Result (Unit {0}) DiskFault → R → Type 0)
+    (old : Buffered R runs disk) (sector : ℕ) (bytes : List ℕ)
+    (result : Result (Unit {0}) DiskFault) (new : Buffered R runs disk) : Type 0 where
+  pub given : OnOk result (IsHeldBack old sector bytes
+      ⊎ ∥ has_given (below new) sector bytes ∥₁)
+  pub asked : (below new ≡ below old)
+      ⊎ AsksAhead state read_run_gives (below old) sector result (below new)
+
+-- A write of these bytes is held back. Where it can wait with those that are, the other one has no
+-- call; else these are written first, as one.
+pub record HoldsBack {R : Type 0} {runs : RunGhosts R} {disk : Ghosts R} (state : R → DiskState)
+    (old : Buffered R runs disk) (sector : ℕ) (bytes : List ℕ)
+    (result : Result (Unit {0}) DiskFault) (new : Buffered R runs disk) : Type 0 where
+  pub waits : CanWait old sector → Announces sector (state (below old)) (state (below new))
+  pub held : OnOk result (CanWait old sector → held_back new ≡ held_back old ++ bytes ∷ [])
+  pub made : ¬ CanWait old sector → MakesCalls result (run_calls old.from (held_back old))
+      (state (below old)) (state (below new))
+  pub alone : OnOk result (¬ CanWait old sector → held_back new ≡ bytes ∷ [])

@@ -1,5 +1,6 @@
 -- What a device holds, what its calls do to it, and what a crash may leave of it.
-use Rattle.lift_disk.specs.Trace.{Access}
+use Rattle.lift_disk.specs.Trace.{Access, Records}
+use Rattle.lift_disk.specs.Trace.Access.{Read}
 use Rattle.std.specs.Prelude.{◌≡◌, ◌⊎◌, ◌↔◌, ◌<◌, ◌≤◌, ◌+◌, ℕ, Bool, true, List, length, replicate}
 use Rattle.std.specs.Prelude.{slice_get, slice_set, Some, Result, OnOk, OnErr}
 
@@ -128,6 +129,16 @@ pub record FailsAsToldOrShort {T E : Type 0} (result : Result T E)
       → old.fails_at (old.calls + 1) × (new.is_short ≡ old.is_short)
       ⊎ ¬ old.fails_at (old.calls + 1) × (new.is_short ≡ true))
   pub short : old.is_short ≡ true → new.is_short ≡ true
+
+-- One call, a read of this sector, by the counts and the calls of the device alone.
+pub record MakesRead {T E : Type 0} (result : Result T E) (sector : ℕ)
+    (old new : DiskState) : Type 0 where
+  pub goes_on : GoesOn old new
+  pub cause : HasCause result old new
+  pub counted : OnErr result (new.failures ≡ old.failures + 1)
+  pub told : FailsAsTold result old new
+  pub writes : new.writes ≡ old.writes
+  pub recorded : Records result (Read sector) old.trace new.trace
 
 -- One sector more is loose, and nothing but loose sectors has changed.
 pub record Touches (sector : ℕ) (old new : DiskState) : Type 0 where

@@ -1,6 +1,6 @@
 -- What is said of a device on a real file.
 use Rattle.std.specs.Prelude.{ℕ, ◌≡◌, ◌≤◌, ◌-◌, ◌*◌, ◌/◌, if◌then◌else◌, nat_lt, List, [], ◌∷◌}
-use Rattle.std.specs.Prelude.{◌++◌, false, slice_get, Some}
+use Rattle.std.specs.Prelude.{◌++◌, false, slice_get, Some, take, Result, OnOk}
 use Rattle.lift_disk.specs.FileCalls.{FileCall}
 use Rattle.lift_disk.specs.FileCalls.FileCall.{ReadSectors, GetLength}
 use Rattle.lift_disk.specs.Traced.{making_of, calls_of, failures_of}
@@ -51,6 +51,12 @@ pub record HasGiven (calls : List FileCall) (sector : ℕ) (bytes : List ℕ) : 
   pub listed : calls ≡ before ++ ReadSectors (first * 512) run ∷ after
   pub behind : first ≤ sector
   pub here : slice_get run (sector - first) ≡ Some bytes
+
+-- The device read so many sectors from this one on: a call of its file, for just these, gave them.
+abbrev pub AsksForRun : {T E : Type 0} → (old : List FileCall) → (sector count : ℕ)
+    → (run : List (List ℕ)) → Result T E → (new : List FileCall) → Type 0
+AsksForRun old sector count run result new =
+    OnOk result (new ≡ old ++ ReadSectors (sector * 512) (take count run) ∷ [])
 
 -- the same of a file of the system
 abbrev pub file_state_of : FileDisk → DiskState

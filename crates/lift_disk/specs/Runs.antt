@@ -2,10 +2,11 @@
 -- as one.
 use Rattle.std.specs.Prelude.{◌≡◌, ◌≢◌, ◌↔◌, ◌⊎◌, ◌≤◌, ◌<◌, ◌+◌, ◌-◌, ℕ, zero, suc, List, [], ◌∷◌}
 use Rattle.std.specs.Prelude.{length, false, slice_get, slice_set, flat_map, Some, Result, OnOk}
-use Rattle.std.specs.Prelude.{OnErr, refl}
+use Rattle.std.specs.Prelude.{OnErr, refl, ◌++◌}
 use Rattle.std.proofs.Common.{arith, sym, ap, ◌∙◌}
 use Rattle.std.proofs.lemmas.List.{length-set}
 use Rattle.lift_disk.specs.Trace.{Access}
+use Rattle.lift_disk.specs.Trace.Access.{Write}
 use Rattle.lift_disk.specs.Disk.{DiskState, Image, ChangesWithin, Elapses, Touches, TouchesNothing}
 use Rattle.lift_disk.specs.Disk.{StaysLoose, StaysWritten, KeepsSynced, IsSteadyAt}
 
@@ -16,6 +17,11 @@ IsInRun from count i = (from ≤ i) × (i < from + count)
 -- the bytes of these sectors, one behind the other
 abbrev pub joined : List (List ℕ) → List ℕ
 joined run = flat_map (λ bytes. bytes) run
+
+-- the calls that write these sectors, from that one on: one for them all, none where there are none
+abbrev pub run_calls : ℕ → List (List ℕ) → List Access
+run_calls from [] = []
+run_calls from (bytes ∷ run) = Write from (joined (bytes ∷ run)) ∷ []
 
 -- the image with these sectors from that one on
 abbrev pub with_run : ℕ → List (List ℕ) → Image → Image
@@ -89,6 +95,26 @@ waiting disk from pending = buffered disk from pending 0 0 []
 pub record CountsFault {T E : Type 0} (result : Result T E) (old new : DiskState) : Type 0 where
   pub ok : OnOk result (new.failures ≡ old.failures)
   pub err : OnErr result (new.failures ≡ old.failures + 1)
+
+-- These calls were made, and all of them have succeeded.
+pub record MakesAll (calls : List Access) (old new : DiskState) : Type 0 where
+  pub count : new.calls ≡ old.calls + length calls
+  pub listed : new.trace ≡ old.trace ++ calls
+
+-- One of these calls has failed, behind those before it, and none was made after it.
+pub record MakesUpTo (calls : List Access) (old new : DiskState) : Type 0 where
+  pub before : List Access
+  pub failed : Access
+  pub after : List Access
+  pub split : calls ≡ before ++ failed ∷ after
+  pub count : new.calls ≡ old.calls + length before + 1
+  pub listed : new.trace ≡ old.trace ++ before
+
+-- Just these calls are made, in their order, up to one that fails.
+pub record MakesCalls {T E : Type 0} (result : Result T E) (calls : List Access)
+    (old new : DiskState) : Type 0 where
+  pub ok : OnOk result (MakesAll calls old new)
+  pub err : OnErr result (MakesUpTo calls old new)
 
 -- No sector more or less is loose, and nothing but loose sectors has changed.
 pub record Rests (old new : DiskState) : Type 0 where

@@ -1,16 +1,12 @@
 //! A device that reads ahead, and holds neighbouring writes back until it makes them as one.
 ghost use Rattle.std.specs.Prelude.{◌≡◌, ◌≤◌, ◌<◌, ◌+◌, ◌++◌, [], ◌∷◌, ℕ, List, length, Some};
-ghost use Rattle.std.specs.Prelude.{slice_get, slice_set, IsTrue, OnOk, OnErr, IfSome, IfNone};
-ghost use Rattle.std.specs.Prelude.{◌↔◌, ◌⊎◌, ◌-◌};
-ghost use Rattle.lift_disk.specs.Disk.{FailsAsTold, FailsAsToldOrShort, GoesOn, HasCause};
-ghost use Rattle.lift_disk.specs.Disk.{IsSteadyAt, KeepsImage, KeepsSynced, MayLeave, SetsSector};
-ghost use Rattle.lift_disk.specs.Disk.{Settles, StaysLoose, StaysWritten, Touches, TouchesNothing};
+ghost use Rattle.std.specs.Prelude.{slice_get, IsTrue, OnOk, IfSome, IfNone, ◌↔◌};
+ghost use Rattle.lift_disk.specs.Disk.{MayLeave};
 ghost use Rattle.lift_disk.specs.Runs.{Announces, CountsFault, GivesRun, HoldsRun, IsInRun};
-ghost use Rattle.lift_disk.specs.Runs.{KeepsWrites, Opens, Rests};
-ghost use Rattle.lift_disk.specs.Runs.{left_with, left_without, run_loose, run_whole};
+ghost use Rattle.lift_disk.specs.Runs.{KeepsWrites, MakesCalls, Opens, Rests};
+ghost use Rattle.lift_disk.specs.Runs.{left_with, left_without, run_calls, run_loose, run_whole};
 ghost use Rattle.lift_disk.specs.Runs.{with_run};
-ghost use Rattle.lift_disk.specs.Trace.{Records};
-ghost use Rattle.lift_disk.specs.Trace.Access.{Read, Write};
+ghost use Rattle.lift_disk.specs.Trace.Access.{Sync};
 
 use crate::runs::{Ahead, MOST_AHEAD, RunDisk};
 use crate::trace::{Made, ProofTrace};
@@ -47,8 +43,8 @@ pub struct Buffered<R: RunDisk + Drop> {
 }
 
 impl<R: RunDisk + Drop> Buffered<R> {
-    ghost use Rattle.lift_disk.specs.Below.{CanWait, IsHeldBack, IsNextHeld, as_written, below};
-    ghost use Rattle.lift_disk.specs.Below.{held_back};
+    ghost use Rattle.lift_disk.specs.Below.{AsksAhead, CanWait, GivesBelow, IsHeldBack, IsNextHeld};
+    ghost use Rattle.lift_disk.specs.Below.{as_written, below, held_back};
 
     /// A device of which nothing was read or written yet. It makes no call of the other one and
     /// announces nothing.
@@ -129,6 +125,8 @@ impl<R: RunDisk + Drop> Buffered<R> {
         ensures rests { Rests (as_written R.state self.old) (as_written R.state self.new) }
         ensures keeps { OnOk result
             (KeepsWrites (as_written R.state self.old) (as_written R.state self.new)) }
+        ensures made { MakesCalls result (run_calls self.old.from self.old.pending.items)
+            (R.state self.old.device) (R.state self.new.device) }
         ensures none { self.new.pending.items ≡ [] }
         ensures idle { self.old.pending.items ≡ [] → self.new.device ≡ self.old.device }
         ensures forgets { self.new.ahead_count ≡ 0 }
@@ -163,6 +161,10 @@ impl<R: RunDisk + Drop> Buffered<R> {
             → Announces sector (R.state self.old.device) (R.state self.new.device) }
         ensures held { OnOk result (CanWait self.old sector
             → self.new.pending.items ≡ self.old.pending.items) }
+        ensures made { ¬ CanWait self.old sector
+            → MakesCalls result (run_calls self.old.from self.old.pending.items)
+            (R.state self.old.device) (R.state self.new.device) }
+        ensures alone { OnOk result (¬ CanWait self.old sector → self.new.pending.items ≡ []) }
         ensures next { OnOk result (self.new.from + length self.new.pending.items ≡ sector) }
         ensures room { OnOk result (length self.new.pending.items < 16) }
         ensures faults { CountsFault result (R.state self.old.device) (R.state self.new.device) }
@@ -188,6 +190,8 @@ impl<R: RunDisk + Drop> Buffered<R> {
             → slice_get (R.state self.new.device).image sector ≡ slice_get self.new.ahead 0) }
         ensures given { OnOk result ((bytes : List ℕ) → slice_get self.new.ahead 0 ≡ Some bytes
             → ∥ R.has_given self.new.device sector bytes ∥₁) }
+        ensures asked { AsksAhead R.state R.read_run_gives self.old.device sector result
+            self.new.device }
         ensures pending { (self.new.from ≡ self.old.from) × (self.new.pending ≡ self.old.pending) }
         ensures faults { CountsFault result (R.state self.old.device) (R.state self.new.device) }
         ensures counts { (self.new.calls ≡ self.old.calls) × (self.new.writes ≡ self.old.writes) }
@@ -210,8 +214,8 @@ impl<R: RunDisk + Drop> Buffered<R> {
             (KeepsWrites (as_written R.state self.old) (as_written R.state self.new)) }
         ensures gives { OnOk result ((R.state self.old.device).is_honest
             → slice_get (as_written R.state self.new).image sector ≡ Some buffer.new) }
-        ensures given { OnOk result (IsHeldBack self.old sector buffer.new
-            ⊎ ∥ R.has_given self.new.device sector buffer.new ∥₁) }
+        ensures below { GivesBelow R.state R.has_given R.read_run_gives self.old sector buffer.new
+            result self.new }
         ensures faults { CountsFault result (R.state self.old.device) (R.state self.new.device) }
         ensures counts { (self.new.calls ≡ self.old.calls) × (self.new.writes ≡ self.old.writes) }
         ensures trace { self.new.trace ≡ self.old.trace }
@@ -231,12 +235,24 @@ impl<R: RunDisk + Drop> Buffered<R> {
 }
 
 impl<R: RunDisk + Drop> Disk for Buffered<R> {
-    ghost use Rattle.lift_disk.specs.Below.{CanWait, IsHeldBack, below, buffered_state_of};
-    ghost use Rattle.lift_disk.specs.Below.{held_back};
+    ghost use Rattle.lift_disk.specs.Below.{GivesBelow, HoldsBack};
     ghost use Rattle.lift_disk.specs.Runs.{buffered};
 
     ghost state = { λ d. buffered (R.state d.device) d.from d.pending.items d.calls.count
         d.writes.count d.trace.calls };
+
+    // the other device has no call, or one: a read of 16 sectors
+    ghost read_gives = { λ old sector bytes result new.
+        GivesBelow R.state R.has_given R.read_run_gives old sector bytes result new };
+
+    // it has no call, or one: a write of all that was held back
+    ghost write_gives = { λ old sector bytes result new.
+        HoldsBack R.state old sector bytes result new };
+
+    // it has that write, if any was held back, and then a sync
+    ghost sync_gives = { λ old result new. MakesCalls result
+        (run_calls old.from old.pending.items ++ Sync ∷ []) (R.state old.device)
+        (R.state new.device) };
 
     ghost whole = { λ d honest.
         run_whole d.pending.items d.from (R.state d.device).image (R.state d.device).size
@@ -264,87 +280,14 @@ impl<R: RunDisk + Drop> Disk for Buffered<R> {
         self.device.sectors()
     }
 
-    fn read(&mut self, sector: u32, buffer: &mut [u8; 512]) -> Result<(), DiskFault>
-        requires { sector < (buffered_state_of R.state self.old).size }
-        // beside what each device promises: these bytes are still to be written, or a call of the
-        // other device gave them
-        ensures given { OnOk result (IsHeldBack self.old sector buffer.new
-            ⊎ ∥ R.has_given (below self.new) sector buffer.new ∥₁) }
-        ensures goes_on { GoesOn (buffered_state_of R.state self.old)
-            (buffered_state_of R.state self.new) }
-        ensures cause { HasCause result (buffered_state_of R.state self.old)
-            (buffered_state_of R.state self.new) }
-        ensures counted { OnErr result ((buffered_state_of R.state self.new).failures
-            ≡ (buffered_state_of R.state self.old).failures + 1) }
-        ensures told { FailsAsTold result (buffered_state_of R.state self.old)
-            (buffered_state_of R.state self.new) }
-        ensures writes { (buffered_state_of R.state self.new).writes
-            ≡ (buffered_state_of R.state self.old).writes }
-        ensures recorded { Records result (Read sector) (buffered_state_of R.state self.old).trace
-            (buffered_state_of R.state self.new).trace }
-        ensures written { OnOk result (StaysWritten (buffered_state_of R.state self.old)
-            (buffered_state_of R.state self.new)) }
-        ensures touched { (buffered_state_of R.state self.old).is_honest
-            → TouchesNothing (buffered_state_of R.state self.old)
-            (buffered_state_of R.state self.new) }
-        ensures loose { (buffered_state_of R.state self.old).is_honest
-            → StaysLoose (buffered_state_of R.state self.old)
-            (buffered_state_of R.state self.new) }
-        ensures gives { OnOk result ((buffered_state_of R.state self.old).is_honest
-            → slice_get (buffered_state_of R.state self.new).image sector ≡ Some buffer.new) }
-        ensures steady { OnOk result ((buffered_state_of R.state self.old).is_honest
-            → (buffered_state_of R.state self.old).is_steady
-            → IsSteadyAt (buffered_state_of R.state self.old).image
-            (buffered_state_of R.state self.new)) }
-        ensures image { KeepsImage (buffered_state_of R.state self.old)
-            (buffered_state_of R.state self.new) }
-        ensures kept { KeepsSynced (buffered_state_of R.state self.old)
-            (buffered_state_of R.state self.new) }
-    {
+    fn read(&mut self, sector: u32, buffer: &mut [u8; 512]) -> Result<(), DiskFault> {
         self.calls = ProofCount::next(&self.calls);
         self.fetch(sector, buffer)?;
         self.trace = self.trace.then(&Made::Read(u64::from(sector)));
         Ok(())
     }
 
-    fn write(&mut self, sector: u32, bytes: &[u8; 512]) -> Result<(), DiskFault>
-        requires { sector < (buffered_state_of R.state self.old).size }
-        // beside what each device promises: where this write can wait with those that are held
-        // back, it is held back too, and the other device has no call
-        ensures waits { CanWait self.old sector
-            → Announces sector (R.state (below self.old)) (R.state (below self.new)) }
-        ensures held { OnOk result (CanWait self.old sector
-            → held_back self.new ≡ held_back self.old ++ bytes.now ∷ []) }
-        ensures goes_on { GoesOn (buffered_state_of R.state self.old)
-            (buffered_state_of R.state self.new) }
-        ensures cause { HasCause result (buffered_state_of R.state self.old)
-            (buffered_state_of R.state self.new) }
-        ensures counted { OnErr result ((buffered_state_of R.state self.new).failures
-            ≡ (buffered_state_of R.state self.old).failures + 1) }
-        ensures told { FailsAsToldOrShort result (buffered_state_of R.state self.old)
-            (buffered_state_of R.state self.new) }
-        ensures writes { (buffered_state_of R.state self.new).writes
-            ≡ (buffered_state_of R.state self.old).writes + 1 }
-        ensures recorded { Records result (Write sector bytes.now)
-            (buffered_state_of R.state self.old).trace
-            (buffered_state_of R.state self.new).trace }
-        ensures settles { OnOk result ((buffered_state_of R.state self.old).is_honest
-            → Settles sector bytes.now (buffered_state_of R.state self.old)
-            (buffered_state_of R.state self.new)) }
-        ensures touched { (buffered_state_of R.state self.old).is_honest
-            → Touches sector (buffered_state_of R.state self.old)
-            (buffered_state_of R.state self.new) }
-        ensures steady { OnOk result ((buffered_state_of R.state self.old).is_honest
-            → (buffered_state_of R.state self.old).is_steady
-            → IsSteadyAt (slice_set (buffered_state_of R.state self.old).image sector bytes.now)
-            (buffered_state_of R.state self.new)) }
-        ensures image { OnOk result (SetsSector sector bytes.now
-            (buffered_state_of R.state self.old) (buffered_state_of R.state self.new)) }
-        ensures image_err { OnErr result (KeepsImage (buffered_state_of R.state self.old)
-            (buffered_state_of R.state self.new)) }
-        ensures kept { KeepsSynced (buffered_state_of R.state self.old)
-            (buffered_state_of R.state self.new) }
-    {
+    fn write(&mut self, sector: u32, bytes: &[u8; 512]) -> Result<(), DiskFault> {
         self.calls = ProofCount::next(&self.calls);
         self.writes = ProofCount::next(&self.writes);
         self.make_room(sector)?;

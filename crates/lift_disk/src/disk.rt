@@ -1,7 +1,7 @@
 //! What a device promises. Its contract says what is read, and what a crash at any moment may
 //! leave.
 ghost use Rattle.std.specs.Prelude.{◌≡◌, ◌≤◌, ◌<◌, ◌+◌, ℕ, OnOk, OnErr, List, length, Bool};
-ghost use Rattle.std.specs.Prelude.{slice_get, slice_set, Some};
+ghost use Rattle.std.specs.Prelude.{slice_get, slice_set, Some, Result, ⊤};
 ghost use Rattle.lift_disk.specs.Trace.{Records};
 ghost use Rattle.lift_disk.specs.Trace.Access.{Read, Write, Sync};
 ghost use Rattle.lift_disk.specs.Disk.{DiskState, StaysWritten, Settles, ReadsAsWritten, GoesOn};
@@ -16,8 +16,22 @@ pub struct DiskFault;
 
 /// A device of sectors. What was written may be lost, or torn, until a sync succeeds.
 pub trait Disk {
+    ghost use Rattle.lift_disk.specs.declared.disk.DiskFault.{DiskFault};
+
     /// What is said of the device.
     ghost state: { Self → DiskState };
+
+    /// What a device says of a read beside: of the device before, the sector, the bytes that were
+    /// read, the answer and the device behind.
+    ghost read_gives: { Self → ℕ → List ℕ → Result (Unit {0}) DiskFault → Self
+        → Type 0 } = { λ _ _ _ _ _. ⊤ };
+
+    /// The same of a write of these bytes.
+    ghost write_gives: { Self → ℕ → List ℕ → Result (Unit {0}) DiskFault → Self
+        → Type 0 } = { λ _ _ _ _ _. ⊤ };
+
+    /// The same of a sync.
+    ghost sync_gives: { Self → Result (Unit {0}) DiskFault → Self → Type 0 } = { λ _ _ _. ⊤ };
 
     /// How many sectors the device has.
     fn sectors(&self) -> u32
@@ -42,7 +56,8 @@ pub trait Disk {
         ensures steady { OnOk result ((state self.old).is_honest → (state self.old).is_steady
             → IsSteadyAt (state self.old).image (state self.new)) }
         ensures image { KeepsImage (state self.old) (state self.new) }
-        ensures kept { KeepsSynced (state self.old) (state self.new) };
+        ensures kept { KeepsSynced (state self.old) (state self.new) }
+        ensures own { read_gives self.old sector buffer.new result self.new };
 
     /// Writes a sector. Until a sync succeeds a crash may leave any bytes at all in it, also where
     /// the write failed.
@@ -64,7 +79,8 @@ pub trait Disk {
         ensures image { OnOk result
             (SetsSector sector bytes.now (state self.old) (state self.new)) }
         ensures image_err { OnErr result (KeepsImage (state self.old) (state self.new)) }
-        ensures kept { KeepsSynced (state self.old) (state self.new) };
+        ensures kept { KeepsSynced (state self.old) (state self.new) }
+        ensures own { write_gives self.old sector bytes.now result self.new };
 
     /// Once it succeeds, a crash leaves what is read.
     fn sync(&mut self) -> Result<(), DiskFault>
@@ -86,7 +102,8 @@ pub trait Disk {
         ensures image { KeepsImage (state self.old) (state self.new) }
         ensures saved { OnOk result ((state self.old).is_honest
             → (state self.new).synced ≡ (state self.new).image) }
-        ensures kept { OnErr result (KeepsSynced (state self.old) (state self.new)) };
+        ensures kept { OnErr result (KeepsSynced (state self.old) (state self.new)) }
+        ensures own { sync_gives self.old result self.new };
 
     /// The image has as many sectors as the device says.
     ghost whole: { (disk : Self) → IsWhole (state disk) };

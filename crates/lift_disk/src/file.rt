@@ -1,11 +1,8 @@
 //! A device on a file of the operating system.
-ghost use Rattle.std.specs.Prelude.{◌≡◌, ◌≤◌, ◌+◌, ◌*◌, ◌++◌, [], ◌∷◌, IfOk, OnOk, OnErr, take};
-ghost use Rattle.lift_disk.specs.Disk.{FailsAsTold, GoesOn, HasCause};
-ghost use Rattle.lift_disk.specs.Trace.{Records};
-ghost use Rattle.lift_disk.specs.Trace.Access.{Read};
-ghost use Rattle.lift_disk.specs.FileCalls.FileCall.{Read as ReadBytes, ReadSectors};
+ghost use Rattle.std.specs.Prelude.{◌≡◌, ◌*◌, ◌++◌, [], ◌∷◌, IfOk, OnOk};
+ghost use Rattle.lift_disk.specs.Disk.{MakesRead};
+ghost use Rattle.lift_disk.specs.FileCalls.FileCall.{Read as ReadBytes};
 ghost use Rattle.lift_disk.specs.Files.{sectors_in};
-ghost use Rattle.lift_disk.specs.Runs.{GivesRun};
 ghost use Rattle.lift_disk.specs.FileCalls.FileCall.{SetLength, SyncAll};
 ghost use Rattle.lift_disk.specs.Traced.{calls_of, failures_of, making_of};
 
@@ -124,17 +121,11 @@ impl Disk for FileDisk {
     }
 
     fn read(&mut self, sector: u32, buffer: &mut [u8; 512]) -> Result<(), DiskFault>
-        // beside what each device promises: these are the bytes that its file gave
+        // of any sector, and beside what each device promises: these are the bytes that its file
+        // gave
         ensures given { OnOk result (file_calls_of self.new
             ≡ file_calls_of self.old ++ ReadBytes (sector * 512) buffer.new ∷ []) }
-        ensures goes_on { GoesOn (file_state_of self.old) (file_state_of self.new) }
-        ensures cause { HasCause result (file_state_of self.old) (file_state_of self.new) }
-        ensures counted { OnErr result ((file_state_of self.new).failures
-            ≡ (file_state_of self.old).failures + 1) }
-        ensures told { FailsAsTold result (file_state_of self.old) (file_state_of self.new) }
-        ensures writes { (file_state_of self.new).writes ≡ (file_state_of self.old).writes }
-        ensures recorded { Records result (Read sector) (file_state_of self.old).trace
-            (file_state_of self.new).trace }
+        ensures made { MakesRead result sector (file_state_of self.old) (file_state_of self.new) }
     {
         self.device.read(sector, buffer)
     }
@@ -149,31 +140,19 @@ impl Disk for FileDisk {
 }
 
 impl RunDisk for FileDisk {
-    ghost use Rattle.lift_disk.specs.Files.{HasGiven, file_calls_of, file_state_of};
+    ghost use Rattle.lift_disk.specs.Files.{AsksForRun, HasGiven, file_calls_of};
 
     ghost has_given = { λ d. HasGiven (file_calls_of d) };
+
+    // its file was asked for so many sectors and no more
+    ghost read_run_gives = { λ old sector count run result new.
+        AsksForRun (file_calls_of old) sector count run result (file_calls_of new) };
 
     fn announce(&mut self, sector: u32) {
         self.device.announce(sector)
     }
 
-    fn read_run(&mut self, sector: u32, count: usize, buffer: &mut Ahead) -> Result<(), DiskFault>
-        requires count { count ≤ 16 }
-        requires inside { sector + count ≤ (file_state_of self.old).size }
-        // beside what each device promises: its file was asked for so many sectors and no more
-        ensures asked { OnOk result (file_calls_of self.new
-            ≡ file_calls_of self.old ++ ReadSectors (sector * 512) (take count buffer.new) ∷ []) }
-        ensures goes_on { GoesOn (file_state_of self.old) (file_state_of self.new) }
-        ensures cause { HasCause result (file_state_of self.old) (file_state_of self.new) }
-        ensures counted { OnErr result ((file_state_of self.new).failures
-            ≡ (file_state_of self.old).failures + 1) }
-        ensures told { FailsAsTold result (file_state_of self.old) (file_state_of self.new) }
-        ensures writes { (file_state_of self.new).writes ≡ (file_state_of self.old).writes }
-        ensures recorded { Records result (Read sector) (file_state_of self.old).trace
-            (file_state_of self.new).trace }
-        ensures given { OnOk result
-            (GivesRun (HasGiven (file_calls_of self.new)) sector count buffer.new) }
-    {
+    fn read_run(&mut self, sector: u32, count: usize, buffer: &mut Ahead) -> Result<(), DiskFault> {
         self.device.read_run(sector, count, buffer)
     }
 

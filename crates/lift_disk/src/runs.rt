@@ -1,5 +1,5 @@
 //! Devices that take several neighbouring sectors in one call.
-ghost use Rattle.std.specs.Prelude.{◌≡◌, ◌≤◌, ◌<◌, ◌+◌, ℕ, OnOk, OnErr, List, length};
+ghost use Rattle.std.specs.Prelude.{◌≡◌, ◌≤◌, ◌<◌, ◌+◌, ℕ, OnOk, OnErr, List, length, Result, ⊤};
 ghost use Rattle.lift_disk.specs.Disk.{StaysWritten, GoesOn, HasCause, FailsAsTold};
 ghost use Rattle.lift_disk.specs.Disk.{FailsAsToldOrShort, TouchesNothing, StaysLoose, KeepsSynced};
 ghost use Rattle.lift_disk.specs.Disk.{IsSteadyAt};
@@ -18,8 +18,15 @@ pub type Ahead = [[u8; 512]; MOST_AHEAD];
 
 /// A device that also takes several neighbouring sectors in one call.
 pub trait RunDisk: Disk {
+    ghost use Rattle.lift_disk.specs.declared.disk.DiskFault.{DiskFault};
+
     /// A call of the device has given these bytes for the sector.
     ghost has_given: { Self → ℕ → List ℕ → Type 0 };
+
+    /// What a device says of a read of several sectors beside: of the device before, the first
+    /// sector, how many, the buffer behind, the answer and the device behind.
+    ghost read_run_gives: { Self → ℕ → ℕ → List (List ℕ) → Result (Unit {0}) DiskFault → Self
+        → Type 0 } = { λ _ _ _ _ _ _. ⊤ };
 
     /// Says that a sector is to be written. It is no call: from now on a crash may leave any bytes
     /// at all in the sector, as if its write had begun.
@@ -52,7 +59,8 @@ pub trait RunDisk: Disk {
         ensures steady { OnOk result ((Self.state self.old).is_honest
             → (Self.state self.old).is_steady
             → IsSteadyAt (Self.state self.old).image (Self.state self.new)) }
-        ensures kept { KeepsSynced (Self.state self.old) (Self.state self.new) };
+        ensures kept { KeepsSynced (Self.state self.old) (Self.state self.new) }
+        ensures own { read_run_gives self.old sector count buffer.new result self.new };
 
     /// Writes these sectors from that one on, each of which was announced. Until a sync succeeds a
     /// crash may leave any bytes at all in each of them, also where the write failed.

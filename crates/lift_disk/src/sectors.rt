@@ -1,11 +1,8 @@
 //! Sectors on a file, by its calls alone.
-ghost use Rattle.std.specs.Prelude.{◌≡◌, ◌≤◌, ◌+◌, ◌*◌, ◌++◌, [], ◌∷◌, OnOk, OnErr, take};
-ghost use Rattle.lift_disk.specs.Disk.{FailsAsTold, GoesOn, HasCause};
-ghost use Rattle.lift_disk.specs.Trace.{Records};
-ghost use Rattle.lift_disk.specs.Trace.Access.{Read};
-ghost use Rattle.lift_disk.specs.FileCalls.FileCall.{Read as ReadBytes, ReadSectors};
+ghost use Rattle.std.specs.Prelude.{◌≡◌, ◌*◌, ◌++◌, [], ◌∷◌, OnOk};
+ghost use Rattle.lift_disk.specs.Disk.{MakesRead};
+ghost use Rattle.lift_disk.specs.FileCalls.FileCall.{Read as ReadBytes};
 ghost use Rattle.lift_disk.specs.FileCalls.{in_bytes, without_given};
-ghost use Rattle.lift_disk.specs.Runs.{GivesRun};
 ghost use Rattle.lift_disk.specs.Traced.{calls_of, failures_of, making_of};
 
 use crate::runs::{Ahead, RunDisk};
@@ -79,20 +76,12 @@ impl<F: FileExt + OpenFile + Drop> Disk for SectorFile<F> {
     }
 
     fn read(&mut self, sector: u32, buffer: &mut [u8; 512]) -> Result<(), DiskFault>
-        // beside what each device promises: these are the bytes that its file gave
+        // of any sector, and beside what each device promises: these are the bytes that its file
+        // gave
         ensures given { OnOk result (calls_below self.new
             ≡ calls_below self.old ++ ReadBytes (sector * 512) buffer.new ∷ []) }
-        ensures goes_on { GoesOn (sector_file_state_of self.old) (sector_file_state_of self.new) }
-        ensures cause { HasCause result (sector_file_state_of self.old)
+        ensures made { MakesRead result sector (sector_file_state_of self.old)
             (sector_file_state_of self.new) }
-        ensures counted { OnErr result ((sector_file_state_of self.new).failures
-            ≡ (sector_file_state_of self.old).failures + 1) }
-        ensures told { FailsAsTold result (sector_file_state_of self.old)
-            (sector_file_state_of self.new) }
-        ensures writes { (sector_file_state_of self.new).writes
-            ≡ (sector_file_state_of self.old).writes }
-        ensures recorded { Records result (Read sector) (sector_file_state_of self.old).trace
-            (sector_file_state_of self.new).trace }
     {
         self.calls = ProofCount::next(&self.calls);
         if self.file.read(buffer, offset_of(sector)).is_err() {
@@ -123,32 +112,17 @@ impl<F: FileExt + OpenFile + Drop> Disk for SectorFile<F> {
 }
 
 impl<F: FileExt + OpenFile + Drop> RunDisk for SectorFile<F> {
-    ghost use Rattle.lift_disk.specs.Files.{HasGiven, calls_below, sector_file_state_of};
+    ghost use Rattle.lift_disk.specs.Files.{AsksForRun, HasGiven, calls_below};
 
     ghost has_given = { λ d. HasGiven (calls_below d) };
 
+    // its file was asked for so many sectors and no more
+    ghost read_run_gives = { λ old sector count run result new.
+        AsksForRun (calls_below old) sector count run result (calls_below new) };
+
     fn announce(&mut self, _sector: u32) {}
 
-    fn read_run(&mut self, sector: u32, count: usize, buffer: &mut Ahead) -> Result<(), DiskFault>
-        requires count { count ≤ 16 }
-        requires inside { sector + count ≤ (sector_file_state_of self.old).size }
-        // beside what each device promises: its file was asked for so many sectors and no more
-        ensures asked { OnOk result (calls_below self.new
-            ≡ calls_below self.old ++ ReadSectors (sector * 512) (take count buffer.new) ∷ []) }
-        ensures goes_on { GoesOn (sector_file_state_of self.old) (sector_file_state_of self.new) }
-        ensures cause { HasCause result (sector_file_state_of self.old)
-            (sector_file_state_of self.new) }
-        ensures counted { OnErr result ((sector_file_state_of self.new).failures
-            ≡ (sector_file_state_of self.old).failures + 1) }
-        ensures told { FailsAsTold result (sector_file_state_of self.old)
-            (sector_file_state_of self.new) }
-        ensures writes { (sector_file_state_of self.new).writes
-            ≡ (sector_file_state_of self.old).writes }
-        ensures recorded { Records result (Read sector) (sector_file_state_of self.old).trace
-            (sector_file_state_of self.new).trace }
-        ensures given { OnOk result
-            (GivesRun (HasGiven (calls_below self.new)) sector count buffer.new) }
-    {
+    fn read_run(&mut self, sector: u32, count: usize, buffer: &mut Ahead) -> Result<(), DiskFault> {
         self.calls = ProofCount::next(&self.calls);
         let run = &mut buffer[..count];
         if self.file.read_sectors(run, offset_of(sector)).is_err() {

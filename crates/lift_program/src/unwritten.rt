@@ -64,10 +64,15 @@ impl Disk for UnwrittenFile {
 }
 
 impl RunDisk for UnwrittenFile {
-    ghost use Rattle.lift_disk.specs.Files.{HasGiven, file_calls_of};
+    ghost use Rattle.lift_disk.specs.Files.{AsksForRun, HasGiven, file_calls_of};
     ghost use Rattle.lift_program.specs.Unwritten.{unwritten_file_of};
 
     ghost has_given = { λ d. HasGiven (file_calls_of (unwritten_file_of d)) };
+
+    // the file was asked for so many sectors and no more
+    ghost read_run_gives = { λ old sector count run result new.
+        AsksForRun (file_calls_of (unwritten_file_of old)) sector count run result
+        (file_calls_of (unwritten_file_of new)) };
 
     fn announce(&mut self, _sector: u32) {}
 
