@@ -1,6 +1,6 @@
 -- What is known of a file whose calls are listed.
-use Rattle.std.specs.Prelude.{ℕ, List}
-use Rattle.lift_disk.specs.FileCalls.{FileCall}
+use Rattle.std.specs.Prelude.{◌≡◌, ℕ, List, Result}
+use Rattle.lift_disk.specs.FileCalls.{FileCall, IsOneCall, MakesCall}
 use Rattle.lift_disk.specs.FileCalls.FileCall.{SetLength, SyncAll}
 use Rattle.lift_disk.specs.declared.traced.TracedFile.{TracedFile}
 
@@ -25,3 +25,11 @@ calls_of f = f.calls.calls
 -- how many of its calls since have failed
 abbrev pub failures_of : {F : Type 0} → TracedFile F → ℕ
 failures_of f = f.failures.count
+
+-- One call of the file, behind those that made it: listed if it succeeded, else counted.
+pub record IsTraced {F T E : Type 0} (gives : F → FileCall → F → Type 0) (fails : F → F → Type 0)
+    (result : Result T E) (call : FileCall) (old new : TracedFile F) : Type 0 where
+  pub one : IsOneCall gives fails result call (file_of old) (file_of new)
+  pub made : MakesCall result call (calls_of old) (calls_of new) (failures_of old)
+      (failures_of new)
+  pub making : making_of new ≡ making_of old

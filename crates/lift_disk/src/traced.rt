@@ -1,6 +1,6 @@
 //! A file whose calls are listed.
 ghost use Rattle.std.specs.Prelude.{◌≡◌, ◌↔◌, ◌++◌, [], ◌∷◌, IfOk, IsOk, OnErr};
-ghost use Rattle.lift_disk.specs.FileCalls.{IsOneAnswer, IsOneCall, MakesCall};
+ghost use Rattle.lift_disk.specs.FileCalls.{IsOneAnswer, MakesCall};
 ghost use Rattle.lift_disk.specs.FileCalls.FileCall.{Read, ReadSectors, Write, SyncData};
 ghost use Rattle.lift_disk.specs.FileCalls.FileCall.{GetLength, SetLength, SyncAll};
 
@@ -57,6 +57,7 @@ impl TracedFile<File> {
 impl<F: ToldFile + Drop> TracedFile<F> {
     ghost use Rattle.lift_disk.specs.Noted.{file_call_of};
     ghost use Rattle.lift_disk.specs.Traced.{calls_of, failures_of, making_of, file_of, IsSized};
+    ghost use Rattle.lift_disk.specs.Traced.{IsTraced};
 
     /// A file that was opened to be read and written, and not called yet.
     pub fn over(file: F) -> TracedFile<F>
@@ -125,11 +126,7 @@ impl<F: ToldFile + Drop> TracedFile<F> {
 
     /// Reads so many bytes as the buffer has from this offset on.
     pub(crate) fn read(&mut self, buffer: &mut [u8], offset: u64) -> Result<(), DiskFault>
-        ensures made { MakesCall result (Read offset buffer.new) (calls_of self.old)
-            (calls_of self.new) (failures_of self.old) (failures_of self.new) }
-        ensures one { IsOneCall F.gives F.fails result (Read offset buffer.new) (file_of self.old)
-            (file_of self.new) }
-        ensures making { making_of self.new ≡ making_of self.old }
+        ensures { IsTraced F.gives F.fails result (Read offset buffer.new) self.old self.new }
     {
         let outcome = self.file.read_told(buffer, offset);
         self.note(outcome, &Called::Read(offset, buffer))
@@ -141,11 +138,8 @@ impl<F: ToldFile + Drop> TracedFile<F> {
         buffer: &mut [[u8; 512]],
         offset: u64,
     ) -> Result<(), DiskFault>
-        ensures made { MakesCall result (ReadSectors offset buffer.new) (calls_of self.old)
-            (calls_of self.new) (failures_of self.old) (failures_of self.new) }
-        ensures one { IsOneCall F.gives F.fails result (ReadSectors offset buffer.new)
-            (file_of self.old) (file_of self.new) }
-        ensures making { making_of self.new ≡ making_of self.old }
+        ensures { IsTraced F.gives F.fails result (ReadSectors offset buffer.new) self.old
+            self.new }
     {
         let outcome = self.file.read_sectors_told(buffer, offset);
         self.note(outcome, &Called::ReadSectors(offset, buffer))
@@ -153,11 +147,7 @@ impl<F: ToldFile + Drop> TracedFile<F> {
 
     /// Writes these bytes from this offset on.
     pub(crate) fn write(&mut self, bytes: &[u8], offset: u64) -> Result<(), DiskFault>
-        ensures made { MakesCall result (Write offset bytes.now) (calls_of self.old)
-            (calls_of self.new) (failures_of self.old) (failures_of self.new) }
-        ensures one { IsOneCall F.gives F.fails result (Write offset bytes.now) (file_of self.old)
-            (file_of self.new) }
-        ensures making { making_of self.new ≡ making_of self.old }
+        ensures { IsTraced F.gives F.fails result (Write offset bytes.now) self.old self.new }
     {
         let outcome = self.file.write_told(bytes, offset);
         self.note(outcome, &Called::Write(offset, bytes))
@@ -165,11 +155,7 @@ impl<F: ToldFile + Drop> TracedFile<F> {
 
     /// By `fdatasync`: the bytes and what is needed to find them, without the file's times.
     pub(crate) fn sync(&mut self) -> Result<(), DiskFault>
-        ensures made { MakesCall result SyncData (calls_of self.old) (calls_of self.new)
-            (failures_of self.old) (failures_of self.new) }
-        ensures one { IsOneCall F.gives F.fails result SyncData (file_of self.old)
-            (file_of self.new) }
-        ensures making { making_of self.new ≡ making_of self.old }
+        ensures { IsTraced F.gives F.fails result SyncData self.old self.new }
     {
         let outcome = self.file.sync_data_told();
         self.note(outcome, &Called::SyncData)
