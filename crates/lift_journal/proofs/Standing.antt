@@ -9,6 +9,7 @@ use Rattle.lift_disk.specs.lemmas.Moments.{leaves_weaker, leaves_if_honest, chan
 use Rattle.lift_journal.specs.Order.{IsEntry, IsOfBase}
 use Rattle.lift_journal.specs.Layout.{Batch, records_of, size_of, IsBody, is_marked, picks_second, Picks, start_of, Holds, used}
 use Rattle.lift_journal.specs.Steps.{IsInRange, IsReady, IsSettled, ReadsOnly}
+use Rattle.lift_journal.specs.declared.place.Place.{Place}
 use Rattle.lift_journal.specs.Journal.{ReadsAs, StandsFor, HasPlace, StandsAt, IsJournal}
 use Rattle.lift_journal.specs.Opening.{Opens}
 use Rattle.lift_journal.specs.Told.{NoneFails}
@@ -205,13 +206,13 @@ stands_then shape start gate number n old new batch stands is settled = record {
 }
 
 -- Where it stood before calls that wrote nothing, none of which failed or of which it is told, it stands still.
-pub stands_again : (shape : Shape) (start gate number : ℕ) (now_broken before_broken is_broken : Bool) (opened : ℕ) (old new : DiskState)
-    → IsJournal shape start gate number before_broken opened old → ReadsOnly old new
+pub stands_again : (at : Place) (now_broken before_broken is_broken : Bool) (opened : ℕ) (old new : DiskState)
+    → IsJournal at before_broken opened old → ReadsOnly old new
     → (now_broken ≡ false → new.is_honest → IsSynced new) → (now_broken ≡ true → old.failures < new.failures)
     → (now_broken ≡ true → is_broken ≡ true) → (now_broken ≡ false → is_broken ≡ before_broken)
-    → IsJournal shape start gate number is_broken opened new
-stands_again shape start gate number now_broken before_broken is_broken opened old new was only safe failed breaks stays = record {
-  place = subst (λ n. HasPlace n shape start gate number) (sym only.runs.size) was.place;
+    → IsJournal at is_broken opened new
+stands_again at now_broken before_broken is_broken opened old new was only safe failed breaks stays = record {
+  place = subst (λ n. HasPlace n at.shape at.start at.gate at.number) (sym only.runs.size) was.place;
   counted = omega (arith, was.counted, only.runs.failures);
   failed = by_state now_broken refl;
   stands = λ whole honest_new. still now_broken refl whole honest_new;
@@ -221,17 +222,17 @@ stands_again shape start gate number now_broken before_broken is_broken opened o
     by_state true is broken = omega (arith, was.counted, failed is)
     by_state false is broken = omega (arith, was.failed (sym (stays is) ∙ broken), only.runs.failures)
 
-    still : (b : Bool) → now_broken ≡ b → is_broken ≡ false → new.is_honest → StandsAt shape start gate number new
+    still : (b : Bool) → now_broken ≡ b → is_broken ≡ false → new.is_honest → StandsAt at.shape at.start at.gate at.number new
     still true is whole honest_new = absurd (cc (breaks is, whole))
     still false is whole honest_new =
         let honest = only.runs.honest.0 honest_new in
-        let at = was.stands (sym (stays is) ∙ whole) honest in
-        let same : new.image ≡ old.image = all_same old.is_loose old.image new.image at.synced.none_loose (only.touched.within honest) in
+        let stood = was.stands (sym (stays is) ∙ whole) honest in
+        let same : new.image ≡ old.image = all_same old.is_loose old.image new.image stood.synced.none_loose (only.touched.within honest) in
         record {
-          batches = at.batches;
+          batches = stood.batches;
           synced = safe is honest_new;
-          holds = subst (Holds shape at.batches) (sym same) at.holds;
-          starts = at.starts ∙ ap (start_of shape.half) (sym same);
-          at = at.at ∙ ap (λ (i : Image). start_of shape.half i + used at.batches) (sym same);
-          counts = at.counts;
+          holds = subst (Holds at.shape stood.batches) (sym same) stood.holds;
+          starts = stood.starts ∙ ap (start_of at.shape.half) (sym same);
+          at = stood.at ∙ ap (λ (i : Image). start_of at.shape.half i + used stood.batches) (sym same);
+          counts = stood.counts;
         }

@@ -1,11 +1,12 @@
 -- A journal, as its callers see it.
-use Rattle.std.specs.Prelude.{◌≡◌, ◌⊎◌, ◌<◌, ◌≤◌, ◌+◌, ◌*◌, ℕ, Bool, true, false, List, ◌++◌}
-use Rattle.std.specs.Prelude.{Option, Some, None, length, take, slice_get, All}
+use Rattle.std.specs.Prelude.{◌≡◌, ◌⊎◌, ◌<◌, ◌≤◌, ◌+◌, ◌-◌, ◌*◌, ℕ, Bool, true, false, List, ◌++◌}
+use Rattle.std.specs.Prelude.{Option, Some, None, length, take, slice_get, All, nat_lt}
 use Rattle.std.specs.Option.{option_map}
 use Rattle.lift_base.specs.declared.history.Record.{Record}
 use Rattle.lift_base.specs.declared.history.Shape.{Shape}
 use Rattle.lift_base.specs.History.{IsWithinLimits}
 use Rattle.lift_disk.specs.Disk.{DiskState, Image, IsSynced, LeavesNow}
+use Rattle.lift_journal.specs.declared.place.Place.{Place}
 use Rattle.lift_journal.specs.Order.{IsEntry, IsOfBase}
 use Rattle.lift_journal.specs.Layout.{Batch, records_of, Holds, start_of, used}
 
@@ -36,6 +37,18 @@ pub record JournalView (D : Type 0) : Type 0 where
   -- a call of the device has failed, and no reopening has succeeded since
   pub is_broken : Bool
 
+-- a journal over this device that stands at this place
+abbrev pub view_at : {D : Type 0} → D → Place → Bool → ℕ → JournalView D
+view_at device place is_broken opened = record {
+  device = device;
+  shape = place.shape;
+  is_second = nat_lt 2 place.start;
+  used = place.gate - place.start;
+  number = place.number;
+  opened = opened;
+  is_broken = is_broken;
+}
+
 -- where the next batch goes, whatever the device holds
 pub record HasPlace (size : ℕ) (shape : Shape) (start gate number : ℕ) : Type 0 where
   pub within : IsWithinLimits shape
@@ -55,12 +68,12 @@ pub record StandsAt (shape : Shape) (start gate number : ℕ) (disk : DiskState)
   pub at : gate ≡ start_of shape.half disk.image + used batches
   pub counts : number ≡ 1 + length batches
 
-pub record IsJournal (shape : Shape) (start gate number : ℕ) (is_broken : Bool) (opened : ℕ)
-    (disk : DiskState) : Type 0 where
-  pub place : HasPlace disk.size shape start gate number
+pub record IsJournal (at : Place) (is_broken : Bool) (opened : ℕ) (disk : DiskState) : Type 0 where
+  pub place : HasPlace disk.size at.shape at.start at.gate at.number
   pub counted : opened ≤ disk.failures
   pub failed : is_broken ≡ true → opened < disk.failures
-  pub stands : is_broken ≡ false → disk.is_honest → StandsAt shape start gate number disk
+  pub stands : is_broken ≡ false → disk.is_honest
+      → StandsAt at.shape at.start at.gate at.number disk
 
 -- what a caller sees of a cursor: the sectors of the half before its gate, and how many batches it
 -- has given

@@ -26,7 +26,7 @@ use crate::body::{body_count, put_body, sectors_of};
 use crate::checkpoint::{batches_for, other_half, write_checkpoint};
 use crate::device::write_batch;
 use crate::fault::JournalFault;
-use crate::place::find_place;
+use crate::place::{Place, find_place};
 use crate::reads::{AtGate, look};
 use crate::visitor::{Nobody, Visitor};
 use arrayvec::ArrayVec;
@@ -41,37 +41,21 @@ use std::snapshot::Snapshot;
 #[derive(Drop)]
 pub struct Journal<D: Disk> {
     device: D,
-    shape: Shape,
-    /// The first sector of the picked half.
-    start: u32,
-    /// The closing gate.
-    gate: u32,
-    /// The number of the next batch.
-    number: u32,
+    place: Place,
     is_broken: bool,
     /// The device when it was last opened.
     opened: Snapshot<D>,
 }
 
 impl<D: Disk> Model for Journal<D> {
-    ghost use Rattle.std.specs.Prelude.{◌-◌, nat_lt};
-    ghost use Rattle.lift_journal.specs.Journal.{JournalView, IsJournal};
+    ghost use Rattle.lift_journal.specs.Journal.{JournalView, IsJournal, view_at};
 
     ghost Value = { JournalView D };
 
-    ghost view = { λ j. record {
-      device = j.device;
-      shape = j.shape;
-      is_second = nat_lt 2 j.start;
-      used = j.gate - j.start;
-      number = j.number;
-      opened = (D.state j.opened.value).failures;
-      is_broken = j.is_broken;
-    } };
+    ghost view = { λ j. view_at j.device j.place j.is_broken (D.state j.opened.value).failures };
 
     ghost invariant = { λ j.
-        IsJournal j.shape j.start j.gate j.number j.is_broken (D.state j.opened.value).failures
-        (D.state j.device) };
+        IsJournal j.place j.is_broken (D.state j.opened.value).failures (D.state j.device) };
 }
 
 /// A place in the list of batches, for [`Journal::next`].
@@ -98,35 +82,22 @@ impl Model for Cursor {
 /// device.
 #[derive(Drop)]
 pub struct FormerPlace<D: Disk> {
-    shape: Shape,
-    start: u32,
-    gate: u32,
-    number: u32,
+    place: Place,
     is_broken: bool,
     opened: Snapshot<D>,
     device: Snapshot<D>,
 }
 
 impl<D: Disk> Model for FormerPlace<D> {
-    ghost use Rattle.std.specs.Prelude.{◌-◌, nat_lt};
-    ghost use Rattle.lift_journal.specs.Journal.{JournalView, IsJournal};
+    ghost use Rattle.lift_journal.specs.Journal.{JournalView, IsJournal, view_at};
 
     ghost Value = { JournalView D };
 
-    ghost view = { λ f. record {
-      device = f.device.value;
-      shape = f.shape;
-      is_second = nat_lt 2 f.start;
-      used = f.gate - f.start;
-      number = f.number;
-      opened =
-          (D.state f.opened.value).failures;
-      is_broken = f.is_broken;
-    } };
+    ghost view = { λ f.
+        view_at f.device.value f.place f.is_broken (D.state f.opened.value).failures };
 
     ghost invariant = { λ f.
-        IsJournal f.shape f.start f.gate f.number f.is_broken (D.state f.opened.value).failures
-        (D.state f.device.value) };
+        IsJournal f.place f.is_broken (D.state f.opened.value).failures (D.state f.device.value) };
 }
 
 impl<D: Disk> Journal<D> {
@@ -139,7 +110,7 @@ impl<D: Disk> Journal<D> {
         ensures value { result ≡ self.now.shape }
         ensures within { IsWithinLimits result }
     {
-        self.shape
+        self.place.shape
     }
 
     /// Whether a batch of so many records (1 to 63) has room.
@@ -152,7 +123,8 @@ impl<D: Disk> Journal<D> {
         ensures half { self.now.is_broken ≡ false
             → LeavesNow (D.state self.now.device) (Picks self.now.is_second) }
     {
-        (self.gate - self.start) as usize + body_count(count) + 2 <= self.shape.half as usize
+        let used = (self.place.gate - self.place.start) as usize;
+        used + body_count(count) + 2 <= self.place.shape.half as usize
     }
 
     /// The device, as it is.
@@ -219,10 +191,7 @@ impl<D: Disk> Journal<D> {
                 let opened = Snapshot::of(&device);
                 Ok(Journal {
                     device,
-                    shape: place.shape,
-                    start: place.start,
-                    gate: place.gate,
-                    number: place.number,
+                    place,
                     is_broken: false,
                     opened,
                 })
@@ -315,18 +284,19 @@ impl<D: Disk> Journal<D> {
             return Err(JournalFault::Broken);
         }
         let bodies = body_count(batch.len());
-        if (self.gate - self.start) as usize + bodies + 2 > self.shape.half as usize {
+        let used = (self.place.gate - self.place.start) as usize;
+        if used + bodies + 2 > self.place.shape.half as usize {
             return Err(JournalFault::Full);
         }
         let mut text = [0; 1024];
-        put_body(&mut text, batch, self.number);
+        put_body(&mut text, batch, self.place.number);
         let body = sectors_of(&text);
-        if write_batch(&mut self.device, self.gate, &body[..bodies]).is_err() {
+        if write_batch(&mut self.device, self.place.gate, &body[..bodies]).is_err() {
             self.is_broken = true;
             return Err(JournalFault::Disk);
         }
-        self.gate += bodies as u32 + 1;
-        self.number += 1;
+        self.place.gate += bodies as u32 + 1;
+        self.place.number += 1;
         Ok(())
     }
 
@@ -413,13 +383,13 @@ impl<D: Disk> Journal<D> {
         if self.is_broken {
             return Err(JournalFault::Broken);
         }
-        let (start, pick) = other_half(self.start, self.shape.half);
+        let (start, pick) = other_half(self.place.start, self.place.shape.half);
         let batches = batches_for(register.base_len());
         match write_checkpoint(&mut self.device, register, start, &pick) {
             Ok(gate) => {
-                self.start = start;
-                self.gate = gate;
-                self.number = batches as u32 + 1;
+                self.place.start = start;
+                self.place.gate = gate;
+                self.place.number = batches as u32 + 1;
                 Ok(())
             }
             Err(DiskFault) => {
@@ -503,14 +473,14 @@ impl<D: Disk> Journal<D> {
         if self.is_broken {
             return Err(JournalFault::Broken);
         }
-        if cursor.skipped >= self.gate - self.start {
+        if cursor.skipped >= self.place.gate - self.place.start {
             return Ok(None);
         }
-        let gate = self.start + cursor.skipped;
+        let gate = self.place.start + cursor.skipped;
         match look(
             &mut self.device,
             gate,
-            self.start + self.shape.half,
+            self.place.start + self.place.shape.half,
             cursor.given + 1,
         ) {
             Err(DiskFault) => {
@@ -601,20 +571,13 @@ impl<D: Disk> Journal<D> {
         let device = Snapshot::of(&self.device);
         match find_place(&mut self.device, visitor) {
             Ok(place) => {
-                let opened = replace(&mut self.opened, Snapshot::of(&self.device));
                 let former = FormerPlace {
-                    shape: self.shape,
-                    start: self.start,
-                    gate: self.gate,
-                    number: self.number,
+                    place: self.place,
                     is_broken: self.is_broken,
-                    opened,
+                    opened: replace(&mut self.opened, Snapshot::of(&self.device)),
                     device,
                 };
-                self.shape = place.shape;
-                self.start = place.start;
-                self.gate = place.gate;
-                self.number = place.number;
+                self.place = place;
                 self.is_broken = false;
                 Ok(former)
             }
@@ -643,10 +606,7 @@ impl<D: Disk> Journal<D> {
         ensures breaks { self.old.is_broken ≡ true → self.new.is_broken ≡ true }
         ensures stays { self.old.is_broken ≡ false → self.new.is_broken ≡ former.is_broken }
     {
-        self.shape = former.shape;
-        self.start = former.start;
-        self.gate = former.gate;
-        self.number = former.number;
+        self.place = former.place;
         self.is_broken = self.is_broken || former.is_broken;
         self.opened = former.opened;
     }

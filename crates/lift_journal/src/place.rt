@@ -25,7 +25,7 @@ use lift_base::Shape;
 use lift_disk::Disk;
 
 /// Where the next batch goes.
-#[derive(Drop)]
+#[derive(Clone, Copy)]
 pub struct Place {
     pub shape: Shape,
     /// The first sector of the picked half.

@@ -23,11 +23,11 @@ returns-then-is_err-clause-any_moment g c =
     let items = c.args.batch.now.items in
     let batch : Batch = record { version = Two; records = items } in
     let is : c.body_count-bodies.result ≡ size_of batch = c.body_count-bodies.ensures ∙ ap bodies c.len.ensures.value in
-    let body = subst (λ (s : Image). IsBody j.number batch (take (bodies (length items)) s)) (sym c.sectors_of-body.ensures.cut) (subst (λ (l : List Record). IsBody j.number (record { version = Two; records = l }) (take (bodies (length l)) (take 512 c.put_body.new.text ∷ drop 512 c.put_body.new.text ∷ []))) c.deref.ensures.0 c.put_body.ensures.spelled) in
+    let body = subst (λ (s : Image). IsBody j.place.number batch (take (bodies (length items)) s)) (sym c.sectors_of-body.ensures.cut) (subst (λ (l : List Record). IsBody j.place.number (record { version = Two; records = l }) (take (bodies (length l)) (take 512 c.put_body.new.text ∷ drop 512 c.put_body.new.text ∷ []))) c.deref.ensures.0 c.put_body.ensures.spelled) in
     let stands = c.self.invariant.stands c.if-self.false in
-    let leaves = append_leaves j.shape j.start j.gate j.number c.body_count-bodies.result old items new c.write_batch.ensures.runs stands c.requires.entries
-    (λ honest. c.write_batch.ensures.any_moment j.shape (stands honest).batches batch
-    (λ _. ready j.shape j.start j.gate j.number c.body_count-bodies.result old items c.sectors_of-body.result.now (stands honest) is c.if-self-bodies.false c.sectors_of-body.ensures.length body c.requires.entries)) in
+    let leaves = append_leaves j.place.shape j.place.start j.place.gate j.place.number c.body_count-bodies.result old items new c.write_batch.ensures.runs stands c.requires.entries
+    (λ honest. c.write_batch.ensures.any_moment j.place.shape (stands honest).batches batch
+    (λ _. ready j.place.shape j.place.start j.place.gate j.place.number c.body_count-bodies.result old items c.sectors_of-body.result.now (stands honest) is c.if-used-bodies.false c.sectors_of-body.ensures.length body c.requires.entries)) in
     subst (λ (v : JournalView g.row.D.Denot). (base entries : List Record) → StandsFor v.shape base entries (g.D.Disk.state v.device)
     → LeavesOnly (g.D.Disk.state v.device) new (λ left. ReadsAs v.shape base entries left ⊎ ReadsAs v.shape base (entries ++ items) left)) c.self.view_is leaves
 
@@ -39,7 +39,7 @@ invariant_of-self-2 g c =
     let items = c.args.batch.now.items in
     let batch : Batch = record { version = Two; records = items } in
     let is : c.body_count-bodies.result ≡ size_of batch = c.body_count-bodies.ensures ∙ ap bodies c.len.ensures.value in
-    let body = subst (λ (s : Image). IsBody j.number batch (take (bodies (length items)) s)) (sym c.sectors_of-body.ensures.cut) (subst (λ (l : List Record). IsBody j.number (record { version = Two; records = l }) (take (bodies (length l)) (take 512 c.put_body.new.text ∷ drop 512 c.put_body.new.text ∷ []))) c.deref.ensures.0 c.put_body.ensures.spelled) in
+    let body = subst (λ (s : Image). IsBody j.place.number batch (take (bodies (length items)) s)) (sym c.sectors_of-body.ensures.cut) (subst (λ (l : List Record). IsBody j.place.number (record { version = Two; records = l }) (take (bodies (length l)) (take 512 c.put_body.new.text ∷ drop 512 c.put_body.new.text ∷ []))) c.deref.ensures.0 c.put_body.ensures.spelled) in
     let few = bodies_few (length items) in
     let place = c.self.invariant.place in
     let quiet = open_ok c.write_batch.result (new.failures ≡ old.failures) (sym c.is_err.ensures.value ∙ c.if-is_err.false) c.write_batch.ensures.cause.ok in
@@ -49,7 +49,7 @@ invariant_of-self-2 g c =
         inside = omega (arith, place.inside, c.write_batch.ensures.runs.size);
         halves = place.halves;
         low = omega (arith, place.low);
-        below = omega (arith, place.low, c.if-self-bodies.false);
+        below = omega (arith, place.low, c.if-used-bodies.false);
         some = omega (arith, place.some);
         counts = omega (arith, place.counts);
       };
@@ -58,9 +58,9 @@ invariant_of-self-2 g c =
       stands = λ whole honest_new.
           (let honest = c.write_batch.ensures.runs.honest.0 honest_new in
           let stands = c.self.invariant.stands c.if-self.false honest in
-          stands_then j.shape j.start j.gate j.number c.body_count-bodies.result old new batch stands is
-          (open_ok c.write_batch.result _ (sym c.is_err.ensures.value ∙ c.if-is_err.false) c.write_batch.ensures.written j.shape stands.batches batch honest
-          (ready j.shape j.start j.gate j.number c.body_count-bodies.result old items c.sectors_of-body.result.now stands is c.if-self-bodies.false c.sectors_of-body.ensures.length body c.requires.entries)));
+          stands_then j.place.shape j.place.start j.place.gate j.place.number c.body_count-bodies.result old new batch stands is
+          (open_ok c.write_batch.result _ (sym c.is_err.ensures.value ∙ c.if-is_err.false) c.write_batch.ensures.written j.place.shape stands.batches batch honest
+          (ready j.place.shape j.place.start j.place.gate j.place.number c.body_count-bodies.result old items c.sectors_of-body.result.now stands is c.if-used-bodies.false c.sectors_of-body.ensures.length body c.requires.entries)));
     }
 
 pub returns-clause-acknowledged : goal.returns-clause-acknowledged
@@ -71,12 +71,12 @@ returns-clause-acknowledged g c =
     let items = c.args.batch.now.items in
     let batch : Batch = record { version = Two; records = items } in
     let is : c.body_count-bodies.result ≡ size_of batch = c.body_count-bodies.ensures ∙ ap bodies c.len.ensures.value in
-    let body = subst (λ (s : Image). IsBody j.number batch (take (bodies (length items)) s)) (sym c.sectors_of-body.ensures.cut) (subst (λ (l : List Record). IsBody j.number (record { version = Two; records = l }) (take (bodies (length l)) (take 512 c.put_body.new.text ∷ drop 512 c.put_body.new.text ∷ []))) c.deref.ensures.0 c.put_body.ensures.spelled) in
+    let body = subst (λ (s : Image). IsBody j.place.number batch (take (bodies (length items)) s)) (sym c.sectors_of-body.ensures.cut) (subst (λ (l : List Record). IsBody j.place.number (record { version = Two; records = l }) (take (bodies (length l)) (take 512 c.put_body.new.text ∷ drop 512 c.put_body.new.text ∷ []))) c.deref.ensures.0 c.put_body.ensures.spelled) in
     let stands = c.self.invariant.stands c.if-self.false in
-    let stood = append_stands j.shape j.start j.gate j.number c.body_count-bodies.result old items new (start_of j.shape.half old.image) c.write_batch.ensures.runs stands c.requires.entries
-    (λ honest. open_ok c.write_batch.result _ (sym c.is_err.ensures.value ∙ c.if-is_err.false) c.write_batch.ensures.written j.shape (stands honest).batches batch honest
-    (ready j.shape j.start j.gate j.number c.body_count-bodies.result old items c.sectors_of-body.result.now (stands honest) is c.if-self-bodies.false c.sectors_of-body.ensures.length body c.requires.entries)) in
-    subst (λ (v : JournalView g.row.D.Denot). (base entries : List Record) → StandsFor v.shape base entries (g.D.Disk.state v.device) → StandsFor j.shape base (entries ++ items) new) c.self.view_is stood
+    let stood = append_stands j.place.shape j.place.start j.place.gate j.place.number c.body_count-bodies.result old items new (start_of j.place.shape.half old.image) c.write_batch.ensures.runs stands c.requires.entries
+    (λ honest. open_ok c.write_batch.result _ (sym c.is_err.ensures.value ∙ c.if-is_err.false) c.write_batch.ensures.written j.place.shape (stands honest).batches batch honest
+    (ready j.place.shape j.place.start j.place.gate j.place.number c.body_count-bodies.result old items c.sectors_of-body.result.now (stands honest) is c.if-used-bodies.false c.sectors_of-body.ensures.length body c.requires.entries)) in
+    subst (λ (v : JournalView g.row.D.Denot). (base entries : List Record) → StandsFor v.shape base entries (g.D.Disk.state v.device) → StandsFor j.place.shape base (entries ++ items) new) c.self.view_is stood
 
 pub returns-clause-any_moment : goal.returns-clause-any_moment
 returns-clause-any_moment g c =
@@ -86,11 +86,11 @@ returns-clause-any_moment g c =
     let items = c.args.batch.now.items in
     let batch : Batch = record { version = Two; records = items } in
     let is : c.body_count-bodies.result ≡ size_of batch = c.body_count-bodies.ensures ∙ ap bodies c.len.ensures.value in
-    let body = subst (λ (s : Image). IsBody j.number batch (take (bodies (length items)) s)) (sym c.sectors_of-body.ensures.cut) (subst (λ (l : List Record). IsBody j.number (record { version = Two; records = l }) (take (bodies (length l)) (take 512 c.put_body.new.text ∷ drop 512 c.put_body.new.text ∷ []))) c.deref.ensures.0 c.put_body.ensures.spelled) in
+    let body = subst (λ (s : Image). IsBody j.place.number batch (take (bodies (length items)) s)) (sym c.sectors_of-body.ensures.cut) (subst (λ (l : List Record). IsBody j.place.number (record { version = Two; records = l }) (take (bodies (length l)) (take 512 c.put_body.new.text ∷ drop 512 c.put_body.new.text ∷ []))) c.deref.ensures.0 c.put_body.ensures.spelled) in
     let stands = c.self.invariant.stands c.if-self.false in
-    let leaves = append_leaves j.shape j.start j.gate j.number c.body_count-bodies.result old items new c.write_batch.ensures.runs stands c.requires.entries
-    (λ honest. c.write_batch.ensures.any_moment j.shape (stands honest).batches batch
-    (λ _. ready j.shape j.start j.gate j.number c.body_count-bodies.result old items c.sectors_of-body.result.now (stands honest) is c.if-self-bodies.false c.sectors_of-body.ensures.length body c.requires.entries)) in
+    let leaves = append_leaves j.place.shape j.place.start j.place.gate j.place.number c.body_count-bodies.result old items new c.write_batch.ensures.runs stands c.requires.entries
+    (λ honest. c.write_batch.ensures.any_moment j.place.shape (stands honest).batches batch
+    (λ _. ready j.place.shape j.place.start j.place.gate j.place.number c.body_count-bodies.result old items c.sectors_of-body.result.now (stands honest) is c.if-used-bodies.false c.sectors_of-body.ensures.length body c.requires.entries)) in
     subst (λ (v : JournalView g.row.D.Denot). (base entries : List Record) → StandsFor v.shape base entries (g.D.Disk.state v.device)
     → LeavesOnly (g.D.Disk.state v.device) new (λ left. ReadsAs v.shape base entries left ⊎ ReadsAs v.shape base (entries ++ items) left)) c.self.view_is leaves
 
@@ -102,10 +102,10 @@ returns-then-is_err-clause-any_moment_listed g c =
     let items = c.args.batch.now.items in
     let batch : Batch = record { version = Two; records = items } in
     let is : c.body_count-bodies.result ≡ size_of batch = c.body_count-bodies.ensures ∙ ap bodies c.len.ensures.value in
-    let body = subst (λ (s : Image). IsBody j.number batch (take (bodies (length items)) s)) (sym c.sectors_of-body.ensures.cut) (subst (λ (l : List Record). IsBody j.number (record { version = Two; records = l }) (take (bodies (length l)) (take 512 c.put_body.new.text ∷ drop 512 c.put_body.new.text ∷ []))) c.deref.ensures.0 c.put_body.ensures.spelled) in
+    let body = subst (λ (s : Image). IsBody j.place.number batch (take (bodies (length items)) s)) (sym c.sectors_of-body.ensures.cut) (subst (λ (l : List Record). IsBody j.place.number (record { version = Two; records = l }) (take (bodies (length l)) (take 512 c.put_body.new.text ∷ drop 512 c.put_body.new.text ∷ []))) c.deref.ensures.0 c.put_body.ensures.spelled) in
     let stands = c.self.invariant.stands c.if-self.false in
-    let leaves = λ (batches : List Batch) (lists : LeavesNow old (Holds j.shape batches)). lists_leave j.shape j.start j.gate j.number old stands batches lists batch new c.write_batch.ensures.runs.honest
-    (λ honest. c.write_batch.ensures.any_moment j.shape (stands honest).batches batch (λ _. ready j.shape j.start j.gate j.number c.body_count-bodies.result old items c.sectors_of-body.result.now (stands honest) is c.if-self-bodies.false c.sectors_of-body.ensures.length body c.requires.entries)) in
+    let leaves = λ (batches : List Batch) (lists : LeavesNow old (Holds j.place.shape batches)). lists_leave j.place.shape j.place.start j.place.gate j.place.number old stands batches lists batch new c.write_batch.ensures.runs.honest
+    (λ honest. c.write_batch.ensures.any_moment j.place.shape (stands honest).batches batch (λ _. ready j.place.shape j.place.start j.place.gate j.place.number c.body_count-bodies.result old items c.sectors_of-body.result.now (stands honest) is c.if-used-bodies.false c.sectors_of-body.ensures.length body c.requires.entries)) in
     subst (λ (v : JournalView g.row.D.Denot). (batches : List Batch) → LeavesNow (g.D.Disk.state v.device) (Holds v.shape batches)
     → LeavesOnly (g.D.Disk.state v.device) new (λ left. Holds v.shape batches left ⊎ Holds v.shape (batches ++ batch ∷ []) left)) c.self.view_is leaves
 
@@ -117,10 +117,10 @@ returns-clause-any_moment_listed g c =
     let items = c.args.batch.now.items in
     let batch : Batch = record { version = Two; records = items } in
     let is : c.body_count-bodies.result ≡ size_of batch = c.body_count-bodies.ensures ∙ ap bodies c.len.ensures.value in
-    let body = subst (λ (s : Image). IsBody j.number batch (take (bodies (length items)) s)) (sym c.sectors_of-body.ensures.cut) (subst (λ (l : List Record). IsBody j.number (record { version = Two; records = l }) (take (bodies (length l)) (take 512 c.put_body.new.text ∷ drop 512 c.put_body.new.text ∷ []))) c.deref.ensures.0 c.put_body.ensures.spelled) in
+    let body = subst (λ (s : Image). IsBody j.place.number batch (take (bodies (length items)) s)) (sym c.sectors_of-body.ensures.cut) (subst (λ (l : List Record). IsBody j.place.number (record { version = Two; records = l }) (take (bodies (length l)) (take 512 c.put_body.new.text ∷ drop 512 c.put_body.new.text ∷ []))) c.deref.ensures.0 c.put_body.ensures.spelled) in
     let stands = c.self.invariant.stands c.if-self.false in
-    let leaves = λ (batches : List Batch) (lists : LeavesNow old (Holds j.shape batches)). lists_leave j.shape j.start j.gate j.number old stands batches lists batch new c.write_batch.ensures.runs.honest
-    (λ honest. c.write_batch.ensures.any_moment j.shape (stands honest).batches batch (λ _. ready j.shape j.start j.gate j.number c.body_count-bodies.result old items c.sectors_of-body.result.now (stands honest) is c.if-self-bodies.false c.sectors_of-body.ensures.length body c.requires.entries)) in
+    let leaves = λ (batches : List Batch) (lists : LeavesNow old (Holds j.place.shape batches)). lists_leave j.place.shape j.place.start j.place.gate j.place.number old stands batches lists batch new c.write_batch.ensures.runs.honest
+    (λ honest. c.write_batch.ensures.any_moment j.place.shape (stands honest).batches batch (λ _. ready j.place.shape j.place.start j.place.gate j.place.number c.body_count-bodies.result old items c.sectors_of-body.result.now (stands honest) is c.if-used-bodies.false c.sectors_of-body.ensures.length body c.requires.entries)) in
     subst (λ (v : JournalView g.row.D.Denot). (batches : List Batch) → LeavesNow (g.D.Disk.state v.device) (Holds v.shape batches)
     → LeavesOnly (g.D.Disk.state v.device) new (λ left. Holds v.shape batches left ⊎ Holds v.shape (batches ++ batch ∷ []) left)) c.self.view_is leaves
 
@@ -132,16 +132,16 @@ returns-clause-listed g c =
     let items = c.args.batch.now.items in
     let batch : Batch = record { version = Two; records = items } in
     let is : c.body_count-bodies.result ≡ size_of batch = c.body_count-bodies.ensures ∙ ap bodies c.len.ensures.value in
-    let body = subst (λ (s : Image). IsBody j.number batch (take (bodies (length items)) s)) (sym c.sectors_of-body.ensures.cut) (subst (λ (l : List Record). IsBody j.number (record { version = Two; records = l }) (take (bodies (length l)) (take 512 c.put_body.new.text ∷ drop 512 c.put_body.new.text ∷ []))) c.deref.ensures.0 c.put_body.ensures.spelled) in
+    let body = subst (λ (s : Image). IsBody j.place.number batch (take (bodies (length items)) s)) (sym c.sectors_of-body.ensures.cut) (subst (λ (l : List Record). IsBody j.place.number (record { version = Two; records = l }) (take (bodies (length l)) (take 512 c.put_body.new.text ∷ drop 512 c.put_body.new.text ∷ []))) c.deref.ensures.0 c.put_body.ensures.spelled) in
     let stands = c.self.invariant.stands c.if-self.false in
-    let stood = λ (batches : List Batch) (lists : LeavesNow old (Holds j.shape batches)). lists_stand j.shape j.start j.gate j.number old stands batches lists batch new c.write_batch.ensures.runs.honest
-    (start_of j.shape.half old.image)
-    (λ honest. open_ok c.write_batch.result _ (sym c.is_err.ensures.value ∙ c.if-is_err.false) c.write_batch.ensures.written j.shape (stands honest).batches batch honest
-    (ready j.shape j.start j.gate j.number c.body_count-bodies.result old items c.sectors_of-body.result.now (stands honest) is c.if-self-bodies.false c.sectors_of-body.ensures.length body c.requires.entries)) in
-    subst (λ (v : JournalView g.row.D.Denot). (batches : List Batch) → LeavesNow (g.D.Disk.state v.device) (Holds v.shape batches) → LeavesNow new (Holds j.shape (batches ++ batch ∷ []))) c.self.view_is stood
+    let stood = λ (batches : List Batch) (lists : LeavesNow old (Holds j.place.shape batches)). lists_stand j.place.shape j.place.start j.place.gate j.place.number old stands batches lists batch new c.write_batch.ensures.runs.honest
+    (start_of j.place.shape.half old.image)
+    (λ honest. open_ok c.write_batch.result _ (sym c.is_err.ensures.value ∙ c.if-is_err.false) c.write_batch.ensures.written j.place.shape (stands honest).batches batch honest
+    (ready j.place.shape j.place.start j.place.gate j.place.number c.body_count-bodies.result old items c.sectors_of-body.result.now (stands honest) is c.if-used-bodies.false c.sectors_of-body.ensures.length body c.requires.entries)) in
+    subst (λ (v : JournalView g.row.D.Denot). (batches : List Batch) → LeavesNow (g.D.Disk.state v.device) (Holds v.shape batches) → LeavesNow new (Holds j.place.shape (batches ++ batch ∷ []))) c.self.view_is stood
 
-pub returns-then-self-bodies-clause-any_moment_listed : goal.returns-then-self-bodies-clause-any_moment_listed
-returns-then-self-bodies-clause-any_moment_listed g c batches lists =
+pub returns-then-used-bodies-clause-any_moment_listed : goal.returns-then-used-bodies-clause-any_moment_listed
+returns-then-used-bodies-clause-any_moment_listed g c batches lists =
     let view = c.args.self.now in
     leaves_none (g.D.Disk.state view.device) (λ left. Holds view.shape batches left ⊎ Holds view.shape (batches ++ new_batch c.args.batch.now.items ∷ []) left) (g.met.D.Disk.only_now view.device)
     (λ honest left leaves. inl (lists honest left leaves))
@@ -154,14 +154,14 @@ returns-then-is_err-clause-stops g c _ =
     let items = c.args.batch.now.items in
     let batch : Batch = record { version = Two; records = items } in
     let is : c.body_count-bodies.result ≡ size_of batch = c.body_count-bodies.ensures ∙ ap bodies c.len.ensures.value in
-    let body = subst (λ (s : Image). IsBody j.number batch (take (bodies (length items)) s)) (sym c.sectors_of-body.ensures.cut) (subst (λ (l : List Record). IsBody j.number (record { version = Two; records = l }) (take (bodies (length l)) (take 512 c.put_body.new.text ∷ drop 512 c.put_body.new.text ∷ []))) c.deref.ensures.0 c.put_body.ensures.spelled) in
+    let body = subst (λ (s : Image). IsBody j.place.number batch (take (bodies (length items)) s)) (sym c.sectors_of-body.ensures.cut) (subst (λ (l : List Record). IsBody j.place.number (record { version = Two; records = l }) (take (bodies (length l)) (take 512 c.put_body.new.text ∷ drop 512 c.put_body.new.text ∷ []))) c.deref.ensures.0 c.put_body.ensures.spelled) in
     let stands = c.self.invariant.stands c.if-self.false in
-    let made = λ (honest : old.is_honest) (inert : old.is_inert) (batches : List Batch) (lists : LeavesNow old (Holds j.shape batches)).
+    let made = λ (honest : old.is_honest) (inert : old.is_inert) (batches : List Batch) (lists : LeavesNow old (Holds j.place.shape batches)).
     (let at = stands honest in
-    let before = ready j.shape j.start j.gate j.number c.body_count-bodies.result old items c.sectors_of-body.result.now (stands honest) is c.if-self-bodies.false c.sectors_of-body.ensures.length body c.requires.entries in
-    let stops = open_err c.write_batch.result _ (sym c.is_err.ensures.value ∙ c.if-is_err.true) c.write_batch.ensures.stops j.shape at.batches batch honest inert before in
-    subst (λ (bs : List Batch). StopsShort j.shape bs batch (bodies (length items)) old new) (same_batches j.shape j.start j.gate j.number old stands batches lists honest)
-    (subst (λ n. StopsShort j.shape at.batches batch n old new) before.size stops)) in
+    let before = ready j.place.shape j.place.start j.place.gate j.place.number c.body_count-bodies.result old items c.sectors_of-body.result.now (stands honest) is c.if-used-bodies.false c.sectors_of-body.ensures.length body c.requires.entries in
+    let stops = open_err c.write_batch.result _ (sym c.is_err.ensures.value ∙ c.if-is_err.true) c.write_batch.ensures.stops j.place.shape at.batches batch honest inert before in
+    subst (λ (bs : List Batch). StopsShort j.place.shape bs batch (bodies (length items)) old new) (same_batches j.place.shape j.place.start j.place.gate j.place.number old stands batches lists honest)
+    (subst (λ n. StopsShort j.place.shape at.batches batch n old new) before.size stops)) in
     subst (λ (v : JournalView g.row.D.Denot). (g.D.Disk.state v.device).is_honest → (g.D.Disk.state v.device).is_inert → (batches : List Batch) → LeavesNow (g.D.Disk.state v.device) (Holds v.shape batches)
     → StopsShort v.shape batches batch (bodies (length items)) (g.D.Disk.state v.device) new) c.self.view_is made
 
@@ -170,8 +170,8 @@ returns-then-is_err-clause-half g c =
     let j = c.self.inside in
     let old = g.D.Disk.state j.device in
     let new = g.D.Disk.state c.write_batch.new.disk in
-    let high = j.gate + length (take c.body_count-bodies.result c.sectors_of-body.result.now) + 2 in
-    let made = append_picks j.shape j.start j.gate j.number high old new (gate_high old.size j.shape j.start j.gate j.number c.self.invariant.place) (c.self.invariant.stands c.if-self.false) c.write_batch.ensures.touched in
+    let high = j.place.gate + length (take c.body_count-bodies.result c.sectors_of-body.result.now) + 2 in
+    let made = append_picks j.place.shape j.place.start j.place.gate j.place.number high old new (gate_high old.size j.place.shape j.place.start j.place.gate j.place.number c.self.invariant.place) (c.self.invariant.stands c.if-self.false) c.write_batch.ensures.touched in
     subst (λ (v : JournalView g.row.D.Denot). v.is_broken ≡ false → LeavesOnly (g.D.Disk.state v.device) new (Picks v.is_second)) c.self.view_is (λ _. made)
 
 pub returns-clause-half : goal.returns-clause-half
@@ -179,22 +179,22 @@ returns-clause-half g c =
     let j = c.self.inside in
     let old = g.D.Disk.state j.device in
     let new = g.D.Disk.state c.write_batch.new.disk in
-    let high = j.gate + length (take c.body_count-bodies.result c.sectors_of-body.result.now) + 2 in
-    let made = append_picks j.shape j.start j.gate j.number high old new (gate_high old.size j.shape j.start j.gate j.number c.self.invariant.place) (c.self.invariant.stands c.if-self.false) c.write_batch.ensures.touched in
+    let high = j.place.gate + length (take c.body_count-bodies.result c.sectors_of-body.result.now) + 2 in
+    let made = append_picks j.place.shape j.place.start j.place.gate j.place.number high old new (gate_high old.size j.place.shape j.place.start j.place.gate j.place.number c.self.invariant.place) (c.self.invariant.stands c.if-self.false) c.write_batch.ensures.touched in
     subst (λ (v : JournalView g.row.D.Denot). v.is_broken ≡ false → LeavesOnly (g.D.Disk.state v.device) new (Picks v.is_second)) c.self.view_is (λ _. made)
 
-pub returns-then-self-bodies-clause-half : goal.returns-then-self-bodies-clause-half
-returns-then-self-bodies-clause-half g c =
+pub returns-then-used-bodies-clause-half : goal.returns-then-used-bodies-clause-half
+returns-then-used-bodies-clause-half g c =
     let j = c.self.inside in
     let old = g.D.Disk.state j.device in
     subst (λ (v : JournalView g.row.D.Denot). v.is_broken ≡ false → LeavesOnly (g.D.Disk.state v.device) (g.D.Disk.state v.device) (Picks v.is_second)) c.self.view_is
-    (λ whole. leaves_none old (Picks (nat_lt 2 j.start)) (g.met.D.Disk.only_now j.device) (picks_synced j.shape j.start j.gate j.number old (c.self.invariant.stands whole)))
+    (λ whole. leaves_none old (Picks (nat_lt 2 j.place.start)) (g.met.D.Disk.only_now j.device) (picks_synced j.place.shape j.place.start j.place.gate j.place.number old (c.self.invariant.stands whole)))
 
 pub returns-then-self-clause-told : goal.returns-then-self-clause-told
 returns-then-self-clause-told g c = record { ok = tt; err = none_made (g.D.Disk.state c.args.self.now.device) }
 
-pub returns-then-self-bodies-clause-told : goal.returns-then-self-bodies-clause-told
-returns-then-self-bodies-clause-told g c = record { ok = tt; err = none_made (g.D.Disk.state c.args.self.now.device) }
+pub returns-then-used-bodies-clause-told : goal.returns-then-used-bodies-clause-told
+returns-then-used-bodies-clause-told g c = record { ok = tt; err = none_made (g.D.Disk.state c.args.self.now.device) }
 
 pub returns-then-is_err-clause-told : goal.returns-then-is_err-clause-told
 returns-then-is_err-clause-told g c = record {
@@ -219,12 +219,12 @@ returns-clause-calls g c =
     let batch : Batch = record { version = Two; records = items } in
     let sectors = c.sectors_of-body.result.now in
     let is : c.body_count-bodies.result ≡ bodies (length items) = c.body_count-bodies.ensures ∙ ap bodies c.len.ensures.value in
-    let body = subst (λ (s : Image). IsBody j.number batch (take (bodies (length items)) s)) (sym c.sectors_of-body.ensures.cut) (subst (λ (l : List Record). IsBody j.number (record { version = Two; records = l }) (take (bodies (length l)) (take 512 c.put_body.new.text ∷ drop 512 c.put_body.new.text ∷ []))) c.deref.ensures.0 c.put_body.ensures.spelled) in
+    let body = subst (λ (s : Image). IsBody j.place.number batch (take (bodies (length items)) s)) (sym c.sectors_of-body.ensures.cut) (subst (λ (l : List Record). IsBody j.place.number (record { version = Two; records = l }) (take (bodies (length l)) (take 512 c.put_body.new.text ∷ drop 512 c.put_body.new.text ∷ []))) c.deref.ensures.0 c.put_body.ensures.spelled) in
     let place = c.self.invariant.place in
-    let gate : half_start (nat_lt 2 j.start) j.shape.half + (j.gate - j.start) ≡ j.gate = omega (arith, begins_at j.shape.half j.start (omega (arith, place.within.half.0)) place.halves, place.low) in
-    let made = open_ok c.write_batch.result (new.trace ≡ old.trace ++ append_calls j.gate (take c.body_count-bodies.result sectors)) (sym c.is_err.ensures.value ∙ c.if-is_err.false) c.write_batch.ensures.follows.all in
-    let here : (b : Image) × IsBody j.number batch b × (new.trace ≡ old.trace ++ append_calls (half_start (nat_lt 2 j.start) j.shape.half + (j.gate - j.start)) b) =
-    (take (bodies (length items)) sectors, body, made ∙ ap (λ k. old.trace ++ append_calls j.gate (take k sectors)) is ∙ ap (λ n. old.trace ++ append_calls n (take (bodies (length items)) sectors)) (sym gate)) in
+    let gate : half_start (nat_lt 2 j.place.start) j.place.shape.half + (j.place.gate - j.place.start) ≡ j.place.gate = omega (arith, begins_at j.place.shape.half j.place.start (omega (arith, place.within.half.0)) place.halves, place.low) in
+    let made = open_ok c.write_batch.result (new.trace ≡ old.trace ++ append_calls j.place.gate (take c.body_count-bodies.result sectors)) (sym c.is_err.ensures.value ∙ c.if-is_err.false) c.write_batch.ensures.follows.all in
+    let here : (b : Image) × IsBody j.place.number batch b × (new.trace ≡ old.trace ++ append_calls (half_start (nat_lt 2 j.place.start) j.place.shape.half + (j.place.gate - j.place.start)) b) =
+    (take (bodies (length items)) sectors, body, made ∙ ap (λ k. old.trace ++ append_calls j.place.gate (take k sectors)) is ∙ ap (λ n. old.trace ++ append_calls n (take (bodies (length items)) sectors)) (sym gate)) in
     subst (λ (v : JournalView g.row.D.Denot). (b : Image) × IsBody v.number batch b × (new.trace ≡ (g.D.Disk.state v.device).trace ++ append_calls (half_start v.is_second v.shape.half + v.used) b)) c.self.view_is here
 
 pub returns-then-is_err-clause-calls_before : goal.returns-then-is_err-clause-calls_before
@@ -236,13 +236,13 @@ returns-then-is_err-clause-calls_before g c _ =
     let batch : Batch = record { version = Two; records = items } in
     let sectors = c.sectors_of-body.result.now in
     let is : c.body_count-bodies.result ≡ bodies (length items) = c.body_count-bodies.ensures ∙ ap bodies c.len.ensures.value in
-    let body = subst (λ (s : Image). IsBody j.number batch (take (bodies (length items)) s)) (sym c.sectors_of-body.ensures.cut) (subst (λ (l : List Record). IsBody j.number (record { version = Two; records = l }) (take (bodies (length l)) (take 512 c.put_body.new.text ∷ drop 512 c.put_body.new.text ∷ []))) c.deref.ensures.0 c.put_body.ensures.spelled) in
+    let body = subst (λ (s : Image). IsBody j.place.number batch (take (bodies (length items)) s)) (sym c.sectors_of-body.ensures.cut) (subst (λ (l : List Record). IsBody j.place.number (record { version = Two; records = l }) (take (bodies (length l)) (take 512 c.put_body.new.text ∷ drop 512 c.put_body.new.text ∷ []))) c.deref.ensures.0 c.put_body.ensures.spelled) in
     let place = c.self.invariant.place in
-    let gate : half_start (nat_lt 2 j.start) j.shape.half + (j.gate - j.start) ≡ j.gate = omega (arith, begins_at j.shape.half j.start (omega (arith, place.within.half.0)) place.halves, place.low) in
-    let made = open_err c.write_batch.result (StopsIn (append_calls j.gate (take c.body_count-bodies.result sectors)) old new) (sym c.is_err.ensures.value ∙ c.if-is_err.true) c.write_batch.ensures.follows.front in
-    let here : (b : Image) × IsBody j.number batch b × StopsIn (append_calls (half_start (nat_lt 2 j.start) j.shape.half + (j.gate - j.start)) b) old new = (
+    let gate : half_start (nat_lt 2 j.place.start) j.place.shape.half + (j.place.gate - j.place.start) ≡ j.place.gate = omega (arith, begins_at j.place.shape.half j.place.start (omega (arith, place.within.half.0)) place.halves, place.low) in
+    let made = open_err c.write_batch.result (StopsIn (append_calls j.place.gate (take c.body_count-bodies.result sectors)) old new) (sym c.is_err.ensures.value ∙ c.if-is_err.true) c.write_batch.ensures.follows.front in
+    let here : (b : Image) × IsBody j.place.number batch b × StopsIn (append_calls (half_start (nat_lt 2 j.place.start) j.place.shape.half + (j.place.gate - j.place.start)) b) old new = (
       take (bodies (length items)) sectors,
       body,
-      subst (λ n. StopsIn (append_calls n (take (bodies (length items)) sectors)) old new) (sym gate) (subst (λ k. StopsIn (append_calls j.gate (take k sectors)) old new) is made),
+      subst (λ n. StopsIn (append_calls n (take (bodies (length items)) sectors)) old new) (sym gate) (subst (λ k. StopsIn (append_calls j.place.gate (take k sectors)) old new) is made),
     ) in
     subst (λ (v : JournalView g.row.D.Denot). (b : Image) × IsBody v.number batch b × StopsIn (append_calls (half_start v.is_second v.shape.half + v.used) b) (g.D.Disk.state v.device) new) c.self.view_is here

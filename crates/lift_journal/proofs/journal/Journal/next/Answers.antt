@@ -17,14 +17,14 @@ returns-then-cursor-self-clause-gives g c =
     let j = c.self.inside in
     let image = (g.D.Disk.state j.device).image in
     let cursor : CursorView = record { skipped = c.cursor.inside.skipped; given = c.cursor.inside.given } in
-    let made : (g.D.Disk.state j.device).is_honest → (batches : List Batch) → Holds j.shape batches image → IsCursorIn batches cursor → (cursor.given ≡ length batches) × (cursor ≡ cursor) =
+    let made : (g.D.Disk.state j.device).is_honest → (batches : List Batch) → Holds j.place.shape batches image → IsCursorIn batches cursor → (cursor.given ≡ length batches) × (cursor ≡ cursor) =
     λ honest batches holds within.
     (let stands = c.self.invariant.stands c.if-self.false honest in
-    let same = ap used (holds_unique j.shape stands.batches batches image stands.holds holds) in
+    let same = ap used (holds_unique j.place.shape stands.batches batches image stands.holds holds) in
     (none_next batches cursor within (omega (arith, c.if-cursor-self.true, stands.at, stands.starts, same)), refl)) in
     subst (λ (v : JournalView g.row.D.Denot). (g.D.Disk.state v.device).is_honest → (batches : List Batch) → Holds v.shape batches (g.D.Disk.state v.device).image
     → IsCursorIn batches c.args.cursor.now → (c.args.cursor.now.given ≡ length batches) × (c.args.cursor.now ≡ c.args.cursor.now)) c.self.view_is
-    (subst (λ (w : CursorView). (g.D.Disk.state j.device).is_honest → (batches : List Batch) → Holds j.shape batches image → IsCursorIn batches w → (w.given ≡ length batches) × (w ≡ w))
+    (subst (λ (w : CursorView). (g.D.Disk.state j.device).is_honest → (batches : List Batch) → Holds j.place.shape batches image → IsCursorIn batches w → (w.given ≡ length batches) × (w ≡ w))
     c.cursor.view_is made)
 
 pub returns-in-Ok-Batch-clause-gives : goal.returns-in-Ok-Batch-clause-gives
@@ -34,18 +34,18 @@ returns-in-Ok-Batch-clause-gives g c =
     let cursor : CursorView = record { skipped = c.cursor.inside.skipped; given = c.cursor.inside.given } in
     let stored = c.in-Ok-Batch.stored in
     let behind : CursorView = record { skipped = c.cursor.inside.skipped + (1 + c.body_count.result); given = c.cursor.inside.given + 1 } in
-    let made : (g.D.Disk.state j.device).is_honest → (batches : List Batch) → Holds j.shape batches image → IsCursorIn batches cursor → IsNext batches cursor behind (Some stored.records.items) =
+    let made : (g.D.Disk.state j.device).is_honest → (batches : List Batch) → Holds j.place.shape batches image → IsCursorIn batches cursor → IsNext batches cursor behind (Some stored.records.items) =
     λ honest batches holds within.
     (let stands = c.self.invariant.stands c.if-self.false honest in
-    let same = ap used (holds_unique j.shape stands.batches batches image stands.holds holds) in
+    let same = ap used (holds_unique j.place.shape stands.batches batches image stands.holds holds) in
     let lt = some_next batches cursor within (omega (arith, c.if-cursor-self.false, stands.at, stands.starts, same)) in
-    let shows = seen_at image image (j.start + cursor.skipped) (j.start + j.shape.half) (cursor.given + 1) c.in-Ok-Batch.field-0 (BatchAt stored) refl c.in-Ok-Batch.field-0-is
+    let shows = seen_at image image (j.place.start + cursor.skipped) (j.place.start + j.place.shape.half) (cursor.given + 1) c.in-Ok-Batch.field-0 (BatchAt stored) refl c.in-Ok-Batch.field-0-is
     (c.in-Ok-Batch.ensures.seen honest stands.synced) in
     let size : c.body_count.result ≡ size_of (batch_of stored) = c.body_count.ensures ∙ ap bodies c.len.ensures.value in
-    next_is j.shape batches image j.start cursor behind (batch_of stored) holds stands.starts within lt shows.1 (omega (arith, size)) refl) in
+    next_is j.place.shape batches image j.place.start cursor behind (batch_of stored) holds stands.starts within lt shows.1 (omega (arith, size)) refl) in
     subst (λ (v : JournalView g.row.D.Denot). (g.D.Disk.state v.device).is_honest → (batches : List Batch) → Holds v.shape batches (g.D.Disk.state v.device).image
     → IsCursorIn batches c.args.cursor.now → IsNext batches c.args.cursor.now behind (Some stored.records.items)) c.self.view_is
-    (subst (λ (w : CursorView). (g.D.Disk.state j.device).is_honest → (batches : List Batch) → Holds j.shape batches image → IsCursorIn batches w → IsNext batches w behind (Some stored.records.items))
+    (subst (λ (w : CursorView). (g.D.Disk.state j.device).is_honest → (batches : List Batch) → Holds j.place.shape batches image → IsCursorIn batches w → IsNext batches w behind (Some stored.records.items))
     c.cursor.view_is made)
 
 pub returns-in-Ok-Damaged-clause-damaged : goal.returns-in-Ok-Damaged-clause-damaged
@@ -53,34 +53,34 @@ returns-in-Ok-Damaged-clause-damaged g c s is =
     let j = c.self.inside in
     let image = (g.D.Disk.state j.device).image in
     let cursor : CursorView = record { skipped = c.cursor.inside.skipped; given = c.cursor.inside.given } in
-    let made : (g.D.Disk.state j.device).is_honest → (batches : List Batch) → Holds j.shape batches image → IsCursorIn batches cursor → ⊥ =
+    let made : (g.D.Disk.state j.device).is_honest → (batches : List Batch) → Holds j.place.shape batches image → IsCursorIn batches cursor → ⊥ =
     λ honest batches holds within.
     (let stands = c.self.invariant.stands c.if-self.false honest in
-    let same = ap used (holds_unique j.shape stands.batches batches image stands.holds holds) in
+    let same = ap used (holds_unique j.place.shape stands.batches batches image stands.holds holds) in
     let lt = some_next batches cursor within (omega (arith, c.if-cursor-self.false, stands.at, stands.starts, same)) in
-    let shows = seen_at image image (j.start + cursor.skipped) (j.start + j.shape.half) (cursor.given + 1) c.in-Ok-Damaged.field-0 Damaged refl c.in-Ok-Damaged.field-0-is
+    let shows = seen_at image image (j.place.start + cursor.skipped) (j.place.start + j.place.shape.half) (cursor.given + 1) c.in-Ok-Damaged.field-0 Damaged refl c.in-Ok-Damaged.field-0-is
     (c.in-Ok-Damaged.ensures.seen honest stands.synced) in
-    not_missing j.shape batches image j.start cursor holds stands.starts within lt shows.1) in
+    not_missing j.place.shape batches image j.place.start cursor holds stands.starts within lt shows.1) in
     subst (λ (v : JournalView g.row.D.Denot). (g.D.Disk.state v.device).is_honest → (batches : List Batch) → Holds v.shape batches (g.D.Disk.state v.device).image
     → IsCursorIn batches c.args.cursor.now → ⊥) c.self.view_is
-    (subst (λ (w : CursorView). (g.D.Disk.state j.device).is_honest → (batches : List Batch) → Holds j.shape batches image → IsCursorIn batches w → ⊥) c.cursor.view_is made)
+    (subst (λ (w : CursorView). (g.D.Disk.state j.device).is_honest → (batches : List Batch) → Holds j.place.shape batches image → IsCursorIn batches w → ⊥) c.cursor.view_is made)
 
 pub returns-in-Ok-Closed-clause-damaged : goal.returns-in-Ok-Closed-clause-damaged
 returns-in-Ok-Closed-clause-damaged g c s is =
     let j = c.self.inside in
     let image = (g.D.Disk.state j.device).image in
     let cursor : CursorView = record { skipped = c.cursor.inside.skipped; given = c.cursor.inside.given } in
-    let made : (g.D.Disk.state j.device).is_honest → (batches : List Batch) → Holds j.shape batches image → IsCursorIn batches cursor → ⊥ =
+    let made : (g.D.Disk.state j.device).is_honest → (batches : List Batch) → Holds j.place.shape batches image → IsCursorIn batches cursor → ⊥ =
     λ honest batches holds within.
     (let stands = c.self.invariant.stands c.if-self.false honest in
-    let same = ap used (holds_unique j.shape stands.batches batches image stands.holds holds) in
+    let same = ap used (holds_unique j.place.shape stands.batches batches image stands.holds holds) in
     let lt = some_next batches cursor within (omega (arith, c.if-cursor-self.false, stands.at, stands.starts, same)) in
-    let shows = seen_at image image (j.start + cursor.skipped) (j.start + j.shape.half) (cursor.given + 1) c.in-Ok-Closed.field-0 Closed refl c.in-Ok-Closed.field-0-is
+    let shows = seen_at image image (j.place.start + cursor.skipped) (j.place.start + j.place.shape.half) (cursor.given + 1) c.in-Ok-Closed.field-0 Closed refl c.in-Ok-Closed.field-0-is
     (c.in-Ok-Closed.ensures.seen honest stands.synced) in
-    not_closed j.shape batches image j.start cursor holds stands.starts within lt shows) in
+    not_closed j.place.shape batches image j.place.start cursor holds stands.starts within lt shows) in
     subst (λ (v : JournalView g.row.D.Denot). (g.D.Disk.state v.device).is_honest → (batches : List Batch) → Holds v.shape batches (g.D.Disk.state v.device).image
     → IsCursorIn batches c.args.cursor.now → ⊥) c.self.view_is
-    (subst (λ (w : CursorView). (g.D.Disk.state j.device).is_honest → (batches : List Batch) → Holds j.shape batches image → IsCursorIn batches w → ⊥) c.cursor.view_is made)
+    (subst (λ (w : CursorView). (g.D.Disk.state j.device).is_honest → (batches : List Batch) → Holds j.place.shape batches image → IsCursorIn batches w → ⊥) c.cursor.view_is made)
 
 pub returns-then-self-clause-told : goal.returns-then-self-clause-told
 returns-then-self-clause-told g c = record { ok = tt; err = none_made (g.D.Disk.state c.args.self.now.device) }
@@ -118,9 +118,9 @@ returns-in-Ok-Batch-clause-calls g c =
     let place = c.self.invariant.place in
     let new = g.D.Disk.state c.look.new.disk in
     let more = 1 + bodies (length c.in-Ok-Batch.stored.records.items) in
-    let gate : half_start (nat_lt 2 j.start) j.shape.half ≡ j.start = begins_at j.shape.half j.start (omega (arith, place.within.half.0)) place.halves in
+    let gate : half_start (nat_lt 2 j.place.start) j.place.shape.half ≡ j.place.start = begins_at j.place.shape.half j.place.start (omega (arith, place.within.half.0)) place.halves in
     subst (λ (v : JournalView g.row.D.Denot). new.trace ≡ (g.D.Disk.state v.device).trace ++ reads_from (half_start v.is_second v.shape.half + c.args.cursor.now.skipped) more) c.self.view_is
-    (subst (λ (w : CursorView). new.trace ≡ (g.D.Disk.state j.device).trace ++ reads_from (half_start (nat_lt 2 j.start) j.shape.half + w.skipped) more) c.cursor.view_is
+    (subst (λ (w : CursorView). new.trace ≡ (g.D.Disk.state j.device).trace ++ reads_from (half_start (nat_lt 2 j.place.start) j.place.shape.half + w.skipped) more) c.cursor.view_is
     (c.in-Ok-Batch.ensures.whole c.in-Ok-Batch.stored c.in-Ok-Batch.field-0-is ∙ ap (λ n. (g.D.Disk.state j.device).trace ++ reads_from (n + c.cursor.inside.skipped) more) (sym gate)))
 
 pub returns-in-Err-clause-calls_failed : goal.returns-in-Err-clause-calls_failed
@@ -128,31 +128,31 @@ returns-in-Err-clause-calls_failed g c _ =
     let j = c.self.inside in
     let place = c.self.invariant.place in
     let new = g.D.Disk.state c.look.new.disk in
-    let gate : half_start (nat_lt 2 j.start) j.shape.half ≡ j.start = begins_at j.shape.half j.start (omega (arith, place.within.half.0)) place.halves in
+    let gate : half_start (nat_lt 2 j.place.start) j.place.shape.half ≡ j.place.start = begins_at j.place.shape.half j.place.start (omega (arith, place.within.half.0)) place.halves in
     subst (λ (v : JournalView g.row.D.Denot). HasRead (half_start v.is_second v.shape.half + c.args.cursor.now.skipped) 2 (half_start v.is_second v.shape.half + v.shape.half) (g.D.Disk.state v.device) new) c.self.view_is
-    (subst (λ (w : CursorView). HasRead (half_start (nat_lt 2 j.start) j.shape.half + w.skipped) 2 (half_start (nat_lt 2 j.start) j.shape.half + j.shape.half) (g.D.Disk.state j.device) new) c.cursor.view_is
-    (subst (λ n. HasRead (n + c.cursor.inside.skipped) 2 (n + j.shape.half) (g.D.Disk.state j.device) new) (sym gate) c.in-Err.ensures.unread))
+    (subst (λ (w : CursorView). HasRead (half_start (nat_lt 2 j.place.start) j.place.shape.half + w.skipped) 2 (half_start (nat_lt 2 j.place.start) j.place.shape.half + j.place.shape.half) (g.D.Disk.state j.device) new) c.cursor.view_is
+    (subst (λ n. HasRead (n + c.cursor.inside.skipped) 2 (n + j.place.shape.half) (g.D.Disk.state j.device) new) (sym gate) c.in-Err.ensures.unread))
 
 pub returns-in-Ok-Damaged-clause-calls_damaged : goal.returns-in-Ok-Damaged-clause-calls_damaged
 returns-in-Ok-Damaged-clause-calls_damaged g c s is =
     let j = c.self.inside in
     let place = c.self.invariant.place in
     let new = g.D.Disk.state c.look.new.disk in
-    let gate : half_start (nat_lt 2 j.start) j.shape.half ≡ j.start = begins_at j.shape.half j.start (omega (arith, place.within.half.0)) place.halves in
-    let here : j.start + c.cursor.inside.skipped ≡ s = cc is in
+    let gate : half_start (nat_lt 2 j.place.start) j.place.shape.half ≡ j.place.start = begins_at j.place.shape.half j.place.start (omega (arith, place.within.half.0)) place.halves in
+    let here : j.place.start + c.cursor.inside.skipped ≡ s = cc is in
     subst (λ (v : JournalView g.row.D.Denot). HasReadAt s (half_start v.is_second v.shape.half + v.shape.half) (g.D.Disk.state v.device) new) c.self.view_is
-    (subst (λ k. HasReadAt k (half_start (nat_lt 2 j.start) j.shape.half + j.shape.half) (g.D.Disk.state j.device) new) here
-    (subst (λ n. HasReadAt (j.start + c.cursor.inside.skipped) (n + j.shape.half) (g.D.Disk.state j.device) new) (sym gate) (c.in-Ok-Damaged.ensures.damaged c.in-Ok-Damaged.field-0-is)))
+    (subst (λ k. HasReadAt k (half_start (nat_lt 2 j.place.start) j.place.shape.half + j.place.shape.half) (g.D.Disk.state j.device) new) here
+    (subst (λ n. HasReadAt (j.place.start + c.cursor.inside.skipped) (n + j.place.shape.half) (g.D.Disk.state j.device) new) (sym gate) (c.in-Ok-Damaged.ensures.damaged c.in-Ok-Damaged.field-0-is)))
 
 pub returns-in-Ok-Closed-clause-calls_damaged : goal.returns-in-Ok-Closed-clause-calls_damaged
 returns-in-Ok-Closed-clause-calls_damaged g c s is =
     let j = c.self.inside in
     let place = c.self.invariant.place in
     let new = g.D.Disk.state c.look.new.disk in
-    let gate : half_start (nat_lt 2 j.start) j.shape.half ≡ j.start = begins_at j.shape.half j.start (omega (arith, place.within.half.0)) place.halves in
-    let here : j.start + c.cursor.inside.skipped ≡ s = cc is in
-    let low : j.start + c.cursor.inside.skipped + 0 < j.start + j.shape.half = omega (arith, c.if-cursor-self.false, place.low, place.below) in
+    let gate : half_start (nat_lt 2 j.place.start) j.place.shape.half ≡ j.place.start = begins_at j.place.shape.half j.place.start (omega (arith, place.within.half.0)) place.halves in
+    let here : j.place.start + c.cursor.inside.skipped ≡ s = cc is in
+    let low : j.place.start + c.cursor.inside.skipped + 0 < j.place.start + j.place.shape.half = omega (arith, c.if-cursor-self.false, place.low, place.below) in
     subst (λ (v : JournalView g.row.D.Denot). HasReadAt s (half_start v.is_second v.shape.half + v.shape.half) (g.D.Disk.state v.device) new) c.self.view_is
-    (subst (λ k. HasReadAt k (half_start (nat_lt 2 j.start) j.shape.half + j.shape.half) (g.D.Disk.state j.device) new) here
-    (subst (λ n. HasReadAt (j.start + c.cursor.inside.skipped) (n + j.shape.half) (g.D.Disk.state j.device) new) (sym gate)
+    (subst (λ k. HasReadAt k (half_start (nat_lt 2 j.place.start) j.place.shape.half + j.place.shape.half) (g.D.Disk.state j.device) new) here
+    (subst (λ n. HasReadAt (j.place.start + c.cursor.inside.skipped) (n + j.place.shape.half) (g.D.Disk.state j.device) new) (sym gate)
     (0, omega arith, low, c.in-Ok-Closed.ensures.closed c.in-Ok-Closed.field-0-is)))
