@@ -1,7 +1,10 @@
 -- Seats and desks as contracts see them.
 use Rattle.std.specs.Prelude.{◌≡◌, ℕ, suc, ◌<◌, Bool, true, false, List, [], ◌∷◌, ◌++◌, map, length}
-use Rattle.std.specs.Prelude.{slice_get, slice_index_or, slice_set, Option, Some, None, All}
+use Rattle.std.specs.Prelude.{slice_get, slice_index_or, slice_set, Option, Some, None, All, IsSome}
+use Rattle.std.specs.Prelude.{IfSome}
+use mathlib.Core.List.{IsPrefix}
 use Rattle.atomic_table.specs.Seated.{TableId}
+use Rattle.lift_base.specs.declared.command.Body.{Body}
 use Rattle.lift_base.specs.declared.command.Reply.{Reply}
 use Rattle.lift_desk.specs.declared.view.TerminalView.{TerminalView}
 use Rattle.lift_desk.specs.declared.view.ClerkView.{ClerkView}
@@ -11,7 +14,7 @@ use Rattle.lift_desk.specs.Words.{turn_of, number_of, last_of, ask_word, reply_w
 use Rattle.lift_desk.specs.Loads.{Loaded, is_odd}
 use Rattle.lift_desk.specs.Rule.{blank, no_asks, no_answers}
 use Rattle.lift_desk.specs.Spelled.{IsAsk}
-use Rattle.lift_desk.specs.Steps.{is_awaited, is_new}
+use Rattle.lift_desk.specs.Steps.{is_awaited, is_new, with_ask, with_taking}
 
 -- a terminal's seat: its table, its terminal, and what it knows
 pub record TerminalSeat : Type 0 where
@@ -84,6 +87,15 @@ Owes v = length v.answered < length v.taken
 abbrev pub OwesNothing : List ClerkPlace → Type 0
 OwesNothing clerk = All (λ (p : ClerkPlace). ¬ Owes p.view) clerk
 
+-- the seat has stored this ask with its next turn, and waits for the answer to it
+pub record StoresAsk (old : TerminalSeat) (number : ℕ) (body : Body) (new : TerminalSeat)
+    : Type 0 where
+  pub stored : new ≡ seat_with old
+      (with_ask old.view (ask_word (suc (length old.view.asked)) number body))
+  pub waits : Waits new.view
+  pub last : number_of (last_of new.view.asked) ≡ number
+  pub in_range : IsAsk (record { number = number; body = body })
+
 -- what the terminal hears of the word loaded
 abbrev pub HearsOf : TerminalView → ℕ → Option Reply → Type 0
 HearsOf v word None = is_awaited v word ≡ false
@@ -105,6 +117,25 @@ IsToldAnswer v reply = IsReply reply
 abbrev pub IsToldAsk : ClerkView → Ask → Type 0
 IsToldAsk v ask = IsAsk ask
     × (v.told ≡ v.taken ++ ask_word (suc (length v.taken)) ask.number ask.body ∷ [])
+
+-- what one look of the clerk tells, from what it knew to what it knows then
+pub record Tells (before after : ClerkView) (found : Option Ask) : Type 0 where
+  pub even : IsSome found → length before.answered ≡ length before.taken
+  pub owes : IfSome found (λ ask. Owes after × (number_of (last_of after.taken) ≡ ask.number))
+  -- the word loaded is the last that was asked, 0 for none; so all that was asked is taken then
+  pub last_word : after.last ≡ last_of after.taken
+  -- all asks that the clerk was told of are taken then
+  pub known : IsPrefix before.told after.taken
+  pub finds : (ask : Ask) → IsToldAsk before ask → found ≡ Some ask
+  -- so the word has no other reading
+  pub in_range : IfSome found IsAsk
+
+-- the seats after one look at a terminal's ask word, and what they take of the word loaded
+abbrev pub LooksOnce : (ClerkView → ℕ → Option Ask → Type 0) → List ClerkPlace → ℕ
+    → List ClerkPlace → Option Ask → Type 0
+LooksOnce Takes old terminal new found = (word : ℕ)
+    × (new ≡ clerk_with old terminal (with_taking (view_at old terminal) word))
+    × Takes (view_at old terminal) word found
 
 -- the last ask that a seat ahead was told of is this one, which is later than all that it has taken
 abbrev pub IsToldAhead : ClerkView → Ask → Type 0

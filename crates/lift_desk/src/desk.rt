@@ -1,5 +1,5 @@
 //! The desk: a table for each terminal, with the terminal's seat and the clerk's.
-ghost use Rattle.std.specs.Prelude.{◌≡◌, ℕ, ◌<◌, ◌≤◌, ◌^◌, ◌↔◌, IsTrue, IsSome, suc, length, OnOk};
+ghost use Rattle.std.specs.Prelude.{◌≡◌, ℕ, ◌<◌, ◌≤◌, ◌^◌, ◌↔◌, IsTrue, IsSome, length, OnOk};
 ghost use Rattle.std.specs.Prelude.{OnErr, IfOk, IfSome, Some, Err, [], ◌∷◌, ◌++◌, slice_get};
 ghost use Rattle.std.specs.Prelude.{vec_len};
 ghost use Rattle.lift_base.specs.declared.command.Reply.{Reply};
@@ -7,13 +7,14 @@ ghost use Rattle.lift_desk.specs.declared.words.Ask.{Ask};
 ghost use Rattle.lift_desk.specs.Rule.{terminal_view, clerk_view, IsInOrder};
 ghost use mathlib.Core.List.{IsPrefix};
 ghost use Rattle.lift_desk.specs.Words.{turn_of, last_of, number_of, ask_word, reply_word, IsReply};
-ghost use Rattle.lift_desk.specs.Steps.{with_ask, with_answer, with_hearing, with_look};
-ghost use Rattle.lift_desk.specs.Steps.{with_taking, with_told_answers, with_told_asks, lists_of};
+ghost use Rattle.lift_desk.specs.Steps.{with_answer, with_hearing, with_look};
+ghost use Rattle.lift_desk.specs.Steps.{with_told_answers, with_told_asks, lists_of};
 ghost use Rattle.lift_desk.specs.Spelled.{IsAsk};
 ghost use Rattle.lift_desk.specs.Seats.{IsSeatOf, IsClerkOf, seat_with, clerk_with, view_at, Waits};
 ghost use Rattle.lift_desk.specs.Seats.{Owes, OwesNothing, HearsOf, TakesOf, IsToldAnswer};
-ghost use Rattle.lift_desk.specs.Seats.{IsToldAsk, IsToldAhead, IsNoteOf, Says, seats_from};
-ghost use Rattle.lift_desk.specs.Seats.{clerk_of, ahead_from, TakesAheadOf, AreSeatsOf};
+ghost use Rattle.lift_desk.specs.Seats.{IsToldAhead, IsNoteOf, Says, seats_from};
+ghost use Rattle.lift_desk.specs.Seats.{clerk_of, ahead_from, TakesAheadOf, AreSeatsOf, StoresAsk};
+ghost use Rattle.lift_desk.specs.Seats.{LooksOnce, Tells};
 
 use crate::ahead::AheadPlace;
 use crate::note::Note;
@@ -155,11 +156,7 @@ impl Desk {
         ensures waiting { (result ≡ Err AskRefusal.Waiting) ↔ Waits seat.old.view }
         ensures spent { (result ≡ Err AskRefusal.Spent)
             ↔ (¬ (Waits seat.old.view) × (length seat.old.view.asked ≡ 1048575)) }
-        ensures ok { OnOk result (seat.new ≡ seat_with seat.old
-            (with_ask seat.old.view (ask_word (suc (length seat.old.view.asked)) number body))) }
-        ensures pending { OnOk result (Waits seat.new.view
-            × (number_of (last_of seat.new.view.asked) ≡ number)) }
-        ensures in_range { OnOk result (IsAsk (record { number = number; body = body })) }
+        ensures ok { OnOk result (StoresAsk seat.old number body seat.new) }
         ensures err { OnErr result (seat.new ≡ seat.old) }
         ensures stays { IsSeatOf self.now seat.new }
     {
@@ -192,26 +189,8 @@ impl Desk {
     pub fn look(&self, clerk: &mut ClerkSeat, terminal: Terminal) -> Option<Ask>
         requires clerk { IsClerkOf self.now clerk.old }
         requires terminal { terminal < length self.now }
-        ensures looked { (word : ℕ)
-            × (clerk.new ≡ clerk_with clerk.old terminal
-            (with_taking (view_at clerk.old terminal) word))
-            × TakesOf (view_at clerk.old terminal) word result }
-        ensures even { IsSome result
-            → length (view_at clerk.old terminal).answered
-            ≡ length (view_at clerk.old terminal).taken }
-        ensures owes { IfSome result (λ ask. Owes (view_at clerk.new terminal)
-            × (number_of (last_of (view_at clerk.new terminal).taken) ≡ ask.number)) }
-        // The word loaded is the last that was asked, 0 for none; so all that was asked is taken
-        // then.
-        ensures last_word { (view_at clerk.new terminal).last
-            ≡ last_of (view_at clerk.new terminal).taken }
-        // All asks that the clerk was told of are taken then.
-        ensures known { IsPrefix (view_at clerk.old terminal).told
-            (view_at clerk.new terminal).taken }
-        ensures finds { (ask : Ask) → IsToldAsk (view_at clerk.old terminal) ask
-            → result ≡ Some ask }
-        // So the word has no other reading.
-        ensures in_range { IfSome result IsAsk }
+        ensures looked { LooksOnce TakesOf clerk.old terminal clerk.new result }
+        ensures tells { Tells (view_at clerk.old terminal) (view_at clerk.new terminal) result }
         ensures stays { IsClerkOf self.now clerk.new }
     {
         let at = usize::from(terminal.get());
@@ -226,26 +205,12 @@ impl Desk {
         requires clerk { IsClerkOf self.now clerk.old }
         requires terminal { terminal < length self.now }
         requires note { IsNoteOf self.now terminal note }
-        ensures looked { (word : ℕ)
-            × (clerk.new ≡ clerk_with clerk.old terminal
-            (with_taking (view_at clerk.old terminal) word))
-            × TakesOf (view_at clerk.old terminal) word result }
-        ensures even { IsSome result
-            → length (view_at clerk.old terminal).answered
-            ≡ length (view_at clerk.old terminal).taken }
-        ensures owes { IfSome result (λ ask. Owes (view_at clerk.new terminal)
-            × (number_of (last_of (view_at clerk.new terminal).taken) ≡ ask.number)) }
-        ensures last_word { (view_at clerk.new terminal).last
-            ≡ last_of (view_at clerk.new terminal).taken }
-        ensures known { IsPrefix (view_at clerk.old terminal).told
-            (view_at clerk.new terminal).taken }
-        ensures finds { (ask : Ask) → IsToldAsk (view_at clerk.old terminal) ask
-            → result ≡ Some ask }
+        ensures looked { LooksOnce TakesOf clerk.old terminal clerk.new result }
+        ensures tells { Tells (view_at clerk.old terminal) (view_at clerk.new terminal) result }
         // The ask that was noted, and no other, where none as late was taken here.
         ensures noted { (ask : Ask) → Says (view_at clerk.old terminal) note.word ask
             → (result ≡ Some ask) × ((view_at clerk.new terminal).taken
             ≡ (view_at clerk.old terminal).taken ++ note.word ∷ []) }
-        ensures in_range { IfSome result IsAsk }
         ensures stays { IsClerkOf self.now clerk.new }
     {
         let at = usize::from(terminal.get());
@@ -337,10 +302,7 @@ impl Desk {
     pub fn take(&self, ahead: &mut TakeSeat, terminal: Terminal) -> Option<Ask>
         requires ahead { IsClerkOf self.now ahead.old }
         requires terminal { terminal < length self.now }
-        ensures looked { (word : ℕ)
-            × (ahead.new ≡ clerk_with ahead.old terminal
-            (with_taking (view_at ahead.old terminal) word))
-            × TakesAheadOf (view_at ahead.old terminal) word result }
+        ensures looked { LooksOnce TakesAheadOf ahead.old terminal ahead.new result }
         // The word loaded is the last that was asked, 0 for none, and it is taken, now or earlier.
         ensures last_word { (view_at ahead.new terminal).last
             ≡ last_of (view_at ahead.new terminal).taken }

@@ -1,5 +1,5 @@
 //! The clerk's seat at one table.
-ghost use Rattle.std.specs.Prelude.{◌≡◌, ℕ, ◌<◌, ◌^◌, ◌↔◌, IsTrue, IsSome, IfSome, Some, suc};
+ghost use Rattle.std.specs.Prelude.{◌≡◌, ℕ, ◌<◌, ◌^◌, ◌↔◌, IsTrue, IfSome, Some, suc};
 ghost use Rattle.std.specs.Prelude.{length, true, false, [], ◌∷◌, ◌++◌};
 ghost use mathlib.Core.List.{IsPrefix};
 ghost use Rattle.lift_desk.specs.Words.{turn_of, last_of, number_of, reply_word};
@@ -7,9 +7,8 @@ ghost use Rattle.lift_desk.specs.declared.words.Ask.{Ask};
 ghost use Rattle.lift_desk.specs.Rule.{clerk_view, no_answers, with_note, IsInOrder};
 ghost use Rattle.lift_desk.specs.Steps.{with_answer, with_look, with_taking, with_told_answers};
 ghost use Rattle.lift_desk.specs.Steps.{with_told_asks, lists_of};
-ghost use Rattle.lift_desk.specs.Spelled.{IsAsk};
 ghost use Rattle.lift_desk.specs.Seats.{ClerkPlace, placed_at, taken_only, Owes, TakesOf};
-ghost use Rattle.lift_desk.specs.Seats.{IsToldAsk, Says, seat_with};
+ghost use Rattle.lift_desk.specs.Seats.{Says, seat_with, Tells};
 
 use crate::ahead::AheadPlace;
 use crate::loads::{ASK, Loads};
@@ -99,13 +98,7 @@ impl Place {
         ensures looked { (word : ℕ)
             × (self.new ≡ placed_at self.old.table (with_taking self.old.view word))
             × TakesOf self.old.view word result }
-        ensures even { IsSome result → length self.old.view.answered ≡ length self.old.view.taken }
-        ensures owes { IfSome result (λ ask.
-            Owes self.new.view × (number_of (last_of self.new.view.taken) ≡ ask.number)) }
-        ensures in_range { IfSome result IsAsk }
-        ensures last_word { self.new.view.last ≡ last_of self.new.view.taken }
-        ensures known { IsPrefix self.old.view.told self.new.view.taken }
-        ensures finds { (ask : Ask) → IsToldAsk self.old.view ask → result ≡ Some ask }
+        ensures tells { Tells self.old.view self.new.view result }
         ensures noted { IfSome note (λ n. (ask : Ask) → Says self.old.view n.word ask
             → (result ≡ Some ask) × (self.new.view.taken ≡ self.old.view.taken ++ n.word ∷ [])) }
     {

@@ -1,14 +1,14 @@
 //! A terminal's seat at its table.
-ghost use Rattle.std.specs.Prelude.{◌≡◌, ℕ, ◌<◌, ◌^◌, ◌↔◌, suc, length, [], true, false, OnOk};
+ghost use Rattle.std.specs.Prelude.{◌≡◌, ℕ, ◌<◌, ◌^◌, ◌↔◌, length, [], true, false, OnOk};
 ghost use Rattle.std.specs.Prelude.{OnErr, IfSome, IsSome, Some, Err};
 ghost use Rattle.atomic_table.specs.Seated.{TableId};
 ghost use Rattle.lift_base.specs.declared.command.Reply.{Reply};
 ghost use Rattle.lift_desk.specs.Words.{turn_of, last_of, number_of, ask_word, IsReply};
-ghost use Rattle.lift_desk.specs.Spelled.{IsAsk};
-ghost use Rattle.lift_desk.specs.Steps.{with_ask, with_hearing, with_look, with_told_answers};
+ghost use Rattle.lift_desk.specs.Steps.{with_hearing, with_look, with_told_answers};
 ghost use Rattle.lift_desk.specs.Steps.{with_told_asks, lists_of};
 ghost use mathlib.Core.List.{IsPrefix};
 ghost use Rattle.lift_desk.specs.Seats.{TerminalSeat, seat_with, Waits, HearsOf, IsToldAnswer};
+ghost use Rattle.lift_desk.specs.Seats.{StoresAsk};
 ghost use Rattle.lift_desk.specs.Rule.{terminal_view, no_asks, IsInOrder};
 
 use crate::loads::{ANSWER, Loads};
@@ -102,11 +102,7 @@ impl Seat {
         ensures waiting { (result ≡ Err AskRefusal.Waiting) ↔ Waits self.old.view }
         ensures spent { (result ≡ Err AskRefusal.Spent)
             ↔ (¬ (Waits self.old.view) × (length self.old.view.asked ≡ LAST_TURN)) }
-        ensures ok { OnOk result (self.new ≡ seat_with self.old
-            (with_ask self.old.view (ask_word (suc (length self.old.view.asked)) number body))) }
-        ensures pending { OnOk result (Waits self.new.view
-            × (number_of (last_of self.new.view.asked) ≡ number)) }
-        ensures in_range { OnOk result (IsAsk (record { number = number; body = body })) }
+        ensures ok { OnOk result (StoresAsk self.old number body self.new) }
         ensures err { OnErr result (self.new ≡ self.old) }
     {
         if self.waits {

@@ -15,7 +15,7 @@ use Rattle.lift_desk.specs.Words.{last_of, number_of}
 use Rattle.lift_desk.specs.Spelled.{IsAsk}
 use Rattle.lift_desk.specs.Steps.{with_taking}
 use Rattle.lift_desk.specs.Seats.{ClerkPlace, no_place, view_at, clerk_with, TakesOf, IsToldAsk}
-use Rattle.lift_desk.specs.Seats.{Owes}
+use Rattle.lift_desk.specs.Seats.{Owes, Tells}
 use Rattle.lift_desk.specs.lemmas.Places.{view_at-here}
 use Rattle.lift_policy.specs.declared.command.Command.{Command}
 use Rattle.lift_policy.specs.Eligible.{Choice}
@@ -124,37 +124,27 @@ scans-more choice plan is_broken places seat next before mid after answers other
 
 pub looked-at : (seat next : List ClerkPlace) (n word : ℕ) (found : Option Ask) → n < length seat
     → next ≡ clerk_with seat n (with_taking (view_at seat n) word)
-    → TakesOf (view_at seat n) word found
-    → (IsSome found → length (view_at seat n).answered ≡ length (view_at seat n).taken)
-    → IfSome found (λ (ask : Ask).
-    Owes (view_at next n) × (number_of (last_of (view_at next n).taken) ≡ ask.number))
-    → IfSome found IsAsk → IsPrefix (view_at seat n).told (view_at next n).taken
-    → ((ask : Ask) → IsToldAsk (view_at seat n) ask → found ≡ Some ask)
+    → TakesOf (view_at seat n) word found → Tells (view_at seat n) (view_at next n) found
     → Looked seat next n word found
-looked-at seat next n word None inside is takes even owes in_range known told =
+looked-at seat next n word found inside is takes tells =
     let here : view_at next n ≡ with_taking (view_at seat n) word =
     ap (λ l. view_at l n) is ∙ view_at-here seat n (with_taking (view_at seat n) word) inside in
+    let there = subst (λ (w : ClerkView). Tells (view_at seat n) w found) here tells in
     record {
       seat_is = is;
       takes = takes;
-      even = even;
-      number = tt;
-      in_range = tt;
-      known = subst (λ (w : ClerkView). IsPrefix (view_at seat n).told w.taken) here known;
-      told = told;
+      even = there.even;
+      number = number_of-owed (with_taking (view_at seat n) word) found there.owes;
+      in_range = there.in_range;
+      known = there.known;
+      told = there.finds;
     }
-looked-at seat next n word (Some ask) inside is takes even owes in_range known told =
-    let here : view_at next n ≡ with_taking (view_at seat n) word =
-    ap (λ l. view_at l n) is ∙ view_at-here seat n (with_taking (view_at seat n) word) inside in
-    record {
-      seat_is = is;
-      takes = takes;
-      even = even;
-      number = ap (λ (w : ClerkView). number_of (last_of w.taken)) (sym here) ∙ owes.1;
-      in_range = in_range;
-      known = subst (λ (w : ClerkView). IsPrefix (view_at seat n).told w.taken) here known;
-      told = told;
-    }
+  where
+    number_of-owed : (w : ClerkView) (ask : Option Ask)
+        → IfSome ask (λ (a : Ask). Owes w × (number_of (last_of w.taken) ≡ a.number))
+        → IfSome ask (λ (a : Ask). number_of (last_of w.taken) ≡ a.number)
+    number_of-owed w None owes = tt
+    number_of-owed w (Some a) owes = owes.1
 
 pub few-more : {A : Type 0} (item : Option A) → length (option_to_list item) ≤ 1
 few-more None = omega arith

@@ -23,7 +23,7 @@ loop-t-preserved g c =
     let still : length c.loop-t.seat ≡ length c.args.desk.now = sym (length-map c.loop-t.seat (λ (p : ClerkPlace). p.table)) ∙ ap length i.seated in
     let look = c.look-ask.ensures in
     let looked = subst (λ n. Looked c.loop-t.seat c.look-ask.new.clerk n look.looked.0 found) terminal
-    (looked-at c.loop-t.seat c.look-ask.new.clerk c.unwrap-terminal.result look.looked.0 found (omega arith) look.looked.1 look.looked.2 look.even look.owes look.in_range look.known look.finds) in
+    (looked-at c.loop-t.seat c.look-ask.new.clerk c.unwrap-terminal.result look.looked.0 found (omega arith) look.looked.1 look.looked.2 look.tells) in
     let same = subst (λ n. terminals_in more ≡ terminals_of (command_at n found)) terminal c.answer_to-answer.ensures.terminal in
     let decides = subst (λ (w : WriterView g.row.D.Denot). Decides w.is_broken w.plan choice c.loop-t.keeper.state (command_at t found) (replies_in more) after) i.writer
     (subst (λ n. Decides c.loop-t.keeper.writer.is_broken c.loop-t.keeper.writer.plan choice c.loop-t.keeper.state (command_at n found) (replies_in more) after) terminal c.answer_to-answer.ensures.decides) in

@@ -18,7 +18,7 @@ answer-requires-clause-owes c =
     let t = c.args.taken.command.terminal in
     let l = c.look_for-found.ensures in
     let ask : Ask = record { number = c.args.taken.command.number; body = c.args.taken.command.body } in
-    (subst (λ (o : Option Ask). IfSome o (λ (a : Ask). Owes (view_at c.look_for-found.new.clerk t) × (number_of (last_of (view_at c.look_for-found.new.clerk t).taken) ≡ a.number))) (l.noted ask c.requires.says).0 l.owes).0
+    (subst (λ (o : Option Ask). IfSome o (λ (a : Ask). Owes (view_at c.look_for-found.new.clerk t) × (number_of (last_of (view_at c.look_for-found.new.clerk t).taken) ≡ a.number))) (l.noted ask c.requires.says).0 l.tells.owes).0
 
 pub returns-clause-answers : goal.returns-clause-answers
 returns-clause-answers c =
@@ -29,7 +29,7 @@ returns-clause-answers c =
     let found = c.look_for-found.result in
     let terminal = c.requires.terminal in
     let many : length seat ≡ length c.args.desk.now = sym (length-map seat (λ (p : ClerkPlace). p.table)) ∙ ap length c.requires.seated in
-    let look = looked-at seat c.look_for-found.new.clerk t l.looked.0 found (omega arith) l.looked.1 l.looked.2 l.even l.owes l.in_range l.known l.finds in
+    let look = looked-at seat c.look_for-found.new.clerk t l.looked.0 found (omega arith) l.looked.1 l.looked.2 l.tells in
     let here : view_at c.look_for-found.new.clerk t ≡ with_taking (view_at seat t) l.looked.0 = ap (λ s. view_at s t) l.looked.1 ∙ view_at-here seat t (with_taking (view_at seat t) l.looked.0) (omega arith) in
     let ask : Ask = record { number = taken.command.number; body = taken.command.body } in
     let gives : GivesIt found taken = subst (λ (o : Option Ask). GivesIt o taken) (sym (l.noted ask c.requires.says).0) (refl, refl) in

@@ -1,4 +1,4 @@
-use Rattle.std.proofs.Common.{not, ◌≡◌, ℕ, suc, ◌+◌, [], ◌∷◌, ◌++◌, length, true, true≢false, sym, ap, ◌∙◌, arith}
+use Rattle.std.proofs.Common.{not, ◌≡◌, ℕ, ◌+◌, [], ◌∷◌, ◌++◌, length, true, true≢false, sym, ap, ◌∙◌, arith}
 use Rattle.std.proofs.lemmas.List.{length_push}
 use Rattle.lift_desk.specs.declared.view.View.{View}
 use Rattle.lift_desk.specs.Words.{turn_of, number_of, last_of}
@@ -63,23 +63,3 @@ invariant_of-self-2 c =
       even = λ k. absurd (true≢false k);
       answered = i.answered ∙ ap (λ (v : View). last_of v.clerk.answered) old ∙ ap last_of (sym answered);
     }
-
-pub returns-clause-owes : goal.returns-clause-owes
-returns-clause-owes c =
-    let i = c.self.invariant in
-    let m : View = c.read_note.new.seat.me.0 in
-    let read = c.read_note.ensures.noted in
-    let note : ℕ = read.0 in
-    let word : ℕ = c.load-word.result in
-    let old : with_note (view_in c.self.inside.badge.views) note ≡ m = ap (λ b. with_note (view_in b.views) note) (sym c.replace-badge.ensures.value) ∙ ap (λ vs. with_note (view_in vs) note) c.into_seat-seat.ensures.2 ∙ ap (λ me. me.0) (sym read.1) in
-    let load = c.load-word.ensures.tells in
-    let new : view_in c.into_badge.result.views ≡ at_clerk m (with_taking m.clerk word) = ap view_in c.into_badge.ensures.2 ∙ ap (λ me. me.0) load.1 in
-    let turn : c.turn_of-turn.result ≡ turn_of word = c.turn_of-turn.ensures.turn in
-    let was_turn : c.self.inside.turn ≡ turn_of (last_of m.clerk.taken) = i.turn ∙ sym i.last_taken ∙ ap (λ (v : View). turn_of (last_of v.clerk.taken)) old in
-    let later = c.if-turn-self.false in
-    let fresh : is_new m.clerk word ≡ true = lt_true _ _ (omega arith) in
-    let taken : (view_in c.into_badge.result.views).clerk.taken ≡ m.clerk.taken ++ word ∷ [] = ap (λ (v : View). v.clerk.taken) new ∙ taken_more m.clerk word fresh in
-    let one_more : length (view_in c.into_badge.result.views).clerk.taken ≡ length m.clerk.taken + 1 = ap length taken ∙ length_push m.clerk.taken word in
-    let same : length (view_in c.into_badge.result.views).clerk.answered ≡ length m.clerk.answered = ap (λ (v : View). length v.clerk.answered) new in
-    let even = (load.2 fresh).2 in
-    (omega arith, ap (λ l. number_of (last_of l)) taken ∙ ap number_of (last_of-push m.clerk.taken word) ∙ c.in_ok-ask.ensures.number)

@@ -1,7 +1,9 @@
-use Rattle.std.proofs.Common.{◌≡◌, ℕ, ◌+◌, List, [], ◌∷◌, ◌++◌, length, true≢false, sym, ap, ◌∙◌, arith}
+use Rattle.std.proofs.Common.{◌≡◌, ℕ, suc, ◌+◌, List, [], ◌∷◌, ◌++◌, length, true≢false, sym, ap, ◌∙◌, arith}
 use Rattle.std.proofs.lemmas.List.{length_push}
 use Rattle.lift_desk.specs.Loads.{is_odd}
-use Rattle.lift_desk.specs.Words.{number_of, last_of}
+use Rattle.lift_desk.specs.Words.{number_of, last_of, ask_word}
+use Rattle.lift_desk.specs.Steps.{with_ask}
+use Rattle.lift_desk.specs.Seats.{TerminalSeat, seat_with}
 use Rattle.lift_desk.proofs.Keeps.{asks_keep}
 use Rattle.lift_desk.specs.lemmas.WordLists.{last_of-push}
 use Rattle.lift_desk.proofs.seat.Seat.ask.Goals as goal
@@ -32,8 +34,8 @@ invariant_of-self c =
       rests = λ k. absurd (true≢false k);
     }
 
-pub returns-clause-pending : goal.returns-clause-pending
-returns-clause-pending c =
+pub returns-clause-ok : goal.returns-clause-ok
+returns-clause-ok c =
     let e = c.store.ensures.2 in
     let old : List ℕ = c.self.inside.chair.me.0.terminal.asked in
     let word : ℕ = c.ask_word-word.result in
@@ -42,4 +44,15 @@ returns-clause-pending c =
     let one_more : length c.store.new.seat.me.0.terminal.asked ≡ length old + 1 = ap length asked ∙ length_push old word in
     let same : length c.store.new.seat.me.0.terminal.heard ≡ length c.self.inside.chair.me.0.terminal.heard = ap length heard in
     let free = c.self.invariant.rests c.if-self.false in
-    (omega arith, ap (λ l. number_of (last_of l)) asked ∙ ap number_of (last_of-push old word) ∙ c.ask_word-word.ensures.number)
+    let turn = c.self.invariant.turn in
+    let next : c.self.inside.turn + 1 ≡ suc (length old) = omega arith in
+    let word_is : word ≡ ask_word (suc (length old)) c.args.number c.args.body = c.ask_word-word.ensures.word ∙ ap (λ n. ask_word n c.args.number c.args.body) next in
+    let view : c.store.new.seat.me.0.terminal ≡ with_ask c.self.inside.chair.me.0.terminal (ask_word (suc (length old)) c.args.number c.args.body) =
+    ap (λ m. m.0.terminal) e ∙ ap (with_ask c.self.inside.chair.me.0.terminal) word_is in
+    record {
+      stored = (λ k. record { table = c.store.ensures.0 k; terminal = c.self.inside.terminal; view = view k })
+          ∙ ap (λ (s : TerminalSeat). seat_with s (with_ask s.view (ask_word (suc (length s.view.asked)) c.args.number c.args.body))) c.self.view_is;
+      waits = omega arith;
+      last = ap (λ l. number_of (last_of l)) asked ∙ ap number_of (last_of-push old word) ∙ c.ask_word-word.ensures.number;
+      in_range = c.ask_word-word.ensures.in_range;
+    }
