@@ -1,6 +1,6 @@
 -- How the writer of a report was called.
-use Rattle.std.specs.Prelude.{ℕ, zero, suc, ◌≡◌, ◌<◌, ◌⊎◌, Option, Some, None, List, length}
-use Rattle.std.specs.Prelude.{Result, Ok, Err}
+use Rattle.std.specs.Prelude.{ℕ, zero, suc, ◌≡◌, ◌≢◌, ◌<◌, ◌⊎◌, Option, Some, None, List, []}
+use Rattle.std.specs.Prelude.{length, Result, Ok, Err}
 use Rattle.lift_replay.specs.declared.script.ReplayFault.{ReplayFault}
 use Rattle.lift_replay.specs.declared.script.ReplayFault.TheVariants.{Memory, Read, Write}
 
@@ -37,3 +37,11 @@ abbrev pub IsCalled : {W T : Type 0} → (gives : W → List ℕ → Option ℕ 
     → (before after : W) → Result T ReplayFault → Type 0
 IsCalled gives before after (Ok value) = TakesEach gives before after
 IsCalled gives before after (Err fault) = IsCalledTill gives before after fault
+
+-- What a function does that adds to a piece of the report and may write it, whatever it comes to:
+-- it reads nothing, calls the writer as its end says, and a writer that failed leaves no piece.
+pub record WritesPieces {W T : Type 0} (gives : W → List ℕ → Option ℕ → W → Type 0)
+    (before after : W) (piece : List ℕ) (result : Result T ReplayFault) : Type 0 where
+  pub output : result ≢ Err Read
+  pub calls : IsCalled gives before after result
+  pub emptied : result ≡ Err Write → piece ≡ []

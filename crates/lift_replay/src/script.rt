@@ -10,7 +10,7 @@ ghost use Rattle.lift_replay.specs.Running.{TellsLines, TellsPart};
 ghost use Rattle.lift_replay.specs.Replaying.{IsTextReport, ReportsFront, ReportsInput, Writes};
 ghost use Rattle.lift_replay.specs.Replaying.{WritesFront};
 ghost use Rattle.lift_replay.specs.Source.{lines_in};
-ghost use Rattle.lift_replay.specs.Writing.{IsCalled};
+ghost use Rattle.lift_replay.specs.Writing.{IsCalled, WritesPieces};
 ghost use Rattle.lift_replay.specs.declared.script.ReplayFault.TheVariants.{Memory as NoMemory};
 ghost use Rattle.lift_replay.specs.declared.script.ReplayFault.TheVariants.{Write as NoOutput};
 
@@ -118,9 +118,7 @@ fn add_segments<W: Outlet>(
     writer: &mut W,
 ) -> Result<Verdict, ReplayFault>
     requires small { length (string_bytes piece.old) < 32768 }
-    ensures output { result ≢ Err ReplayFault.Read }
-    ensures calls { IsCalled W.gives writer.old writer.new result }
-    ensures emptied { result ≡ Err ReplayFault.Write → string_bytes piece.new ≡ [] }
+    ensures writes { WritesPieces W.gives writer.old writer.new (string_bytes piece.new) result }
     ensures tells { IfOk result (λ verdict.
         (added : List ℕ) × TellsLines building.now 0 (first_group building.now)
         (lines_in text.now) added verdict

@@ -8,7 +8,7 @@ ghost use Rattle.lift_replay.specs.Running.{LinesEnd, SegmentEnds, TellsPart};
 ghost use Rattle.lift_replay.specs.Segment.{IfCut, IsCut};
 ghost use Rattle.lift_replay.specs.Shows.{Shows, IsKept};
 ghost use Rattle.lift_replay.specs.Source.{lines_in};
-ghost use Rattle.lift_replay.specs.Writing.{IsCalled};
+ghost use Rattle.lift_replay.specs.Writing.{WritesPieces};
 
 use crate::lines::{End, Verdict, push_line};
 use crate::piece::put_large_piece;
@@ -43,9 +43,7 @@ fn add_lines<W: Outlet>(
     writer: &mut W,
 ) -> Result<End, ReplayFault>
     requires small { length (string_bytes piece.old) < 32768 }
-    ensures output { result ≢ Err ReplayFault.Read }
-    ensures calls { IsCalled W.gives writer.old writer.new result }
-    ensures emptied { result ≡ Err ReplayFault.Write → string_bytes piece.new ≡ [] }
+    ensures writes { WritesPieces W.gives writer.old writer.new (string_bytes piece.new) result }
     // No more is held back than that, but for the line that ends a bad script.
     ensures small { IfOk result (λ end. end ≢ End.Run Verdict.Bad
         → length (string_bytes piece.new) < 32768) }
@@ -91,9 +89,7 @@ fn add_cut<W: Outlet>(
     piece: &mut String,
     writer: &mut W,
 ) -> Result<(), ReplayFault>
-    ensures output { result ≢ Err ReplayFault.Read }
-    ensures calls { IsCalled W.gives writer.old writer.new result }
-    ensures emptied { result ≡ Err ReplayFault.Write → string_bytes piece.new ≡ [] }
+    ensures writes { WritesPieces W.gives writer.old writer.new (string_bytes piece.new) result }
     ensures small { OnOk result (length (string_bytes piece.new) < 32768) }
     ensures reports { OnOk result
         (Reports (W.contents writer.old) (W.contents writer.new) (string_bytes piece.old)
@@ -122,9 +118,7 @@ pub fn add_segment<'b, W: Outlet>(
     requires plan { keeper.writer.plan ≡ building.now }
     requires settled { keeper.state.batch ≡ [] }
     requires small { length (string_bytes piece.old) < 32768 }
-    ensures output { result ≢ Err ReplayFault.Read }
-    ensures calls { IsCalled W.gives writer.old writer.new result }
-    ensures emptied { result ≡ Err ReplayFault.Write → string_bytes piece.new ≡ [] }
+    ensures writes { WritesPieces W.gives writer.old writer.new (string_bytes piece.new) result }
     // What they tell is what is computed, of whichever group the keeper is of.
     ensures tells { IfOk result (λ end. (g : GroupState) → IsKept building.now g keeper.entry
         → g.terminals ≡ new_terminals building.now

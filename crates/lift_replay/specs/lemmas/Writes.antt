@@ -3,7 +3,7 @@ use Rattle.std.proofs.Common.{◌≡◌, ℕ, zero, suc, ◌<◌, List, [], leng
 use Rattle.std.specs.Prelude.{Option, Result, Ok, Err, OnOk, OnErr, IfErr, IsErrAnd}
 use Rattle.lift_base.specs.Output.{Wrote, WroteAll, WroteUpToFault}
 use Rattle.lift_base.specs.declared.text.output.WriteFault.{WriteFault}
-use Rattle.lift_replay.specs.Writing.{Took, TakesEach, FailsAtLast, IsCalled, IsCalledTill}
+use Rattle.lift_replay.specs.Writing.{Took, TakesEach, FailsAtLast, IsCalled, IsCalledTill, WritesPieces}
 use Rattle.lift_replay.specs.declared.script.ReplayFault.{ReplayFault}
 use Rattle.lift_replay.specs.declared.script.ReplayFault.TheVariants.{Memory, Read, Write}
 
@@ -88,3 +88,30 @@ fails_behind gives before between after (Ok value) piece other first empty idle 
 fails_behind gives before between after (Err Memory) piece other first empty idle fails = fails_more gives before between after first fails
 fails_behind gives before between after (Err Read) piece other first empty idle fails = absurd (other refl)
 fails_behind gives before between after (Err Write) piece other first empty idle fails = subst (FailsAtLast gives before) (sym (idle (empty refl))) first
+
+-- by what a function came to that adds to a piece: no call failed
+pub pieces_ok : {W T : Type 0} (gives : W → List ℕ → Option ℕ → W → Type 0) (before after : W) (piece : List ℕ) (value : T) → TakesEach gives before after → WritesPieces gives before after piece (Ok value)
+pieces_ok gives before after piece value takes = record { output = λ is. cc; calls = takes; emptied = λ is. absurd cc }
+
+-- or a fault is handed on
+pieces_err : {W T : Type 0} (gives : W → List ℕ → Option ℕ → W → Type 0) (before after : W) (piece : List ℕ) (result : Result T ReplayFault) (fault : ReplayFault) → IsErrAnd result (λ told. told ≡ fault) → (fault ≡ Read → ⊥)
+    → IsCalledTill gives before after fault → (fault ≡ Write → piece ≡ []) → WritesPieces gives before after piece result
+pieces_err gives before after piece (Ok value) fault is other called empty = absurd is
+pieces_err gives before after piece (Err told) fault is other called empty = record {
+  output = λ read. other (let same : told ≡ fault = is in cc);
+  calls = subst (IsCalledTill gives before after) (sym is) called;
+  emptied = λ write. empty (let same : told ≡ fault = is in cc);
+}
+
+pub pieces_memory : {W T : Type 0} (gives : W → List ℕ → Option ℕ → W → Type 0) (before after : W) (piece : List ℕ) (result : Result T ReplayFault) → IsErrAnd result (λ told. told ≡ Memory) → TakesEach gives before after → WritesPieces gives before after piece result
+pieces_memory gives before after piece result is takes = pieces_err gives before after piece result Memory is (λ read. cc) takes (λ write. absurd cc)
+
+pub pieces_failed : {W T : Type 0} (gives : W → List ℕ → Option ℕ → W → Type 0) (before after : W) (piece : List ℕ) (result : Result T ReplayFault) → IsErrAnd result (λ told. told ≡ Write) → FailsAtLast gives before after → piece ≡ [] → WritesPieces gives before after piece result
+pieces_failed gives before after piece result is fails empty = pieces_err gives before after piece result Write is (λ read. cc) fails (λ write. empty)
+
+-- one of such a function, behind other calls
+pub pieces_behind : {W T U : Type 0} (gives : W → List ℕ → Option ℕ → W → Type 0) (before between after : W) (piece : List ℕ) (result : Result T ReplayFault) (fault : ReplayFault) → IsErrAnd result (λ told. told ≡ fault) → TakesEach gives before between
+    → WritesPieces {T = U} gives between after piece (Err fault) → WritesPieces gives before after piece result
+pieces_behind gives before between after piece result fault is first writes =
+    let other : fault ≡ Read → ⊥ = λ read. writes.output (ap Err read) in
+    pieces_err gives before after piece result fault is other (till_more gives before between after fault other first writes.calls) (λ write. writes.emptied (ap Err write))

@@ -1,4 +1,4 @@
-use Rattle.std.proofs.Common.{◌≡◌, ◌<◌, [], length, ap, subst, refl, arith, Err, string_bytes}
+use Rattle.std.proofs.Common.{◌≡◌, ◌<◌, [], length, ap, subst, refl, arith, string_bytes}
 use Rattle.lift_policy.specs.Step.{State}
 use Rattle.lift_replay.specs.Group.{first_group}
 use Rattle.lift_replay.specs.Running.{TellsLines}
@@ -7,7 +7,7 @@ use Rattle.lift_replay.specs.Source.{lines_in}
 use Rattle.lift_replay.specs.declared.segment.SegmentEnd.{SegmentEnd}
 use Rattle.lift_replay.proofs.Runs.{reports_none, segment_more, segment_last}
 use Rattle.lift_replay.proofs.Fronts.{err_so, tells_none, tells_more}
-use Rattle.lift_replay.specs.lemmas.Writes.{called_err, takes_more, till_more}
+use Rattle.lift_replay.specs.lemmas.Writes.{takes_more, pieces_ok, pieces_memory, pieces_behind}
 use Rattle.lift_replay.proofs.script.add_segments.Goals as goal
 
 pub loop-init : goal.loop-init
@@ -39,7 +39,7 @@ loop-preserved g c =
           segment_more c.args.building.now 0 c.loop.lines.count c.add_segment.new.lines.count (first_group c.args.building.now) before.1 (lines_in c.args.text.now) (lines_in c.loop.lines.rest.now) (lines_in c.add_segment.new.lines.rest.now)
           before.0 c.in_ok-end.end c.in-Cut.recovered _ _ _ _ _ _ c.in-Cut.is before.4 before.5 (c.in_ok-end.ensures.tells before.1 before.2 before.3));
       small = subst (λ (end : SegmentEnd). IfCut end (λ keeper. length (string_bytes c.add_segment.new.piece) < 32768)) c.in-Cut.is c.in_ok-end.ensures.small;
-      called = takes_more g.W.Outlet.gives _ _ _ c.loop.invariant.called c.in_ok-end.ensures.calls;
+      called = takes_more g.W.Outlet.gives _ _ _ c.loop.invariant.called c.in_ok-end.ensures.writes.calls;
       left = omega (arith, c.loop.invariant.left, shorter);
       plan = subst (λ (end : SegmentEnd). IfCut end (λ keeper. keeper.writer.plan ≡ c.args.building.now)) c.in-Cut.is c.in_ok-end.ensures.plan;
       settled = subst (λ (end : SegmentEnd). IfCut end (λ keeper. keeper.state.batch ≡ [])) c.in-Cut.is c.in_ok-end.ensures.settled;
@@ -60,12 +60,11 @@ returns-in_err-end-clause-front g c = err_so c.from_residual-in_err-end.result (
     tells_more c.args.building.now 0 c.loop.lines.count (first_group c.args.building.now) before.1 (lines_in c.args.text.now) (lines_in c.loop.lines.rest.now) _ _ _ _ _ _ before.0 before.4 before.5
     (c.in_err-end.ensures.front before.1 before.2 before.3))
 
-pub returns-in-Run-clause-calls : goal.returns-in-Run-clause-calls
-returns-in-Run-clause-calls g c = takes_more g.W.Outlet.gives _ _ _ c.loop.invariant.called c.in_ok-end.ensures.calls
+pub returns-in-Run-clause-writes : goal.returns-in-Run-clause-writes
+returns-in-Run-clause-writes g c = pieces_ok g.W.Outlet.gives _ _ _ _ (takes_more g.W.Outlet.gives _ _ _ c.loop.invariant.called c.in_ok-end.ensures.writes.calls)
 
-pub returns-in_err-keeper-clause-calls : goal.returns-in_err-keeper-clause-calls
-returns-in_err-keeper-clause-calls g c = called_err g.W.Outlet.gives _ _ c.from_residual.result _ c.from_residual.ensures.1 (0, refl)
+pub returns-in_err-keeper-clause-writes : goal.returns-in_err-keeper-clause-writes
+returns-in_err-keeper-clause-writes g c = pieces_memory g.W.Outlet.gives _ _ _ c.from_residual.result c.from_residual.ensures.1 (0, refl)
 
-pub returns-in_err-end-clause-calls : goal.returns-in_err-end-clause-calls
-returns-in_err-end-clause-calls g c = called_err g.W.Outlet.gives _ _ c.from_residual-in_err-end.result _ c.from_residual-in_err-end.ensures.1
-    (till_more g.W.Outlet.gives _ _ _ _ (λ is. c.in_err-end.ensures.output (ap Err is)) c.loop.invariant.called c.in_err-end.ensures.calls)
+pub returns-in_err-end-clause-writes : goal.returns-in_err-end-clause-writes
+returns-in_err-end-clause-writes g c = pieces_behind g.W.Outlet.gives _ _ _ _ c.from_residual-in_err-end.result _ c.from_residual-in_err-end.ensures.1 c.loop.invariant.called c.in_err-end.ensures.writes

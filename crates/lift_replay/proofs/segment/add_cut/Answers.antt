@@ -1,7 +1,7 @@
 use Rattle.std.proofs.Common.{◌≡◌, ◌++◌, ◌∙◌, ap, refl, string_bytes}
 use Rattle.lift_replay.specs.Report.{cut_text}
 use Rattle.lift_replay.proofs.Fronts.{err_so, torn_told}
-use Rattle.lift_replay.specs.lemmas.Writes.{called_err}
+use Rattle.lift_replay.specs.lemmas.Writes.{pieces_ok, pieces_memory, pieces_failed}
 use Rattle.lift_replay.proofs.segment.add_cut.Goals as goal
 
 pub returns-in_err-put_large_piece-clause-front : goal.returns-in_err-put_large_piece-clause-front
@@ -12,11 +12,15 @@ returns-in_err-put_large_piece-clause-front g c =
     (torn_told _ _ _ (string_bytes c.args.piece.now) (string_bytes c.push_str.new.self) (string_bytes c.put_large_piece.new.piece) (cut_text c.args.calls) piece_is
     c.in_err-put_large_piece.ensures.front c.in_err-put_large_piece.ensures.emptied)
 
-pub returns-in_err-push_cut-clause-calls : goal.returns-in_err-push_cut-clause-calls
-returns-in_err-push_cut-clause-calls g c = called_err g.W.Outlet.gives _ _ c.from_residual.result _ c.from_residual.ensures.1 (0, refl)
+pub returns-clause-writes : goal.returns-clause-writes
+returns-clause-writes g c = pieces_ok g.W.Outlet.gives _ _ _ _ c.in_ok-put_large_piece.ensures.each_call
 
-pub returns-in_err-push_str-clause-calls : goal.returns-in_err-push_str-clause-calls
-returns-in_err-push_str-clause-calls g c = called_err g.W.Outlet.gives _ _ c.from_residual-in_err-push_str.result _ c.from_residual-in_err-push_str.ensures.1 (0, refl)
+pub returns-in_err-push_cut-clause-writes : goal.returns-in_err-push_cut-clause-writes
+returns-in_err-push_cut-clause-writes g c = pieces_memory g.W.Outlet.gives _ _ _ c.from_residual.result c.from_residual.ensures.1 (0, refl)
 
-pub returns-in_err-put_large_piece-clause-calls : goal.returns-in_err-put_large_piece-clause-calls
-returns-in_err-put_large_piece-clause-calls g c = called_err g.W.Outlet.gives _ _ c.from_residual-in_err-put_large_piece.result _ c.from_residual-in_err-put_large_piece.ensures.1 c.in_err-put_large_piece.ensures.failed
+pub returns-in_err-push_str-clause-writes : goal.returns-in_err-push_str-clause-writes
+returns-in_err-push_str-clause-writes g c = pieces_memory g.W.Outlet.gives _ _ _ c.from_residual-in_err-push_str.result c.from_residual-in_err-push_str.ensures.1 (0, refl)
+
+pub returns-in_err-put_large_piece-clause-writes : goal.returns-in_err-put_large_piece-clause-writes
+returns-in_err-put_large_piece-clause-writes g c = pieces_failed g.W.Outlet.gives _ _ _ c.from_residual-in_err-put_large_piece.result c.from_residual-in_err-put_large_piece.ensures.1
+    c.in_err-put_large_piece.ensures.failed c.in_err-put_large_piece.ensures.emptied

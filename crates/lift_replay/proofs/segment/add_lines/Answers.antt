@@ -9,7 +9,7 @@ use Rattle.lift_replay.specs.declared.lines.Verdict.TheVariants.{Good}
 use Rattle.lift_replay.proofs.Told.{end_tells_none}
 use Rattle.lift_replay.proofs.Runs.{reports_kept, reports_put, reports_on}
 use Rattle.lift_replay.proofs.Fronts.{err_so, tells_kept, tells_more, tells_so_far, tells_torn}
-use Rattle.lift_replay.specs.lemmas.Writes.{called_err, fails_more, takes_more}
+use Rattle.lift_replay.specs.lemmas.Writes.{fails_more, takes_more, pieces_ok, pieces_memory, pieces_failed}
 use Rattle.lift_replay.proofs.segment.add_lines.Goals as goal
 
 pub loop-preserved : goal.loop-preserved
@@ -123,12 +123,18 @@ returns-in_err-put_large_piece-clause-front g c =
     (tells_torn plan number more.0 (lines_in c.next.new.self.rest.now) _ _ _ (string_bytes c.push_str.new.self) (string_bytes c.put_large_piece.new.piece)
     c.in_err-put_large_piece.ensures.front c.in_err-put_large_piece.ensures.emptied)))
 
-pub returns-in_err-end-clause-calls : goal.returns-in_err-end-clause-calls
-returns-in_err-end-clause-calls g c = called_err g.W.Outlet.gives _ _ c.from_residual.result _ c.from_residual.ensures.1 c.loop.invariant.called
+pub returns-in_default-clause-writes : goal.returns-in_default-clause-writes
+returns-in_default-clause-writes g c = pieces_ok g.W.Outlet.gives _ _ _ _ c.loop.invariant.called
 
-pub returns-in_err-push_str-clause-calls : goal.returns-in_err-push_str-clause-calls
-returns-in_err-push_str-clause-calls g c = called_err g.W.Outlet.gives _ _ c.from_residual-in_err-push_str.result _ c.from_residual-in_err-push_str.ensures.1 c.loop.invariant.called
+pub returns-in-Some-end-clause-writes : goal.returns-in-Some-end-clause-writes
+returns-in-Some-end-clause-writes g c = pieces_ok g.W.Outlet.gives _ _ _ _ c.loop.invariant.called
 
-pub returns-in_err-put_large_piece-clause-calls : goal.returns-in_err-put_large_piece-clause-calls
-returns-in_err-put_large_piece-clause-calls g c = called_err g.W.Outlet.gives _ _ c.from_residual-in_err-put_large_piece.result _ c.from_residual-in_err-put_large_piece.ensures.1
-    (fails_more g.W.Outlet.gives _ _ _ c.loop.invariant.called c.in_err-put_large_piece.ensures.failed)
+pub returns-in_err-end-clause-writes : goal.returns-in_err-end-clause-writes
+returns-in_err-end-clause-writes g c = pieces_memory g.W.Outlet.gives _ _ _ c.from_residual.result c.from_residual.ensures.1 c.loop.invariant.called
+
+pub returns-in_err-push_str-clause-writes : goal.returns-in_err-push_str-clause-writes
+returns-in_err-push_str-clause-writes g c = pieces_memory g.W.Outlet.gives _ _ _ c.from_residual-in_err-push_str.result c.from_residual-in_err-push_str.ensures.1 c.loop.invariant.called
+
+pub returns-in_err-put_large_piece-clause-writes : goal.returns-in_err-put_large_piece-clause-writes
+returns-in_err-put_large_piece-clause-writes g c = pieces_failed g.W.Outlet.gives _ _ _ c.from_residual-in_err-put_large_piece.result c.from_residual-in_err-put_large_piece.ensures.1
+    (fails_more g.W.Outlet.gives _ _ _ c.loop.invariant.called c.in_err-put_large_piece.ensures.failed) c.in_err-put_large_piece.ensures.emptied

@@ -1,4 +1,4 @@
-use Rattle.std.proofs.Common.{◌≡◌, ◌+◌, ◌∙◌, ℕ, List, length, ap, subst, refl, rules, string_bytes, Bor, Err}
+use Rattle.std.proofs.Common.{◌≡◌, ◌+◌, ◌∙◌, ℕ, List, length, ap, subst, refl, rules, string_bytes, Bor}
 use Rattle.atomic_table.specs.Seated.{TableId}
 use Rattle.lift_building.specs.Plan.{Plan}
 use Rattle.lift_desk.specs.Seats.{clerk_of, seats_from}
@@ -12,7 +12,7 @@ use Rattle.lift_replay.specs.Source.{lines_in}
 use Rattle.lift_replay.proofs.Recovered.{new_shows}
 use Rattle.lift_replay.proofs.Runs.{run_told, cut_goes_on}
 use Rattle.lift_replay.proofs.Fronts.{err_so, cut_part, tells_none}
-use Rattle.lift_replay.specs.lemmas.Writes.{called_err, takes_more, till_more}
+use Rattle.lift_replay.specs.lemmas.Writes.{takes_more, pieces_ok, pieces_memory, pieces_behind}
 use Rattle.lift_replay.proofs.segment.add_segment.Goals as goal
 
 pub returns-in-Run-clause-tells : goal.returns-in-Run-clause-tells
@@ -89,15 +89,18 @@ returns-in_err-add_cut-in-Cut-clause-front g c = err_so c.from_residual-in_err-a
     (ap cut_text (c.open_count.ensures.count ∙ ap open_count c.register.ensures.value ∙ ap (λ (state : State). open_count state.register) (recovers h s).stands.1))
     c.in_err-add_cut-in-Cut.ensures.front))
 
-pub returns-clause-calls : goal.returns-clause-calls
-returns-clause-calls g c = takes_more g.W.Outlet.gives _ _ _ c.in_ok-verdict.ensures.calls c.in_ok-add_cut-in-Cut.ensures.calls
+pub returns-in-Run-clause-writes : goal.returns-in-Run-clause-writes
+returns-in-Run-clause-writes g c = pieces_ok g.W.Outlet.gives _ _ _ _ c.in_ok-verdict.ensures.writes.calls
 
-pub returns-in_err-desk-clause-calls : goal.returns-in_err-desk-clause-calls
-returns-in_err-desk-clause-calls g c = called_err g.W.Outlet.gives _ _ c.from_residual.result _ c.from_residual.ensures.1 (0, refl)
+pub returns-clause-writes : goal.returns-clause-writes
+returns-clause-writes g c = pieces_ok g.W.Outlet.gives _ _ _ _ (takes_more g.W.Outlet.gives _ _ _ c.in_ok-verdict.ensures.writes.calls c.in_ok-add_cut-in-Cut.ensures.writes.calls)
 
-pub returns-in_err-verdict-clause-calls : goal.returns-in_err-verdict-clause-calls
-returns-in_err-verdict-clause-calls g c = called_err g.W.Outlet.gives _ _ c.from_residual-in_err-verdict.result _ c.from_residual-in_err-verdict.ensures.1 c.in_err-verdict.ensures.calls
+pub returns-in_err-desk-clause-writes : goal.returns-in_err-desk-clause-writes
+returns-in_err-desk-clause-writes g c = pieces_memory g.W.Outlet.gives _ _ _ c.from_residual.result c.from_residual.ensures.1 (0, refl)
 
-pub returns-in_err-add_cut-in-Cut-clause-calls : goal.returns-in_err-add_cut-in-Cut-clause-calls
-returns-in_err-add_cut-in-Cut-clause-calls g c = called_err g.W.Outlet.gives _ _ c.from_residual-in_err-add_cut-in-Cut.result _ c.from_residual-in_err-add_cut-in-Cut.ensures.1
-    (till_more g.W.Outlet.gives _ _ _ _ (λ is. c.in_err-add_cut-in-Cut.ensures.output (ap Err is)) c.in_ok-verdict.ensures.calls c.in_err-add_cut-in-Cut.ensures.calls)
+pub returns-in_err-verdict-clause-writes : goal.returns-in_err-verdict-clause-writes
+returns-in_err-verdict-clause-writes g c = pieces_behind g.W.Outlet.gives _ _ _ _ c.from_residual-in_err-verdict.result _ c.from_residual-in_err-verdict.ensures.1 (0, refl) c.in_err-verdict.ensures.writes
+
+pub returns-in_err-add_cut-in-Cut-clause-writes : goal.returns-in_err-add_cut-in-Cut-clause-writes
+returns-in_err-add_cut-in-Cut-clause-writes g c = pieces_behind g.W.Outlet.gives _ _ _ _ c.from_residual-in_err-add_cut-in-Cut.result _ c.from_residual-in_err-add_cut-in-Cut.ensures.1
+    c.in_ok-verdict.ensures.writes.calls c.in_err-add_cut-in-Cut.ensures.writes
