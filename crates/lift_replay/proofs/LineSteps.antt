@@ -172,9 +172,9 @@ arms plan g calls old new (Some s) armed stands is = (
 module _ (computed : StepsAreDecisions IsEtdChoice etd_pick) (plan : Plan) (g : GroupState) (old new : ScriptClerk) (seats after : List TerminalSeat)
     (shows : Shows plan g old seats) (count : length seats ≡ 16 + length plan.kiosks) (long : (device_of new).is_short ≡ false) where
   abbrev pub Carried : ScriptLine → List ℕ → Type 0
-  Carried (Place car floor dir) told = (told ≡ line_text plan g (Place car floor dir)) × Shows plan (after_line plan g (Place car floor dir)) new after
+  Carried (Place car position) told = (told ≡ line_text plan g (Place car position)) × Shows plan (after_line plan g (Place car position)) new after
   Carried (Call kiosk number floor party) told = (told ≡ line_text plan g (Call kiosk number floor party)) × Shows plan (after_line plan g (Call kiosk number floor party)) new after
-  Carried (Stop car number floor dir) told = (told ≡ line_text plan g (Stop car number floor dir)) × Shows plan (after_line plan g (Stop car number floor dir)) new after
+  Carried (Stop car number stop) told = (told ≡ line_text plan g (Stop car number stop)) × Shows plan (after_line plan g (Stop car number stop)) new after
   Carried Turn told = (told ≡ line_text plan g Turn) × Shows plan (after_line plan g Turn) new after
   Carried (Stops car) told = (told ≡ line_text plan g (Stops car)) × Shows plan g new after
   Carried (Cost kiosk floor party) told = (told ≡ line_text plan g (Cost kiosk floor party)) × Shows plan g new after
@@ -201,9 +201,9 @@ module _ (computed : StepsAreDecisions IsEtdChoice etd_pick) (plan : Plan) (g : 
       )
 
   pub tells_shows : (wanted : ScriptLine) (told : List ℕ) → IsInRange wanted → IsKnown plan wanted → Tells plan old new seats after wanted told → Carried wanted told
-  tells_shows (Place car floor dir) told range known tells = asks_so car 0 (Placing floor dir) told (let below = range.0 in omega (arith, below)) tells.0 tells.1
+  tells_shows (Place car position) told range known tells = asks_so car 0 (Placing position.floor position.dir) told (let below = range.0 in omega (arith, below)) tells.0 tells.1
   tells_shows (Call kiosk number floor party) told range known tells = asks_so (16 + kiosk) number (Calls floor party) told (omega (arith, known)) tells.0 tells.1
-  tells_shows (Stop car number floor dir) told range known tells = asks_so car number (Stopping floor dir) told (let below = range.0 in omega (arith, below)) tells.0 tells.1
+  tells_shows (Stop car number stop) told range known tells = asks_so car number (Stopping stop.floor stop.dir) told (let below = range.0 in omega (arith, below)) tells.0 tells.1
   tells_shows Turn told range known tells = turn_shows computed plan g old new seats after told shows tells long
   tells_shows (Stops car) told range known tells =
       (tells.0 ∙ shown_is plan g old.keeper (codes "stops") (λ s. stops_text (view_of s) car) g.stopped shows.keeper.stands, rests tells.1)
@@ -258,9 +258,9 @@ module _ (computed : StepsAreDecisions IsEtdChoice etd_pick) (plan : Plan) (g : 
     where
       by_line : (w : ScriptLine) → Spells line w → IsKnown plan w → Tells plan old new seats after w told → None ≡ end_of w → GoesOn
       by_line (Cut outcome) sp kn te en = absurd (cc)
-      by_line (Place car floor dir) sp kn te en = let c = tells_shows computed plan g old new seats after shows count long (Place car floor dir) told sp.3 kn te in (after_line plan g (Place car floor dir), c.1, carries (Place car floor dir) told sp kn other c.0)
+      by_line (Place car position) sp kn te en = let c = tells_shows computed plan g old new seats after shows count long (Place car position) told sp.3 kn te in (after_line plan g (Place car position), c.1, carries (Place car position) told sp kn other c.0)
       by_line (Call kiosk n floor party) sp kn te en = let c = tells_shows computed plan g old new seats after shows count long (Call kiosk n floor party) told sp.3 kn te in (after_line plan g (Call kiosk n floor party), c.1, carries (Call kiosk n floor party) told sp kn other c.0)
-      by_line (Stop car n floor dir) sp kn te en = let c = tells_shows computed plan g old new seats after shows count long (Stop car n floor dir) told sp.3 kn te in (after_line plan g (Stop car n floor dir), c.1, carries (Stop car n floor dir) told sp kn other c.0)
+      by_line (Stop car n stop) sp kn te en = let c = tells_shows computed plan g old new seats after shows count long (Stop car n stop) told sp.3 kn te in (after_line plan g (Stop car n stop), c.1, carries (Stop car n stop) told sp kn other c.0)
       by_line Turn sp kn te en = let c = tells_shows computed plan g old new seats after shows count long Turn told sp.3 kn te in (after_line plan g Turn, c.1, carries Turn told sp kn other c.0)
       by_line (Stops car) sp kn te en = let c = tells_shows computed plan g old new seats after shows count long (Stops car) told sp.3 kn te in (g, c.1, carries (Stops car) told sp kn other c.0)
       by_line (Cost kiosk floor party) sp kn te en = let c = tells_shows computed plan g old new seats after shows count long (Cost kiosk floor party) told sp.3 kn te in (g, c.1, carries (Cost kiosk floor party) told sp kn other c.0)
@@ -286,9 +286,9 @@ module _ (computed : StepsAreDecisions IsEtdChoice etd_pick) (plan : Plan) (g : 
           let all : before ++ cut ≡ (before ++ told) ++ cut = ap (λ t. t ++ cut) (sym (append-nil before) ∙ ap (λ t. before ++ t) (sym c.0)) in
           subst (LinesEnd plan so_far first script (before ++ told) number behind new after) (sym power)
           (g, c.1, subst (λ t. Continues plan so_far first script t number (after_line plan g (Cut outcome)) behind) all (carries (Cut outcome) cut sp kn other refl))
-      by_line (Place car floor dir) sp kn te en = absurd (cc)
+      by_line (Place car position) sp kn te en = absurd (cc)
       by_line (Call kiosk n floor party) sp kn te en = absurd (cc)
-      by_line (Stop car n floor dir) sp kn te en = absurd (cc)
+      by_line (Stop car n stop) sp kn te en = absurd (cc)
       by_line Turn sp kn te en = absurd (cc)
       by_line (Stops car) sp kn te en = absurd (cc)
       by_line (Cost kiosk floor party) sp kn te en = absurd (cc)

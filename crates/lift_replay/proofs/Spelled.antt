@@ -95,12 +95,12 @@ module _ (line : List ℕ) where
   Asks = (wanted : ScriptLine) × Spells line wanted
 
   asks_of : Ways → Asks
-  asks_of (inl (car, c, (floor, f, (dir, are)))) = (Place car floor dir, (_, are, refl, (c, f)))
+  asks_of (inl (car, c, (floor, f, (dir, are)))) = (Place car (record { floor = floor; dir = dir }), (_, are, refl, (c, f)))
   asks_of (inr (inl (kiosk, k, (number, n, (floor, f, are))))) =
       (Call kiosk number floor 1, (_, are, ([], inr (refl, refl), refl), (k, n, f, omega arith, omega arith)))
   asks_of (inr (inr (inl (kiosk, k, (number, n, (floor, f, (party, p, (some, are)))))))) =
       (Call kiosk number floor party, (_, are, (decimal party ∷ [], inl refl, refl), (k, n, f, omega (arith, some), omega (arith, p))))
-  asks_of (inr (inr (inr (inl (car, c, (number, n, (floor, f, (dir, are)))))))) = (Stop car number floor dir, (_, are, refl, (c, n, f)))
+  asks_of (inr (inr (inr (inl (car, c, (number, n, (floor, f, (dir, are)))))))) = (Stop car number (record { floor = floor; dir = dir }), (_, are, refl, (c, n, f)))
   asks_of (inr (inr (inr (inr (inl are))))) = (Turn, (_, are, refl, tt))
   asks_of (inr (inr (inr (inr (inr (inl (car, c, are))))))) = (Stops car, (_, are, refl, c))
   asks_of (inr (inr (inr (inr (inr (inr (inl (kiosk, k, (floor, f, are))))))))) =
@@ -135,9 +135,9 @@ module _ (line : List ℕ) where
       inr (inr (inr (inr (inr (inr (inl (kiosk, range.0, (floor, range.1, as_words words _ (is ∙ ap (λ l. codes "cost" ∷ decimal kiosk ∷ decimal floor ∷ l) none.0) are))))))))
 
   way_of : (wanted : ScriptLine) → Spells line wanted → Ways
-  way_of (Place car floor dir) s = inl (car, s.3.0, (floor, s.3.1, (dir, as_words s.0 _ s.2 s.1)))
+  way_of (Place car position) s = inl (car, s.3.0, (position.floor, s.3.1, (position.dir, as_words s.0 _ s.2 s.1)))
   way_of (Call kiosk number floor party) s = call_way kiosk number floor party s.0 s.2.0 s.1 s.2.1 s.2.2 s.3
-  way_of (Stop car number floor dir) s = inr (inr (inr (inl (car, s.3.0, (number, s.3.1, (floor, s.3.2, (dir, as_words s.0 _ s.2 s.1)))))))
+  way_of (Stop car number stop) s = inr (inr (inr (inl (car, s.3.0, (number, s.3.1, (stop.floor, s.3.2, (stop.dir, as_words s.0 _ s.2 s.1)))))))
   way_of Turn s = inr (inr (inr (inr (inl (as_words s.0 _ s.2 s.1)))))
   way_of (Stops car) s = inr (inr (inr (inr (inr (inl (car, s.3, as_words s.0 _ s.2 s.1))))))
   way_of (Cost kiosk floor party) s = cost_way kiosk floor party s.0 s.2.0 s.1 s.2.1 s.2.2 s.3
@@ -155,9 +155,9 @@ skipped [] = inl tt
 skipped (byte ∷ line) = cases_eq byte 35
 
 pub known : (plan : Plan) (wanted : ScriptLine) → IsDecided (IsKnown plan wanted)
-known plan (Place car floor dir) = below car (length plan.cars)
+known plan (Place car position) = below car (length plan.cars)
 known plan (Call kiosk number floor party) = below kiosk (length plan.kiosks)
-known plan (Stop car number floor dir) = below car (length plan.cars)
+known plan (Stop car number stop) = below car (length plan.cars)
 known plan Turn = inl tt
 known plan (Stops car) = below car (length plan.cars)
 known plan (Cost kiosk floor party) = below kiosk (length plan.kiosks)

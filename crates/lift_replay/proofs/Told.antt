@@ -75,9 +75,9 @@ end_tells_none plan old new seats after line number end text (inr (inl (wanted, 
   where
     by_line : (w : ScriptLine) → Tells plan old new seats after w text → Some end ≡ end_of w → text ≡ []
     by_line (Cut outcome) te en = te.0
-    by_line (Place car floor dir) te en = absurd (cc)
+    by_line (Place car position) te en = absurd (cc)
     by_line (Call kiosk n floor party) te en = absurd (cc)
-    by_line (Stop car n floor dir) te en = absurd (cc)
+    by_line (Stop car n stop) te en = absurd (cc)
     by_line Turn te en = absurd (cc)
     by_line (Stops car) te en = absurd (cc)
     by_line (Cost kiosk floor party) te en = absurd (cc)

@@ -16,13 +16,14 @@ outcome_words (Fill byte) = codes "fill" ∷ decimal byte ∷ []
 
 -- these words ask for this
 abbrev pub AskFor : List (List ℕ) → ScriptLine → Type 0
-AskFor words (Place car floor dir) =
-    words ≡ codes "place" ∷ letter_text car ∷ decimal floor ∷ dir_text dir ∷ []
+AskFor words (Place car position) =
+    words ≡ codes "place" ∷ letter_text car ∷ decimal position.floor ∷ dir_text position.dir ∷ []
 AskFor words (Call kiosk number floor party) =
     (last : List (List ℕ)) × ArePartyWords last party
     × (words ≡ codes "call" ∷ decimal kiosk ∷ decimal number ∷ decimal floor ∷ last)
-AskFor words (Stop car number floor dir) =
-    words ≡ codes "stop" ∷ letter_text car ∷ decimal number ∷ decimal floor ∷ dir_text dir ∷ []
+AskFor words (Stop car number stop) =
+    words
+    ≡ codes "stop" ∷ letter_text car ∷ decimal number ∷ decimal stop.floor ∷ dir_text stop.dir ∷ []
 AskFor words Turn = words ≡ codes "turn" ∷ []
 AskFor words (Stops car) = words ≡ codes "stops" ∷ letter_text car ∷ []
 AskFor words (Cost kiosk floor party) =
@@ -39,10 +40,10 @@ IsOutcomeInRange (Fill byte) = byte < 256
 
 -- cars A to P, kiosks 0 to 46, floors 0 to 63, numbers up to 16,777,215, parties of 1 to 15
 abbrev pub IsInRange : ScriptLine → Type 0
-IsInRange (Place car floor dir) = (car < 16) × (floor < 64)
+IsInRange (Place car position) = (car < 16) × (position.floor < 64)
 IsInRange (Call kiosk number floor party) = (kiosk < 47) × (number < 16777216) × (floor < 64)
     × (1 ≤ party) × (party ≤ 15)
-IsInRange (Stop car number floor dir) = (car < 16) × (number < 16777216) × (floor < 64)
+IsInRange (Stop car number stop) = (car < 16) × (number < 16777216) × (stop.floor < 64)
 IsInRange Turn = Unit {0}
 IsInRange (Stops car) = car < 16
 IsInRange (Cost kiosk floor party) = (kiosk < 47) × (floor < 64) × (1 ≤ party) × (party ≤ 15)

@@ -14,9 +14,8 @@ use Rattle.lift_disk.specs.declared.outcome.Outcome.{Outcome}
 use Rattle.lift_disk.specs.declared.outcome.Outcome.TheVariants.{Keep, Lose, Fill}
 use Rattle.lift_journal.specs.Checkpoint.{sectors_for}
 use Rattle.lift_journal.specs.Layout.{bodies}
-use Rattle.lift_register.specs.Register.{RegisterState, register_of, empty}
+use Rattle.lift_register.specs.Prelude.{RegisterState, empty, register_of, open_count}
 use Rattle.lift_register.specs.Base.{base_records}
-use Rattle.lift_register.specs.Balanced.{open_count}
 use Rattle.lift_policy.specs.declared.command.Command.{Command}
 use Rattle.lift_policy.specs.Decision.{decision_by, etd_pick}
 use Rattle.lift_policy.specs.Run.{unknowns}
@@ -320,9 +319,9 @@ asked g terminal number body =
 
 -- what each line tells
 abbrev pub line_text : Plan → GroupState → ScriptLine → List ℕ
-line_text plan g (Place car floor dir) = asked_text g car 0
+line_text plan g (Place car position) = asked_text g car 0
 line_text plan g (Call kiosk number floor party) = asked_text g (16 + kiosk) number
-line_text plan g (Stop car number floor dir) = asked_text g car number
+line_text plan g (Stop car number stop) = asked_text g car number
 line_text plan g Turn = turn_told g.stopped plan g
 line_text plan g (Stops car) = unless_stopped g.stopped (codes "stops") (stops_text (view_in g) car)
 line_text plan g (Cost kiosk floor party) =
@@ -338,9 +337,9 @@ line_text plan g (Cut outcome) = cut_text (open_count (left_by outcome g).regist
 
 -- what each makes of the group
 abbrev pub after : Plan → GroupState → ScriptLine → GroupState
-after plan g (Place car floor dir) = asked g car 0 (Placing floor dir)
+after plan g (Place car position) = asked g car 0 (Placing position.floor position.dir)
 after plan g (Call kiosk number floor party) = asked g (16 + kiosk) number (Calls floor party)
-after plan g (Stop car number floor dir) = asked g car number (Stopping floor dir)
+after plan g (Stop car number stop) = asked g car number (Stopping stop.floor stop.dir)
 after plan g Turn = turned g.stopped plan g
 after plan g (Stops car) = g
 after plan g (Cost kiosk floor party) = g

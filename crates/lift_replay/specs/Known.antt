@@ -7,9 +7,9 @@ use Rattle.lift_replay.specs.declared.line.ScriptLine.TheVariants.{Cost, Rows, F
 
 -- the building has the car or the kiosk that the line names, if it names one
 abbrev pub IsKnown : Plan → ScriptLine → Type 0
-IsKnown plan (Place car floor dir) = car < length plan.cars
+IsKnown plan (Place car position) = car < length plan.cars
 IsKnown plan (Call kiosk number floor party) = kiosk < length plan.kiosks
-IsKnown plan (Stop car number floor dir) = car < length plan.cars
+IsKnown plan (Stop car number stop) = car < length plan.cars
 IsKnown plan Turn = Unit {0}
 IsKnown plan (Stops car) = car < length plan.cars
 IsKnown plan (Cost kiosk floor party) = kiosk < length plan.kiosks

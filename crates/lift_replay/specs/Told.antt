@@ -154,13 +154,15 @@ pub record Rests (old new : ScriptClerk) (seats after : List TerminalSeat) : Typ
 -- what a line tells in a building, to a clerk and terminals, and how it leaves them
 abbrev pub Tells : Plan → (old new : ScriptClerk) → (seats after : List TerminalSeat) → ScriptLine
     → List ℕ → Type 0
-Tells plan old new seats after (Place car floor dir) text =
-    Asks seats after old.seat new.seat car 0 (Placing floor dir) text × KeepsKeeper old new
+Tells plan old new seats after (Place car position) text =
+    Asks seats after old.seat new.seat car 0 (Placing position.floor position.dir) text
+    × KeepsKeeper old new
 Tells plan old new seats after (Call kiosk number floor party) text =
     Asks seats after old.seat new.seat (16 + kiosk) number (Calls floor party) text
     × KeepsKeeper old new
-Tells plan old new seats after (Stop car number floor dir) text =
-    Asks seats after old.seat new.seat car number (Stopping floor dir) text × KeepsKeeper old new
+Tells plan old new seats after (Stop car number stop) text =
+    Asks seats after old.seat new.seat car number (Stopping stop.floor stop.dir) text
+    × KeepsKeeper old new
 Tells plan old new seats after Turn text = OutcomeTells old new seats after text
 Tells plan old new seats after (Stops car) text =
     (text ≡ shown_text old (codes "stops") (stops_text (view_of old.keeper.state) car))

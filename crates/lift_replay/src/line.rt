@@ -1,4 +1,4 @@
-use lift_base::{Dir, Floor, Letter, Number, Party};
+use lift_base::{Floor, Letter, Number, Party, Position, Stop};
 use lift_disk::Outcome;
 
 /// What a line of a script asks for.
@@ -7,8 +7,7 @@ pub enum ScriptLine {
     /// The car asks Place, with number 0.
     Place {
         car: Letter,
-        floor: Floor,
-        dir: Dir,
+        position: Position,
     },
     /// The kiosk, 0 to 46, asks Call.
     Call {
@@ -21,8 +20,7 @@ pub enum ScriptLine {
     Stop {
         car: Letter,
         number: Number,
-        floor: Floor,
-        dir: Dir,
+        stop: Stop,
     },
     /// One turn of the clerk, then all terminals hear.
     Turn,

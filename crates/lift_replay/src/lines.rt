@@ -215,8 +215,8 @@ fn carry_out(
 {
     let _cars = station.building.cars();
     match *line {
-        ScriptLine::Place { car, floor, dir } => {
-            let body = Body::Place(floor, dir);
+        ScriptLine::Place { car, position } => {
+            let body = Body::Place(position.floor, position.dir);
             push_ask(
                 report,
                 station,
@@ -225,13 +225,8 @@ fn carry_out(
                 body,
             )?;
         }
-        ScriptLine::Stop {
-            car,
-            number,
-            floor,
-            dir,
-        } => {
-            let body = Body::Stop(floor, dir);
+        ScriptLine::Stop { car, number, stop } => {
+            let body = Body::Stop(stop.floor, stop.dir);
             push_ask(report, station, Terminal::of_car(car), number, body)?;
         }
         ScriptLine::Call {

@@ -14,7 +14,7 @@ use crate::line::ScriptLine;
 use lift_base::text::{
     dir_of_word, letter_of_word, number_of_word, number_up_to, party_of_words, words_of,
 };
-use lift_base::{Dir, Floor};
+use lift_base::{Dir, Floor, Position, Stop};
 use lift_disk::Outcome;
 
 /// The floor, 0 to 63, that a word names.
@@ -89,7 +89,8 @@ fn place_of(words: &[&str]) -> Option<ScriptLine>
     };
     let car = letter_of_word(car)?;
     let (floor, dir) = at_of(floor, dir)?;
-    Some(ScriptLine::Place { car, floor, dir })
+    let position = Position { floor, dir };
+    Some(ScriptLine::Place { car, position })
 }
 
 fn call_of(words: &[&str]) -> Option<ScriptLine>
@@ -115,12 +116,8 @@ fn stop_of(words: &[&str]) -> Option<ScriptLine>
     let car = letter_of_word(car)?;
     let number = number_of_word(number)?;
     let (floor, dir) = at_of(floor, dir)?;
-    Some(ScriptLine::Stop {
-        car,
-        number,
-        floor,
-        dir,
-    })
+    let stop = Stop { floor, dir };
+    Some(ScriptLine::Stop { car, number, stop })
 }
 
 fn stops_of(words: &[&str]) -> Option<ScriptLine>
