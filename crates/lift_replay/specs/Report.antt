@@ -12,8 +12,7 @@ use Rattle.lift_base.specs.declared.travel.Halt.{Halt}
 use Rattle.lift_base.specs.Command.{reason_number}
 use Rattle.lift_base.specs.declared.command.Reply.{Reply}
 use Rattle.lift_base.specs.declared.command.Reason.{Reason}
-use Rattle.lift_register.specs.Balanced.{open_count}
-use Rattle.lift_register.specs.Register.{RegisterState, rows_of, cars}
+use Rattle.lift_register.specs.Prelude.{RegisterState, cars, rows_of, open_count}
 use Rattle.lift_building.specs.Text.{fault_number}
 use Rattle.lift_building.specs.declared.fault.BuildingFault.{BuildingFault}
 use Rattle.lift_building.specs.declared.fault.BuildingFault.TheVariants.{NotToml, Missing}
