@@ -1,10 +1,11 @@
 -- When the devices that can be told to fail do so. A number of calls left, if it was armed, and how
 -- many calls were made.
-use Rattle.std.specs.Prelude.{◌≡◌, ◌+◌, ◌<◌, ◌↔◌, ℕ, Option, Some, None, Bool, IsTrue}
+use Rattle.std.specs.Prelude.{◌≡◌, ◌+◌, ◌-◌, ◌<◌, ◌↔◌, ℕ, Option, Some, None, Bool, IsTrue}
+use Rattle.std.proofs.Common.{arith}
 use Rattle.lift_disk.specs.Disk.{DiskState}
 use Rattle.lift_disk.specs.Outcomes.{state_of}
-use Rattle.lift_disk.specs.declared.fuse.FuseDisk.{FuseDisk}
-use Rattle.lift_disk.specs.declared.flaky.FlakyDisk.{FlakyDisk}
+use Rattle.lift_disk.specs.declared.failing.FailingDisk.{FailingDisk}
+use Rattle.lift_disk.specs.declared.rule.Fuse.{Fuse}
 
 -- every call after these
 abbrev pub AllAfter : ℕ → ℕ → ℕ → Type 0
@@ -13,6 +14,19 @@ AllAfter calls made call = made + calls < call
 -- the last one of these alone
 abbrev pub OnlyLast : ℕ → ℕ → ℕ → Type 0
 OnlyLast calls made call = call ≡ made + calls
+
+-- one call on, with one fewer left if one was, the same later calls fail
+abbrev pub CountsDown : (ℕ → ℕ → ℕ → Type 0) → Type 0
+CountsDown fails = (left made call : ℕ) → made + 1 < call
+    → fails (left - 1) (made + 1) call ↔ fails left made call
+
+pub all_after_counts_down : CountsDown AllAfter
+all_after_counts_down left made call later =
+    (λ fails. omega (arith, fails, later), λ fails. omega (arith, fails, later))
+
+pub only_last_counts_down : CountsDown OnlyLast
+only_last_counts_down left made call later =
+    (λ fails. omega (arith, fails, later), λ fails. omega (arith, fails, later))
 
 -- what it was told, if it was
 abbrev pub IfArmed : (ℕ → ℕ → ℕ → Type 0) → Option ℕ → ℕ → ℕ → Type 0
@@ -28,14 +42,16 @@ abbrev pub StaysDue : (ℕ → ℕ → ℕ → Type 0) → Option ℕ → Option
 StaysDue fails old new = (made call : ℕ) → made + 1 < call
     → IfArmed fails new (made + 1) call ↔ IfArmed fails old made call
 
-abbrev pub fuse_state_of : FuseDisk → DiskState
-fuse_state_of d = record (state_of d.inner) {
-  fails_at = IfArmed AllAfter d.calls_left
+-- the device in memory, with those of its calls to come that fail by this rule
+abbrev pub failing_state_of : {R : Type 0} → (ℕ → ℕ → ℕ → Type 0) → FailingDisk R → DiskState
+failing_state_of fails d = record (state_of d.inner) {
+  fails_at = IfArmed fails d.calls_left
       d.inner.calls.count;
 }
 
-abbrev pub flaky_state_of : FlakyDisk → DiskState
-flaky_state_of d = record (state_of d.inner) {
-  fails_at = IfArmed OnlyLast d.calls_left
-      d.inner.calls.count;
-}
+-- a `FuseDisk`, since antt has no name for an alias
+abbrev pub FusedDisk : Type 0
+FusedDisk = FailingDisk Fuse
+
+abbrev pub fuse_state_of : FusedDisk → DiskState
+fuse_state_of d = failing_state_of AllAfter d

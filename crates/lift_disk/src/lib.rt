@@ -3,15 +3,14 @@
 
 mod buffered;
 mod call;
-mod countdown;
 mod disk;
+mod failing;
 mod file;
 mod file_calls;
-mod flaky;
-mod fuse;
 mod memory;
 mod outcome;
 mod record;
+mod rule;
 mod runs;
 mod sectors;
 mod span;
@@ -21,11 +20,11 @@ mod traced;
 
 pub use buffered::Buffered;
 pub use disk::{Arm, Disk, DiskFault};
+pub use failing::{FailingDisk, FlakyDisk, FuseDisk};
 pub use file::{BufferedFile, FileDisk, FileFault};
-pub use flaky::FlakyDisk;
-pub use fuse::FuseDisk;
 pub use memory::MemDisk;
 pub use outcome::Outcome;
+pub use rule::{FaultRule, Flaky, Fuse};
 pub use runs::{Ahead, MOST_AHEAD, RunDisk};
 pub use sectors::SectorFile;
 pub use told::ToldFile;

@@ -24,8 +24,7 @@ use Rattle.lift_policy.specs.Run.{Run, unknowns}
 use Rattle.lift_policy.specs.Step.{State}
 use Rattle.lift_keeper.specs.Cuts.{StopsAtMark, FirstIf}
 use Rattle.lift_keeper.specs.Writer.{StopsCommit, commit_calls, commit_used, commit_second, has_room}
-use Rattle.lift_disk.specs.Faults.{fuse_state_of}
-use Rattle.lift_disk.specs.declared.fuse.FuseDisk.{FuseDisk}
+use Rattle.lift_disk.specs.Faults.{FusedDisk, fuse_state_of}
 use Rattle.lift_keeper.specs.Keeper.{KeeperView}
 use Rattle.lift_clerk.specs.declared.counts.Counts.{Counts}
 use Rattle.lift_clerk.specs.Turn.{IsTurn, IsFailedTurn, IsBrokenTurn, settled}
@@ -227,7 +226,7 @@ pub left_as : (x : Option Stopped) (g : GroupState) (passing : Option ℕ) (term
 left_as None g passing terminals outcome = refl
 left_as (Some s) g passing terminals outcome = refl
 
-pub with_terminals : (plan : Plan) (g : GroupState) (keeper : KeeperView FuseDisk) (terminals : List Asking) (s : Option Stopped) → Stands s plan g keeper → Stands s plan (record g { terminals = terminals }) keeper
+pub with_terminals : (plan : Plan) (g : GroupState) (keeper : KeeperView FusedDisk) (terminals : List Asking) (s : Option Stopped) → Stands s plan g keeper → Stands s plan (record g { terminals = terminals }) keeper
 with_terminals plan g keeper terminals None stands = stands
 with_terminals plan g keeper terminals (Some s) stands =
     (stands.0, λ outcome image left may. subst (λ f. IsFound plan f image) (sym (left_as g.stopped g g.passing terminals outcome)) (stands.1 outcome image left may))
@@ -248,7 +247,7 @@ module _ (computed : StepsAreDecisions IsEtdChoice etd_pick) (plan : Plan) (g : 
   Result s = (text ≡ turn_told s plan g) × IsKept plan (turned s plan g) now.keeper × AreInStep (turned s plan g).terminals after new.seat
 
   long_now : (device_of now).is_short ≡ false
-  long_now = subst (λ (k : KeeperView FuseDisk). (fuse_state_of k.writer.device).is_short ≡ false) same_keeper long
+  long_now = subst (λ (k : KeeperView FusedDisk). (fuse_state_of k.writer.device).is_short ≡ false) same_keeper long
 
   went_well : (s : Option Stopped) → Stands s plan g old.keeper → (counts : Counts) → IsTurn IsEtdChoice old now counts → HasCommitted old now counts.accepted → outcome.head ≡ turn_text counts.taken counts.accepted → Result s
   went_well (Some s) stands counts turn made head = absurd (is_broken_not old.keeper.writer.is_broken stands.0 made.was_whole)

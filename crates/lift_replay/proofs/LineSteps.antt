@@ -13,7 +13,7 @@ use Rattle.lift_desk.specs.declared.view.ClerkView.{ClerkView}
 use Rattle.lift_desk.specs.Words.{ask_word}
 use Rattle.lift_desk.specs.Steps.{with_told_asks}
 use Rattle.lift_desk.specs.Seats.{TerminalSeat, ClerkPlace, Waits, view_at, no_place}
-use Rattle.lift_disk.specs.declared.fuse.FuseDisk.{FuseDisk}
+use Rattle.lift_disk.specs.Faults.{FusedDisk}
 use Rattle.lift_policy.specs.Choices.{IsEtdChoice}
 use Rattle.lift_policy.specs.Decision.{etd_pick}
 use Rattle.lift_policy.specs.Laws.{StepsAreDecisions}
@@ -145,7 +145,7 @@ module _ (terminals : List Asking) (seats after : List TerminalSeat) (places kno
   asks_shows text told = asks text a.waiting refl told
 
 -- what is shown while nothing is stopped
-shown_is : (plan : Plan) (g : GroupState) (keeper : KeeperView FuseDisk) (line : List ℕ) (f : State → List ℕ) (s : Option Stopped) → Stands s plan g keeper
+shown_is : (plan : Plan) (g : GroupState) (keeper : KeeperView FusedDisk) (line : List ℕ) (f : State → List ℕ) (s : Option Stopped) → Stands s plan g keeper
     → unless_broken keeper.writer.is_broken line (f keeper.state) ≡ unless_stopped s line (f (beginning g))
 shown_is plan g keeper line f None stands = ap (λ b. unless_broken b line (f keeper.state)) stands.0 ∙ ap f stands.1
 shown_is plan g keeper line f (Some s) stands = ap (λ b. unless_broken b line (f keeper.state)) stands.0

@@ -24,10 +24,9 @@ use Rattle.lift_replay.specs.Terminals.{seat_at}
 use Rattle.lift_replay.proofs.Hearing.{count_from, own_from}
 use Rattle.lift_building.specs.Plan.{Plan, shape_of}
 use Rattle.lift_disk.specs.Disk.{Image, DiskState, IsUnchanged, IsUnarmed, MayLeave, LeavesNow}
-use Rattle.lift_disk.specs.Faults.{fuse_state_of}
+use Rattle.lift_disk.specs.Faults.{FusedDisk, fuse_state_of}
 use Rattle.lift_disk.specs.Outcomes.{IsLeftBy, IsCut, state_of}
 use Rattle.lift_disk.specs.declared.memory.MemDisk.{MemDisk}
-use Rattle.lift_disk.specs.declared.fuse.FuseDisk.{FuseDisk}
 use Rattle.lift_disk.specs.declared.outcome.Outcome.{Outcome}
 use Rattle.lift_disk.specs.declared.outcome.Outcome.TheVariants.{Keep, Lose, Fill}
 use Rattle.lift_journal.specs.Journal.{ReadsAs}
@@ -45,14 +44,14 @@ empty_reads plan image reads = record {
 }
 
 -- a device in memory that was not told to fail does not
-pub never_fails : (old new : FuseDisk) → IsUnarmed (fuse_state_of old) → LastFails (fuse_state_of old) (fuse_state_of new) → ⊥
+pub never_fails : (old new : FusedDisk) → IsUnarmed (fuse_state_of old) → LastFails (fuse_state_of old) (fuse_state_of new) → ⊥
 never_fails old new unarmed last = elim (last.last tt) [
   | inl fails ↦ unarmed (fuse_state_of new).calls last.some fails.0
   | inr short ↦ false≢true short.1
 ]
 
 -- so an opening over it is not refused where it reads as a register
-pub never_refused : (plan : Plan) (old new : FuseDisk) (fault : KeeperFault) → IsUnarmed (fuse_state_of old)
+pub never_refused : (plan : Plan) (old new : FusedDisk) (fault : KeeperFault) → IsUnarmed (fuse_state_of old)
     → (register : RegisterState) × IsImageOf plan register (fuse_state_of old).image → RefusesReopening plan (fuse_state_of old) (fuse_state_of new) fault → ⊥
 never_refused plan old new fault unarmed (register, reads) refuses =
     let of_disk : fault ≡ Journal Disk = refuses.good tt register (subst (IsImageOf plan register) (sym (refuses.image tt tt)) reads) in
@@ -74,14 +73,14 @@ may_unchanged old new image same may = record {
 }
 
 -- a crash might have left what a cut leaves
-pub cut_may : (device taken fused : FuseDisk) (inner left : MemDisk) → taken ≡ device → IsUnchanged (fuse_state_of taken) (state_of inner) → IsCut (state_of inner) (state_of left)
+pub cut_may : (device taken fused : FusedDisk) (inner left : MemDisk) → taken ≡ device → IsUnchanged (fuse_state_of taken) (state_of inner) → IsCut (state_of inner) (state_of left)
     → (fuse_state_of fused).image ≡ (state_of left).image → MayLeave (fuse_state_of device) (fuse_state_of fused).image
 cut_may device taken fused inner left is same cut image =
     subst (λ d. MayLeave (fuse_state_of d) (fuse_state_of fused).image) is
     (may_unchanged (fuse_state_of taken) (state_of inner) (fuse_state_of fused).image same (subst (λ i. MayLeave (state_of inner) i) (sym image) cut.left))
 
 -- it reads as a register: as what is safe, or as that with the batch in doubt
-pub left_reads : (keeper : KeeperView FuseDisk) (plan : Plan) (register : RegisterState) (image : Image) → keeper.writer.plan ≡ plan
+pub left_reads : (keeper : KeeperView FusedDisk) (plan : Plan) (register : RegisterState) (image : Image) → keeper.writer.plan ≡ plan
     → (keeper.writer.is_broken ≡ false → LeavesNow (fuse_state_of keeper.writer.device) (IsImageOf keeper.writer.plan register))
     → (keeper.writer.is_broken ≡ true → LeavesNow (fuse_state_of keeper.writer.device) (IsInDoubt keeper.writer.plan register keeper.writer.doubt))
     → MayLeave (fuse_state_of keeper.writer.device) image → (other : RegisterState) × IsImageOf plan other image
@@ -95,7 +94,7 @@ left_reads keeper plan register image is safe in_doubt may = subst (λ p. (other
     ]
 
 -- the keeper that recovers what was found shows just that
-pub kept_of : (plan : Plan) (f : Found) (disk : FuseDisk) (keeper : KeeperView FuseDisk) → IsFound plan f (fuse_state_of disk).image
+pub kept_of : (plan : Plan) (f : Found) (disk : FusedDisk) (keeper : KeeperView FusedDisk) → IsFound plan f (fuse_state_of disk).image
     → Reopens plan (fuse_state_of disk) (fuse_state_of keeper.writer.device) keeper.writer.register keeper.writer.half keeper.writer.is_second keeper.writer.used
     → (fuse_state_of keeper.writer.device).image ≡ (fuse_state_of disk).image → IsUnarmed (fuse_state_of keeper.writer.device) → keeper.state ≡ starting keeper.writer.register
     → keeper.writer.plan ≡ plan → (keeper.writer.is_broken ≡ false) × (keeper.writer.doubt ≡ []) → IsKept plan (recovered plan f) keeper
@@ -115,7 +114,7 @@ kept_of plan f disk keeper found opens image unarmed state of_plan whole =
     }
 
 -- what a cut leaves of a clerk that shows a group
-pub left_found : (plan : Plan) (g : GroupState) (keeper : KeeperView FuseDisk) (outcome : Outcome) (image : Image) (s : Option Stopped) → g.stopped ≡ s → Stands s plan g keeper
+pub left_found : (plan : Plan) (g : GroupState) (keeper : KeeperView FusedDisk) (outcome : Outcome) (image : Image) (s : Option Stopped) → g.stopped ≡ s → Stands s plan g keeper
     → keeper.writer.plan ≡ plan → keeper.writer.half ≡ half → keeper.writer.register ≡ g.register
     → (keeper.writer.is_broken ≡ false → LeavesNow (fuse_state_of keeper.writer.device) (IsImageIn keeper.writer.plan keeper.writer.half keeper.writer.is_second keeper.writer.used keeper.writer.register))
     → IsLeftBy outcome (fuse_state_of keeper.writer.device) image → MayLeave (fuse_state_of keeper.writer.device) image → IsFound plan (left_by outcome g) image
@@ -179,7 +178,7 @@ new_in_step plan desk count =
           (subst (λ v. IsInStep unasked no_asks v) (sym (first_places desk t)) (record { turns = refl; told = refl; heard = refl; even = refl; waits = refl })));
     }
 
-pub new_shows : (plan : Plan) (g : GroupState) (keeper : KeeperView FuseDisk) (clerk : ScriptClerk) (seats : List TerminalSeat) (desk : List TableId) → IsKept plan g keeper → g.terminals ≡ new_terminals plan
+pub new_shows : (plan : Plan) (g : GroupState) (keeper : KeeperView FusedDisk) (clerk : ScriptClerk) (seats : List TerminalSeat) (desk : List TableId) → IsKept plan g keeper → g.terminals ≡ new_terminals plan
     → clerk.keeper ≡ keeper → clerk.seat ≡ clerk_of desk → seats ≡ seats_from 0 desk → length desk ≡ 16 + length plan.kiosks → Shows plan g clerk seats
 new_shows plan g keeper clerk seats desk kept new keeper_is clerk_is seats_is count = record {
   keeper = subst (IsKept plan g) (sym keeper_is) kept;

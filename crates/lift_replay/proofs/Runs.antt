@@ -10,7 +10,7 @@ use Rattle.lift_replay.specs.declared.lines.End.TheVariants.{Run as Over, Cut as
 use Rattle.lift_replay.specs.declared.lines.Verdict.{Verdict}
 use Rattle.lift_replay.specs.declared.segment.SegmentEnd.{SegmentEnd}
 use Rattle.lift_replay.specs.declared.segment.SegmentEnd.TheVariants.{Run, Cut}
-use Rattle.lift_disk.specs.declared.fuse.FuseDisk.{FuseDisk}
+use Rattle.lift_disk.specs.Faults.{FusedDisk}
 use Rattle.lift_disk.specs.declared.outcome.Outcome.{Outcome}
 use Rattle.lift_desk.specs.Seats.{TerminalSeat}
 use Rattle.lift_keeper.specs.Keeper.{KeeperView}
@@ -49,7 +49,7 @@ report_put old mid new piece after added none first last =
     subst (Appends old new) (sym whole) (Appends-trans old mid new first.written after first.appends last)
 
 -- lines that ended at a desk, with what a power cut leaves, and its report
-pub cut_goes_on : (plan : Plan) (count later : ℕ) (g : GroupState) (script rest : List (List ℕ)) (outcome : Outcome) (clerk : ScriptClerk) (seats : List TerminalSeat) (end : End) (keeper : KeeperView FuseDisk) (calls : ℕ) (old mid new : Option (List ℕ)) (piece next after : List ℕ)
+pub cut_goes_on : (plan : Plan) (count later : ℕ) (g : GroupState) (script rest : List (List ℕ)) (outcome : Outcome) (clerk : ScriptClerk) (seats : List TerminalSeat) (end : End) (keeper : KeeperView FusedDisk) (calls : ℕ) (old mid new : Option (List ℕ)) (piece next after : List ℕ)
     → end ≡ Power outcome → (added : List ℕ) × LinesEnd plan count g script added later rest clerk seats end × Reports old mid piece next added
     → ((h : GroupState) → Shows plan h clerk seats → IsKept plan (recovered plan (left_by outcome h)) keeper)
     → calls ≡ open_count keeper.state.register → Reports mid new next after (cut_text calls)
@@ -69,7 +69,7 @@ pub run_told : (plan : Plan) (count later : ℕ) (g : GroupState) (script rest :
 run_told plan count later g script rest verdict clerk seats end old new piece after is (added, ends, reports) = (added, subst (LinesEnd plan count g script added later rest clerk seats) is ends, reports)
 
 -- a segment behind those before it
-pub segment_more : (plan : Plan) (count later later2 : ℕ) (g next : GroupState) (script rest behind : List (List ℕ)) (before : List ℕ) (end : SegmentEnd) (keeper : KeeperView FuseDisk) (old mid new : Option (List ℕ)) (piece kept after : List ℕ)
+pub segment_more : (plan : Plan) (count later later2 : ℕ) (g next : GroupState) (script rest behind : List (List ℕ)) (before : List ℕ) (end : SegmentEnd) (keeper : KeeperView FusedDisk) (old mid new : Option (List ℕ)) (piece kept after : List ℕ)
     → end ≡ Cut keeper → Continues plan count g script before later next rest → Reports old mid piece kept before
     → (added : List ℕ) × SegmentEnds plan later next rest added later2 behind end × Reports mid new kept after added
     → (all : List ℕ) × (last : GroupState) × IsKept plan last keeper × (last.terminals ≡ new_terminals plan) × Continues plan count g script all later2 last behind × Reports old new piece after all

@@ -1,5 +1,5 @@
 -- How a segment of a run ends, between two power cuts.
-use Rattle.lift_disk.specs.declared.fuse.FuseDisk.{FuseDisk}
+use Rattle.lift_disk.specs.Faults.{FusedDisk}
 use Rattle.lift_keeper.specs.Keeper.{KeeperView}
 use Rattle.lift_replay.specs.declared.lines.End.{End}
 use Rattle.lift_replay.specs.declared.lines.End.TheVariants.{Run as Over, Cut as Power}
@@ -12,6 +12,6 @@ IsCut (Over verdict) = ⊥
 IsCut (Power outcome) = Unit {0}
 
 -- behind a power cut the keeper that goes on is so
-abbrev pub IfCut : SegmentEnd → (KeeperView FuseDisk → Type 0) → Type 0
+abbrev pub IfCut : SegmentEnd → (KeeperView FusedDisk → Type 0) → Type 0
 IfCut (Run verdict) P = Unit {0}
 IfCut (Cut keeper) P = P keeper

@@ -3,9 +3,8 @@ use Rattle.std.specs.Prelude.{ℕ, suc, ◌≡◌, ◌<◌, true, false, List, [
 use Rattle.std.specs.Prelude.{Some, None}
 use Rattle.lift_building.specs.Plan.{Plan}
 use Rattle.lift_disk.specs.Disk.{DiskState, Image, MayLeave, IsTold}
-use Rattle.lift_disk.specs.Faults.{AllAfter, IfArmed, fuse_state_of}
+use Rattle.lift_disk.specs.Faults.{AllAfter, FusedDisk, IfArmed, fuse_state_of}
 use Rattle.lift_disk.specs.Outcomes.{IsLeftBy}
-use Rattle.lift_disk.specs.declared.fuse.FuseDisk.{FuseDisk}
 use Rattle.lift_disk.specs.declared.outcome.Outcome.{Outcome}
 use Rattle.lift_desk.specs.declared.words.Ask.{Ask}
 use Rattle.lift_desk.specs.declared.view.TerminalView.{TerminalView}
@@ -60,14 +59,14 @@ IsCutAs plan g disk = (outcome : Outcome) (image : Image) → IsLeftBy outcome d
 
 -- While nothing is stopped the keeper stands there; behind that each cut leaves what the stopped
 -- commit's calls say.
-abbrev pub Stands : Option Stopped → Plan → GroupState → KeeperView FuseDisk → Type 0
+abbrev pub Stands : Option Stopped → Plan → GroupState → KeeperView FusedDisk → Type 0
 Stands None plan g keeper = (keeper.writer.is_broken ≡ false) × (keeper.state ≡ beginning g)
     × (keeper.writer.used ≡ g.used) × (keeper.writer.is_second ≡ g.is_second)
     × IsFused g.passing (fuse_state_of keeper.writer.device)
 Stands (Some stopped) plan g keeper = (keeper.writer.is_broken ≡ true)
     × IsCutAs plan g (fuse_state_of keeper.writer.device)
 
-pub record IsKept (plan : Plan) (g : GroupState) (keeper : KeeperView FuseDisk) : Type 0 where
+pub record IsKept (plan : Plan) (g : GroupState) (keeper : KeeperView FusedDisk) : Type 0 where
   pub same_plan : keeper.writer.plan ≡ plan
   pub half_is : keeper.writer.half ≡ half
   pub register : keeper.writer.register ≡ g.register

@@ -6,8 +6,7 @@ use Rattle.lift_base.specs.declared.command.Body.TheVariants.{Call as Calls, Sto
 use Rattle.lift_base.specs.declared.command.Body.TheVariants.{Place as Placing}
 use Rattle.lift_building.specs.Plan.{Plan, kiosk_floor_of}
 use Rattle.lift_disk.specs.Disk.{DiskState, IsUnchanged, IsTold}
-use Rattle.lift_disk.specs.Faults.{AllAfter, fuse_state_of}
-use Rattle.lift_disk.specs.declared.fuse.FuseDisk.{FuseDisk}
+use Rattle.lift_disk.specs.Faults.{AllAfter, FusedDisk, fuse_state_of}
 use Rattle.lift_policy.specs.Choices.{IsEtdChoice}
 use Rattle.lift_policy.specs.Step.{view_of}
 use Rattle.lift_policy.specs.declared.policies.Etd.{Etd}
@@ -35,7 +34,7 @@ use Rattle.lift_replay.specs.Terminals.{seat_at, having_asked, told_seat, AreTol
 
 -- the clerk of a script
 abbrev pub ScriptClerk : Type 0
-ScriptClerk = ClerkState FuseDisk Etd
+ScriptClerk = ClerkState FusedDisk Etd
 
 -- a terminal has no turn left to ask with
 abbrev pub IsSpent : TerminalSeat → Type 0
