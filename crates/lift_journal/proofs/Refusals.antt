@@ -11,6 +11,10 @@ use Rattle.lift_journal.specs.Layout.{Batch, records_of, size_of, IsBody, IsChai
 use Rattle.lift_base.specs.declared.history.Record.{Record}
 use Rattle.lift_journal.specs.Order.{IsInOrder, IsComplete}
 use Rattle.lift_journal.specs.Opening.{RefusedFor}
+use Rattle.lift_journal.specs.Answers.{RefusesAt}
+use Rattle.lift_journal.specs.Behind.{RefusedBehind}
+use Rattle.lift_journal.specs.Steps.{ReadsOnly, HasItsCause}
+use Rattle.lift_journal.specs.lemmas.Looking.{cause_told}
 use Rattle.lift_journal.specs.Walk.{IsFront, IsSoundFront, IsDamagedAt}
 use Rattle.lift_journal.specs.lemmas.Chains.{chain_room, start_high}
 use Rattle.lift_journal.specs.lemmas.Orders.{fall_front, order_front}
@@ -99,3 +103,19 @@ good_refusal (Damaged sector) old new cause honest shape batches holds =
     (subst (λ k. IsChain batches 1 (take k (drop start image))) (sym (half_from start shape.half)) holds.chain) holds.sound damaged)
 good_refusal Full old new cause honest shape batches holds = absurd cause
 good_refusal Broken old new cause honest shape batches holds = absurd cause
+
+-- an opening that was refused
+pub refused_at : (fault : JournalFault) (old new : DiskState) → ReadsOnly old new → RefusedFor fault old new → HasItsCause fault old new → RefusedBehind fault old new → RefusesAt old new fault
+refused_at fault old new only refused cause behind = record {
+  refused = record {
+    moments = only.touched.moments;
+    runs = only.runs;
+    writes = only.writes;
+    image = only.image;
+    saved = only.saved;
+    cause = refused;
+    told = cause_told fault old new cause;
+    good = good_refusal fault old new refused;
+  };
+  behind = behind;
+}

@@ -14,4 +14,5 @@ pub mod Checkpoint
 pub mod Switch
 pub mod Fault
 pub mod Behind
+pub mod Answers
 pub mod lemmas

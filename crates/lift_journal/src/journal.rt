@@ -16,9 +16,7 @@ ghost use Rattle.lift_journal.specs.Steps.{Makes, ReadsOnly, IsSyncedAt};
 ghost use Rattle.lift_journal.specs.Stops.{StopsShort, StopsCheckpoint};
 ghost use Rattle.lift_journal.specs.Told.{AnswersAsTold};
 ghost use Rattle.lift_journal.specs.Calls.{half_start, append_calls, pick_of, checkpoint_calls};
-ghost use Rattle.lift_journal.specs.Calls.{opening_calls, opening_of};
 ghost use Rattle.lift_journal.specs.Calls.{reads_from, StopsIn, HasRead, HasReadAt};
-ghost use Rattle.lift_journal.specs.Behind.{RefusedBehind};
 ghost use Rattle.lift_journal.specs.Fronts.{IsOfCursor};
 ghost use Rattle.lift_journal.specs.Visits.{TakesAll, HasTaken, ShownBefore};
 
@@ -103,7 +101,7 @@ impl<D: Disk> Model for FormerPlace<D> {
 impl<D: Disk> Journal<D> {
     ghost use Rattle.lift_journal.specs.Journal.{CursorView, ReadsAs, StandsFor, IsCursorIn};
     ghost use Rattle.lift_journal.specs.Journal.{IsNext};
-    ghost use Rattle.lift_journal.specs.Opening.{Opens, Refuses};
+    ghost use Rattle.lift_journal.specs.Answers.{OpensAs, RefusesAt, Reopens, BreaksByFault};
 
     /// The installation that the device was formatted for.
     pub fn shape(&self) -> Shape
@@ -138,21 +136,8 @@ impl<D: Disk> Journal<D> {
     /// Opens a device that a crash may have left. It writes nothing. An `Err` hands the device
     /// back.
     pub fn open(disk: D) -> Result<Journal<D>, (D, JournalFault)>
-        ensures opens { IfOk result (λ journal.
-            Opens (D.state disk) (D.state journal.device) journal.shape journal.used) }
-        ensures whole { IfOk result (λ journal. journal.is_broken ≡ false) }
-        ensures opened { IfOk result (λ journal.
-            journal.opened ≡ (D.state journal.device).failures) }
-        ensures half { IfOk result (λ journal.
-            LeavesNow (D.state journal.device) (Picks journal.is_second)) }
-        ensures refused { IfErr result (λ err. Refuses (D.state disk) (D.state err.0) err.1) }
-        // A sync, the stamp, the pick, and the picked half up to its closing gate, sector by
-        // sector; where it is refused, up to the sector that refuses it.
-        ensures calls { IfOk result (λ journal. (D.state journal.device).trace
-            ≡ (D.state disk).trace ++ opening_calls
-            (half_start journal.is_second journal.shape.half) (journal.used + 1)) }
-        ensures calls_before { IfErr result (λ err.
-            RefusedBehind err.1 (D.state disk) (D.state err.0)) }
+        ensures opens { IfOk result (λ journal. OpensAs D.state (D.state disk) journal) }
+        ensures refused { IfErr result (λ err. RefusesAt (D.state disk) (D.state err.0) err.1) }
     {
         Journal::open_with(disk, &mut Nobody)
     }
@@ -162,19 +147,8 @@ impl<D: Disk> Journal<D> {
     // (the compiler takes minutes over what moves a device of 16 sectors through it)
     #[inline(never)]
     pub fn open_with<V: Visitor>(disk: D, visitor: &mut V) -> Result<Journal<D>, (D, JournalFault)>
-        ensures opens { IfOk result (λ journal.
-            Opens (D.state disk) (D.state journal.device) journal.shape journal.used) }
-        ensures whole { IfOk result (λ journal. journal.is_broken ≡ false) }
-        ensures opened { IfOk result (λ journal.
-            journal.opened ≡ (D.state journal.device).failures) }
-        ensures half { IfOk result (λ journal.
-            LeavesNow (D.state journal.device) (Picks journal.is_second)) }
-        ensures refused { IfErr result (λ err. Refuses (D.state disk) (D.state err.0) err.1) }
-        ensures calls { IfOk result (λ journal. (D.state journal.device).trace
-            ≡ (D.state disk).trace
-            ++ opening_of journal.shape.half journal.is_second journal.used) }
-        ensures calls_before { IfErr result (λ err.
-            RefusedBehind err.1 (D.state disk) (D.state err.0)) }
+        ensures opens { IfOk result (λ journal. OpensAs D.state (D.state disk) journal) }
+        ensures refused { IfErr result (λ err. RefusesAt (D.state disk) (D.state err.0) err.1) }
         // Just the batches that are there, each once and in their order.
         ensures shown { IfOk result (λ journal. (D.state disk).is_honest → (batches : List Batch)
             → Holds journal.shape batches (D.state journal.device).image
@@ -257,23 +231,14 @@ impl<D: Disk> Journal<D> {
             → StopsShort self.old.shape batches (new_batch batch.now.items)
             (bodies (length batch.now.items)) (D.state self.old.device)
             (D.state self.new.device) }
-        ensures failed { IsErrOf result JournalFault.Disk
-            → (D.state self.old.device).failures < (D.state self.new.device).failures }
-        ensures breaks { IsErrOf result JournalFault.Disk → self.new.is_broken ≡ true }
-        ensures whole { OnOk result ((D.state self.new.device).failures
-            ≡ (D.state self.old.device).failures) }
-        ensures stays { OnOk result (self.new.is_broken ≡ false) }
+        ensures breaks { BreaksByFault D.state self.old self.new result }
         ensures full { IsErrOf result JournalFault.Full
             ↔ (self.old.is_broken ≡ false)
             × (self.old.shape.half < self.old.used + bodies (length batch.now.items) + 2) }
-        ensures broken { IsErrOf result JournalFault.Broken ↔ (self.old.is_broken ≡ true) }
-        ensures refused { IsErrOf result JournalFault.Full ⊎ IsErrOf result JournalFault.Broken
-            → self.new ≡ self.old }
+        ensures refused { IsErrOf result JournalFault.Full → self.new ≡ self.old }
         ensures causes { IfErr result (λ fault. (fault ≡ JournalFault.Disk)
             ⊎ (fault ≡ JournalFault.Full) ⊎ (fault ≡ JournalFault.Broken)) }
-        ensures shape { self.new.shape ≡ self.old.shape }
         ensures second { self.new.is_second ≡ self.old.is_second }
-        ensures opened { self.new.opened ≡ self.old.opened }
         ensures used { OnOk result (self.new.used
             ≡ self.old.used + bodies (length batch.now.items) + 1) }
         ensures number { OnOk result (self.new.number ≡ self.old.number + 1) }
@@ -367,18 +332,9 @@ impl<D: Disk> Journal<D> {
         ensures counted { self.old.is_broken ≡ false
             → used (checkpoint_of (base_records register.now))
             ≡ sectors_for (length (base_records register.now)) }
-        ensures failed { IsErrOf result JournalFault.Disk
-            → (D.state self.old.device).failures < (D.state self.new.device).failures }
-        ensures breaks { IsErrOf result JournalFault.Disk → self.new.is_broken ≡ true }
-        ensures whole { OnOk result ((D.state self.new.device).failures
-            ≡ (D.state self.old.device).failures) }
-        ensures stays { OnOk result (self.new.is_broken ≡ false) }
-        ensures broken { IsErrOf result JournalFault.Broken ↔ (self.old.is_broken ≡ true) }
-        ensures refused { IsErrOf result JournalFault.Broken → self.new ≡ self.old }
+        ensures breaks { BreaksByFault D.state self.old self.new result }
         ensures causes { IfErr result (λ fault. (fault ≡ JournalFault.Disk)
             ⊎ (fault ≡ JournalFault.Broken)) }
-        ensures shape { self.new.shape ≡ self.old.shape }
-        ensures opened { self.new.opened ≡ self.old.opened }
     {
         if self.is_broken {
             return Err(JournalFault::Broken);
@@ -423,12 +379,7 @@ impl<D: Disk> Journal<D> {
         ensures kept { OnOk result ((D.state self.old.device).is_honest
             → IsSyncedAt (D.state self.old.device).image (D.state self.new.device)) }
         ensures reads { ReadsOnly (D.state self.old.device) (D.state self.new.device) }
-        ensures failures { OnOk result ((D.state self.new.device).failures
-            ≡ (D.state self.old.device).failures) }
-        ensures stays { OnOk result (self.new.is_broken ≡ false) }
-        ensures failed { IsErrOf result JournalFault.Disk
-            → (D.state self.old.device).failures < (D.state self.new.device).failures }
-        ensures breaks { IsErrOf result JournalFault.Disk → self.new.is_broken ≡ true }
+        ensures breaks { BreaksByFault D.state self.old self.new result }
         ensures cursor_stays { OnErr result (cursor.new ≡ cursor.old) }
         ensures damaged_stays { (s : _) → IsErrOf result (JournalFault.Damaged s)
             → ((D.state self.new.device).failures ≡ (D.state self.old.device).failures)
@@ -437,12 +388,9 @@ impl<D: Disk> Journal<D> {
             → (D.state self.old.device).is_honest → (batches : List Batch)
             → Holds self.old.shape batches (D.state self.old.device).image
             → IsCursorIn batches cursor.old → ⊥ }
-        ensures broken { IsErrOf result JournalFault.Broken ↔ (self.old.is_broken ≡ true) }
-        ensures refused { IsErrOf result JournalFault.Broken → self.new ≡ self.old }
         ensures told { AnswersAsTold result (D.state self.old.device) (D.state self.new.device) }
         ensures causes { IfErr result (λ fault. IsOfCursor fault) }
-        ensures same { (self.new.shape ≡ self.old.shape) × (self.new.used ≡ self.old.used)
-            × (self.new.opened ≡ self.old.opened) }
+        ensures used { self.new.used ≡ self.old.used }
         ensures second { self.new.is_second ≡ self.old.is_second }
         ensures number { self.new.number ≡ self.old.number }
         // The gate and its body in a row, and at the end no call; where it is refused, as far as
@@ -500,28 +448,7 @@ impl<D: Disk> Journal<D> {
     /// Opens it again, also after a fault. It writes nothing. A fault of the device leaves it
     /// broken, a refusal for another cause as it was.
     pub fn reopen(&mut self) -> Result<(), JournalFault>
-        ensures opens { OnOk result
-            (Opens (D.state self.old.device)
-            (D.state self.new.device) self.new.shape self.new.used) }
-        ensures whole { OnOk result (self.new.is_broken ≡ false) }
-        ensures opened { OnOk result (self.new.opened ≡ (D.state self.new.device).failures) }
-        ensures half { OnOk result
-            (LeavesNow (D.state self.new.device) (Picks self.new.is_second)) }
-        ensures refused { IfErr result (λ fault.
-            Refuses (D.state self.old.device) (D.state self.new.device) fault) }
-        ensures calls { OnOk result ((D.state self.new.device).trace
-            ≡ (D.state self.old.device).trace
-            ++ opening_calls (half_start self.new.is_second self.new.shape.half)
-            (self.new.used + 1)) }
-        ensures calls_before { IfErr result (λ fault.
-            RefusedBehind fault (D.state self.old.device) (D.state self.new.device)) }
-        ensures breaks { IsErrOf result JournalFault.Disk → self.new.is_broken ≡ true }
-        ensures stays { IfErr result (λ fault. (fault ≡ JournalFault.Disk)
-            ⊎ (self.new.is_broken ≡ self.old.is_broken)) }
-        ensures same { OnErr result ((self.new.shape ≡ self.old.shape)
-            × (self.new.used ≡ self.old.used) × (self.new.opened ≡ self.old.opened)) }
-        ensures second { OnErr result (self.new.is_second ≡ self.old.is_second) }
-        ensures number { OnErr result (self.new.number ≡ self.old.number) }
+        ensures reopens { Reopens D.state self.old self.new result }
     {
         match self.reopen_from(&mut Nobody) {
             Ok(_former) => Ok(()),
@@ -537,27 +464,7 @@ impl<D: Disk> Journal<D> {
     ) -> Result<FormerPlace<D>, JournalFault>
         ensures former { IfOk result (λ former. former ≡ self.old) }
         ensures reads { ReadsOnly (D.state self.old.device) (D.state self.new.device) }
-        ensures opens { OnOk result
-            (Opens (D.state self.old.device)
-            (D.state self.new.device) self.new.shape self.new.used) }
-        ensures whole { OnOk result (self.new.is_broken ≡ false) }
-        ensures opened { OnOk result (self.new.opened ≡ (D.state self.new.device).failures) }
-        ensures half { OnOk result
-            (LeavesNow (D.state self.new.device) (Picks self.new.is_second)) }
-        ensures refused { IfErr result (λ fault.
-            Refuses (D.state self.old.device) (D.state self.new.device) fault) }
-        ensures calls { OnOk result ((D.state self.new.device).trace
-            ≡ (D.state self.old.device).trace
-            ++ opening_of self.new.shape.half self.new.is_second self.new.used) }
-        ensures calls_before { IfErr result (λ fault.
-            RefusedBehind fault (D.state self.old.device) (D.state self.new.device)) }
-        ensures breaks { IsErrOf result JournalFault.Disk → self.new.is_broken ≡ true }
-        ensures stays { IfErr result (λ fault. (fault ≡ JournalFault.Disk)
-            ⊎ (self.new.is_broken ≡ self.old.is_broken)) }
-        ensures same { OnErr result ((self.new.shape ≡ self.old.shape)
-            × (self.new.used ≡ self.old.used) × (self.new.opened ≡ self.old.opened)) }
-        ensures second { OnErr result (self.new.is_second ≡ self.old.is_second) }
-        ensures number { OnErr result (self.new.number ≡ self.old.number) }
+        ensures reopens { Reopens D.state self.old self.new result }
         // Just the batches that are there, each once and in their order.
         ensures shown { OnOk result ((D.state self.old.device).is_honest → (batches : List Batch)
             → Holds self.new.shape batches (D.state self.new.device).image

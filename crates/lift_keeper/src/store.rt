@@ -1,6 +1,6 @@
 //! A batch is made safe: by a checkpoint, where it lacks room, and an append.
 
-ghost use Rattle.std.specs.Prelude.{◌≡◌, ◌<◌, ◌≤◌, ◌+◌, List, length, map, All, false, IfErr, OnOk};
+ghost use Rattle.std.specs.Prelude.{◌≡◌, ◌≤◌, ◌+◌, List, length, map, All, false, IfErr, OnOk};
 ghost use Rattle.std.specs.Prelude.{OnErr};
 ghost use Rattle.lift_base.specs.declared.history.Entry.{Entry as EntryValue};
 ghost use Rattle.lift_base.specs.declared.history.Record.TheVariants.{Entry as EntryRecord};
@@ -8,6 +8,7 @@ ghost use Rattle.lift_base.specs.Records.{IsLawful};
 ghost use Rattle.lift_building.specs.Plan.{Plan};
 ghost use Rattle.lift_disk.specs.Disk.{LeavesOnly, RunsOn};
 ghost use Rattle.lift_register.specs.Prelude.{register_of, FitFrom};
+ghost use Rattle.lift_journal.specs.Answers.{BreaksByFault};
 ghost use Rattle.lift_journal.specs.Layout.{bodies};
 ghost use Rattle.lift_journal.specs.Order.{IsEntry};
 ghost use Rattle.lift_journal.specs.Steps.{Makes};
@@ -58,13 +59,8 @@ fn make_room<D: Disk>(
         → (D.state journal.old.device).is_honest → (D.state journal.old.device).is_inert
         → StopsFolding plan journal.old.shape.half journal.old.is_second journal.old.used
         register.now (D.state journal.old.device) (D.state journal.new.device)) }
-    ensures failures { OnOk result ((D.state journal.new.device).failures
-        ≡ (D.state journal.old.device).failures) }
-    ensures failed { OnErr result ((D.state journal.old.device).failures
-        < (D.state journal.new.device).failures) }
-    ensures stays { OnOk result (journal.new.is_broken ≡ false) }
+    ensures breaks { BreaksByFault D.state journal.old journal.new result }
     ensures causes { IfErr result (λ fault. fault ≡ JournalFault.Disk) }
-    ensures shape { journal.new.shape ≡ journal.old.shape }
 {
     if journal.room(count) {
         return Ok(());
@@ -117,13 +113,8 @@ pub fn store<D: Disk>(
         → (D.state journal.old.device).is_honest → (D.state journal.old.device).is_inert
         → StopsCommit plan journal.old.shape.half journal.old.is_second journal.old.used
         register.now batch (D.state journal.old.device) (D.state journal.new.device)) }
-    ensures failures { OnOk result ((D.state journal.new.device).failures
-        ≡ (D.state journal.old.device).failures) }
-    ensures failed { OnErr result ((D.state journal.old.device).failures
-        < (D.state journal.new.device).failures) }
-    ensures stays { OnOk result (journal.new.is_broken ≡ false) }
+    ensures breaks { BreaksByFault D.state journal.old journal.new result }
     ensures causes { IfErr result (λ fault. fault ≡ JournalFault.Disk) }
-    ensures shape { journal.new.shape ≡ journal.old.shape }
 {
     make_room(journal, register, records.len())?;
     journal.append(records)

@@ -16,7 +16,7 @@ returns-clause-keeps g c =
     let after = c.replace.new.self in
     ok_four c.replace.result _ _ _ _ _ (λ holds stands picks used plan guards honest_new.
     replace_keeps plan journal.shape journal.is_second journal.used c.args.register.now (g.D.Disk.state journal.device) guards (g.D.Disk.state after.device) after.shape after.is_second after.used
-    (checkpoint_of (base_records c.args.register.now)) c.replace.ensures.runs.honest c.replace.ensures.shape holds stands c.replace.ensures.joined picks
+    (checkpoint_of (base_records c.args.register.now)) c.replace.ensures.runs.honest c.replace.ensures.breaks.shape holds stands c.replace.ensures.joined picks
     (used ∙ sym (c.replace.ensures.counted c.requires.whole)) honest_new)
     c.replace.ensures.batches c.replace.ensures.replaced c.replace.ensures.half c.replace.ensures.used
 
@@ -25,7 +25,7 @@ returns-clause-stops g c =
     let journal = c.args.journal.now in
     let old = g.D.Disk.state journal.device in
     let checkpoint = checkpoint_of (base_records c.args.register.now) in
-    by_disk c.replace.result _ c.replace.ensures.causes (λ is. cc (c.replace.ensures.broken.0 is, c.requires.whole))
+    by_disk c.replace.result _ c.replace.ensures.causes (λ is. cc (c.replace.ensures.breaks.broken.0 is, c.requires.whole))
     (λ is plan guards honest inert.
     let keeps = guards.keeps honest in
     replace_stops plan journal.shape journal.is_second journal.used c.args.register.now old guards (g.D.Disk.state c.replace.new.self.device) checkpoint honest c.replace.ensures.joined

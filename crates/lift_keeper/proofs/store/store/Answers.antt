@@ -30,12 +30,12 @@ returns-clause-keeps g c =
     let mid = g.D.Disk.state middle.device in
     let new = g.D.Disk.state after.device in
     let register = c.args.register.now in
-    let picks = now_after mid new (Picks middle.is_second) (c.append.ensures.half c.in_ok-make_room.ensures.stays) (g.met.D.Disk.counts_now after.device) in
+    let picks = now_after mid new (Picks middle.is_second) (c.append.ensures.half c.in_ok-make_room.ensures.breaks.stays) (g.met.D.Disk.counts_now after.device) in
     ok_four c.append.result _ _ _ _ _ (λ acknowledged listed used stays plan batch kept fit guards honest_new.
     append_keeps plan middle.shape middle.is_second middle.used register mid
     (guards_then plan journal.shape middle.shape journal.is_second middle.is_second journal.used middle.used register old mid guards (c.in_ok-make_room.ensures.keeps plan guards))
-    batch c.args.records.now.items kept fit new after.shape after.is_second after.used c.append.ensures.runs.honest c.append.ensures.shape acknowledged listed c.append.ensures.second picks used honest_new)
-    c.append.ensures.acknowledged c.append.ensures.listed c.append.ensures.used c.append.ensures.stays
+    batch c.args.records.now.items kept fit new after.shape after.is_second after.used c.append.ensures.runs.honest c.append.ensures.breaks.shape acknowledged listed c.append.ensures.second picks used honest_new)
+    c.append.ensures.acknowledged c.append.ensures.listed c.append.ensures.used c.append.ensures.breaks.stays
 
 pub returns-clause-told : goal.returns-clause-told
 returns-clause-told g c =
@@ -54,10 +54,10 @@ returns-clause-stops g c =
     let records = c.args.records.now.items in
     let room = c.in_ok-make_room.ensures in
     let count : c.len.result ≡ length records = c.len.ensures.value in
-    let picks = now_after mid new (Picks middle.is_second) (c.append.ensures.half room.stays) (g.met.D.Disk.counts_now after.device) in
+    let picks = now_after mid new (Picks middle.is_second) (c.append.ensures.half room.breaks.stays) (g.met.D.Disk.counts_now after.device) in
     by_disk_alone c.append.result _ c.append.ensures.causes
     (λ is. absurd (omega (arith, (c.append.ensures.full.0 is).1, room.room, ap bodies count)))
-    (λ is. cc (c.append.ensures.broken.0 is, room.stays))
+    (λ is. cc (c.append.ensures.breaks.broken.0 is, room.breaks.stays))
     (λ is plan batch kept fit guards honest inert.
     let then = guards_then plan journal.shape middle.shape journal.is_second middle.is_second journal.used middle.used register old mid guards (room.keeps plan guards) in
     let honest_mid = c.make_room.ensures.runs.honest.1 honest in
@@ -65,6 +65,6 @@ returns-clause-stops g c =
     let honest_new = c.append.ensures.runs.honest.1 honest_mid in
     let keeps = then.keeps honest_mid in
     adding_stops plan journal.shape.half journal.is_second journal.used register batch old mid new c.len.result middle.shape.half middle.is_second middle.used
-    (count ∙ ap length kept ∙ length-map batch EntryRecord) (ap (λ (s : Shape). s.half) c.make_room.ensures.shape) room.second room.used room.made.calls (disk_calls c.append.result mid new is c.append.ensures.told)
+    (count ∙ ap length kept ∙ length-map batch EntryRecord) (ap (λ (s : Shape). s.half) c.make_room.ensures.breaks.shape) room.second room.used room.made.calls (disk_calls c.append.result mid new is c.append.ensures.told)
     (append_stops plan middle.shape middle.is_second middle.used register mid then batch records kept fit new honest_mid honest_new c.requires.entries picks (g.met.D.Disk.may_lose after.device)
     (c.append.ensures.stops is honest_mid inert_mid keeps.batches keeps.holds)))

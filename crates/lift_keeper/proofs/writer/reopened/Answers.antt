@@ -11,7 +11,7 @@ use Rattle.lift_keeper.proofs.writer.reopened.Goals as goal
 
 pub returns-in-Err-clause-refused : goal.returns-in-Err-clause-refused
 returns-in-Err-clause-refused g c =
-    refused_journal c.args.building.now (g.D.Disk.state c.args.journal.now.device) (g.D.Disk.state c.reopen_from.new.self.device) c.in-Err.fault c.in-Err.ensures.refused
+    refused_journal c.args.building.now (g.D.Disk.state c.args.journal.now.device) (g.D.Disk.state c.reopen_from.new.self.device) c.in-Err.fault c.in-Err.ensures.reopens.refused.refused
 
 pub return_to-requires-clause-reads : goal.return_to-requires-clause-reads
 return_to-requires-clause-reads g c =
@@ -22,7 +22,7 @@ returns-in-Err-recovered-clause-refused g c =
     let journal = c.reopen_from.new.self in
     let reading = c.reopen_from.new.visitor in
     subst (λ (d : g.row.D.Denot). RefusesReopening c.args.building.now (g.D.Disk.state c.args.journal.now.device) (g.D.Disk.state d) c.in-Err-recovered.fault) (sym c.return_to.ensures.device)
-    (refused_reading c.args.building.now (g.D.Disk.state c.args.journal.now.device) (g.D.Disk.state journal.device) journal.shape journal.used c.in-Ok.ensures.opens reading
+    (refused_reading c.args.building.now (g.D.Disk.state c.args.journal.now.device) (g.D.Disk.state journal.device) journal.shape journal.used c.in-Ok.ensures.reopens.opens.opens reading
     (λ honest batches holds. subst (λ (s : ReadingState). TakesAll Reads s batches reading) c.new-reading.ensures (c.in-Ok.ensures.shown honest batches holds))
     c.in-Err-recovered.fault c.in-Err-recovered.ensures.refused)
 
@@ -31,9 +31,9 @@ returns-in-Ok-recovered-clause-opens g c =
     let journal = c.reopen_from.new.self in
     let reading = c.reopen_from.new.visitor in
     let found = c.in-Ok-recovered.ensures in
-    reopens c.args.building.now (g.D.Disk.state c.args.journal.now.device) (g.D.Disk.state journal.device) journal.shape journal.used c.in-Ok.ensures.opens reading
+    reopens c.args.building.now (g.D.Disk.state c.args.journal.now.device) (g.D.Disk.state journal.device) journal.shape journal.used c.in-Ok.ensures.reopens.opens.opens reading
     (λ honest batches holds. subst (λ (s : ReadingState). TakesAll Reads s batches reading) c.new-reading.ensures (c.in-Ok.ensures.shown honest batches holds))
-    c.in-Ok-recovered.register found.shape found.gives journal.is_second c.in-Ok.ensures.half
+    c.in-Ok-recovered.register found.shape found.gives journal.is_second c.in-Ok.ensures.reopens.opens.half
 
 pub returns-in-Ok-recovered-clause-guards : goal.returns-in-Ok-recovered-clause-guards
 returns-in-Ok-recovered-clause-guards g c =
@@ -41,9 +41,9 @@ returns-in-Ok-recovered-clause-guards g c =
     let reading = c.reopen_from.new.visitor in
     let found = c.in-Ok-recovered.ensures in
     let some = c.reopen_from.ensures.shown_some in
-    guards c.args.building.now (g.D.Disk.state c.args.journal.now.device) (g.D.Disk.state journal.device) journal.shape journal.used c.in-Ok.ensures.opens reading
+    guards c.args.building.now (g.D.Disk.state c.args.journal.now.device) (g.D.Disk.state journal.device) journal.shape journal.used c.in-Ok.ensures.reopens.opens.opens reading
     (λ honest batches holds. subst (λ (s : ReadingState). TakesAll Reads s batches reading) c.new-reading.ensures (c.in-Ok.ensures.shown honest batches holds))
-    c.in-Ok-recovered.register found.shape found.gives journal.is_second c.in-Ok.ensures.half
+    c.in-Ok-recovered.register found.shape found.gives journal.is_second c.in-Ok.ensures.reopens.opens.half
     (plan_read c.new-reading.result some.batches reading some.taken ∙ ap (λ (s : ReadingState). s.recovery.plan) c.new-reading.ensures)
 
 pub returns-in-Err-recovered-clause-calls_before : goal.returns-in-Err-recovered-clause-calls_before
@@ -52,4 +52,4 @@ returns-in-Err-recovered-clause-calls_before g c =
     let reading = c.reopen_from.new.visitor in
     subst (λ (d : g.row.D.Denot). StopsOpening c.in-Err-recovered.fault (g.D.Disk.state c.args.journal.now.device) (g.D.Disk.state d)) (sym c.return_to.ensures.device)
     (stopped_reading c.args.building.now journal.shape reading (g.D.Disk.state c.args.journal.now.device) (g.D.Disk.state journal.device) c.in-Err-recovered.fault c.in-Err-recovered.ensures.refused
-    (all_read (g.D.Disk.state c.args.journal.now.device) (g.D.Disk.state journal.device) journal.shape journal.used c.in-Ok.ensures.opens journal.is_second c.in-Ok.ensures.half c.in-Ok.ensures.calls))
+    (all_read (g.D.Disk.state c.args.journal.now.device) (g.D.Disk.state journal.device) journal.shape journal.used c.in-Ok.ensures.reopens.opens.opens journal.is_second c.in-Ok.ensures.reopens.opens.half c.in-Ok.ensures.reopens.opens.calls))

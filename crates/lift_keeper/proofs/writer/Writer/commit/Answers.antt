@@ -63,7 +63,7 @@ invariant_of-self-in-Err g c =
     let leaves = now_after old new (IsInDoubt w.building.now w.register batch)
     (c.store.ensures.any_moment w.building.now batch c.put_records.ensures.kept (fit c.if-self.false) guards) (g.met.D.Disk.counts_now c.store.new.journal.device) in
     let kept : batch ≡ c.of.result.value.items = cc (c.of.ensures) in
-    let failed = c.in-Err.ensures.failed in
+    let failed = c.in-Err.ensures.breaks.failed (cc (c.in-Err.ensures.causes)) in
     broken_writer w.building.now c.store.new.journal w.register c.of.result.value.items (g.D.Disk.state w.opened.value.device).failures true new refl
     c.self.invariant.lawful c.self.invariant.belongs c.self.invariant.balanced (omega (arith, c.self.invariant.counted, failed))
     (subst (λ (l : List Entry). LeavesNow new (IsInDoubt w.building.now w.register l)) kept leaves)

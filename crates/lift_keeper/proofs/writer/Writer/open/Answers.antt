@@ -10,23 +10,23 @@ use Rattle.lift_keeper.proofs.Writers.{whole_writer}
 use Rattle.lift_keeper.proofs.writer.Writer.open.Goals as goal
 
 pub returns-in-Err-clause-refused : goal.returns-in-Err-clause-refused
-returns-in-Err-clause-refused g c = refused_journal c.args.building.now (g.D.Disk.state c.args.disk) (g.D.Disk.state c.in-Err.disk) c.in-Err.fault c.in-Err.ensures.refused
+returns-in-Err-clause-refused g c = refused_journal c.args.building.now (g.D.Disk.state c.args.disk) (g.D.Disk.state c.in-Err.disk) c.in-Err.fault c.in-Err.ensures.refused.refused
 
 pub returns-in-Ok-recovered-clause-opens : goal.returns-in-Ok-recovered-clause-opens
 returns-in-Ok-recovered-clause-opens g c =
     let journal = c.in-Ok.journal in
     let reading = c.open_with.new.visitor in
     let found = c.in-Ok-recovered.ensures in
-    reopens c.args.building.now (g.D.Disk.state c.args.disk) (g.D.Disk.state journal.device) journal.shape journal.used c.in-Ok.ensures.opens reading
+    reopens c.args.building.now (g.D.Disk.state c.args.disk) (g.D.Disk.state journal.device) journal.shape journal.used c.in-Ok.ensures.opens.opens reading
     (λ honest batches holds. subst (λ (s : ReadingState). TakesAll Reads s batches reading) c.new-reading.ensures (c.in-Ok.ensures.shown honest batches holds))
-    c.in-Ok-recovered.register found.shape found.gives journal.is_second c.in-Ok.ensures.half
+    c.in-Ok-recovered.register found.shape found.gives journal.is_second c.in-Ok.ensures.opens.half
 
 pub returns-in-Err-recovered-clause-refused : goal.returns-in-Err-recovered-clause-refused
 returns-in-Err-recovered-clause-refused g c =
     let journal = c.in-Ok.journal in
     let reading = c.open_with.new.visitor in
     subst (λ (d : g.row.D.Denot). RefusesReopening c.args.building.now (g.D.Disk.state c.args.disk) (g.D.Disk.state d) c.in-Err-recovered.fault) (sym c.into_disk.ensures)
-    (refused_reading c.args.building.now (g.D.Disk.state c.args.disk) (g.D.Disk.state journal.device) journal.shape journal.used c.in-Ok.ensures.opens reading
+    (refused_reading c.args.building.now (g.D.Disk.state c.args.disk) (g.D.Disk.state journal.device) journal.shape journal.used c.in-Ok.ensures.opens.opens reading
     (λ honest batches holds. subst (λ (s : ReadingState). TakesAll Reads s batches reading) c.new-reading.ensures (c.in-Ok.ensures.shown honest batches holds))
     c.in-Err-recovered.fault c.in-Err-recovered.ensures.refused)
 
@@ -36,13 +36,13 @@ invariant_of-result g c =
     let reading = c.open_with.new.visitor in
     let found = c.in-Ok-recovered.ensures in
     let some = c.open_with.ensures.shown_some in
-    let made = guards c.args.building.now (g.D.Disk.state c.args.disk) (g.D.Disk.state journal.device) journal.shape journal.used c.in-Ok.ensures.opens reading
+    let made = guards c.args.building.now (g.D.Disk.state c.args.disk) (g.D.Disk.state journal.device) journal.shape journal.used c.in-Ok.ensures.opens.opens reading
     (λ honest batches holds. subst (λ (s : ReadingState). TakesAll Reads s batches reading) c.new-reading.ensures (c.in-Ok.ensures.shown honest batches holds))
-    c.in-Ok-recovered.register found.shape found.gives journal.is_second c.in-Ok.ensures.half
+    c.in-Ok-recovered.register found.shape found.gives journal.is_second c.in-Ok.ensures.opens.half
     (plan_read c.new-reading.result some.batches reading some.taken ∙ ap (λ (s : ReadingState). s.recovery.plan) c.new-reading.ensures) in
     let counted = ap (λ (j : JournalView g.row.D.Denot). (g.D.Disk.state j.device).failures) c.of-opened.ensures in
     whole_writer c.args.building.now journal c.in-Ok-recovered.register c.of.result.value.items (g.D.Disk.state c.of-opened.result.value.device).failures false
-    (g.D.Disk.state journal.device) refl made c.in-Ok.ensures.whole (cc (c.of.ensures, c.new.ensures)) (omega (arith, counted))
+    (g.D.Disk.state journal.device) refl made c.in-Ok.ensures.opens.whole (cc (c.of.ensures, c.new.ensures)) (omega (arith, counted))
 
 pub returns-in-Err-recovered-clause-calls_before : goal.returns-in-Err-recovered-clause-calls_before
 returns-in-Err-recovered-clause-calls_before g c =
@@ -50,4 +50,4 @@ returns-in-Err-recovered-clause-calls_before g c =
     let reading = c.open_with.new.visitor in
     subst (λ (d : g.row.D.Denot). StopsOpening c.in-Err-recovered.fault (g.D.Disk.state c.args.disk) (g.D.Disk.state d)) (sym c.into_disk.ensures)
     (stopped_reading c.args.building.now journal.shape reading (g.D.Disk.state c.args.disk) (g.D.Disk.state journal.device) c.in-Err-recovered.fault c.in-Err-recovered.ensures.refused
-    (all_read (g.D.Disk.state c.args.disk) (g.D.Disk.state journal.device) journal.shape journal.used c.in-Ok.ensures.opens journal.is_second c.in-Ok.ensures.half c.in-Ok.ensures.calls))
+    (all_read (g.D.Disk.state c.args.disk) (g.D.Disk.state journal.device) journal.shape journal.used c.in-Ok.ensures.opens.opens journal.is_second c.in-Ok.ensures.opens.half c.in-Ok.ensures.opens.calls))
