@@ -18,4 +18,5 @@ pub mod Due
 pub mod Faults
 pub mod Outcomes
 pub mod Short
+pub mod Laws
 pub mod lemmas

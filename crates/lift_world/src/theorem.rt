@@ -15,59 +15,32 @@ ghost use Rattle.lift_register.specs.Status.{Done};
 ghost use Rattle.lift_stops.specs.StopList.{stop_list, is_halt_of, halts_of};
 ghost use Rattle.lift_policy.specs.Step.{State};
 ghost use Rattle.lift_policy.specs.declared.command.Command.{Command};
-ghost use Rattle.lift_world.specs.Next.{run, next, goes};
 ghost use Rattle.lift_world.specs.declared.event.Kept.{Kept};
 ghost use Rattle.lift_world.specs.declared.event.Event.TheVariants.{Ask, Cut, Reopen, Pull, Fold};
 ghost use Rattle.lift_world.specs.declared.event.Event.TheVariants.{Body as BodyWrite, FirstSync};
 ghost use Rattle.lift_world.specs.declared.event.Event.TheVariants.{Gate, SecondSync, Answer, Fault};
 ghost use Rattle.lift_world.specs.declared.event.Phase.TheVariants.{Writing, GateWritten};
-ghost use Rattle.lift_world.specs.Headline.{RecoversPrefix, RecoversAcknowledged, RecoversLetters};
-ghost use Rattle.lift_world.specs.Headline.{RecoversFitting, HearsInOrder, SealsAccepted};
-ghost use Rattle.lift_world.specs.Headline.{StoresGiven, QueuesFew, HoldsNothingWhileOff};
-ghost use Rattle.lift_world.specs.Headline.{AllAskOneByOne, IsOfTerminal, HoldsFew};
 ghost use Rattle.lift_world.specs.World.{World, start, register_after, outcome, may_keep};
 ghost use Rattle.lift_world.specs.World.{acknowledged};
-ghost use Rattle.lift_world.specs.Possible.{CutsToSafe, CutsWithBatch, CutsGive, ReopensAfterCut};
-ghost use Rattle.lift_world.specs.Possible.{OnlyReopensAfterCut, ReopensAfterFault, ReopeningsGive};
-ghost use Rattle.lift_world.specs.Possible.{ReopensWhileQuiet};
-ghost use Rattle.lift_world.specs.Possible.{AsksOnceHeard, HearsTheNext, TakesNeedLooks, Seals};
-ghost use Rattle.lift_world.specs.Possible.{PullsInTurn, CallsInOrder, AnswersDue, AnswersOnlyDue};
-ghost use Rattle.lift_world.specs.Possible.{GivenStays, FillsSectors, AcknowledgesReplies};
-ghost use Rattle.lift_world.specs.Possible.{StoresTheReply, ReopeningsUnplace, is_device_call};
-ghost use Rattle.lift_world.specs.Asking.{AsksStand};
-ghost use Rattle.lift_world.specs.Beside.{GoesAreRuns, RunsJoin, TerminalsPass};
-ghost use Rattle.lift_world.specs.Beside.{TerminalsStandBeside, is_of_terminals};
-ghost use Rattle.lift_world.specs.Relay.{IsQueueInOrder, AllocationsAreEvents, FullQueueWaits};
-ghost use Rattle.lift_world.specs.Relay.{FlushesAreEvents, FailedFlushesAreEvents};
-ghost use Rattle.lift_world.specs.Relay.{BrokenFlushesAreEvents, TurnsMeet, PartsMeet};
-ghost use Rattle.lift_world.specs.Relay.{FlusherPassesScans, FlusherComesFirst, FlusherPassesSeals};
-ghost use Rattle.lift_world.specs.Relay.{is_flushers};
-ghost use Rattle.lift_world.specs.Among.{FlusherMightComeFirst, FlusherGoesAmong};
-ghost use Rattle.lift_world.specs.Among.{PossibleStandAmong, AsksStandAtOnce, AsksStandOn};
-ghost use Rattle.lift_world.specs.Among.{LooksFindAsks, SealsAloneQueue, ScansGoAmong};
-ghost use Rattle.lift_world.specs.Among.{AllocationsGoAmong, Look, LooksStand};
-ghost use Rattle.lift_world.specs.Stays.{StaysBetweenScans, StaysBetweenFlushes};
-ghost use Rattle.lift_world.specs.Stays.{StaysBrokenBetween, StaysInOrder, HearsOnInOrder};
-ghost use Rattle.lift_world.specs.Stays.{AsksOnOneByOne, RestsInOrder};
+ghost use Rattle.lift_world.specs.Next.{run, next, goes};
+ghost use Rattle.lift_world.specs.Headline.{RecoversPrefix, RecoversAcknowledged, RecoversLetters};
+ghost use Rattle.lift_world.specs.Headline.{RecoversFitting, IsOfTerminal, HoldsFew, IsOpenWith};
+ghost use Rattle.lift_world.specs.Headline.{IsDone, StillNames};
+ghost use Rattle.lift_world.specs.Short.{HoldsFewEntries};
 ghost use Rattle.lift_world.specs.Lawful.{IsTypedEvent, RecoversRecords, AcceptsFitting};
 ghost use Rattle.lift_world.specs.Lawful.{AcceptsRecords};
+ghost use Rattle.lift_world.specs.Laws.{IsOrderly, EventsArePossible, TurnsAreEvents, AllEndAtRest};
+ghost use Rattle.lift_world.specs.Laws.{RepliesAreSafe, OutcomesMove, RelaysAreEvents};
+ghost use Rattle.lift_world.specs.Laws.{PartsInterleave, PartsStay, TerminalsPassThrough};
+ghost use Rattle.lift_world.specs.Turns.{HasRun, IsFresh, MayFailIn, IsAtRest};
+ghost use Rattle.lift_world.specs.Tie.{Finds};
 ghost use Rattle.lift_world.specs.Policies.{StepsAreAny, RunsAreAny};
-ghost use Rattle.lift_world.specs.Due.{DueOnceSafe};
-ghost use Rattle.lift_world.specs.Faults.{FaultsLeaveDoubt, OnlyFaultsBreak, UnknownAfterFault};
-ghost use Rattle.lift_world.specs.Faults.{UnknownOverReopening};
+ghost use Rattle.lift_world.specs.Possible.{FillsSectors, is_device_call};
+ghost use Rattle.lift_world.specs.Among.{LooksFindAsks, Look, LooksStand};
+ghost use Rattle.lift_world.specs.Beside.{is_of_terminals};
+ghost use Rattle.lift_world.specs.Relay.{is_flushers};
 ghost use Rattle.lift_world.specs.Faults.{goes_on};
-ghost use Rattle.lift_world.specs.Tie.{TakesAreSteps, StepsAreTakes, LooksAreTakes, Finds};
-ghost use Rattle.lift_world.specs.Turns.{HasRun, RunsAreTakes, TurnsAreRuns, FailuresAreRuns};
-ghost use Rattle.lift_world.specs.Turns.{BrokenTurnsAreRuns, BrokenTurnsChangeNothing};
-ghost use Rattle.lift_world.specs.Turns.{IsFresh, MayFailIn};
-ghost use Rattle.lift_world.specs.Turns.{IsAtRest, TurnsEndAtRest, FailuresEndAtRest};
-ghost use Rattle.lift_world.specs.Turns.{BrokenTurnsEndAtRest, ReopeningsEndAtRest, CutsEndAtRest};
-ghost use Rattle.lift_world.specs.Turns.{RunningReopeningsEndAtRest, FailedReopeningsEndAtRest};
-ghost use Rattle.lift_world.specs.Headline.{FliesNothingWhileIdle, ReopensInPlace, IsOpenWith};
-ghost use Rattle.lift_world.specs.Headline.{IsDone, StillNames};
-ghost use Rattle.lift_world.specs.Outcomes.{OutcomesStay, GatesOfferBatches, SyncsKeepBatches};
-ghost use Rattle.lift_world.specs.Outcomes.{ReopeningsKeepOne, moves_outcomes};
-ghost use Rattle.lift_world.specs.Short.{HoldsFewEntries};
+ghost use Rattle.lift_world.specs.Outcomes.{moves_outcomes};
 
 use crate::event::Event;
 use lift_base::{Body, Number, Terminal};
@@ -113,56 +86,20 @@ pub fn every_run()
     ensures written { (building : Plan) (events : List Event) → IsBuilding building
         → AllByRecursion IsTypedEvent events
         → AcceptsRecords (run events (start building)) }
-    ensures heard { (building : Plan) (events : List Event)
-        → HearsInOrder (run events (start building)) }
-    ensures sealed { (building : Plan) (events : List Event)
-        → SealsAccepted (run events (start building)) }
-    ensures shown { (building : Plan) (events : List Event)
-        → StoresGiven (run events (start building)) }
-    ensures in_order { (building : Plan) (events : List Event)
-        → IsQueueInOrder (run events (start building)) }
-    ensures queued { (building : Plan) (events : List Event)
-        → QueuesFew (run events (start building)) }
-    ensures off { (building : Plan) (events : List Event)
-        → HoldsNothingWhileOff (run events (start building)) }
-    ensures asked { (building : Plan) (events : List Event)
-        → AllAskOneByOne (run events (start building)) }
+    ensures orderly { (building : Plan) (events : List Event)
+        → IsOrderly (run events (start building)) }
     ensures few { (building : Plan) (events : List Event) → AllByRecursion IsOfTerminal events
         → HoldsFew (run events (start building)) }
     ensures few_entries { (building : Plan) (events : List Event)
         → AllByRecursion IsOfTerminal events → HoldsFewEntries (run events (start building)) }
-    ensures idle { (building : Plan) (events : List Event)
-        → FliesNothingWhileIdle (run events (start building)) }
-    ensures in_place { (building : Plan) (events : List Event)
-        → ReopensInPlace (run events (start building)) }
 {}
 
 /// Which events are possible, in whatever world, and what they leave: so the theorem speaks of
 /// cuts, faults and recoveries that happen, of asks that are decided, of batches that are sealed
 /// and written, and of answers that are heard. What was given stays given over all of them.
 pub fn events_are_possible()
-    ensures cut { (w : World) → CutsToSafe w }
-    ensures cut_with_batch { (w : World) → CutsWithBatch w }
-    ensures cut_leaves { (w : World) → CutsGive w }
-    ensures reopening { (w : World) → ReopensAfterCut w }
-    ensures nothing_else { (w : World) → OnlyReopensAfterCut w }
-    ensures reopening_after_fault { (w : World) → ReopensAfterFault w }
-    ensures recovered { (w : World) → ReopeningsGive w }
-    ensures reopening_while_quiet { (w : World) → ReopensWhileQuiet w }
-    ensures asks { (w : World) → AsksOnceHeard w }
-    ensures hears { (w : World) → HearsTheNext w }
-    ensures takes { (w : World) → LooksAreTakes w }
-    ensures looks { (w : World) → TakesNeedLooks w }
-    ensures seals { (w : World) → Seals w }
-    ensures pulls { (w : World) → PullsInTurn w }
-    ensures calls { (w : World) → CallsInOrder w }
-    ensures answers { (w : World) → AnswersDue w }
-    ensures nothing_early { (w : World) → AnswersOnlyDue w }
-    ensures given { (w : World) → GivenStays w }
+    ensures events { (w : World) → EventsArePossible w }
     ensures sectors { (count : ℕ) → 1 ≤ count → count ≤ 63 → FillsSectors count }
-    ensures stored { (w : World) → StoresTheReply w }
-    ensures unplaces { (w : World) → ReopeningsUnplace w }
-    ensures acknowledges { (w : World) → AcknowledgesReplies w }
 {}
 
 /// Each take is one decision of the rules, and whatever the rules allow, under any policy, is a
@@ -170,14 +107,7 @@ pub fn events_are_possible()
 /// list of takes. A turn that answers Ok, one in which any of its device calls fails, and one while
 /// broken are lists of events; the last changes the answers alone.
 pub fn turns_are_events()
-    ensures steps { (w : World) → TakesAreSteps w }
-    ensures takes { (w : World) → StepsAreTakes w }
-    ensures scans { (w : World) → RunsAreTakes w }
-    ensures turns { (w : World) → TurnsAreRuns w }
-    ensures failures { (w : World) → FailuresAreRuns w }
-    ensures broken { (w : World) → BrokenTurnsAreRuns w }
-    ensures broken_changes { (w : World) → BrokenTurnsChangeNothing w }
-    ensures asks { (w : World) → AsksStand w }
+    ensures turns { (w : World) → TurnsAreEvents w }
     ensures decided { (building : Plan) (state : State) (commands : List Command)
         → HasRun building state commands }
 {}
@@ -189,24 +119,14 @@ pub fn turns_are_events()
 pub fn turns_end_at_rest()
     ensures start { (building : Plan) → IsAtRest (start building) }
     ensures fresh { (building : Plan) → IsFresh building (start building) }
-    ensures turns { (w : World) → TurnsEndAtRest w }
-    ensures failures { (w : World) → FailuresEndAtRest w }
-    ensures broken_turns { (w : World) → BrokenTurnsEndAtRest w }
-    ensures reopenings { (w : World) → ReopeningsEndAtRest w }
-    ensures cuts { (w : World) → CutsEndAtRest w }
-    ensures running_reopenings { (w : World) → RunningReopeningsEndAtRest w }
-    ensures failed_reopenings { (w : World) → FailedReopeningsEndAtRest w }
+    ensures ends { (w : World) → AllEndAtRest w }
 {}
 
 /// When replies are told. A command is due once its batch is safe, or else with Unknown, where a
 /// device call failed: then Unknown alone is told of each command that wasn't due, in flight,
 /// queued, in hand or taken later, also by the reopening that ends it.
 pub fn replies_are_safe()
-    ensures due { (w : World) → DueOnceSafe w }
-    ensures faults { (w : World) → FaultsLeaveDoubt w }
-    ensures breaks { (w : World) → OnlyFaultsBreak w }
-    ensures unknown { (w : World) → UnknownAfterFault w }
-    ensures reopening { (w : World) → UnknownOverReopening w }
+    ensures { (w : World) → RepliesAreSafe w }
 {}
 
 /// What a power cut or a reopening could recover moves with three events alone. The write of a gate
@@ -214,10 +134,7 @@ pub fn replies_are_safe()
 /// the list that it kept the safe one. No look, seal, pull, answer, fault or cut changes what may
 /// be kept, or any list of it; nor, but for a pull, the batch in flight.
 pub fn outcomes_move()
-    ensures kept { (w : World) → OutcomesStay w }
-    ensures gate { (w : World) → GatesOfferBatches w }
-    ensures second_sync { (w : World) → SyncsKeepBatches w }
-    ensures reopening { (w : World) → ReopeningsKeepOne w }
+    ensures { (w : World) → OutcomesMove w }
 {}
 
 /// The turns of an allocator and of a flusher, with batches queued between them. An allocator's
@@ -228,16 +145,7 @@ pub fn outcomes_move()
 /// the world. What the flusher does behind a take it might have done before it, and behind a seal
 /// it leaves what it leaves before it, but for what was sealed.
 pub fn relays_are_events()
-    ensures allocations { (w : World) → AllocationsAreEvents w }
-    ensures full { (w : World) → FullQueueWaits w }
-    ensures flushes { (w : World) → FlushesAreEvents w }
-    ensures failures { (w : World) → FailedFlushesAreEvents w }
-    ensures broken { (w : World) → BrokenFlushesAreEvents w }
-    ensures ends { (w : World) → TurnsMeet w }
-    ensures parts { (w : World) → PartsMeet w }
-    ensures beside { (w : World) → FlusherPassesScans w }
-    ensures first { (w : World) → FlusherComesFirst w }
-    ensures seals { (w : World) → FlusherPassesSeals w }
+    ensures { (w : World) → RelaysAreEvents w }
 {}
 
 /// The parts among one another. Whatever the flusher does among others' events it might have done
@@ -247,16 +155,9 @@ pub fn relays_are_events()
 /// queued, and the queue grows by seals alone. An allocator's scan and its seal go on among the
 /// events of terminals and of the flusher, and leave what these leave alone, with what was decided.
 pub fn parts_interleave()
-    ensures first { (w : World) → FlusherMightComeFirst w }
-    ensures flushes { (w : World) → FlusherGoesAmong w }
-    ensures among { (w : World) → PossibleStandAmong w }
-    ensures asked { (w : World) → AsksStandAtOnce w }
-    ensures stands { (w : World) → AsksStandOn w }
+    ensures parts { (w : World) → PartsInterleave w }
     ensures looks { (w : World) (terminal : ℕ) (command : Command)
         → LooksFindAsks w terminal command }
-    ensures queue { (w : World) → SealsAloneQueue w }
-    ensures scans { (w : World) → ScansGoAmong w }
-    ensures allocations { (w : World) → AllocationsGoAmong w }
 {}
 
 /// Where a part is, the others leave it: the allocator between two scans until something is taken,
@@ -265,13 +166,7 @@ pub fn parts_interleave()
 /// whatever world that was so, also one that no run of events from an empty journal leads to; and
 /// at rest the queue is in order.
 pub fn parts_stay()
-    ensures scans { (w : World) → StaysBetweenScans w }
-    ensures flushes { (w : World) → StaysBetweenFlushes w }
-    ensures broken { (w : World) → StaysBrokenBetween w }
-    ensures in_order { (w : World) → StaysInOrder w }
-    ensures heard { (w : World) → HearsOnInOrder w }
-    ensures asked { (w : World) → AsksOnOneByOne w }
-    ensures rest { (w : World) → RestsInOrder w }
+    ensures { (w : World) → PartsStay w }
 {}
 
 /// What terminals do at other moments passes through. Wherever asks and hears come among the events
@@ -279,10 +174,7 @@ pub fn parts_stay()
 /// leaves what the controller's events leave and then the terminals'. A list of possible events is
 /// a run, of which all of the above holds.
 pub fn terminals_pass()
-    ensures possible { (w : World) → GoesAreRuns w }
-    ensures joined { (w : World) → RunsJoin w }
-    ensures beside { (w : World) → TerminalsPass w }
-    ensures stand { (w : World) → TerminalsStandBeside w }
+    ensures { (w : World) → TerminalsPassThrough w }
 {}
 
 /// Every policy is covered: what it may decide, on one command or on many, is a decision under the

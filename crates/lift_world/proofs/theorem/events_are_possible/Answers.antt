@@ -17,6 +17,7 @@ use Rattle.lift_base.specs.declared.command.Reply.{Reply}
 use Rattle.lift_policy.specs.Terminals.{kiosk_floor}
 use Rattle.lift_world.specs.declared.event.Taken.{Taken}
 use Rattle.lift_world.specs.World.{World, told_by, told_in, acknowledged}
+use Rattle.lift_world.specs.Possible.{StoresTheReply, ReopeningsUnplace, AcknowledgesReplies}
 use Rattle.lift_world.specs.lemmas.Entries.{flat_map_held}
 use Rattle.lift_world.proofs.theorem.events_are_possible.Goals as goal
 
@@ -31,8 +32,8 @@ none_placed (suc n) = (refl, none_placed n)
 one_told : (w : World) (c : Taken) (e : Entry) → Contains w.given c → Contains (told_in w.building c) e → Contains (acknowledged w) e
 one_told w c e given told = flat_map_held (told_in w.building) w.given c e given told
 
-pub returns-clause-acknowledges : goal.returns-clause-acknowledges
-returns-clause-acknowledges k w c given = (
+acknowledges : (w : World) → AcknowledgesReplies w
+acknowledges w c given = (
   λ to party car body reply. let e : Entry = Allot c.terminal c.number (kiosk_floor w.building c.terminal) to car party in
       one_told w c e given (subst (λ (b : Body). Contains (told_by w.building c.terminal c.number b c.reply) e) (sym body)
       (subst (λ (r : Reply). Contains (told_by w.building c.terminal c.number (Call to party) r) e) (sym reply) (Contains-push [] e))),
@@ -41,68 +42,39 @@ returns-clause-acknowledges k w c given = (
       (subst (λ (r : Reply). Contains (told_by w.building c.terminal c.number (StopBody floor dir) r) e) (sym reply) (Contains-push [] e))),
 )
 
-pub returns-clause-sectors : goal.returns-clause-sectors
-returns-clause-sectors c count some few = let f = fills count (leb count 31) refl few in record { enough = f.0; none_empty = f.1 }
-
-pub returns-clause-stored : goal.returns-clause-stored
-returns-clause-stored c w terminal after h =
+stored : (w : World) → StoresTheReply w
+stored w terminal after h =
     let a = answers_only_due w terminal after h in (a.command, a.is_due, ap (λ (x : World). x.answered) a.is, ap (λ (x : World). x.given) a.is)
 
-pub returns-clause-unplaces : goal.returns-clause-unplaces
-returns-clause-unplaces c w kept after h =
+unplaces : (w : World) → ReopeningsUnplace w
+unplaces w kept after h =
     subst (AllByRecursion (λ (p : Option Position). p ≡ None)) (sym (reopenings_give w kept after h).no_car_placed)
     (none_placed 16)
 
-pub returns-clause-cut : goal.returns-clause-cut
-returns-clause-cut c w = cuts_to_safe w
+pub returns-clause-events : goal.returns-clause-events
+returns-clause-events k w = record {
+  cut = cuts_to_safe w;
+  cut_with_batch = cuts_with_batch w;
+  cut_leaves = cuts_give w;
+  reopening = reopens_after_cut w;
+  nothing_else = only_reopens_after_cut w;
+  reopening_after_fault = reopens_after_fault w;
+  recovered = reopenings_give w;
+  reopening_while_quiet = reopens_while_quiet w;
+  asks = asks_once_heard w;
+  hears = hears_the_next w;
+  takes = looks_are_takes w;
+  looks = takes_need_looks w;
+  seals = seals w;
+  pulls = pulls_in_turn w;
+  calls = calls_in_order w;
+  answers = answers_due w;
+  nothing_early = answers_only_due w;
+  given = given_stays w;
+  stored = stored w;
+  unplaces = unplaces w;
+  acknowledges = acknowledges w;
+}
 
-pub returns-clause-cut_with_batch : goal.returns-clause-cut_with_batch
-returns-clause-cut_with_batch c w = cuts_with_batch w
-
-pub returns-clause-reopening : goal.returns-clause-reopening
-returns-clause-reopening c w = reopens_after_cut w
-
-pub returns-clause-nothing_else : goal.returns-clause-nothing_else
-returns-clause-nothing_else c w = only_reopens_after_cut w
-
-pub returns-clause-reopening_after_fault : goal.returns-clause-reopening_after_fault
-returns-clause-reopening_after_fault c w = reopens_after_fault w
-
-pub returns-clause-reopening_while_quiet : goal.returns-clause-reopening_while_quiet
-returns-clause-reopening_while_quiet c w = reopens_while_quiet w
-
-pub returns-clause-answers : goal.returns-clause-answers
-returns-clause-answers c w = answers_due w
-
-pub returns-clause-recovered : goal.returns-clause-recovered
-returns-clause-recovered c w = reopenings_give w
-
-pub returns-clause-asks : goal.returns-clause-asks
-returns-clause-asks c w = asks_once_heard w
-
-pub returns-clause-hears : goal.returns-clause-hears
-returns-clause-hears c w = hears_the_next w
-
-pub returns-clause-takes : goal.returns-clause-takes
-returns-clause-takes c w = looks_are_takes w
-
-pub returns-clause-looks : goal.returns-clause-looks
-returns-clause-looks c w = takes_need_looks w
-
-pub returns-clause-pulls : goal.returns-clause-pulls
-returns-clause-pulls c w = pulls_in_turn w
-
-pub returns-clause-nothing_early : goal.returns-clause-nothing_early
-returns-clause-nothing_early c w = answers_only_due w
-
-pub returns-clause-calls : goal.returns-clause-calls
-returns-clause-calls c w = calls_in_order w
-
-pub returns-clause-cut_leaves : goal.returns-clause-cut_leaves
-returns-clause-cut_leaves c w = cuts_give w
-
-pub returns-clause-seals : goal.returns-clause-seals
-returns-clause-seals c w = seals w
-
-pub returns-clause-given : goal.returns-clause-given
-returns-clause-given c w = given_stays w
+pub returns-clause-sectors : goal.returns-clause-sectors
+returns-clause-sectors c count some few = let f = fills count (leb count 31) refl few in record { enough = f.0; none_empty = f.1 }

@@ -33,32 +33,11 @@ pub returns-clause-fitting : goal.returns-clause-fitting
 returns-clause-fitting c building events sound =
     recovers_fitting (run events (start building)) (run_keeps events (start building) (start_holds building sound))
 
-pub returns-clause-heard : goal.returns-clause-heard
-returns-clause-heard c building events = run_hears events (start building) (start_hears building)
-
-pub returns-clause-sealed : goal.returns-clause-sealed
-returns-clause-sealed c building events = run_seals events (start building) (start_seals building)
-
-pub returns-clause-shown : goal.returns-clause-shown
-returns-clause-shown c building events = run_stores events (start building) (start_stores building)
-
-pub returns-clause-queued : goal.returns-clause-queued
-returns-clause-queued c building events = run_queues events (start building) (start_queues building)
-
-pub returns-clause-off : goal.returns-clause-off
-returns-clause-off c building events = run_holds events (start building) (start_holds_nothing building)
-
-pub returns-clause-asked : goal.returns-clause-asked
-returns-clause-asked c building events = all_ask_one_by_one building events
-
 pub returns-clause-few : goal.returns-clause-few
 returns-clause-few c building events of_terminals = holds_few building events of_terminals
 
 pub returns-clause-lawful : goal.returns-clause-lawful
 returns-clause-lawful c building events sound typed = recovers_records building events sound typed
-
-pub returns-clause-in_order : goal.returns-clause-in_order
-returns-clause-in_order c building events = queue_in_order building events
 
 pub returns-clause-accepted : goal.returns-clause-accepted
 returns-clause-accepted c building events sound =
@@ -67,11 +46,18 @@ returns-clause-accepted c building events sound =
 pub returns-clause-written : goal.returns-clause-written
 returns-clause-written c building events sound typed = accepts_records building events sound typed
 
-pub returns-clause-idle : goal.returns-clause-idle
-returns-clause-idle c building events = flies_nothing_while_idle building events
-
-pub returns-clause-in_place : goal.returns-clause-in_place
-returns-clause-in_place c building events = reopens_in_place building events
-
 pub returns-clause-few_entries : goal.returns-clause-few_entries
 returns-clause-few_entries c building events of_terminals = holds_few_entries building events of_terminals
+
+pub returns-clause-orderly : goal.returns-clause-orderly
+returns-clause-orderly c building events = record {
+  heard = run_hears events (start building) (start_hears building);
+  sealed = run_seals events (start building) (start_seals building);
+  shown = run_stores events (start building) (start_stores building);
+  in_order = queue_in_order building events;
+  queued = run_queues events (start building) (start_queues building);
+  off = run_holds events (start building) (start_holds_nothing building);
+  asked = all_ask_one_by_one building events;
+  idle = flies_nothing_while_idle building events;
+  in_place = reopens_in_place building events;
+}

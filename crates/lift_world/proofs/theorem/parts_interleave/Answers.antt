@@ -20,29 +20,17 @@ stand_among (e ∷ events) w after k h =
       subst (λ (o : Option World). StandAmong (unwrap_or o w) events) (sym t.1) (stand_among events t.0 after k.1 t.2),
     )
 
-pub returns-clause-among : goal.returns-clause-among
-returns-clause-among c w events after k h = stand_among events w after k h
-
-pub returns-clause-first : goal.returns-clause-first
-returns-clause-first c w = flusher_might_come_first w
-
-pub returns-clause-flushes : goal.returns-clause-flushes
-returns-clause-flushes c w = flusher_goes_among w
-
-pub returns-clause-scans : goal.returns-clause-scans
-returns-clause-scans c w = scans_go_among w
-
-pub returns-clause-allocations : goal.returns-clause-allocations
-returns-clause-allocations c w = allocations_go_among w
-
-pub returns-clause-asked : goal.returns-clause-asked
-returns-clause-asked c w = asks_stand_at_once w
-
-pub returns-clause-stands : goal.returns-clause-stands
-returns-clause-stands c w = asks_stand_on w
-
 pub returns-clause-looks : goal.returns-clause-looks
 returns-clause-looks c w terminal command = looks_find_asks w terminal command
 
-pub returns-clause-queue : goal.returns-clause-queue
-returns-clause-queue c w = seals_alone_queue w
+pub returns-clause-parts : goal.returns-clause-parts
+returns-clause-parts c w = record {
+  first = flusher_might_come_first w;
+  flushes = flusher_goes_among w;
+  among = λ events after k h. stand_among events w after k h;
+  asked = asks_stand_at_once w;
+  stands = asks_stand_on w;
+  queue = seals_alone_queue w;
+  scans = scans_go_among w;
+  allocations = allocations_go_among w;
+}

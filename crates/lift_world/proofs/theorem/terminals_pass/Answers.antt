@@ -8,7 +8,7 @@ use Rattle.lift_world.specs.declared.event.Event.{Event}
 use Rattle.lift_world.specs.declared.event.Event.TheVariants.{Ask, Take, Hear, Cut}
 use Rattle.lift_world.specs.World.{World}
 use Rattle.lift_world.specs.Next.{next}
-use Rattle.lift_world.specs.Beside.{is_of_terminals, StandBeside}
+use Rattle.lift_world.specs.Beside.{is_of_terminals, StandBeside, TerminalsStandBeside}
 use Rattle.lift_world.specs.lemmas.Goes.{goes_are_runs, runs_join}
 use Rattle.lift_world.proofs.Beside.{terminals_pass}
 use Rattle.lift_world.proofs.theorem.terminals_pass.Goals as goal
@@ -23,8 +23,8 @@ own_stands w asked heard (Take terminal letter) events own take cut s = absurd (
 own_stands w asked heard (Cut kept) events own take cut s = absurd (cut kept refl)
 own_stands w asked heard event events own take cut s = s
 
-pub returns-clause-stand : goal.returns-clause-stand
-returns-clause-stand c w = record {
+stand_beside : (w : World) → TerminalsStandBeside w
+stand_beside w = record {
   asks = λ terminal number body after h. (after, h, tt);
   hears = λ terminal after h. (after, h, tt);
   nothing = λ asked heard. tt;
@@ -34,11 +34,10 @@ returns-clause-stand c w = record {
   goes_on = λ asked heard event events own take cut s. own_stands w asked heard event events own take cut s;
 }
 
-pub returns-clause-possible : goal.returns-clause-possible
-returns-clause-possible c w = goes_are_runs w
-
-pub returns-clause-beside : goal.returns-clause-beside
-returns-clause-beside c w = terminals_pass w
-
-pub returns-clause-joined : goal.returns-clause-joined
-returns-clause-joined c w = runs_join w
+pub returns : goal.returns
+returns c w = record {
+  possible = goes_are_runs w;
+  joined = runs_join w;
+  beside = terminals_pass w;
+  stand = stand_beside w;
+}

@@ -4,33 +4,12 @@ use Rattle.std.specs.List.{AllByRecursion}
 use Rattle.lift_base.specs.declared.travel.Position.{Position}
 use Rattle.lift_world.proofs.theorem.turns_end_at_rest.Goals as goal
 
-pub returns-clause-start : goal.returns-clause-start
-returns-clause-start c building = start_rests building
-
-pub returns-clause-turns : goal.returns-clause-turns
-returns-clause-turns c w = turns_rest w
-
-pub returns-clause-failures : goal.returns-clause-failures
-returns-clause-failures c w = failures_rest w
-
-pub returns-clause-reopenings : goal.returns-clause-reopenings
-returns-clause-reopenings c w = reopenings_rest w
-
-pub returns-clause-cuts : goal.returns-clause-cuts
-returns-clause-cuts c w = cuts_rest w
-
-pub returns-clause-broken_turns : goal.returns-clause-broken_turns
-returns-clause-broken_turns c w = broken_turns_rest w
-
-pub returns-clause-running_reopenings : goal.returns-clause-running_reopenings
-returns-clause-running_reopenings c w = running_reopenings_rest w
-
-pub returns-clause-failed_reopenings : goal.returns-clause-failed_reopenings
-returns-clause-failed_reopenings c w = failed_reopenings_rest w
-
 none_placed : (n : ℕ) → AllByRecursion (λ (p : Option Position). p ≡ None) (replicate n None)
 none_placed zero = tt
 none_placed (suc n) = (refl, none_placed n)
+
+pub returns-clause-start : goal.returns-clause-start
+returns-clause-start c building = start_rests building
 
 pub returns-clause-fresh : goal.returns-clause-fresh
 returns-clause-fresh c building = record {
@@ -41,4 +20,15 @@ returns-clause-fresh c building = record {
   nothing_answered = refl;
   nothing_heard = refl;
   nothing_given = refl;
+}
+
+pub returns-clause-ends : goal.returns-clause-ends
+returns-clause-ends c w = record {
+  turns = turns_rest w;
+  failures = failures_rest w;
+  broken_turns = broken_turns_rest w;
+  reopenings = reopenings_rest w;
+  cuts = cuts_rest w;
+  running_reopenings = running_reopenings_rest w;
+  failed_reopenings = failed_reopenings_rest w;
 }
