@@ -1,6 +1,7 @@
 -- What the machine in memory is: its view, and its register as that of its list.
 use Rattle.std.specs.Prelude.{ℕ, ◌≡◌, Bool, List, [], ◌∷◌, ◌++◌, Option, Some, None, IsSome, true}
-use Rattle.std.specs.Prelude.{false}
+use Rattle.std.specs.Prelude.{false, Result, IfOk, OnErr}
+use Rattle.lift_base.specs.declared.memory.Memory.{Memory}
 use Rattle.lift_base.specs.declared.travel.Position.{Position}
 use Rattle.lift_base.specs.declared.history.Entry.{Entry}
 use Rattle.lift_building.specs.Plan.{Plan}
@@ -78,3 +79,11 @@ MayWant w (Hear terminal) = IsSome (next w (Hear terminal))
 MayWant w Fault = IsSome (next w Fault)
 MayWant w (Cut kept) = ⊥
 MayWant w (Reopen kept) = IsSome (next w (Reopen kept))
+
+-- What one step answers and leaves: what the event comes to, or a want of memory, which changes
+-- nothing and is where it may be.
+pub record Steps (old : World) (event : Event) (result : Result Bool Memory)
+    (new : World) : Type 0 where
+  pub ok : IfOk result (λ possible. Moves old event possible new)
+  pub err : OnErr result (new ≡ old)
+  pub wants : OnErr result (MayWant old event)

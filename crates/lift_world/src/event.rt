@@ -112,32 +112,6 @@ impl Power {
     }
 }
 
-impl Phase {
-    ghost use Rattle.std.specs.Prelude.{◌≡◌};
-    ghost use Rattle.lift_world.specs.World.{is_idle, is_synced, is_gate_written};
-
-    /// Whether no batch is in flight.
-    pub fn is_idle(&self) -> bool
-        ensures { result ≡ is_idle self.now }
-    {
-        matches!(self, Phase::Idle)
-    }
-
-    /// Whether the batch's body and the gate behind it are synced.
-    pub fn is_synced(&self) -> bool
-        ensures { result ≡ is_synced self.now }
-    {
-        matches!(self, Phase::Synced)
-    }
-
-    /// Whether the batch's gate is written.
-    pub fn is_gate_written(&self) -> bool
-        ensures { result ≡ is_gate_written self.now }
-    {
-        matches!(self, Phase::GateWritten)
-    }
-}
-
 impl Taken {
     ghost use Rattle.std.specs.Prelude.{◌≡◌};
     ghost use Rattle.lift_world.specs.Next.{unknown_to, answer_of};
@@ -147,10 +121,8 @@ impl Taken {
         ensures { result ≡ unknown_to self.now }
     {
         Taken {
-            terminal: self.terminal,
-            number: self.number,
-            body: self.body,
             reply: Reply::Unknown,
+            ..*self
         }
     }
 

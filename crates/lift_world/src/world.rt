@@ -158,7 +158,7 @@ impl<'b> World<'b> {
     ghost use Rattle.lift_world.specs.World.{start, may_keep, is_taken_of, outcome};
     ghost use Rattle.lift_world.specs.Next.{taking, unanswered, may_take, may_pull, is_quiet};
     ghost use Rattle.lift_world.specs.Next.{may_reopen, writes_of};
-    ghost use Rattle.lift_world.specs.Replays.{Moves, MovesTo, MayWant};
+    ghost use Rattle.lift_world.specs.Replays.{Moves, MovesTo, Steps};
     ghost use Rattle.lift_world.specs.declared.event.Event.{Event};
 
     /// A fresh group over an empty journal, with so many sectors in each of its halves. A
@@ -243,10 +243,7 @@ impl<'b> World<'b> {
     }
 
     fn ask(&mut self, terminal: Terminal, number: Number, body: Body) -> Result<bool, Memory>
-        ensures ok { IfOk result (λ possible.
-            Moves self.old (Event.Ask terminal number body) possible self.new) }
-        ensures err { OnErr result (self.new ≡ self.old) }
-        ensures wants { OnErr result (MayWant self.old (Event.Ask terminal number body)) }
+        ensures { Steps self.old (Event.Ask terminal number body) result self.new }
     {
         if self.power.is_off()
             || count_asks(&self.asked, terminal) != count_answers(&self.heard, terminal)
@@ -295,10 +292,7 @@ impl<'b> World<'b> {
     }
 
     fn take(&mut self, terminal: Terminal, letter: Option<Letter>) -> Result<bool, Memory>
-        ensures ok { IfOk result (λ possible.
-            Moves self.old (Event.Take terminal letter) possible self.new) }
-        ensures err { OnErr result (self.new ≡ self.old) }
-        ensures wants { OnErr result (MayWant self.old (Event.Take terminal letter)) }
+        ensures { Steps self.old (Event.Take terminal letter) result self.new }
     {
         if !self.may_take(terminal) {
             return Ok(false);
@@ -364,9 +358,7 @@ impl<'b> World<'b> {
     }
 
     fn seal(&mut self) -> Result<bool, Memory>
-        ensures ok { IfOk result (λ possible. Moves self.old Event.Seal possible self.new) }
-        ensures err { OnErr result (self.new ≡ self.old) }
-        ensures wants { OnErr result (MayWant self.old Event.Seal) }
+        ensures { Steps self.old Event.Seal result self.new }
     {
         if self.power.is_off() || self.taken.is_empty() {
             return Ok(false);
@@ -386,13 +378,11 @@ impl<'b> World<'b> {
     fn may_pull(&self) -> bool
         ensures { result ≡ may_pull self.now }
     {
-        self.power.is_broken() || (self.power.is_running() && self.phase.is_idle())
+        self.power.is_broken() || (self.power.is_running() && self.phase == Phase::Idle)
     }
 
     fn pull(&mut self) -> Result<bool, Memory>
-        ensures ok { IfOk result (λ possible. Moves self.old Event.Pull possible self.new) }
-        ensures err { OnErr result (self.new ≡ self.old) }
-        ensures wants { OnErr result (MayWant self.old Event.Pull) }
+        ensures { Steps self.old Event.Pull result self.new }
     {
         if !self.may_pull() || self.queue.is_empty() {
             return Ok(false);
@@ -459,7 +449,7 @@ impl<'b> World<'b> {
     fn write_gate(&mut self) -> bool
         ensures { Moves self.old Event.Gate result self.new }
     {
-        if !self.power.is_running() || !self.phase.is_synced() {
+        if !self.power.is_running() || self.phase != Phase::Synced {
             return false;
         }
         self.phase = Phase::GateWritten;
@@ -467,11 +457,9 @@ impl<'b> World<'b> {
     }
 
     fn second_sync(&mut self) -> Result<bool, Memory>
-        ensures ok { IfOk result (λ possible. Moves self.old Event.SecondSync possible self.new) }
-        ensures err { OnErr result (self.new ≡ self.old) }
-        ensures wants { OnErr result (MayWant self.old Event.SecondSync) }
+        ensures { Steps self.old Event.SecondSync result self.new }
     {
-        if !self.power.is_running() || !self.phase.is_gate_written() {
+        if !self.power.is_running() || self.phase != Phase::GateWritten {
             return Ok(false);
         }
         add_due(&mut self.due, self.flight.commands())?;
@@ -485,11 +473,9 @@ impl<'b> World<'b> {
     }
 
     fn fault(&mut self) -> Result<bool, Memory>
-        ensures ok { IfOk result (λ possible. Moves self.old Event.Fault possible self.new) }
-        ensures err { OnErr result (self.new ≡ self.old) }
-        ensures wants { OnErr result (MayWant self.old Event.Fault) }
+        ensures { Steps self.old Event.Fault result self.new }
     {
-        if !self.power.is_running() || self.phase.is_synced() {
+        if !self.power.is_running() || self.phase == Phase::Synced {
             return Ok(false);
         }
         add_unknown(&mut self.due, self.flight.commands())?;
@@ -502,10 +488,7 @@ impl<'b> World<'b> {
     }
 
     fn answer(&mut self, terminal: Terminal) -> Result<bool, Memory>
-        ensures ok { IfOk result (λ possible.
-            Moves self.old (Event.Answer terminal) possible self.new) }
-        ensures err { OnErr result (self.new ≡ self.old) }
-        ensures wants { OnErr result (MayWant self.old (Event.Answer terminal)) }
+        ensures { Steps self.old (Event.Answer terminal) result self.new }
     {
         if self.power.is_off() {
             return Ok(false);
@@ -528,10 +511,7 @@ impl<'b> World<'b> {
     }
 
     fn hear(&mut self, terminal: Terminal) -> Result<bool, Memory>
-        ensures ok { IfOk result (λ possible.
-            Moves self.old (Event.Hear terminal) possible self.new) }
-        ensures err { OnErr result (self.new ≡ self.old) }
-        ensures wants { OnErr result (MayWant self.old (Event.Hear terminal)) }
+        ensures { Steps self.old (Event.Hear terminal) result self.new }
     {
         if self.power.is_off() {
             return Ok(false);
@@ -551,7 +531,7 @@ impl<'b> World<'b> {
     {
         match kept {
             Kept::Safe => true,
-            Kept::WithBatch => self.phase.is_gate_written(),
+            Kept::WithBatch => self.phase == Phase::GateWritten,
         }
     }
 
@@ -580,7 +560,7 @@ impl<'b> World<'b> {
     fn is_quiet(&self) -> bool
         ensures { result ≡ is_quiet self.now }
     {
-        self.phase.is_idle() && self.queue.is_empty() && self.taken.is_empty()
+        self.phase == Phase::Idle && self.queue.is_empty() && self.taken.is_empty()
     }
 
     fn may_reopen(&self, kept: &Kept) -> bool
@@ -606,10 +586,7 @@ impl<'b> World<'b> {
     /// What was taken and not sealed, which there is only after a fault, is dropped and answered
     /// Unknown.
     fn reopen(&mut self, kept: Kept) -> Result<bool, Memory>
-        ensures ok { IfOk result (λ possible.
-            Moves self.old (Event.Reopen kept) possible self.new) }
-        ensures err { OnErr result (self.new ≡ self.old) }
-        ensures wants { OnErr result (MayWant self.old (Event.Reopen kept)) }
+        ensures { Steps self.old (Event.Reopen kept) result self.new }
     {
         if !self.may_reopen(&kept) {
             return Ok(false);
@@ -637,9 +614,7 @@ impl<'b> World<'b> {
     /// Memory is wanted neither by the device's calls before the second sync nor by a cut, and by
     /// others only where they are possible.
     pub fn step(&mut self, event: &Event) -> Result<bool, Memory>
-        ensures ok { IfOk result (λ possible. Moves self.old event.now possible self.new) }
-        ensures err { OnErr result (self.new ≡ self.old) }
-        ensures wants { OnErr result (MayWant self.old event.now) }
+        ensures { Steps self.old event.now result self.new }
     {
         match *event {
             Event::Ask(terminal, number, body) => self.ask(terminal, number, body),
