@@ -3,12 +3,15 @@ use Rattle.std.specs.Prelude.{ℕ, ◌≡◌, if◌then◌else◌, ◌++◌, Lis
 use Rattle.std.specs.Option.{option_to_list}
 use Rattle.lift_base.specs.declared.travel.Position.{Position}
 use Rattle.lift_base.specs.declared.history.Entry.{Entry}
+use Rattle.lift_base.specs.declared.command.Reason.{Reason}
+use Rattle.lift_building.specs.Plan.{Plan}
 use Rattle.lift_register.specs.Register.{RegisterState}
 use Rattle.lift_policy.specs.View.{ViewState}
 use Rattle.lift_base.specs.declared.travel.Dir.{Dir}
 use Rattle.lift_base.specs.declared.history.Entry.TheVariants.{Stop as Stopping}
-use Rattle.lift_policy.specs.Step.{State, is_new, accepting}
-use Rattle.lift_world.specs.Decided.{Decision}
+use Rattle.lift_policy.specs.Step.{State, is_new, accepting, first_cause}
+use Rattle.lift_policy.specs.declared.command.Command.{Command}
+use Rattle.lift_world.specs.Decided.{Decision, decided}
 use Rattle.lift_world.specs.declared.decide.Decided.{Decided}
 
 -- what a policy sees
@@ -34,3 +37,26 @@ Carries None register positions batch result register_after positions_after =
 Carries (Some d) register positions batch result register_after positions_after =
     (entry : Option Entry) × (result ≡ Some (record { reply = d.reply; entry = entry }))
     × (d.next ≡ state_with register_after positions_after (batch ++ option_to_list entry))
+
+-- the first cause for which the command is refused, or none, whatever the batch
+abbrev pub IsCauseOf : Plan → RegisterState → List (Option Position) → Command → Option Reason
+    → Type 0
+IsCauseOf building register positions command cause = (batch : List Entry)
+    → first_cause building (state_with register positions batch) command.terminal command.number
+    command.body ≡ cause
+
+-- a stop of a new number joins the register and the batch, whatever that is
+abbrev pub Joins : RegisterState → List (Option Position) → Command → Position → Option Entry
+    → RegisterState → Type 0
+Joins register positions command at result register_after = (batch : List Entry)
+    → state_with register_after positions (batch ++ option_to_list result)
+    ≡ joined (state_with register positions batch) command.terminal command.number at.floor at.dir
+
+-- the command is decided with this letter and carried out, whatever the batch
+abbrev pub CarriesOut : Plan → RegisterState → List (Option Position) → Command → Option ℕ
+    → Option Decided → RegisterState → List (Option Position) → Type 0
+CarriesOut building register positions command letter result register_after positions_after =
+    (batch : List Entry)
+    → Carries (decided building (state_with register positions batch) command.terminal
+    command.number command.body letter)
+    register positions batch result register_after positions_after

@@ -1,18 +1,14 @@
 //! One decision.
-ghost use Rattle.std.specs.Prelude.{◌≡◌, ◌<◌, ◌==◌, ◌+◌, ◌++◌, [], List, Option, Some, None, true};
-ghost use Rattle.std.specs.Prelude.{option_map, slice_set};
-ghost use Rattle.lift_base.specs.declared.history.Entry.{Entry as EntryValue};
-ghost use Rattle.lift_base.specs.declared.command.Reply.{Reply as ReplyValue};
+ghost use Rattle.std.specs.Prelude.{◌≡◌, Some, None, option_map, slice_set};
 ghost use Rattle.lift_base.specs.declared.command.Body.{Body as BodyValue};
-ghost use Rattle.lift_register.specs.Prelude.{rows_of, last_of, last_number, IsBalanced};
+ghost use Rattle.lift_base.specs.declared.command.Reply.{Reply as ReplyValue};
+ghost use Rattle.lift_register.specs.Prelude.{rows_of, last_of, IsBalanced};
 ghost use Rattle.lift_stops.specs.StopList.{next_stop};
 ghost use Rattle.lift_policy.specs.Eligible.{eligible_cars};
-ghost use Rattle.lift_policy.specs.Step.{first_cause};
-ghost use Rattle.lift_world.specs.Decided.{decided, allotted, kept_letter, is_among};
-ghost use Rattle.lift_world.specs.Carries.{Carries, seen, state_with, joined};
-ghost use Rattle.std.specs.Option.{option_to_list};
+ghost use Rattle.lift_world.specs.Carries.{IsCauseOf, Joins, CarriesOut, seen};
+ghost use Rattle.lift_world.specs.Decided.{kept_letter, is_among};
 
-use lift_base::{Body, Content, Dir, Entry, Floor, Letter, Party, Position, Reason, Reply};
+use lift_base::{Body, Content, Entry, Letter, Position, Reason, Reply};
 use lift_building::Building;
 use lift_cost::NewCall;
 use lift_policy::{
@@ -34,10 +30,7 @@ fn cause_of(
     positions: &[Option<Position>; 16],
     command: &Command,
 ) -> Option<Reason>
-    ensures { (batch : List EntryValue)
-        → result ≡ first_cause building.now
-        (state_with register.now positions.now batch) command.now.terminal command.now.number
-        command.now.body }
+    ensures { IsCauseOf building.now register.now positions.now command.now result }
 {
     let schedules = schedules_at(register, positions);
     let view = View::new(register, &schedules);
@@ -66,31 +59,24 @@ fn told(reply: Reply) -> Option<Decided>
     Some(Decided { reply, entry: None })
 }
 
-/// A new call goes to this car, where it is eligible.
+/// A new call goes to this car, where it is eligible; no other command has one.
 fn allot(
     building: &Building,
     register: &mut Register,
     positions: &[Option<Position>; 16],
     command: &Command,
-    to: Floor,
-    party: Party,
     car: Letter,
 ) -> Option<Decided>
-    requires clear { (batch : List EntryValue)
-        → first_cause building.now
-        (state_with register.old positions.now batch) command.now.terminal command.now.number
-        command.now.body ≡ None }
-    requires call { command.now.body ≡ BodyValue.Call to party }
-    requires new { (command.now.number == last_number register.old command.now.terminal + 1)
-        ≡ true }
+    requires clear { IsCauseOf building.now register.old positions.now command.now None }
     requires balanced { IsBalanced register.old }
-    ensures carries { (batch : List EntryValue)
-        → Carries (allotted building.now
-        (state_with register.old positions.now batch) command.now.terminal command.now.number to
-        party car)
-        register.old positions.now batch result register.new positions.now }
+    ensures carries { CarriesOut building.now register.old positions.now command.now (Some car)
+        result register.new positions.now }
     ensures balanced { IsBalanced register.new }
 {
+    let (to, party) = match command.body {
+        Body::Call(to, party) if is_next(register, command.terminal, command.number) => (to, party),
+        _ => return None,
+    };
     let call = call_at(building, command.terminal, to, party);
     if !is_eligible(building, register, positions, &call, car) {
         return None;
@@ -129,19 +115,13 @@ fn join(
     positions: &[Option<Position>; 16],
     command: &Command,
     car: Letter,
-    floor: Floor,
-    dir: Dir,
+    at: &Position,
 ) -> Option<Entry>
-    requires clear { first_cause building.now
-        (state_with register.old positions.now []) command.now.terminal command.now.number
-        command.now.body ≡ None }
-    requires stop { command.now.body ≡ BodyValue.Stop floor dir }
+    requires clear { IsCauseOf building.now register.old positions.now command.now None }
+    requires stop { command.now.body ≡ BodyValue.Stop at.now.floor at.now.dir }
     requires own { car ≡ command.now.terminal }
     requires balanced { IsBalanced register.old }
-    ensures joined { (batch : List EntryValue)
-        → state_with register.new positions.now (batch ++ option_to_list result)
-        ≡ joined (state_with register.old positions.now batch) command.now.terminal
-        command.now.number floor dir }
+    ensures joined { Joins register.old positions.now command.now at.now result register.new }
     ensures balanced { IsBalanced register.new }
 {
     if !is_next(register, command.terminal, command.number) {
@@ -150,40 +130,32 @@ fn join(
     let entry = Entry::Stop {
         car,
         number: command.number,
-        floor,
-        dir,
+        floor: at.floor,
+        dir: at.dir,
     };
     register.apply(building, &entry);
     Some(entry)
 }
 
-/// A stop, and the car stands there.
+/// A stop, and its car stands there.
 fn stop(
     building: &Building,
     register: &mut Register,
     positions: &mut [Option<Position>; 16],
     command: &Command,
-    car: Letter,
-    floor: Floor,
-    dir: Dir,
+    at: &Position,
 ) -> Option<Decided>
-    requires clear { (batch : List EntryValue)
-        → first_cause building.now
-        (state_with register.old positions.old batch) command.now.terminal command.now.number
-        command.now.body ≡ None }
-    requires stop { command.now.body ≡ BodyValue.Stop floor dir }
-    requires own { car ≡ command.now.terminal }
+    requires clear { IsCauseOf building.now register.old positions.old command.now None }
+    requires stop { command.now.body ≡ BodyValue.Stop at.now.floor at.now.dir }
     requires balanced { IsBalanced register.old }
-    ensures carries { (batch : List EntryValue)
-        → Carries (decided building.now
-        (state_with register.old positions.old batch) command.now.terminal command.now.number
-        command.now.body None)
-        register.old positions.old batch result register.new positions.new }
+    ensures carries { CarriesOut building.now register.old positions.old command.now None result
+        register.new positions.new }
     ensures balanced { IsBalanced register.new }
 {
-    let entry = join(building, register, positions, command, car, floor, dir);
-    positions[usize::from(car.get())] = Some(Position { floor, dir });
-    let schedule = schedule_of(register, car, Position { floor, dir });
+    let car = car_at(building, command.terminal);
+    let entry = join(building, register, positions, command, car, at);
+    positions[usize::from(car.get())] = Some(*at);
+    let schedule = schedule_of(register, car, *at);
     let reply = Reply::Stopped(schedule.next_stop());
     Some(Decided { reply, entry })
 }
@@ -193,62 +165,39 @@ fn place(
     register: &Register,
     positions: &mut [Option<Position>; 16],
     car: Letter,
-    floor: Floor,
-    dir: Dir,
+    at: &Position,
 ) -> Reply
-    ensures positions { positions.new
-        ≡ slice_set positions.old car (Some (record { floor = floor; dir = dir })) }
-    ensures reply { result ≡ ReplyValue.Placed
-        (next_stop (rows_of register.now car) (record { floor = floor; dir = dir })) }
+    ensures positions { positions.new ≡ slice_set positions.old car (Some at.now) }
+    ensures reply { result ≡ ReplyValue.Placed (next_stop (rows_of register.now car) at.now) }
 {
-    positions[usize::from(car.get())] = Some(Position { floor, dir });
-    let schedule = schedule_of(register, car, Position { floor, dir });
+    positions[usize::from(car.get())] = Some(*at);
+    let schedule = schedule_of(register, car, *at);
     Reply::Placed(schedule.next_stop())
 }
 
-/// A command without a cause of refusal, with this car for a new call and no car for any other.
+/// A command without a cause of refusal that is given no car: so a new call isn't decided.
 fn proceed(
     building: &Building,
     register: &mut Register,
     positions: &mut [Option<Position>; 16],
     command: &Command,
-    letter: Option<Letter>,
 ) -> Option<Decided>
-    requires clear { (batch : List EntryValue)
-        → first_cause building.now
-        (state_with register.old positions.old batch) command.now.terminal command.now.number
-        command.now.body ≡ None }
+    requires clear { IsCauseOf building.now register.old positions.old command.now None }
     requires balanced { IsBalanced register.old }
-    ensures carries { (batch : List EntryValue)
-        → Carries (decided building.now
-        (state_with register.old positions.old batch) command.now.terminal command.now.number
-        command.now.body letter)
-        register.old positions.old batch result register.new positions.new }
+    ensures carries { CarriesOut building.now register.old positions.old command.now None result
+        register.new positions.new }
     ensures balanced { IsBalanced register.new }
 {
     match command.body {
-        Body::Call(to, party) => {
-            if is_next(register, command.terminal, command.number) {
-                allot(building, register, positions, command, to, party, letter?)
-            } else if letter.is_some() {
-                None
-            } else {
-                repeat(register, command)
-            }
-        }
+        Body::Call(..) if is_next(register, command.terminal, command.number) => None,
+        Body::Call(..) => repeat(register, command),
         Body::Stop(floor, dir) => {
-            if letter.is_some() {
-                return None;
-            }
-            let car = car_at(building, command.terminal);
-            stop(building, register, positions, command, car, floor, dir)
+            let at = Position { floor, dir };
+            stop(building, register, positions, command, &at)
         }
         Body::Place(floor, dir) => {
-            if letter.is_some() {
-                return None;
-            }
             let car = car_at(building, command.terminal);
-            told(place(register, positions, car, floor, dir))
+            told(place(register, positions, car, &Position { floor, dir }))
         }
     }
 }
@@ -263,20 +212,14 @@ pub fn decide(
     letter: Option<Letter>,
 ) -> Option<Decided>
     requires balanced { IsBalanced register.old }
-    ensures carries { (batch : List EntryValue)
-        → Carries (decided building.now
-        (state_with register.old positions.old batch) command.now.terminal command.now.number
-        command.now.body letter)
-        register.old positions.old batch result register.new positions.new }
+    ensures carries { CarriesOut building.now register.old positions.old command.now letter result
+        register.new positions.new }
     ensures balanced { IsBalanced register.new }
 {
-    match cause_of(building, register, positions, command) {
-        Some(reason) => {
-            if letter.is_some() {
-                return None;
-            }
-            told(Reply::Refused(reason))
-        }
-        None => proceed(building, register, positions, command, letter),
+    match (cause_of(building, register, positions, command), letter) {
+        (Some(_), Some(_)) => None,
+        (Some(reason), None) => told(Reply::Refused(reason)),
+        (None, Some(car)) => allot(building, register, positions, command, car),
+        (None, None) => proceed(building, register, positions, command),
     }
 }
