@@ -17,6 +17,7 @@ use Rattle.lift_register.specs.lemmas.EntryLemmas.{register_of-allot, register_o
 use Rattle.lift_stops.specs.Schedule.{ScheduleState}
 use Rattle.lift_policy.specs.View.{positions_of, position_of, AreSchedulesOf}
 use Rattle.lift_building.specs.Plan.{Plan}
+use Rattle.lift_decider.specs.Schedules.{with_row}
 
 -- a new call joins its car's rows, and no other car's
 pub rows_of-allot : (register : RegisterState) (kiosk number from to car party : ℕ) → IsWellFormed register → kiosk < 63 → car < 16
@@ -80,9 +81,6 @@ pub positions_at : (schedules : List (Option ScheduleState)) (i car : ℕ) (o : 
 positions_at schedules i car o p rows at is =
     let f : Option ScheduleState → Option Position = option_map (λ (x : ScheduleState). x.position) in
     map-set f schedules i o ∙ ap (λ (j : ℕ). set (positions_of schedules) j (f o)) at ∙ ap (λ (q : Option Position). set (positions_of schedules) car q) (ap f is)
-
-abbrev pub with_row : Row → Option ScheduleState → Option ScheduleState
-with_row row o = option_map (λ (s : ScheduleState). record s { rows = s.rows ++ row ∷ [] }) o
 
 with_row-position : (row : Row) (o : Option ScheduleState) → option_map (λ (s : ScheduleState). s.position) (with_row row o) ≡ option_map (λ (s : ScheduleState). s.position) o
 with_row-position row None = refl

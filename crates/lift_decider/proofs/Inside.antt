@@ -21,7 +21,8 @@ use Rattle.lift_policy.specs.View.{positions_of, position_of, AreSchedulesOf}
 use Rattle.lift_policy.specs.Step.{State, accepting, standing}
 use Rattle.lift_policy.specs.Laws.{IsStateIn}
 use Rattle.lift_decider.specs.Decider.{IsBatch, starting, state_of}
-use Rattle.lift_decider.proofs.Changes.{set_here, positions_at, positions_kept, with_row}
+use Rattle.lift_decider.specs.Schedules.{with_row}
+use Rattle.lift_decider.proofs.Changes.{set_here, positions_at, positions_kept}
 
 pub standing_inside : (plan : Plan) (state : State) (car floor : ℕ) (dir : Dir) → floor < plan.floors → IsStateIn plan state → IsStateIn plan (standing state car floor dir)
 standing_inside plan state car floor dir lt is = record {

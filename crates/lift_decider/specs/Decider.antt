@@ -5,6 +5,8 @@ use Rattle.lift_base.specs.Records.{IsRecord}
 use Rattle.lift_base.specs.declared.history.Entry.{Entry}
 use Rattle.lift_building.specs.Plan.{Plan, IsBuilding}
 use Rattle.lift_register.specs.Register.{RegisterState, empty}
+use Rattle.lift_register.specs.Balanced.{IsBalanced}
+use Rattle.lift_register.specs.Belongs.{BelongsTo}
 use Rattle.lift_stops.specs.Schedule.{ScheduleState}
 use Rattle.lift_policy.specs.Step.{State}
 use Rattle.lift_policy.specs.View.{positions_of}
@@ -31,6 +33,11 @@ nothing = starting empty
 pub record IsBatch (entries : List Entry) : Type 0 where
   pub limit : length entries ≤ 63
   pub written : All (λ (e : Entry). IsRecord (EntryRecord e)) entries
+
+-- no call of a register was lost, and it belongs to the building
+pub record IsRegisterIn (plan : Plan) (register : RegisterState) : Type 0 where
+  pub balanced : IsBalanced register
+  pub belongs : BelongsTo plan register
 
 -- what is true of each decider: what decisions read is possible in the building, and no call was
 -- lost

@@ -5,11 +5,11 @@ ghost use Rattle.lift_base.specs.declared.history.Record.TheVariants.{Entry as E
 ghost use Rattle.lift_base.specs.Records.{IsRecord};
 ghost use Rattle.lift_base.specs.declared.history.Entry.{Entry as EntryValue};
 ghost use Rattle.lift_base.specs.declared.history.Content.{Content as ContentValue};
-ghost use Rattle.lift_register.specs.Prelude.{last_of, waiting_row, register_of, Fits, BelongsTo};
-ghost use Rattle.lift_register.specs.Prelude.{IsBalanced, IsWellFormed};
+ghost use Rattle.lift_register.specs.Prelude.{last_of, waiting_row, register_of, Fits};
+ghost use Rattle.lift_register.specs.Prelude.{IsWellFormed};
 ghost use Rattle.lift_policy.specs.Step.{view_of, accepting, standing, next_from};
 ghost use Rattle.lift_policy.specs.Laws.{IsStateIn};
-ghost use Rattle.lift_decider.specs.Decider.{IsBatch, starting};
+ghost use Rattle.lift_decider.specs.Decider.{IsBatch, IsRegisterIn, starting};
 
 use crate::schedules::{insert, serve, stand};
 use arrayvec::ArrayVec;
@@ -29,14 +29,12 @@ fn join(
     entry: &Entry,
 )
     requires fits { Fits building.now register.old entry.now }
-    requires balanced { IsBalanced register.old }
-    requires belongs { BelongsTo building.now register.old }
+    requires inside { IsRegisterIn building.now register.old }
     requires room { length batch.old.items < 63 }
     ensures value { register.new ≡ register_of register.old (entry.now ∷ []) }
     ensures was { IsWellFormed register.old }
     ensures lawful { IsWellFormed register.new }
-    ensures balanced { IsBalanced register.new }
-    ensures belongs { BelongsTo building.now register.new }
+    ensures inside { IsRegisterIn building.now register.new }
     ensures batch { batch.new.items ≡ batch.old.items ++ entry.now ∷ [] }
     ensures written { IsRecord (EntryRecord entry.now) }
 {

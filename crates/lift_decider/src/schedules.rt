@@ -1,12 +1,10 @@
 //! How a car's schedule changes.
 
-ghost use Rattle.std.specs.Prelude.{◌≡◌, ◌<◌, ◌≤◌, ◌∷◌, ◌++◌, [], length, Some, None, IfSome};
-ghost use Rattle.std.specs.Prelude.{option_map};
-ghost use Rattle.std.specs.List.{flat_map};
-ghost use Rattle.lift_base.specs.History.{row_after};
+ghost use Rattle.std.specs.Prelude.{◌≡◌, ◌≤◌, length, Some, IfSome};
 ghost use Rattle.lift_register.specs.Register.{rows_of};
 ghost use Rattle.lift_stops.specs.StopList.{next_stop};
-ghost use Rattle.lift_stops.specs.Schedule.{ScheduleState, position_after};
+ghost use Rattle.lift_stops.specs.Schedule.{position_after};
+ghost use Rattle.lift_decider.specs.Schedules.{schedule_at, with_row, HasRows, HasRowsAfter};
 
 use lift_base::{Letter, Position, Row, Stop};
 use lift_policy::schedule_of;
@@ -16,13 +14,28 @@ use lift_stops::Schedule;
 /// A car takes one call more. Where it has no schedule it gets none.
 pub fn insert(schedule: &mut Option<Schedule>, row: &Row)
     requires few { IfSome schedule.old (λ s. length s.rows ≤ 32) }
-    ensures { schedule.new ≡ option_map (λ (s : ScheduleState).
-        record s { rows = s.rows ++ row.now ∷ [] }) schedule.old }
+    ensures { schedule.new ≡ with_row row.now schedule.old }
 {
     match schedule {
         Some(schedule) => schedule.insert(*row),
         None => {}
     }
+}
+
+/// A car that has no schedule gets one of its open calls. The answer is the stop that it makes next.
+fn begin(
+    register: &Register,
+    car: Letter,
+    schedule: &mut Option<Schedule>,
+    position: Position,
+) -> Option<Stop>
+    ensures schedule { schedule.new ≡ Some (schedule_at register.now car position) }
+    ensures next { result ≡ next_stop (rows_of register.now car) position }
+{
+    let made = schedule_of(register, car, position);
+    let next = made.next_stop();
+    *schedule = Some(made);
+    next
 }
 
 /// A car stands at another position. Its schedule is made from its open calls where it has none.
@@ -33,9 +46,8 @@ pub fn stand(
     schedule: &mut Option<Schedule>,
     position: &Position,
 ) -> Option<Stop>
-    requires own { IfSome schedule.old (λ s. s.rows ≡ rows_of register.now car) }
-    ensures schedule { schedule.new
-        ≡ Some (record { position = position.now; rows = rows_of register.now car }) }
+    requires own { HasRows register.now car schedule.old }
+    ensures schedule { schedule.new ≡ Some (schedule_at register.now car position.now) }
     ensures next { result ≡ next_stop (rows_of register.now car) position.now }
 {
     match schedule {
@@ -43,12 +55,7 @@ pub fn stand(
             schedule.replace_position(*position);
             schedule.next_stop()
         }
-        None => {
-            let made = schedule_of(register, car, *position);
-            let next = made.next_stop();
-            *schedule = Some(made);
-            next
-        }
+        None => begin(register, car, schedule, *position),
     }
 }
 
@@ -60,10 +67,9 @@ pub fn serve(
     schedule: &mut Option<Schedule>,
     stop: &Stop,
 ) -> Option<Stop>
-    requires own { IfSome schedule.old (λ s.
-        flat_map (row_after stop.now) s.rows ≡ rows_of register.now car) }
+    requires own { HasRowsAfter stop.now register.now car schedule.old }
     ensures schedule { schedule.new
-        ≡ Some (record { position = position_after stop.now; rows = rows_of register.now car }) }
+        ≡ Some (schedule_at register.now car (position_after stop.now)) }
     ensures next { result ≡ next_stop (rows_of register.now car) (position_after stop.now) }
 {
     match schedule {
@@ -76,10 +82,7 @@ pub fn serve(
                 floor: stop.floor,
                 dir: stop.dir,
             };
-            let made = schedule_of(register, car, position);
-            let next = made.next_stop();
-            *schedule = Some(made);
-            next
+            begin(register, car, schedule, position)
         }
     }
 }

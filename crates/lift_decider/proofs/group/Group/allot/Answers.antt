@@ -65,4 +65,4 @@ returns-clause-inside c =
     let value = c.join.ensures.value ∙ ap (λ (e : Entry). register_of c.self.inside.register (e ∷ [])) entry_is in
     subst (IsStateIn c.args.building.now) (sym (returns-clause-state c))
     (accepting_inside c.args.building.now c.args.self.now entry c.join.new.register (value ∙ ap (λ (s : State). register_of s.register (entry ∷ [])) c.self.view_is)
-    c.join.ensures.lawful c.join.ensures.belongs c.join.ensures.balanced c.requires.inside)
+    c.join.ensures.lawful c.join.ensures.inside.belongs c.join.ensures.inside.balanced c.requires.inside)

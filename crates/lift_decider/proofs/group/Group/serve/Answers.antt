@@ -46,4 +46,4 @@ returns-clause-inside c lt =
     subst (IsStateIn c.args.building.now) (sym (returns-clause-state c))
     (standing_inside c.args.building.now (accepting c.args.self.now entry) c.args.car c.args.stop.floor c.args.stop.dir lt
     (accepting_inside c.args.building.now c.args.self.now entry c.join.new.register (c.join.ensures.value ∙ ap (λ (s : State). register_of s.register (entry ∷ [])) c.self.view_is)
-    c.join.ensures.lawful c.join.ensures.belongs c.join.ensures.balanced c.requires.inside))
+    c.join.ensures.lawful c.join.ensures.inside.belongs c.join.ensures.inside.balanced c.requires.inside))
