@@ -99,6 +99,13 @@ pub record IsReplyWord (word : ℕ) : Type 0 where
   pub in_range : IsReply reply
   pub spelled : word ≡ reply_word turn number reply
 
+-- a word that is this spelling, which is spelled as it should be, of this turn and this number
+pub record IsWordOf (IsSpelled : ℕ → Type 0) (of_turn of_number spelling word : ℕ) : Type 0 where
+  pub is : word ≡ spelling
+  pub spelled : IsSpelled word
+  pub turn : turn_of word ≡ of_turn
+  pub number : number_of word ≡ of_number
+
 -- the last word of these, 0 for none
 abbrev pub last_of : List ℕ → ℕ
 last_of [] = 0

@@ -7,7 +7,7 @@ ghost use Rattle.lift_base.specs.declared.travel.Dir.{Dir};
 ghost use Rattle.lift_desk.specs.declared.words.Ask.{Ask};
 ghost use Rattle.lift_desk.specs.Words.{turn_of, number_of, dir_bit, body_bits, ask_word};
 ghost use Rattle.lift_desk.specs.Words.{stop_bits, reply_bits, reply_word, IsBody, IsNext, IsReply};
-ghost use Rattle.lift_desk.specs.Words.{IsAskWord, IsReplyWord, ReadsBack};
+ghost use Rattle.lift_desk.specs.Words.{IsAskWord, IsReplyWord, IsWordOf, ReadsBack};
 ghost use Rattle.lift_desk.specs.Spelled.{IsAsk};
 
 use lift_base::{Body, Dir, Floor, Letter, Number, Party, Reason, Reply, Stop};
@@ -83,10 +83,7 @@ fn read_body(bits: u64) -> Option<Body>
 /// the body below.
 pub fn ask_word(turn: u32, number: Number, body: Body) -> u64
     requires { (1 ≤ turn) × (turn < 2 ^ 20) }
-    ensures word { result ≡ ask_word turn number body }
-    ensures spelled { IsAskWord result }
-    ensures turn { turn_of result ≡ turn }
-    ensures number { number_of result ≡ number }
+    ensures word { IsWordOf IsAskWord turn number (ask_word turn number body) result }
     ensures in_range { IsAsk (record { number = number; body = body }) }
 {
     u64::from(turn) * TURN + u64::from(number.get()) * NUMBER + body_bits(&body)
@@ -164,10 +161,7 @@ fn read_bits_of_reply(bits: u64) -> Option<Reply>
 /// The word of an answer to the ask with this turn, 1 to 1,048,575, and this number.
 pub fn reply_word(turn: u32, number: Number, reply: Reply) -> u64
     requires { (1 ≤ turn) × (turn < 2 ^ 20) }
-    ensures word { result ≡ reply_word turn number reply }
-    ensures spelled { IsReplyWord result }
-    ensures turn { turn_of result ≡ turn }
-    ensures number { number_of result ≡ number }
+    ensures word { IsWordOf IsReplyWord turn number (reply_word turn number reply) result }
     ensures in_range { IsReply reply }
 {
     u64::from(turn) * TURN + u64::from(number.get()) * NUMBER + reply_bits(&reply)

@@ -21,11 +21,11 @@ store-requires c =
     let answered : length (view_in c.self.inside.badge.views).clerk.answered ≡ length m.clerk.answered = ap (λ (v : View). length v.clerk.answered) old in
     let owed : length (view_in c.self.inside.badge.views).clerk.taken ≡ suc (length (view_in c.self.inside.badge.views).clerk.answered) =
     owes_one c.self.inside.owes _ _ i.owes i.even (subst (λ p. length p.view.answered < length p.view.taken) (sym is) c.requires.owes) in
-    let turn : turn_of word ≡ turn_of (last_of m.clerk.taken) = c.reply_word-word.ensures.turn ∙ i.turn ∙ sym i.last_taken ∙ ap (λ (v : View). turn_of (last_of v.clerk.taken)) old in
-    let number : number_of word ≡ number_of (last_of m.clerk.taken) = c.reply_word-word.ensures.number ∙ i.number ∙ ap (λ (v : View). number_of (last_of v.clerk.taken)) old in (
+    let turn : turn_of word ≡ turn_of (last_of m.clerk.taken) = c.reply_word-word.ensures.word.turn ∙ i.turn ∙ sym i.last_taken ∙ ap (λ (v : View). turn_of (last_of v.clerk.taken)) old in
+    let number : number_of word ≡ number_of (last_of m.clerk.taken) = c.reply_word-word.ensures.word.number ∙ i.number ∙ ap (λ (v : View). number_of (last_of v.clerk.taken)) old in (
       s.0 ∙ ap (λ b. b.table_id) c.replace-badge.ensures.value ∙ ap (λ p. p.table) is ∙ c.requires.table.0,
       omega arith,
-      answers_keep _ _ _ _ (ap (λ (v : View). v.answers) (sym old) ∙ i.answers seated) (omega arith) (λ k. (turn k, number k)) c.reply_word-word.ensures.spelled,
+      answers_keep _ _ _ _ (ap (λ (v : View). v.answers) (sym old) ∙ i.answers seated) (omega arith) (λ k. (turn k, number k)) c.reply_word-word.ensures.word.spelled,
     )
 
 pub invariant_of-self : goal.invariant_of-self
@@ -46,7 +46,7 @@ invariant_of-self c =
     let same : length (view_in c.into_badge.result.views).clerk.taken ≡ length (view_in c.self.inside.badge.views).clerk.taken = ap length taken in
     let owed : length (view_in c.self.inside.badge.views).clerk.taken ≡ suc (length (view_in c.self.inside.badge.views).clerk.answered) =
     owes_one c.self.inside.owes _ _ i.owes i.even (subst (λ p. length p.view.answered < length p.view.taken) (sym is) c.requires.owes) in
-    let turn : turn_of word ≡ c.self.inside.turn = c.reply_word-word.ensures.turn in
+    let turn : turn_of word ≡ c.self.inside.turn = c.reply_word-word.ensures.word.turn in
     let turn_is = i.turn in
     let last_is : last_of (view_in c.into_badge.result.views).clerk.answered ≡ word = ap last_of answered ∙ last_of-push (view_in c.self.inside.badge.views).clerk.answered word in record {
       one = λ _. b.2 ∙ ap (λ v. v ∷ []) (sym (ap view_in b.2));

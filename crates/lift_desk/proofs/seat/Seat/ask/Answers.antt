@@ -11,8 +11,8 @@ use Rattle.lift_desk.proofs.seat.Seat.ask.Goals as goal
 pub store-requires : goal.store-requires
 store-requires c =
     let i = c.self.invariant in
-    let turn = c.ask_word-word.ensures.turn in
-    (ap (λ s. s.table) c.self.view_is ∙ c.requires.0, omega arith, asks_keep _ _ _ _ i.asks (i.rests c.if-self.false) (omega arith) c.ask_word-word.ensures.spelled)
+    let turn = c.ask_word-word.ensures.word.turn in
+    (ap (λ s. s.table) c.self.view_is ∙ c.requires.0, omega arith, asks_keep _ _ _ _ i.asks (i.rests c.if-self.false) (omega arith) c.ask_word-word.ensures.word.spelled)
 
 pub invariant_of-self : goal.invariant_of-self
 invariant_of-self c =
@@ -28,7 +28,7 @@ invariant_of-self c =
       asks = ap (λ m. m.0.asks) e ∙ i.asks;
       turn = omega arith;
       in_range = omega arith;
-      number = sym c.ask_word-word.ensures.number ∙ ap number_of (sym (last_of-push old word)) ∙ ap (λ l. number_of (last_of l)) (sym asked);
+      number = sym c.ask_word-word.ensures.word.number ∙ ap number_of (sym (last_of-push old word)) ∙ ap (λ l. number_of (last_of l)) (sym asked);
       waits = λ _. omega arith;
       loads = i.loads ∙ (λ k. record { odd = sym (ap (λ m. is_odd m.0.terminal.looks) e) k; last = sym (ap (λ m. m.0.terminal.last) e) k });
       rests = λ k. absurd (true≢false k);
@@ -46,13 +46,13 @@ returns-clause-ok c =
     let free = c.self.invariant.rests c.if-self.false in
     let turn = c.self.invariant.turn in
     let next : c.self.inside.turn + 1 ≡ suc (length old) = omega arith in
-    let word_is : word ≡ ask_word (suc (length old)) c.args.number c.args.body = c.ask_word-word.ensures.word ∙ ap (λ n. ask_word n c.args.number c.args.body) next in
+    let word_is : word ≡ ask_word (suc (length old)) c.args.number c.args.body = c.ask_word-word.ensures.word.is ∙ ap (λ n. ask_word n c.args.number c.args.body) next in
     let view : c.store.new.seat.me.0.terminal ≡ with_ask c.self.inside.chair.me.0.terminal (ask_word (suc (length old)) c.args.number c.args.body) =
     ap (λ m. m.0.terminal) e ∙ ap (with_ask c.self.inside.chair.me.0.terminal) word_is in
     record {
       stored = (λ k. record { table = c.store.ensures.0 k; terminal = c.self.inside.terminal; view = view k })
           ∙ ap (λ (s : TerminalSeat). seat_with s (with_ask s.view (ask_word (suc (length s.view.asked)) c.args.number c.args.body))) c.self.view_is;
       waits = omega arith;
-      last = ap (λ l. number_of (last_of l)) asked ∙ ap number_of (last_of-push old word) ∙ c.ask_word-word.ensures.number;
+      last = ap (λ l. number_of (last_of l)) asked ∙ ap number_of (last_of-push old word) ∙ c.ask_word-word.ensures.word.number;
       in_range = c.ask_word-word.ensures.in_range;
     }
