@@ -7,7 +7,7 @@ mod number;
 mod output;
 mod words;
 
-pub use input::{Counted, ReadFault};
+pub use input::{Counted, Inlet, ReadFault};
 pub use names::{dir_of_word, letter_of_word, number_of_word, party_of_words};
 pub use number::number_up_to;
 pub use output::{Outlet, Watched, WriteFault, put_all};

@@ -1,12 +1,43 @@
 //! A reader whose calls are counted.
 
 ghost use Rattle.std.specs.Prelude.{◌≡◌, ◌==◌, ◌+◌, ◌≤◌, ◌<◌, if◌then◌else◌, length, take, true};
-ghost use Rattle.std.specs.Prelude.{false, OnOk, OnErr, IfOk};
+ghost use Rattle.std.specs.Prelude.{ℕ, List, Option, Some, None, false, OnOk, OnErr, IfOk, IfSome};
+ghost use Rattle.std.specs.Prelude.{IfNone, ⊤};
 ghost use Rattle.std.specs.Io.KnownBytes.{Consumes, IsAtEnd, Keeps};
 
 use crate::count::ProofCount;
 use std::io::Read;
 use std::marker::Model;
+
+/// A reader whose calls are told: each step from one state to the next is a call of it.
+pub trait Inlet: Read {
+    /// A call for as many bytes as these has left them, answered so, and led from one state to the
+    /// next.
+    ghost gives: { Self → List ℕ → Option ℕ → Self → Type 0 };
+
+    /// One call of the reader: how many bytes came, none where it failed.
+    fn fill(&mut self, buffer: &mut [u8]) -> Option<usize>
+        ensures gives { gives self.old buffer.new result self.new }
+        ensures same_room { length buffer.new ≡ length buffer.old }
+        ensures bound { IfSome result (λ count. count ≤ length buffer.new) }
+        ensures bytes { IfSome result (λ count.
+            Consumes (Self.remaining self.old) (Self.remaining self.new) (take count buffer.new)) }
+        ensures end { IfSome result (λ count. count ≡ 0 → 0 < length buffer.new
+            → IsAtEnd (Self.remaining self.new)) }
+        ensures keeps { IfNone result
+            (Keeps (Self.remaining self.old) (Self.remaining self.new)) };
+}
+
+impl<R: Read> Inlet for R {
+    ghost gives = { λ _ _ _ _. ⊤ };
+
+    fn fill(&mut self, buffer: &mut [u8]) -> Option<usize> {
+        match self.read(buffer) {
+            Ok(count) => Some(count),
+            Err(_) => None,
+        }
+    }
+}
 
 /// A call of the reader failed.
 #[derive(Clone, Copy, PartialEq, Eq)]
@@ -56,11 +87,15 @@ impl<R: Drop> Counted<R> {
     }
 }
 
-impl<R: Read + Drop> Counted<R> {
-    /// One call of the reader. The answer is how many bytes came; 0 into a buffer with room is the
-    /// end. A call that fails, also one that was only interrupted, is a fault.
+impl<R: Inlet + Drop> Counted<R> {
+    /// One call of the reader, for the whole buffer. The answer is how many bytes came; 0 into a
+    /// buffer with room is the end. A call that fails, also one that was only interrupted, is a
+    /// fault.
     pub fn read(&mut self, buffer: &mut [u8]) -> Result<usize, ReadFault>
         ensures calls { self.new.calls ≡ self.old.calls + 1 }
+        ensures one { IfOk result (λ count.
+            R.gives self.old.reader buffer.new (Some count) self.new.reader) }
+        ensures one_err { OnErr result (R.gives self.old.reader buffer.new None self.new.reader) }
         ensures bound { IfOk result (λ count. count ≤ length buffer.new) }
         ensures same_room { length buffer.new ≡ length buffer.old }
         ensures gives { IfOk result (λ count.
@@ -79,14 +114,14 @@ impl<R: Read + Drop> Counted<R> {
             (Keeps (R.remaining self.old.reader) (R.remaining self.new.reader)) }
     {
         self.calls = ProofCount::next(&self.calls);
-        match self.reader.read(buffer) {
-            Ok(count) => {
+        match self.reader.fill(buffer) {
+            Some(count) => {
                 if count == 0 && !buffer.is_empty() {
                     self.ended = true;
                 }
                 Ok(count)
             }
-            Err(_) => {
+            None => {
                 self.failed = true;
                 Err(ReadFault)
             }
