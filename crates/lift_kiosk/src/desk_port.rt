@@ -5,17 +5,28 @@ ghost use Rattle.lift_desk.specs.Seats.{IsSeatOf};
 ghost use Rattle.lift_desk.specs.Words.{IsBody, IsReply};
 
 use crate::port::Port;
-use crate::yields::Yields;
+use crate::rests::{Rest, Rests};
 use lift_base::{Body, Number, Reply, Terminal};
 use lift_desk::{AskRefusal, Desk, Seat};
 use std::marker::Model;
+use std::thread;
+
+/// Lets other threads run.
+#[derive(Drop)]
+struct Yield;
+
+impl Rest for Yield {
+    fn rest(&self) {
+        thread::yield_now();
+    }
+}
 
 /// A terminal's seat at the desk as a port. It rests by letting other threads run.
 #[derive(Drop)]
 pub struct DeskPort<'d> {
     desk: &'d Desk,
     seat: Seat,
-    rests: Yields,
+    rests: Rests<Yield>,
 }
 
 impl<'d> Model for DeskPort<'d> {
@@ -38,7 +49,7 @@ impl<'d> DeskPort<'d> {
         DeskPort {
             desk,
             seat,
-            rests: Yields::new(),
+            rests: Rests::new(Yield),
         }
     }
 
@@ -119,6 +130,6 @@ impl<'d> Port for DeskPort<'d> {
     }
 
     fn rest(&mut self) {
-        self.rests.let_others_run();
+        self.rests.rest();
     }
 }

@@ -12,9 +12,9 @@ mod listening;
 mod outcome;
 mod port;
 mod reading;
+mod rests;
 mod speaking;
 mod terms;
-mod yields;
 
 pub use conversation::converse;
 pub use desk_port::DeskPort;
@@ -26,4 +26,5 @@ pub use listening::{bring_in, carry_out};
 pub use outcome::{Opening, Outcome};
 pub use port::Port;
 pub use reading::{without_return, words_in};
+pub use rests::{Rest, Rests};
 pub use terms::{End, LastLetter, Limits, SessionEnd};

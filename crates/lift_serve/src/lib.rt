@@ -13,7 +13,6 @@ mod pace;
 mod pager;
 mod port;
 mod relaying;
-mod rests;
 mod rung;
 mod seating;
 mod serving;

@@ -7,22 +7,33 @@ ghost use Rattle.lift_serve.specs.Rung.{asks_at, view_at};
 
 use crate::pace::AskBell;
 use crate::pager::Pager;
-use crate::rests::Rests;
 use crate::rung::Rung;
 use lift_base::{Body, Number, Reply};
 use lift_desk::AskRefusal;
-use lift_kiosk::{DeskPort, Port};
+use lift_kiosk::{DeskPort, Port, Rest, Rests};
 use std::sync::Wait;
 use std::time::Clock;
+
+/// Sleeps at a terminal's pager.
+#[derive(Drop)]
+struct Sleep<'r, R: Wait + Clock> {
+    rt: &'r R,
+    pager: &'r Pager,
+}
+
+impl<'r, R: Wait + Clock> Rest for Sleep<'r, R> {
+    fn rest(&self) {
+        self.pager.rest(self.rt);
+    }
+}
 
 /// A terminal's port at the desk. It wakes the clerk behind each ask, once that is stored, and it
 /// rests by sleeping for a millisecond, or until its answer is stored.
 #[derive(Drop)]
 pub struct RestingPort<'d, 'r, R: Wait + Clock> {
     port: DeskPort<'d>,
-    rests: Rests,
+    rests: Rests<Sleep<'r, R>>,
     rung: Rung<'d>,
-    rt: &'r R,
     bell: &'r AskBell,
     pager: &'r Pager,
     ghost rung_for_each: { rung.asks ≡ asks_at port },
@@ -37,9 +48,8 @@ impl<'d, 'r, R: Wait + Clock> RestingPort<'d, 'r, R> {
         let rung = Rung::of(&port);
         RestingPort {
             port,
-            rests: Rests::new(),
+            rests: Rests::new(Sleep { rt, pager }),
             rung,
-            rt,
             bell,
             pager,
         }
@@ -53,7 +63,6 @@ impl<'d, 'r, R: Wait + Clock> RestingPort<'d, 'r, R> {
             port,
             rests: _,
             rung: _,
-            rt: _,
             bell: _,
             pager: _,
         } = self;
@@ -99,6 +108,6 @@ impl<'d, 'r, R: Wait + Clock> Port for RestingPort<'d, 'r, R> {
     }
 
     fn rest(&mut self) {
-        self.rests.rest_at(self.rt, self.pager);
+        self.rests.rest();
     }
 }

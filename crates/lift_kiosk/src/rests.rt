@@ -2,20 +2,24 @@
 
 ghost use Rattle.std.specs.Prelude.{◌≡◌, ◌+◌};
 
-use crate::pager::Pager;
 use lift_base::ProofCount;
 use std::marker::Model;
-use std::sync::Wait;
-use std::time::Clock;
 
-/// How many rests there were, which only proofs read. The only way to count is to rest at a pager,
-/// so the count binds.
+/// A way to rest.
+pub trait Rest {
+    /// Rests once.
+    fn rest(&self);
+}
+
+/// A way to rest, and how often it was gone, which only proofs read. The only way to count is to
+/// rest so, so the count binds.
 #[derive(Drop)]
-pub(crate) struct Rests {
+pub struct Rests<W: Drop> {
+    way: W,
     times: ProofCount,
 }
 
-impl Model for Rests {
+impl<W: Drop> Model for Rests<W> {
     ghost use Rattle.std.specs.Prelude.{ℕ};
 
     ghost Value = { ℕ };
@@ -23,21 +27,22 @@ impl Model for Rests {
     ghost view = { λ r. r.times.count };
 }
 
-impl Rests {
+impl<W: Rest + Drop> Rests<W> {
     /// None yet.
-    pub(crate) fn new() -> Rests
+    pub fn new(way: W) -> Self
         ensures { result ≡ 0 }
     {
         Rests {
+            way,
             times: ProofCount::new(),
         }
     }
 
     /// Rests once.
-    pub(crate) fn rest_at<R: Wait + Clock>(&mut self, rt: &R, pager: &Pager)
+    pub fn rest(&mut self)
         ensures { self.new ≡ self.old + 1 }
     {
-        pager.rest(rt);
+        self.way.rest();
         self.times = ProofCount::next(&self.times);
     }
 }
