@@ -13,7 +13,7 @@ use crate::terms::CarEnd;
 use lift_base::text::{Counted, Watched, dir_of_word, number_of_word, number_up_to};
 use lift_base::{Body, Dir, Floor, Number, Reply};
 use lift_desk::Ask;
-use lift_kiosk::{Dialect, End, LastLetter, Limits, Port, SessionEnd, Wanted, converse, words_in};
+use lift_kiosk::{Dialect, End, LastLetter, Limits, Port, Wanted, converse, words_in};
 use std::io::{Read, Write};
 
 /// A move as its line spells it, to a floor up to 999.
@@ -166,13 +166,11 @@ pub fn session<R: Read + Drop, W: Write + Drop, P: Port>(
         (sink_of W.contents writer.new)) }
     ensures stays { P.place port.new ≡ P.place port.old }
 {
-    let last = LastLetter {
+    let mut last = LastLetter {
         number: last,
         letter: None,
     };
-    let SessionEnd { last, end } = converse::<CarLines, R, W, P>(
-        reader, writer, port, last, limits,
-    );
+    let end = converse::<CarLines, R, W, P>(reader, writer, port, &mut last, &limits);
     CarEnd {
         last: last.number,
         end,

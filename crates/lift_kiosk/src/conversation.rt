@@ -6,7 +6,7 @@ ghost use Rattle.std.specs.Str.Lines.{strip_carriage_return};
 ghost use Rattle.lift_base.specs.Output.{sink_of};
 ghost use Rattle.lift_kiosk.specs.Lines.{Keeps65, source_of, IsEndWithoutLine};
 ghost use Rattle.lift_kiosk.specs.Session.{Means, PortDid, GoesOn, EndsWith, Answers, LastStep};
-ghost use Rattle.lift_kiosk.specs.Session.{Converses, EndsLines, standing, last_after, last_opened};
+ghost use Rattle.lift_kiosk.specs.Session.{Converses, standing, last_after, last_opened};
 ghost use Rattle.lift_kiosk.specs.declared.outcome.Outcome.{Outcome as OutcomeValue};
 
 use crate::dialect::{Dialect, Wanted};
@@ -16,7 +16,7 @@ use crate::outcome::{Opening, Outcome};
 use crate::port::Port;
 use crate::reading::wanted_of;
 use crate::speaking::{answer_of, opening_of};
-use crate::terms::{End, LastLetter, Limits, SessionEnd};
+use crate::terms::{End, LastLetter, Limits};
 use lift_base::text::{Counted, Watched};
 use std::io::{Read, Write};
 
@@ -121,23 +121,32 @@ fn exchange<T: Dialect, R: Read + Drop, W: Write + Drop, P: Port>(
     }
 }
 
-/// Answers line after line. The last command is what it was before the first.
-fn answer_lines<T: Dialect, R: Read + Drop, W: Write + Drop, P: Port>(
+/// A session, whatever kind of terminal speaks in it. It begins with the last command that is known
+/// to be in, and keeps the last one up to its end. It may call the reader as often as the limits
+/// say, beyond the calls that were made before.
+pub fn converse<T: Dialect, R: Read + Drop, W: Write + Drop, P: Port>(
     reader: &mut Counted<R>,
     writer: &mut Watched<W>,
     port: &mut P,
     last: &mut LastLetter,
     limits: &Limits,
 ) -> End
-    requires free { (P.view port.old).pending ≡ None }
-    ensures ends { EndsLines T.wants T.keeps limits.now (reader.old.calls + limits.now.reads) result
+    ensures converses { Converses T.wants T.keeps limits.now result
         (standing last.old (P.view port.old) (source_of R.remaining reader.old)
         (sink_of W.contents writer.old))
         (standing last.new (P.view port.new) (source_of R.remaining reader.new)
         (sink_of W.contents writer.new)) }
-    ensures calls { reader.new.calls ≤ reader.old.calls + limits.now.reads }
     ensures stays { P.place port.new ≡ P.place port.old }
 {
+    let opening = bring_in(port, limits.looks);
+    *last = last_behind_opening::<T>(last, &opening);
+    match writer.put(&opening_of(last, &opening)) {
+        Ok(()) => {}
+        Err(_) => return End::WriteFault,
+    }
+    if let Opening::StillWaits = opening {
+        return End::Late;
+    }
     let mut left = limits.reads;
     for _ in 0..limits.lines {
         match exchange::<T, R, W, P>(reader, writer, port, last, limits, &mut left) {
@@ -146,39 +155,4 @@ fn answer_lines<T: Dialect, R: Read + Drop, W: Write + Drop, P: Port>(
         }
     }
     End::Limit
-}
-
-/// A session, whatever kind of terminal speaks in it. It may call the reader as often as the limits
-/// say, beyond the calls that were made before.
-pub fn converse<T: Dialect, R: Read + Drop, W: Write + Drop, P: Port>(
-    reader: &mut Counted<R>,
-    writer: &mut Watched<W>,
-    port: &mut P,
-    last: LastLetter,
-    limits: Limits,
-) -> SessionEnd
-    ensures converses { Converses T.wants T.keeps limits result.end
-        (standing last (P.view port.old) (source_of R.remaining reader.old)
-        (sink_of W.contents writer.old))
-        (standing result.last (P.view port.new) (source_of R.remaining reader.new)
-        (sink_of W.contents writer.new)) }
-    ensures stays { P.place port.new ≡ P.place port.old }
-{
-    let opening = bring_in(port, limits.looks);
-    let mut last = last_behind_opening::<T>(&last, &opening);
-    match writer.put(&opening_of(&last, &opening)) {
-        Ok(()) => {}
-        Err(_) => return SessionEnd {
-            last,
-            end: End::WriteFault,
-        },
-    }
-    if let Opening::StillWaits = opening {
-        return SessionEnd {
-            last,
-            end: End::Late,
-        };
-    }
-    let end = answer_lines::<T, R, W, P>(reader, writer, port, &mut last, &limits);
-    SessionEnd { last, end }
 }

@@ -147,5 +147,7 @@ pub fn session<R: Read + Drop, W: Write + Drop, P: Port>(
         (sink_of W.contents writer.new)) }
     ensures stays { P.place port.new ≡ P.place port.old }
 {
-    converse::<Kiosk, R, W, P>(reader, writer, port, last, limits)
+    let mut last = last;
+    let end = converse::<Kiosk, R, W, P>(reader, writer, port, &mut last, &limits);
+    SessionEnd { last, end }
 }

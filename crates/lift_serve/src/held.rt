@@ -14,7 +14,7 @@ use lift_base::Terminal;
 use lift_base::text::{Counted, Watched};
 use lift_car::CarLines;
 use lift_desk::{Desk, Seat};
-use lift_kiosk::{DeskPort, End, Kiosk, LastLetter, Limits, Port, SessionEnd, converse};
+use lift_kiosk::{DeskPort, End, Kiosk, LastLetter, Limits, Port, converse};
 use std::io::{Read, Write};
 use std::marker::Model;
 use std::sync::Wait;
@@ -34,19 +34,19 @@ fn session_of<I: Read + Drop, O: Write + Drop, P: Port>(
     reader: &mut Counted<I>,
     writer: &mut Watched<O>,
     port: &mut P,
-    last: LastLetter,
-) -> SessionEnd
-    ensures visit { IsVisit terminal result.end
-        (standing last (P.view port.old) (source_of I.remaining reader.old)
+    last: &mut LastLetter,
+) -> End
+    ensures visit { IsVisit terminal result
+        (standing last.old (P.view port.old) (source_of I.remaining reader.old)
         (sink_of O.contents writer.old))
-        (standing result.last (P.view port.new) (source_of I.remaining reader.new)
+        (standing last.new (P.view port.new) (source_of I.remaining reader.new)
         (sink_of O.contents writer.new)) }
     ensures stays { P.place port.new ≡ P.place port.old }
 {
     if terminal.is_kiosk() {
-        converse::<Kiosk, I, O, P>(reader, writer, port, last, LIMITS)
+        converse::<Kiosk, I, O, P>(reader, writer, port, last, &LIMITS)
     } else {
-        converse::<CarLines, I, O, P>(reader, writer, port, last, LIMITS)
+        converse::<CarLines, I, O, P>(reader, writer, port, last, &LIMITS)
     }
 }
 
@@ -114,12 +114,12 @@ impl<'d> Held<'d> {
             desk,
             pager,
             seat,
-            last,
+            mut last,
             found,
         } = self;
         let terminal = seat.terminal();
         let mut port = RestingPort::new(DeskPort::new(desk, seat), rt, bell, pager);
-        let SessionEnd { last, end } = session_of(terminal, reader, writer, &mut port, last);
+        let end = session_of(terminal, reader, writer, &mut port, &mut last);
         let seat = port.into_port().into_seat();
         (
             Held {

@@ -4,9 +4,9 @@ use Rattle.lift_car.proofs.lines.session.Goals as goal
 
 pub returns-clause-converses : goal.returns-clause-converses
 returns-clause-converses g c =
-    let told = c.converse-last.ensures.converses in
+    let told = c.converse-end.ensures.converses in
     record {
-      session = number_alone c.args.limits c.converse-last.result.end _ _ told.session refl;
+      session = number_alone c.args.limits c.converse-end.result _ _ told.session refl;
       calls = told.calls;
       late = told.late;
       spent = told.spent;
