@@ -67,6 +67,14 @@ module _ {D P : Type 0} (choice : Choice) (state : D → DiskState) (before : Cl
     policy = last.turn.policy ∙ last.rejoined.policy ∙ run.same.policy ∙ parts.policy;
   }
 
+-- the parts of a clerk are of one
+pub of_one : {D P : Type 0} (before : ClerkState D P) (a : AllocatorState P) (f : FlusherState D) → AreParts before a f → AreOfOne a f
+of_one {D} before a f parts = record {
+  line = parts.line;
+  desk = parts.desks.1 ∙ sym parts.desks.0;
+  plan = ap (λ (w : WriterView D). w.plan) parts.writer ∙ sym parts.plan;
+}
+
 -- the choice is that of the clerk's policy, which stays
 pub relayed_on : {D P : Type 0} (chooses : P → Choice) (state : D → DiskState) (before after : ClerkState D P) (a b : AllocatorState P) (f g : FlusherState D)
     (fault : Option RunFault) → AreParts before a f → HaveRunOn (chooses a.policy) state a b f g fault → IsLastTurn (chooses b.policy) b g after

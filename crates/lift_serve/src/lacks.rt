@@ -3,7 +3,7 @@
 ghost use Rattle.std.specs.Prelude.{◌≡◌, ◌≤◌, ◌++◌, ◌∷◌, [], None, Some, OnOk, OnErr};
 ghost use Rattle.std.specs.Prelude.{IfOk, IfErr, length};
 ghost use Rattle.lift_desk.specs.Seats.{AreSeatsOf, IsClerkOf, OwesNothing, seats_from};
-ghost use Rattle.lift_parts.specs.Parts.{AreOfOne, AreParts};
+ghost use Rattle.lift_parts.specs.Parts.{AreParts};
 ghost use Rattle.lift_serve.specs.Relaying.{HaveRunOn, first_told, told, undone};
 
 use crate::connections::{Left, Over};
@@ -118,7 +118,6 @@ impl Lacking {
         self,
         parts: Parts<'d, 'b, D, P>,
     ) -> Parts<'d, 'b, D, P>
-        requires of_one { AreOfOne parts.allocator parts.flusher }
         requires thread { self ≡ Lack.Thread }
         ensures unrun { HaveRunOn (P.chooses parts.entry.allocator.policy) D.state
             parts.entry.allocator result.allocator parts.entry.flusher result.flusher
@@ -348,7 +347,6 @@ pub(crate) fn part<'d, 'b, D: Disk, P: Policy + Drop>(
     clerk: Clerk<'d, 'b, D, P>,
 ) -> Result<(Allocator<'d, 'b, P>, Flusher<'d, 'b, D>), (Clerk<'d, 'b, D, P>, Lacking)>
     ensures parts { IfOk result (λ parts. AreParts clerk.entry parts.0 parts.1) }
-    ensures of_one { IfOk result (λ parts. AreOfOne parts.0 parts.1) }
     ensures refused { IfErr result (λ back. back.0 ≡ clerk.entry) }
     ensures lack { IfErr result (λ back. back.1 ≡ Lack.Memory) }
 {
@@ -381,7 +379,6 @@ where
     G: Gate + Sync,
     D: Disk + Drop,
     P: Policy + Drop + Send,
-    requires of_one { AreOfOne parts.allocator parts.flusher }
     ensures ran { HaveRunOn (P.chooses parts.entry.allocator.policy) D.state parts.entry.allocator
         result.allocator parts.entry.flusher result.flusher result.fault }
     ensures told { result.refusal ≡ told (undone result.fault) }

@@ -11,7 +11,7 @@ use lift_keeper::KeeperFault;
 use lift_policy::Policy;
 use lift_relay::{Allocator, Flusher, RunFault, rejoin};
 
-/// Both parts of a clerk, and what came of their run, if they had one.
+/// Both parts of one clerk, and what came of their run, if they had one.
 #[derive(Drop)]
 pub struct Parts<'d, 'b, D: Disk + Drop, P: Policy + Drop> {
     pub allocator: Allocator<'d, 'b, P>,
@@ -20,6 +20,7 @@ pub struct Parts<'d, 'b, D: Disk + Drop, P: Policy + Drop> {
     pub fault: Option<RunFault>,
     /// What was refused to their run, or before it.
     pub refusal: Option<Refusal>,
+    ghost of_one: { AreOfOne allocator flusher },
 }
 
 /// One turn of the clerk.

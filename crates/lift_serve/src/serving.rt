@@ -3,7 +3,6 @@
 ghost use Rattle.std.specs.Prelude.{◌≡◌, ◌≤◌, ◌+◌, [], All, Option, Some, IfOk, IfErr, length};
 ghost use Rattle.std.specs.Thread.{IsSend, IsSync};
 ghost use Rattle.lift_desk.specs.Seats.{AreSeatsOf, seats_from};
-ghost use Rattle.lift_parts.specs.Parts.{AreOfOne};
 ghost use Rattle.lift_serve.specs.Lobby.{AreInOrder, all_found};
 ghost use Rattle.lift_relay.specs.declared.pair.RunFault.{RunFault as Fault};
 ghost use Rattle.lift_serve.specs.Relaying.{ComesTo, HaveRunOn, Relayed, told, undone};
@@ -271,7 +270,6 @@ where
     G: Gate + Sync,
     D: Disk + Drop,
     P: Policy + Drop + Send,
-    requires of_one { AreOfOne parts.allocator parts.flusher }
     ensures ran { (fault : Option Fault) × HaveRunOn (P.chooses parts.entry.allocator.policy)
         D.state parts.entry.allocator result.allocator parts.entry.flusher result.flusher fault
         × (result.refusal ≡ told (undone fault)) }
@@ -280,8 +278,7 @@ where
         thread::scope_env(),
         rt,
         move |scope| -> Parts<D, P>
-            requires { IsSync R.row × IsSync G.row × IsSend P.row
-                × AreOfOne parts.allocator parts.flusher }
+            requires { IsSync R.row × IsSync G.row × IsSend P.row }
             ensures ran { (fault : Option Fault)
                 × HaveRunOn (P.chooses parts.entry.allocator.policy) D.state parts.entry.allocator
                 result.allocator parts.entry.flusher result.flusher fault
@@ -303,7 +300,7 @@ where
 /// The clerk's work is done in two parts while connections are accepted. It turns once more behind
 /// them. What was refused to the parts' run itself is told beside the clerk: no contract knows what
 /// a lock holds. Where memory was wanting for the parts the clerk comes back as it was.
-#[tactic(auto, using(crate::proofs::Relayings::relayed_on, crate::proofs::Relayings::none_in_hand, crate::proofs::Relayings::all_received))]
+#[tactic(auto, using(crate::proofs::Relayings::of_one, crate::proofs::Relayings::relayed_on, crate::proofs::Relayings::none_in_hand, crate::proofs::Relayings::all_received))]
 fn run<'d, 'b, R: Threads + Wait + Clock + Sync, D: Disk + Drop, P: Policy + Drop + Send>(
     rt: &R,
     alloc: Global,
