@@ -64,6 +64,13 @@ pub(crate) struct Over {
     ghost none_left: { connections.value.left ≡ 0 },
 }
 
+/// That what a thread of a serving was for is over.
+pub(crate) trait Finished {}
+
+impl Finished for Left {}
+
+impl Finished for Over {}
+
 /// The connections that are open, and how many may still end before all of them are closed.
 /// Contracts see the numbers of those that are open, the next number, and how many are left.
 #[derive(Drop)]
@@ -138,7 +145,7 @@ impl Connections {
         ensures left_out { IfOk result (λ entered. IfErr entered (λ _.
             (self.old.left ≡ 0) × (self.new ≡ self.old))) }
         ensures unchanged { IfErr result (λ _. self.new ≡ self.old) }
-        ensures lack { IfErr result (λ lacking. lacking ≡ Lack.Memory) }
+        ensures lack { IfErr result (λ lacking. lacking.what ≡ Lack.Memory) }
     {
         if self.left == 0 {
             return Ok(Err(self.over()));

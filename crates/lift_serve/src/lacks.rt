@@ -6,7 +6,7 @@ ghost use Rattle.lift_desk.specs.Seats.{AreSeatsOf, IsClerkOf, OwesNothing, seat
 ghost use Rattle.lift_parts.specs.Parts.{AreParts};
 ghost use Rattle.lift_serve.specs.Relaying.{HaveRunOn, first_told, told, undone};
 
-use crate::connections::{Left, Over};
+use crate::connections::Finished;
 use crate::relaying::Parts;
 use crate::serving::{ServeFault, Served, unserved};
 use lift_clerk::Clerk;
@@ -35,14 +35,6 @@ pub enum Lack {
 /// go: it is noted, or it ends the whole serving, whose keeper or parts that takes.
 pub struct Lacking {
     what: Lack,
-}
-
-impl Model for Lacking {
-    ghost use Rattle.lift_serve.specs.declared.lacks.Lack.{Lack};
-
-    ghost Value = { Lack };
-
-    ghost view = { λ l. l.what };
 }
 
 /// That a serving was refused something. Only the calls below that were refused it make one, and
@@ -96,7 +88,7 @@ fn told_of(lack: Option<Lack>) -> Option<Refusal>
 impl Lacking {
     /// It is told.
     fn told(self) -> Refusal
-        ensures { Some result ≡ told (Some self) }
+        ensures { Some result ≡ told (Some self.what) }
     {
         let Lacking { what } = self;
         Refusal {
@@ -107,7 +99,7 @@ impl Lacking {
     /// Nobody is served, for this: the keeper as it is.
     pub(crate) fn unserved<'b, D: Disk + Drop>(self, keeper: Keeper<'b, D>) -> Served<'b, D>
         ensures keeper { result.keeper ≡ keeper.entry }
-        ensures fault { result.fault ≡ told (Some self) }
+        ensures fault { result.fault ≡ told (Some self.what) }
     {
         unserved(keeper, self.told())
     }
@@ -118,7 +110,7 @@ impl Lacking {
         self,
         parts: Parts<'d, 'b, D, P>,
     ) -> Parts<'d, 'b, D, P>
-        requires thread { self ≡ Lack.Thread }
+        requires thread { self.what ≡ Lack.Thread }
         ensures unrun { HaveRunOn (P.chooses parts.entry.allocator.policy) D.state
             parts.entry.allocator result.allocator parts.entry.flusher result.flusher
             (Some (RunFault.Spawn tt)) }
@@ -180,8 +172,8 @@ impl Lacks {
 
     /// Keeps the first in mind.
     pub(crate) fn note(&mut self, lacking: Lacking) -> Noted
-        ensures first { self.new ≡ first_told self.old (Some lacking) }
-        ensures noted { result.what ≡ lacking }
+        ensures first { self.new ≡ first_told self.old (Some lacking.what) }
+        ensures noted { result.what ≡ lacking.what }
     {
         let Lacking { what } = lacking;
         self.first = first_of(self.first, Some(what));
@@ -213,7 +205,7 @@ impl Lacks {
         keeper: Keeper<'b, D>,
     ) -> Served<'b, D>
         ensures keeper { result.keeper ≡ keeper.entry }
-        ensures fault { result.fault ≡ told (Some lacking) }
+        ensures fault { result.fault ≡ told (Some lacking.what) }
     {
         let Lacks { first: _ } = self;
         lacking.unserved(keeper)
@@ -222,7 +214,7 @@ impl Lacks {
 
 /// A value that threads share.
 pub(crate) fn share<T: Drop>(alloc: Global, value: T) -> Result<Arc<T>, Lacking>
-    ensures lack { IfErr result (λ lacking. lacking ≡ Lack.Memory) }
+    ensures lack { IfErr result (λ lacking. lacking.what ≡ Lack.Memory) }
 {
     match Arc::new(alloc, value) {
         Ok(shared) => Ok(shared),
@@ -232,7 +224,7 @@ pub(crate) fn share<T: Drop>(alloc: Global, value: T) -> Result<Arc<T>, Lacking>
 
 /// One more that has it.
 pub(crate) fn share_again<T>(shared: &Arc<T>) -> Result<Arc<T>, Lacking>
-    ensures lack { IfErr result (λ lacking. lacking ≡ Lack.Memory) }
+    ensures lack { IfErr result (λ lacking. lacking.what ≡ Lack.Memory) }
 {
     match Arc::try_clone(shared) {
         Ok(again) => Ok(again),
@@ -246,7 +238,7 @@ pub(crate) fn read_ahead<I: Read + Drop>(
     bytes: usize,
     reader: I,
 ) -> Result<BufReader<I>, Lacking>
-    ensures lack { IfErr result (λ lacking. lacking ≡ Lack.Memory) }
+    ensures lack { IfErr result (λ lacking. lacking.what ≡ Lack.Memory) }
 {
     match BufReader::with_capacity(alloc, bytes, reader) {
         Ok(ahead) => Ok(ahead),
@@ -257,7 +249,7 @@ pub(crate) fn read_ahead<I: Read + Drop>(
 /// A vector with room for so many.
 pub(crate) fn with_room<T: Drop>(alloc: Global, count: usize) -> Result<Vec<T>, Lacking>
     ensures none { IfOk result (λ values. values.items ≡ []) }
-    ensures lack { IfErr result (λ lacking. lacking ≡ Lack.Memory) }
+    ensures lack { IfErr result (λ lacking. lacking.what ≡ Lack.Memory) }
 {
     match Vec::with_capacity(alloc, count) {
         Ok(values) => Ok(values),
@@ -269,7 +261,7 @@ pub(crate) fn with_room<T: Drop>(alloc: Global, count: usize) -> Result<Vec<T>, 
 pub(crate) fn push<T: Drop>(values: &mut Vec<T>, value: T) -> Result<(), Lacking>
     ensures pushed { OnOk result (values.new.items ≡ values.old.items ++ value ∷ []) }
     ensures unchanged { OnErr result (values.new.items ≡ values.old.items) }
-    ensures lack { IfErr result (λ lacking. lacking ≡ Lack.Memory) }
+    ensures lack { IfErr result (λ lacking. lacking.what ≡ Lack.Memory) }
 {
     match values.push(value) {
         Ok(()) => Ok(()),
@@ -277,40 +269,18 @@ pub(crate) fn push<T: Drop>(values: &mut Vec<T>, value: T) -> Result<(), Lacking
     }
 }
 
-/// A thread of a scope, for this work.
-fn start<'s, E, T: Send + Drop + 's, F: FnOnce() -> T + Send + Drop + 's>(
+/// A thread of a scope, which returns once what it is for is over.
+pub(crate) fn start<'s, E, T: Finished + Send + Drop + 's, F: FnOnce() -> T + Send + Drop + 's>(
     scope: &Scope<'s, E>,
     work: F,
 ) -> Result<(), Lacking>
     requires { F.pre work }
-    ensures lack { IfErr result (λ lacking. lacking ≡ Lack.Thread) }
+    ensures lack { IfErr result (λ lacking. lacking.what ≡ Lack.Thread) }
 {
     match scope.spawn(work) {
         Ok(_) => Ok(()),
         Err(_) => Err(Lacking { what: Lack::Thread }),
     }
-}
-
-/// A thread of a scope for the accepting, which returns once that is over.
-pub(crate) fn start_accepting<'s, E, F: FnOnce() -> Over + Send + Drop + 's>(
-    scope: &Scope<'s, E>,
-    work: F,
-) -> Result<(), Lacking>
-    requires { F.pre work }
-    ensures lack { IfErr result (λ lacking. lacking ≡ Lack.Thread) }
-{
-    start(scope, work)
-}
-
-/// A thread of a scope for a connection, which returns once that is counted as ended.
-pub(crate) fn start_session<'s, E, F: FnOnce() -> Left + Send + Drop + 's>(
-    scope: &Scope<'s, E>,
-    work: F,
-) -> Result<(), Lacking>
-    requires { F.pre work }
-    ensures lack { IfErr result (λ lacking. lacking ≡ Lack.Thread) }
-{
-    start(scope, work)
 }
 
 /// A view of a listening socket.
@@ -333,7 +303,7 @@ pub(crate) fn open_desk(alloc: Global, terminals: usize) -> Result<DeskParts, La
     ensures seats_at { IfOk result (λ parts. AreSeatsOf parts.desk parts.seats.items) }
     ensures clerk_at { IfOk result (λ parts. IsClerkOf parts.desk parts.clerk) }
     ensures owes { IfOk result (λ parts. OwesNothing parts.clerk) }
-    ensures lack { IfErr result (λ lacking. lacking ≡ Lack.Memory) }
+    ensures lack { IfErr result (λ lacking. lacking.what ≡ Lack.Memory) }
 {
     match Desk::open(alloc, terminals) {
         Ok(parts) => Ok(parts),
@@ -348,7 +318,7 @@ pub(crate) fn part<'d, 'b, D: Disk, P: Policy + Drop>(
 ) -> Result<(Allocator<'d, 'b, P>, Flusher<'d, 'b, D>), (Clerk<'d, 'b, D, P>, Lacking)>
     ensures parts { IfOk result (λ parts. AreParts clerk.entry parts.0 parts.1) }
     ensures refused { IfErr result (λ back. back.0 ≡ clerk.entry) }
-    ensures lack { IfErr result (λ back. back.1 ≡ Lack.Memory) }
+    ensures lack { IfErr result (λ back. back.1.what ≡ Lack.Memory) }
 {
     match split(alloc, clerk) {
         Ok(parts) => Ok(parts),

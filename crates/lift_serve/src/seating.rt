@@ -51,7 +51,7 @@ fn last_of(register: &Register, terminal: Terminal) -> LastLetter
 pub(crate) fn new_pagers(alloc: Global) -> Result<Vec<Pager>, Lacking>
     ensures count { IfOk result (λ pagers. length pagers.items ≡ 63) }
     ensures in_order { IfOk result (λ pagers. AreInOrder pagers.items) }
-    ensures lack { IfErr result (λ lacking. lacking ≡ Lack.Memory) }
+    ensures lack { IfErr result (λ lacking. lacking.what ≡ Lack.Memory) }
 {
     let mut pagers = with_room(alloc, TERMINALS)?;
     for index in 0..TERMINALS {

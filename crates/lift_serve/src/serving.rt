@@ -13,7 +13,7 @@ use crate::connections::{Connections, Ending, Left, Over, Ticket};
 use crate::keep_alive::watch;
 use crate::lacks::{
     Lack, Lacking, Lacks, Noted, Refusal, listen_again, open_desk, part, read_ahead, run_parts,
-    share, share_again, start_accepting, start_session,
+    share, share_again, start,
 };
 use crate::lobby::Lobby;
 use crate::pace::{Bells, Pace};
@@ -93,7 +93,7 @@ impl<'a, 'd> Shared<'a, 'd> {
 
     /// Nobody is let in where all connections have ended that were to end.
     fn enter<R: Wait>(self, rt: &R, stream: Arc<TcpStream>) -> Result<Result<Ticket, Over>, Lacking>
-        ensures lack { IfErr result (λ lacking. lacking ≡ Lack.Memory) }
+        ensures lack { IfErr result (λ lacking. lacking.what ≡ Lack.Memory) }
     {
         self.connections.lock(rt).enter(stream)
     }
@@ -141,7 +141,7 @@ fn speak<'d, R: Wait + Clock>(
     ticket: Ticket,
     stream: &TcpStream,
 ) -> Result<Attended<'d>, Lacking>
-    ensures lack { IfErr result (λ lacking. lacking ≡ Lack.Memory) }
+    ensures lack { IfErr result (λ lacking. lacking.what ≡ Lack.Memory) }
 {
     let mut reader = Counted::new(read_ahead(alloc, AHEAD, stream)?);
     let mut writer = Watched::new(WakingWriter::new(stream, shared.bells));
@@ -185,7 +185,7 @@ fn admit<R: Wait>(
     shared: Shared<'_, '_>,
     stream: TcpStream,
 ) -> Result<Result<(Ticket, Arc<TcpStream>), Over>, Lacking>
-    ensures lack { IfErr result (λ lacking. lacking ≡ Lack.Memory) }
+    ensures lack { IfErr result (λ lacking. lacking.what ≡ Lack.Memory) }
 {
     let stream = share(alloc, stream)?;
     let theirs = share_again(&stream)?;
@@ -222,7 +222,7 @@ fn accept_all<'s, 'd: 's, E, R: Threads + Wait + Clock + Sync>(
         };
         let number = ticket.number();
         let work = move || attend_stream(rt, alloc, shared, ticket, stream);
-        if let Err(lacking) = start_session(scope, work) {
+        if let Err(lacking) = start(scope, work) {
             let noted = shared.note(rt, lacking);
             let _left = shared.leave(rt, number, Ending::Lacking(noted));
         }
@@ -285,7 +285,7 @@ where
                 × (result.refusal ≡ told (undone fault)) }
         {
             let work = move || welcome(rt, alloc, listener, shared);
-            if let Err(lacking) = start_accepting(scope, work) {
+            if let Err(lacking) = start(scope, work) {
                 return lacking.unrun(parts);
             }
             let ran = run_parts(rt, gate, parts);
@@ -314,7 +314,7 @@ fn run<'d, 'b, R: Threads + Wait + Clock + Sync, D: Disk + Drop, P: Policy + Dro
         (fault : Option Fault) × Relayed (P.chooses clerk.entry.policy) D.state clerk.entry ran.0
         fault × (ran.1 ≡ told (undone fault))) }
     ensures refused { IfErr result (λ back. back.0 ≡ clerk.entry) }
-    ensures lack { IfErr result (λ back. back.1 ≡ Lack.Memory) }
+    ensures lack { IfErr result (λ back. back.1.what ≡ Lack.Memory) }
 {
     match part(alloc, clerk) {
         Ok((allocator, flusher)) => {
