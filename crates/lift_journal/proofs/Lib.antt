@@ -1,4 +1,5 @@
 pub mod Following
+pub mod Performing
 pub mod Writes
 pub mod Texts
 pub mod Appends

@@ -2,11 +2,12 @@
 use Rattle.std.specs.Prelude.{◌≡◌, ◌≤◌, ◌<◌, ◌+◌, ◌++◌, ℕ, zero, suc, Bool, if◌then◌else◌, List, []}
 use Rattle.std.specs.Prelude.{◌∷◌, length, take, drop, Result, OnOk, OnErr}
 use Rattle.lift_base.specs.declared.history.Shape.{Shape}
-use Rattle.lift_disk.specs.Disk.{DiskState, Image}
+use Rattle.lift_disk.specs.Disk.{DiskState, Image, HasCause, RunsOn}
 use Rattle.lift_disk.specs.Trace.{Access}
 use Rattle.lift_disk.specs.Trace.Access.{Read, Write, Sync}
 use Rattle.lift_journal.specs.Layout.{Batch, batch_bytes, size_of, used, filled, stamp_bytes}
-use Rattle.lift_journal.specs.Steps.{marked, unmarked}
+use Rattle.lift_journal.specs.Steps.{Makes, marked, unmarked}
+use Rattle.lift_journal.specs.Told.{StopsAsTold}
 
 -- the first sector of a half
 abbrev pub half_start : Bool → ℕ → ℕ
@@ -71,6 +72,16 @@ pub record Follows {T E : Type 0} (result : Result T E) (calls : List Access)
     (old new : DiskState) : Type 0 where
   pub all : OnOk result (new.trace ≡ old.trace ++ calls)
   pub front : OnErr result (StopsIn calls old new)
+
+-- A step of the journal: these calls, so many and so many of them writes. It stops at the first that
+-- fails.
+pub record Performs {T E : Type 0} (result : Result T E) (calls : List Access) (count writes : ℕ)
+    (old new : DiskState) : Type 0 where
+  pub runs : RunsOn old new
+  pub cause : HasCause result old new
+  pub told : StopsAsTold result old new
+  pub made : Makes result count writes old new
+  pub follows : Follows result calls old new
 
 -- from this sector on some were read in a row, each once: so many at most, and none from the end on
 abbrev pub HasRead : (first most end : ℕ) → DiskState → DiskState → Type 0

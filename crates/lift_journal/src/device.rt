@@ -1,15 +1,13 @@
 //! The journal's writes, in steps of a few device calls each.
 ghost use Rattle.std.specs.Prelude.{◌≡◌, ◌≤◌, ◌<◌, ◌+◌, ◌^◌, ◌++◌, [], ◌∷◌, ◌⊎◌, ℕ, List, length};
 ghost use Rattle.std.specs.Prelude.{OnOk, OnErr, slice_set};
-ghost use Rattle.lift_disk.specs.Disk.{HasCause, LooseWithin, TouchesOnly, IsSteadyAt, RunsOn};
-ghost use Rattle.lift_disk.specs.Disk.{LeavesOnly, IsSynced};
+ghost use Rattle.lift_disk.specs.Disk.{LooseWithin, TouchesOnly, IsSteadyAt, LeavesOnly, IsSynced};
 ghost use Rattle.lift_journal.specs.Layout.{Batch, Holds, start_of};
-ghost use Rattle.lift_journal.specs.Steps.{Makes, overwritten, IsInRange, marked, unmarked};
+ghost use Rattle.lift_journal.specs.Steps.{overwritten, IsInRange, marked, unmarked};
 ghost use Rattle.lift_journal.specs.Steps.{IsReady, IsSettled, IsSyncedAt};
 ghost use Rattle.lift_journal.specs.Stops.{Misses, StopsShort};
-ghost use Rattle.lift_journal.specs.Told.{StopsAsTold};
 ghost use Rattle.lift_disk.specs.Trace.Access.{Write, Sync};
-ghost use Rattle.lift_journal.specs.Calls.{Follows, writes_from, puts, append_calls};
+ghost use Rattle.lift_journal.specs.Calls.{Performs, writes_from, puts, append_calls};
 ghost use Rattle.lift_base.specs.declared.history.Shape.{Shape};
 
 use lift_disk::{Disk, DiskFault};
@@ -22,13 +20,8 @@ pub fn write_sectors<D: Disk>(
 ) -> Result<(), DiskFault>
     requires there { first + length sectors.now ≤ (D.state disk.old).size }
     requires fits { first + length sectors.now < 2 ^ 32 }
-    ensures runs { RunsOn (D.state disk.old) (D.state disk.new) }
-    ensures made { Makes result (length sectors.now) (length sectors.now) (D.state disk.old)
-        (D.state disk.new) }
-    ensures cause { HasCause result (D.state disk.old) (D.state disk.new) }
-    ensures follows { Follows result (writes_from first sectors.now) (D.state disk.old)
-        (D.state disk.new) }
-    ensures told { StopsAsTold result (D.state disk.old) (D.state disk.new) }
+    ensures performs { Performs result (writes_from first sectors.now) (length sectors.now)
+        (length sectors.now) (D.state disk.old) (D.state disk.new) }
     ensures touched { (low high : ℕ) → low ≤ first → first + length sectors.now ≤ high
         → LooseWithin (IsInRange low high) (D.state disk.old)
         → TouchesOnly (IsInRange low high) (D.state disk.old) (D.state disk.new) }
@@ -59,14 +52,9 @@ pub fn mark() -> [u8; 512]
 fn store_behind<D: Disk>(disk: &mut D, gate: u32, body: &[[u8; 512]]) -> Result<(), DiskFault>
     requires there { gate + 1 + length body.now < (D.state disk.old).size }
     requires fits { gate + 1 + length body.now < 2 ^ 32 }
-    ensures runs { RunsOn (D.state disk.old) (D.state disk.new) }
-    ensures made { Makes result (length body.now + 2) (length body.now + 1) (D.state disk.old)
-        (D.state disk.new) }
-    ensures cause { HasCause result (D.state disk.old) (D.state disk.new) }
-    ensures follows { Follows result (writes_from (gate + 1) body.now
-        ++ Write (gate + 1 + length body.now) unmarked ∷ Sync ∷ []) (D.state disk.old)
-        (D.state disk.new) }
-    ensures told { StopsAsTold result (D.state disk.old) (D.state disk.new) }
+    ensures performs { Performs result (writes_from (gate + 1) body.now
+        ++ Write (gate + 1 + length body.now) unmarked ∷ Sync ∷ []) (length body.now + 2)
+        (length body.now + 1) (D.state disk.old) (D.state disk.new) }
     ensures touched { LooseWithin (IsInRange (gate + 1) (gate + length body.now + 2))
         (D.state disk.old)
         → TouchesOnly (IsInRange (gate + 1) (gate + length body.now + 2)) (D.state disk.old)
@@ -83,11 +71,8 @@ fn store_behind<D: Disk>(disk: &mut D, gate: u32, body: &[[u8; 512]]) -> Result<
 /// Opens a gate, so that the batch behind it counts.
 fn open_gate<D: Disk>(disk: &mut D, gate: u32) -> Result<(), DiskFault>
     requires { gate < (D.state disk.old).size }
-    ensures runs { RunsOn (D.state disk.old) (D.state disk.new) }
-    ensures made { Makes result 2 1 (D.state disk.old) (D.state disk.new) }
-    ensures cause { HasCause result (D.state disk.old) (D.state disk.new) }
-    ensures follows { Follows result (puts gate marked) (D.state disk.old) (D.state disk.new) }
-    ensures told { StopsAsTold result (D.state disk.old) (D.state disk.new) }
+    ensures performs { Performs result (puts gate marked) 2 1 (D.state disk.old)
+        (D.state disk.new) }
     ensures touched { LooseWithin (IsInRange gate (gate + 1)) (D.state disk.old)
         → TouchesOnly (IsInRange gate (gate + 1)) (D.state disk.old) (D.state disk.new) }
     ensures opened { OnOk result ((D.state disk.old).is_honest → (D.state disk.old).is_steady
@@ -103,13 +88,8 @@ fn open_gate<D: Disk>(disk: &mut D, gate: u32) -> Result<(), DiskFault>
 pub fn write_batch<D: Disk>(disk: &mut D, gate: u32, body: &[[u8; 512]]) -> Result<(), DiskFault>
     requires there { gate + 1 + length body.now < (D.state disk.old).size }
     requires fits { gate + 1 + length body.now < 2 ^ 32 }
-    ensures runs { RunsOn (D.state disk.old) (D.state disk.new) }
-    ensures made { Makes result (length body.now + 4) (length body.now + 2) (D.state disk.old)
-        (D.state disk.new) }
-    ensures cause { HasCause result (D.state disk.old) (D.state disk.new) }
-    ensures follows { Follows result (append_calls gate body.now) (D.state disk.old)
-        (D.state disk.new) }
-    ensures told { StopsAsTold result (D.state disk.old) (D.state disk.new) }
+    ensures performs { Performs result (append_calls gate body.now) (length body.now + 4)
+        (length body.now + 2) (D.state disk.old) (D.state disk.new) }
     ensures any_moment { (shape : Shape) (batches : List Batch) (batch : Batch)
         → ((D.state disk.old).is_honest
         → IsReady shape batches batch gate body.now (D.state disk.old))

@@ -6,7 +6,7 @@ ghost use Rattle.lift_disk.specs.Disk.{HasCause, RunsOn, IsSynced, TouchesOnly};
 ghost use Rattle.lift_journal.specs.Layout.{filled, stamp_bytes, Picks};
 ghost use Rattle.lift_journal.specs.Journal.{ReadsAs};
 ghost use Rattle.lift_disk.specs.Trace.Access.{Write, Sync};
-ghost use Rattle.lift_journal.specs.Calls.{Follows, puts, format_calls};
+ghost use Rattle.lift_journal.specs.Calls.{Follows, Performs, puts, format_calls};
 ghost use Rattle.lift_journal.specs.Steps.{IsSyncedAt, Makes, IsFormatted, unmarked};
 ghost use Rattle.lift_journal.specs.Told.{StopsAsTold};
 
@@ -17,14 +17,10 @@ use lift_disk::{Disk, DiskFault};
 /// Picks the first half and closes its first gate.
 fn empty_half<D: Disk>(disk: &mut D) -> Result<(), DiskFault>
     requires { 2 < (D.state disk.old).size }
-    ensures runs { RunsOn (D.state disk.old) (D.state disk.new) }
-    ensures cause { HasCause result (D.state disk.old) (D.state disk.new) }
-    ensures told { StopsAsTold result (D.state disk.old) (D.state disk.new) }
-    ensures made { Makes result 3 2 (D.state disk.old) (D.state disk.new) }
+    ensures performs { Performs result (Write 0 unmarked ∷ Write 2 unmarked ∷ Sync ∷ []) 3 2
+        (D.state disk.old) (D.state disk.new) }
     ensures touched { TouchesOnly (IsFormatted (D.state disk.old)) (D.state disk.old)
         (D.state disk.new) }
-    ensures follows { Follows result (Write 0 unmarked ∷ Write 2 unmarked ∷ Sync ∷ [])
-        (D.state disk.old) (D.state disk.new) }
     // Whatever was in doubt before.
     ensures picked { OnOk result ((D.state disk.old).is_honest
         → slice_get (D.state disk.new).image 0 ≡ Some unmarked) }
@@ -40,13 +36,9 @@ fn empty_half<D: Disk>(disk: &mut D) -> Result<(), DiskFault>
 /// Writes the stamp.
 fn put_stamp<D: Disk>(disk: &mut D, shape: &Shape) -> Result<(), DiskFault>
     requires { 1 < (D.state disk.old).size }
-    ensures runs { RunsOn (D.state disk.old) (D.state disk.new) }
-    ensures cause { HasCause result (D.state disk.old) (D.state disk.new) }
-    ensures told { StopsAsTold result (D.state disk.old) (D.state disk.new) }
-    ensures made { Makes result 2 1 (D.state disk.old) (D.state disk.new) }
+    ensures performs { Performs result (puts 1 (filled 1 (stamp_bytes shape.now))) 2 1
+        (D.state disk.old) (D.state disk.new) }
     ensures touched { TouchesOnly (IsFormatted (D.state disk.old)) (D.state disk.old)
-        (D.state disk.new) }
-    ensures follows { Follows result (puts 1 (filled 1 (stamp_bytes shape.now))) (D.state disk.old)
         (D.state disk.new) }
     ensures stored { OnOk result ((D.state disk.old).is_honest → (D.state disk.old).is_steady
         → IsSyncedAt (slice_set (D.state disk.old).image 1 (filled 1 (stamp_bytes shape.now)))

@@ -24,7 +24,7 @@ returns-clause-written g c =
     let old = g.D.Disk.state c.args.disk.now in
     on_ok_weaker c.write.result (λ write honest steady.
     let body = c.in_ok-write_sectors.ensures.written honest steady in
-    let after = write (c.write_sectors.ensures.runs.honest.1 honest) body.steady in
+    let after = write (c.write_sectors.ensures.performs.runs.honest.1 honest) body.steady in
     record {
       steady = after.steady;
       same = after.same ∙ ap (λ (l : Image). slice_set l c.args.gate c.mark.result) body.same
@@ -35,7 +35,7 @@ pub returns-clause-told : goal.returns-clause-told
 returns-clause-told g c =
     let mid = g.D.Disk.state c.write_sectors.new.disk in
     let new = g.D.Disk.state c.write.new.self in
-    stops_then (g.D.Disk.state c.args.disk.now) mid new c.write_sectors.ensures.runs c.in_ok-write_sectors.ensures.told.ok
+    stops_then (g.D.Disk.state c.args.disk.now) mid new c.write_sectors.ensures.performs.runs c.in_ok-write_sectors.ensures.performs.told.ok
     c.write.result (call_stops c.write.result mid new c.write.ensures.goes_on c.write.ensures.told)
 
 pub returns-in_err-write_sectors-clause-follows : goal.returns-in_err-write_sectors-clause-follows
@@ -44,12 +44,12 @@ returns-in_err-write_sectors-clause-follows g c =
     let new = g.D.Disk.state c.write_sectors.new.disk in
     let body = writes_from (c.args.gate + 1) c.args.body.now in
     err_follows _ c.from_residual.result old new (body ++ Write c.args.gate marked ∷ []) c.from_residual.ensures.1
-    (front_more old new body (Write c.args.gate marked ∷ []) c.in_err-write_sectors.ensures.follows.front)
+    (front_more old new body (Write c.args.gate marked ∷ []) c.in_err-write_sectors.ensures.performs.follows.front)
 
 pub returns-clause-follows : goal.returns-clause-follows
 returns-clause-follows g c =
     let old = g.D.Disk.state c.args.disk.now in
     let mid = g.D.Disk.state c.write_sectors.new.disk in
     let new = g.D.Disk.state c.write.new.self in
-    follows_then c.write.result old mid new (writes_from (c.args.gate + 1) c.args.body.now) (Write c.args.gate marked ∷ []) c.in_ok-write_sectors.ensures.follows.all
+    follows_then c.write.result old mid new (writes_from (c.args.gate + 1) c.args.body.now) (Write c.args.gate marked ∷ []) c.in_ok-write_sectors.ensures.performs.follows.all
     (subst (λ (s : List ℕ). Follows c.write.result (Write c.args.gate s ∷ []) mid new) c.mark.ensures (one_follows c.write.result (Write c.args.gate c.mark.result) mid new c.write.ensures.recorded))

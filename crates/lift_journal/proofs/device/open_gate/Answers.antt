@@ -1,12 +1,11 @@
-use Rattle.std.proofs.Common.{ℕ, List, ◌+◌, ◌++◌, [], ◌∷◌, inl, inr, refl, ap, ◌∙◌, arith, slice_set, Result, OnOk, Ok, Err}
+use Rattle.std.proofs.Common.{ℕ, List, ◌+◌, ◌++◌, [], ◌∷◌, inl, inr, refl, ap, ◌∙◌, arith, slice_set, Result, OnOk, Ok, Err, subst}
 use Rattle.std.proofs.lemmas.Result.{on_ok_weaker}
-use Rattle.lift_disk.specs.lemmas.Moments.{runs_call, touches_none, touches_then_write, touches_then_rest}
+use Rattle.lift_disk.specs.lemmas.Moments.{touches_none, touches_then_write, touches_then_rest}
 use Rattle.lift_journal.specs.Steps.{IsInRange, marked}
 use Rattle.lift_journal.specs.lemmas.Looking.{err_any, err_weaker, both_on_err}
-use Rattle.lift_journal.specs.lemmas.Telling.{one_passes, one_fails, call_stops, stops_then, err_stops}
 use Rattle.lift_disk.specs.Trace.Access.{Write, Sync}
-use Rattle.lift_journal.specs.Calls.{puts}
-use Rattle.lift_journal.proofs.Following.{front_one, one_follows, front_more, follows_then, err_follows}
+use Rattle.lift_journal.specs.Calls.{Performs, puts}
+use Rattle.lift_journal.proofs.Performing.{performs_call, performs_then, err_performs}
 use Rattle.lift_journal.proofs.device.open_gate.Goals as goal
 
 pub returns-clause-touched : goal.returns-clause-touched
@@ -54,31 +53,21 @@ returns-clause-misses g c =
       loose = sync.1 honest_then c.args.gate (((c.write.ensures.touched honest).loose c.args.gate).1 (inr refl));
     }) (both_on_err c.sync.result _ _ c.sync.ensures.kept c.sync.ensures.loose)
 
-pub returns-in_err-write-clause-told : goal.returns-in_err-write-clause-told
-returns-in_err-write-clause-told g c =
-    err_stops _ c.from_residual.result (g.D.Disk.state c.args.disk.now) (g.D.Disk.state c.write.new.self) c.from_residual.ensures.1
-    (one_fails (g.D.Disk.state c.args.disk.now) (g.D.Disk.state c.write.new.self) c.write.ensures.goes_on c.in_err-write.ensures.told.err c.in_err-write.ensures.told.short)
-
-pub returns-clause-told : goal.returns-clause-told
-returns-clause-told g c =
-    let old = g.D.Disk.state c.args.disk.now in
-    let mid = g.D.Disk.state c.write.new.self in
-    let new = g.D.Disk.state c.sync.new.self in
-    stops_then old mid new (runs_call old mid c.write.ensures.goes_on) (one_passes old mid c.write.ensures.goes_on c.in_ok-write.ensures.told.ok c.in_ok-write.ensures.told.same)
-    c.sync.result (call_stops c.sync.result mid new c.sync.ensures.goes_on c.sync.ensures.told)
-
-pub returns-in_err-write-clause-follows : goal.returns-in_err-write-clause-follows
-returns-in_err-write-clause-follows g c =
+pub returns-in_err-write-clause-performs : goal.returns-in_err-write-clause-performs
+returns-in_err-write-clause-performs g c =
     let old = g.D.Disk.state c.args.disk.now in
     let new = g.D.Disk.state c.write.new.self in
-    err_follows _ c.from_residual.result old new (puts c.args.gate marked) c.from_residual.ensures.1
-    (front_more old new (Write c.args.gate marked ∷ []) (Sync ∷ []) (front_one (Write c.args.gate marked) old new c.in_err-write.ensures.recorded.err))
+    err_performs _ c.from_residual.result old new (Write c.args.gate marked ∷ []) (Sync ∷ []) 1 2 1 1 c.from_residual.ensures.1
+    (performs_call _ (Write c.args.gate marked) old new 1 c.write.ensures.goes_on c.in_err-write.ensures.cause c.in_err-write.ensures.told c.write.ensures.writes
+    (record { ok = tt; err = c.in_err-write.ensures.recorded.err }))
+    (omega arith) (omega arith)
 
-pub returns-clause-follows : goal.returns-clause-follows
-returns-clause-follows g c =
+pub returns-clause-performs : goal.returns-clause-performs
+returns-clause-performs g c =
     let old = g.D.Disk.state c.args.disk.now in
     let mid = g.D.Disk.state c.write.new.self in
     let new = g.D.Disk.state c.sync.new.self in
-    follows_then c.sync.result old mid new (Write c.args.gate marked ∷ []) (Sync ∷ [])
-    (c.in_ok-write.ensures.recorded.ok ∙ ap (λ (s : List ℕ). old.trace ++ Write c.args.gate s ∷ []) c.mark.ensures)
-    (one_follows c.sync.result Sync mid new c.sync.ensures.recorded)
+    subst (λ (s : List ℕ). Performs c.sync.result (puts c.args.gate s) 2 1 old new) c.mark.ensures
+    (performs_then c.sync.result old mid new (Write c.args.gate c.mark.result ∷ []) (Sync ∷ []) 1 1 1 0
+    (performs_call _ (Write c.args.gate c.mark.result) old mid 1 c.write.ensures.goes_on c.in_ok-write.ensures.cause c.in_ok-write.ensures.told c.write.ensures.writes c.in_ok-write.ensures.recorded)
+    (performs_call c.sync.result Sync mid new 0 c.sync.ensures.goes_on c.sync.ensures.cause c.sync.ensures.told (omega (arith, c.sync.ensures.writes)) c.sync.ensures.recorded))

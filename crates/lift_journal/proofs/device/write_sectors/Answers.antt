@@ -1,5 +1,7 @@
-use Rattle.std.proofs.Common.{◌≡◌, [], ◌∷◌, ◌++◌, slice_set, get_or, subst, ap, ◌∙◌, arith}
+use Rattle.std.proofs.Common.{◌≡◌, [], ◌∷◌, ◌++◌, slice_set, get_or, subst, ap, ◌∙◌, arith, length, ◌≤◌, ◌<◌}
 use Rattle.std.proofs.lemmas.List.{take_all}
+use Rattle.std.proofs.lemmas.Result.{err_from_is_err_and}
+use Rattle.lift_disk.specs.lemmas.Moments.{runs_call, runs_then}
 use Rattle.lift_disk.specs.Disk.{Image, Touches, IsSteadyAt}
 use Rattle.lift_journal.proofs.Writes.{written_none, written_more, written_all, written_front, touched_more}
 use Rattle.lift_journal.specs.lemmas.Telling.{one_passes, one_fails, fails_then, err_stops}
@@ -39,9 +41,6 @@ loop-sector-preserved g c =
           (subst (λ n. now.is_honest → now.is_steady → IsSteadyAt (slice_set now.image n (get_or c.args.sectors.now c.loop-sector.sector-index [])) new) c.loop-sector.invariant.at c.in_ok-write.ensures.steady);
     }
 
-pub returns-clause-cause : goal.returns-clause-cause
-returns-clause-cause g c = record { ok = c.loop-sector.invariant.written.failures; err = tt }
-
 pub returns-clause-touched : goal.returns-clause-touched
 returns-clause-touched g c = c.loop-sector.invariant.written.touched
 
@@ -50,30 +49,46 @@ returns-clause-written g c =
     written_all (g.D.Disk.state c.args.disk.now) (g.D.Disk.state c.loop-sector.disk) c.args.first c.args.sectors.now c.loop-sector.sector-index
     c.loop-sector.invariant.written (omega (arith, c.loop-sector-test.false, c.loop-sector.auto.sector-index-end))
 
-pub returns-in_err-write-clause-told : goal.returns-in_err-write-clause-told
-returns-in_err-write-clause-told g c =
+pub returns-in_err-write-clause-performs : goal.returns-in_err-write-clause-performs
+returns-in_err-write-clause-performs g c =
     let old = g.D.Disk.state c.args.disk.now in
     let now = g.D.Disk.state c.loop-sector.disk in
     let new = g.D.Disk.state c.write.new.self in
     let so_far = c.loop-sector.invariant.written in
-    err_stops _ c.from_residual.result old new c.from_residual.ensures.1
-    (fails_then old now new so_far.runs so_far.told (one_fails now new c.write.ensures.goes_on c.in_err-write.ensures.told.err c.in_err-write.ensures.told.short))
-
-pub returns-clause-told : goal.returns-clause-told
-returns-clause-told g c = record { ok = c.loop-sector.invariant.written.told; err = tt }
-
-pub returns-in_err-write-clause-follows : goal.returns-in_err-write-clause-follows
-returns-in_err-write-clause-follows g c =
-    let old = g.D.Disk.state c.args.disk.now in
-    let new = g.D.Disk.state c.write.new.self in
-    err_follows _ c.from_residual.result old new (writes_from c.args.first c.args.sectors.now) c.from_residual.ensures.1
-    (written_front old (g.D.Disk.state c.loop-sector.disk) new c.args.first c.args.sectors.now c.loop-sector.sector-index c.loop-sector.invariant.written c.loop-sector-test.true c.in_err-write.ensures.recorded.err)
-
-pub returns-clause-follows : goal.returns-clause-follows
-returns-clause-follows g c =
-    let old = g.D.Disk.state c.args.disk.now in
+    let goes_on = c.write.ensures.goes_on in
+    let fault = err_from_is_err_and c.from_residual.result c.from_residual.ensures.1 in
     record {
-      all = c.loop-sector.invariant.written.trace
-          ∙ ap (λ (s : Image). old.trace ++ writes_from c.args.first s) (take_all c.loop-sector.sector-index c.args.sectors.now (omega (arith, c.loop-sector-test.false, c.loop-sector.auto.sector-index-end)));
-      front = tt;
+      runs = runs_then old now new so_far.runs (runs_call now new goes_on);
+      cause = record { ok = rw fault.1 tt; err = rw fault.1 (let more : old.failures < new.failures = omega (arith, so_far.failures, c.in_err-write.ensures.cause.err) in more) };
+      told = err_stops _ c.from_residual.result old new c.from_residual.ensures.1
+          (fails_then old now new so_far.runs so_far.told (one_fails now new goes_on c.in_err-write.ensures.told.err c.in_err-write.ensures.told.short));
+      made = record {
+        calls = rw fault.1 tt;
+        writes = rw fault.1 tt;
+        most_calls = omega (arith, so_far.calls, goes_on.calls, c.loop-sector-test.true);
+        most_writes = omega (arith, so_far.writes, c.write.ensures.writes, c.loop-sector-test.true);
+      };
+      follows = err_follows _ c.from_residual.result old new (writes_from c.args.first c.args.sectors.now) c.from_residual.ensures.1
+          (written_front old now new c.args.first c.args.sectors.now c.loop-sector.sector-index so_far c.loop-sector-test.true c.in_err-write.ensures.recorded.err);
+    }
+
+pub returns-clause-performs : goal.returns-clause-performs
+returns-clause-performs g c =
+    let old = g.D.Disk.state c.args.disk.now in
+    let so_far = c.loop-sector.invariant.written in
+    let all : length c.args.sectors.now ≤ c.loop-sector.sector-index = omega (arith, c.loop-sector-test.false, c.loop-sector.auto.sector-index-end) in
+    record {
+      runs = so_far.runs;
+      cause = record { ok = so_far.failures; err = tt };
+      told = record { ok = so_far.told; err = tt };
+      made = record {
+        calls = omega (arith, so_far.calls, all, c.loop-sector.auto.sector-index-end);
+        writes = omega (arith, so_far.writes, all, c.loop-sector.auto.sector-index-end);
+        most_calls = omega (arith, so_far.calls, all, c.loop-sector.auto.sector-index-end);
+        most_writes = omega (arith, so_far.writes, all, c.loop-sector.auto.sector-index-end);
+      };
+      follows = record {
+        all = so_far.trace ∙ ap (λ (s : Image). old.trace ++ writes_from c.args.first s) (take_all c.loop-sector.sector-index c.args.sectors.now all);
+        front = tt;
+      };
     }

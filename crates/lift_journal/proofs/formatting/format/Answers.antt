@@ -12,31 +12,31 @@ use Rattle.lift_journal.specs.lemmas.Telling.{stops_then}
 use Rattle.lift_journal.proofs.formatting.format.Goals as goal
 
 pub returns-clause-synced : goal.returns-clause-synced
-returns-clause-synced g c = on_ok_weaker c.put_stamp.result (λ synced honest. synced (c.empty_half.ensures.runs.honest.1 honest)) c.put_stamp.ensures.synced
+returns-clause-synced g c = on_ok_weaker c.put_stamp.result (λ synced honest. synced (c.empty_half.ensures.performs.runs.honest.1 honest)) c.put_stamp.ensures.synced
 
 pub returns-clause-empty : goal.returns-clause-empty
 returns-clause-empty g c =
     let mid = g.D.Disk.state c.empty_half.new.disk in
     on_ok_weaker c.put_stamp.result (λ stored honest.
-    let honest_mid = c.empty_half.ensures.runs.honest.1 honest in
+    let honest_mid = c.empty_half.ensures.performs.runs.honest.1 honest in
     let stamp = stored honest_mid (c.in_ok-empty_half.ensures.synced honest).steady in
     subst (ReadsAs c.args.shape [] []) (sym stamp.same)
-    (formatted c.args.shape mid.image c.requires.within (omega (arith, c.requires.room, c.empty_half.ensures.runs.size, g.met.D.Disk.whole c.empty_half.new.disk honest_mid))
+    (formatted c.args.shape mid.image c.requires.within (omega (arith, c.requires.room, c.empty_half.ensures.performs.runs.size, g.met.D.Disk.whole c.empty_half.new.disk honest_mid))
     (c.in_ok-empty_half.ensures.picked honest) (c.in_ok-empty_half.ensures.closed honest))) c.put_stamp.ensures.stored
 
 pub returns-clause-told : goal.returns-clause-told
 returns-clause-told g c =
-    stops_then (g.D.Disk.state c.args.disk.now) (g.D.Disk.state c.empty_half.new.disk) (g.D.Disk.state c.put_stamp.new.disk) c.empty_half.ensures.runs c.in_ok-empty_half.ensures.told.ok
-    c.put_stamp.result c.put_stamp.ensures.told
+    stops_then (g.D.Disk.state c.args.disk.now) (g.D.Disk.state c.empty_half.new.disk) (g.D.Disk.state c.put_stamp.new.disk) c.empty_half.ensures.performs.runs c.in_ok-empty_half.ensures.performs.told.ok
+    c.put_stamp.result c.put_stamp.ensures.performs.told
 
 pub returns-clause-half : goal.returns-clause-half
 returns-clause-half g c =
     let mid = g.D.Disk.state c.empty_half.new.disk in
     on_ok_weaker c.put_stamp.result (λ stored honest.
-    let honest_mid = c.empty_half.ensures.runs.honest.1 honest in
+    let honest_mid = c.empty_half.ensures.performs.runs.honest.1 honest in
     let stamp = stored honest_mid (c.in_ok-empty_half.ensures.synced honest).steady in
     subst (Picks false) (sym stamp.same)
-    (formatted_half c.args.shape mid.image c.requires.within (omega (arith, c.requires.room, c.empty_half.ensures.runs.size, g.met.D.Disk.whole c.empty_half.new.disk honest_mid))
+    (formatted_half c.args.shape mid.image c.requires.within (omega (arith, c.requires.room, c.empty_half.ensures.performs.runs.size, g.met.D.Disk.whole c.empty_half.new.disk honest_mid))
     (c.in_ok-empty_half.ensures.picked honest) (c.in_ok-empty_half.ensures.closed honest))) c.put_stamp.ensures.stored
 
 pub returns-in_err-empty_half-clause-follows : goal.returns-in_err-empty_half-clause-follows
@@ -44,12 +44,12 @@ returns-in_err-empty_half-clause-follows g c =
     let old = g.D.Disk.state c.args.disk.now in
     let new = g.D.Disk.state c.empty_half.new.disk in
     err_follows _ c.from_residual.result old new (format_calls c.args.shape) c.from_residual.ensures.1
-    (front_more old new (Write 0 unmarked ∷ Write 2 unmarked ∷ Sync ∷ []) (puts 1 (filled 1 (stamp_bytes c.args.shape))) c.in_err-empty_half.ensures.follows.front)
+    (front_more old new (Write 0 unmarked ∷ Write 2 unmarked ∷ Sync ∷ []) (puts 1 (filled 1 (stamp_bytes c.args.shape))) c.in_err-empty_half.ensures.performs.follows.front)
 
 pub returns-clause-follows : goal.returns-clause-follows
 returns-clause-follows g c =
     follows_then c.put_stamp.result (g.D.Disk.state c.args.disk.now) (g.D.Disk.state c.empty_half.new.disk) (g.D.Disk.state c.put_stamp.new.disk)
-    (Write 0 unmarked ∷ Write 2 unmarked ∷ Sync ∷ []) (puts 1 (filled 1 (stamp_bytes c.args.shape))) c.in_ok-empty_half.ensures.follows.all c.put_stamp.ensures.follows
+    (Write 0 unmarked ∷ Write 2 unmarked ∷ Sync ∷ []) (puts 1 (filled 1 (stamp_bytes c.args.shape))) c.in_ok-empty_half.ensures.performs.follows.all c.put_stamp.ensures.performs.follows
 
 pub returns-clause-touched : goal.returns-clause-touched
 returns-clause-touched g c =

@@ -25,7 +25,7 @@ returns-then-is_err-clause-any_moment g c =
     let is : c.body_count-bodies.result ≡ size_of batch = c.body_count-bodies.ensures ∙ ap bodies c.len.ensures.value in
     let body = subst (λ (s : Image). IsBody j.place.number batch (take (bodies (length items)) s)) (sym c.sectors_of-body.ensures.cut) (subst (λ (l : List Record). IsBody j.place.number (record { version = Two; records = l }) (take (bodies (length l)) (take 512 c.put_body.new.text ∷ drop 512 c.put_body.new.text ∷ []))) c.deref.ensures.0 c.put_body.ensures.spelled) in
     let stands = c.self.invariant.stands c.if-self.false in
-    let leaves = append_leaves j.place.shape j.place.start j.place.gate j.place.number c.body_count-bodies.result old items new c.write_batch.ensures.runs stands c.requires.entries
+    let leaves = append_leaves j.place.shape j.place.start j.place.gate j.place.number c.body_count-bodies.result old items new c.write_batch.ensures.performs.runs stands c.requires.entries
     (λ honest. c.write_batch.ensures.any_moment j.place.shape (stands honest).batches batch
     (λ _. ready j.place.shape j.place.start j.place.gate j.place.number c.body_count-bodies.result old items c.sectors_of-body.result.now (stands honest) is c.if-used-bodies.false c.sectors_of-body.ensures.length body c.requires.entries)) in
     subst (λ (v : JournalView g.row.D.Denot). (base entries : List Record) → StandsFor v.shape base entries (g.D.Disk.state v.device)
@@ -42,11 +42,11 @@ invariant_of-self-2 g c =
     let body = subst (λ (s : Image). IsBody j.place.number batch (take (bodies (length items)) s)) (sym c.sectors_of-body.ensures.cut) (subst (λ (l : List Record). IsBody j.place.number (record { version = Two; records = l }) (take (bodies (length l)) (take 512 c.put_body.new.text ∷ drop 512 c.put_body.new.text ∷ []))) c.deref.ensures.0 c.put_body.ensures.spelled) in
     let few = bodies_few (length items) in
     let place = c.self.invariant.place in
-    let quiet = open_ok c.write_batch.result (new.failures ≡ old.failures) (sym c.is_err.ensures.value ∙ c.if-is_err.false) c.write_batch.ensures.cause.ok in
+    let quiet = open_ok c.write_batch.result (new.failures ≡ old.failures) (sym c.is_err.ensures.value ∙ c.if-is_err.false) c.write_batch.ensures.performs.cause.ok in
     record {
       place = record {
         within = place.within;
-        inside = omega (arith, place.inside, c.write_batch.ensures.runs.size);
+        inside = omega (arith, place.inside, c.write_batch.ensures.performs.runs.size);
         halves = place.halves;
         low = omega (arith, place.low);
         below = omega (arith, place.low, c.if-used-bodies.false);
@@ -56,7 +56,7 @@ invariant_of-self-2 g c =
       counted = omega (arith, c.self.invariant.counted, quiet);
       failed = λ broken. absurd (cc (broken, c.if-self.false));
       stands = λ whole honest_new.
-          (let honest = c.write_batch.ensures.runs.honest.0 honest_new in
+          (let honest = c.write_batch.ensures.performs.runs.honest.0 honest_new in
           let stands = c.self.invariant.stands c.if-self.false honest in
           stands_then j.place.shape j.place.start j.place.gate j.place.number c.body_count-bodies.result old new batch stands is
           (open_ok c.write_batch.result _ (sym c.is_err.ensures.value ∙ c.if-is_err.false) c.write_batch.ensures.written j.place.shape stands.batches batch honest
@@ -73,7 +73,7 @@ returns-clause-acknowledged g c =
     let is : c.body_count-bodies.result ≡ size_of batch = c.body_count-bodies.ensures ∙ ap bodies c.len.ensures.value in
     let body = subst (λ (s : Image). IsBody j.place.number batch (take (bodies (length items)) s)) (sym c.sectors_of-body.ensures.cut) (subst (λ (l : List Record). IsBody j.place.number (record { version = Two; records = l }) (take (bodies (length l)) (take 512 c.put_body.new.text ∷ drop 512 c.put_body.new.text ∷ []))) c.deref.ensures.0 c.put_body.ensures.spelled) in
     let stands = c.self.invariant.stands c.if-self.false in
-    let stood = append_stands j.place.shape j.place.start j.place.gate j.place.number c.body_count-bodies.result old items new (start_of j.place.shape.half old.image) c.write_batch.ensures.runs stands c.requires.entries
+    let stood = append_stands j.place.shape j.place.start j.place.gate j.place.number c.body_count-bodies.result old items new (start_of j.place.shape.half old.image) c.write_batch.ensures.performs.runs stands c.requires.entries
     (λ honest. open_ok c.write_batch.result _ (sym c.is_err.ensures.value ∙ c.if-is_err.false) c.write_batch.ensures.written j.place.shape (stands honest).batches batch honest
     (ready j.place.shape j.place.start j.place.gate j.place.number c.body_count-bodies.result old items c.sectors_of-body.result.now (stands honest) is c.if-used-bodies.false c.sectors_of-body.ensures.length body c.requires.entries)) in
     subst (λ (v : JournalView g.row.D.Denot). (base entries : List Record) → StandsFor v.shape base entries (g.D.Disk.state v.device) → StandsFor j.place.shape base (entries ++ items) new) c.self.view_is stood
@@ -88,7 +88,7 @@ returns-clause-any_moment g c =
     let is : c.body_count-bodies.result ≡ size_of batch = c.body_count-bodies.ensures ∙ ap bodies c.len.ensures.value in
     let body = subst (λ (s : Image). IsBody j.place.number batch (take (bodies (length items)) s)) (sym c.sectors_of-body.ensures.cut) (subst (λ (l : List Record). IsBody j.place.number (record { version = Two; records = l }) (take (bodies (length l)) (take 512 c.put_body.new.text ∷ drop 512 c.put_body.new.text ∷ []))) c.deref.ensures.0 c.put_body.ensures.spelled) in
     let stands = c.self.invariant.stands c.if-self.false in
-    let leaves = append_leaves j.place.shape j.place.start j.place.gate j.place.number c.body_count-bodies.result old items new c.write_batch.ensures.runs stands c.requires.entries
+    let leaves = append_leaves j.place.shape j.place.start j.place.gate j.place.number c.body_count-bodies.result old items new c.write_batch.ensures.performs.runs stands c.requires.entries
     (λ honest. c.write_batch.ensures.any_moment j.place.shape (stands honest).batches batch
     (λ _. ready j.place.shape j.place.start j.place.gate j.place.number c.body_count-bodies.result old items c.sectors_of-body.result.now (stands honest) is c.if-used-bodies.false c.sectors_of-body.ensures.length body c.requires.entries)) in
     subst (λ (v : JournalView g.row.D.Denot). (base entries : List Record) → StandsFor v.shape base entries (g.D.Disk.state v.device)
@@ -104,7 +104,7 @@ returns-then-is_err-clause-any_moment_listed g c =
     let is : c.body_count-bodies.result ≡ size_of batch = c.body_count-bodies.ensures ∙ ap bodies c.len.ensures.value in
     let body = subst (λ (s : Image). IsBody j.place.number batch (take (bodies (length items)) s)) (sym c.sectors_of-body.ensures.cut) (subst (λ (l : List Record). IsBody j.place.number (record { version = Two; records = l }) (take (bodies (length l)) (take 512 c.put_body.new.text ∷ drop 512 c.put_body.new.text ∷ []))) c.deref.ensures.0 c.put_body.ensures.spelled) in
     let stands = c.self.invariant.stands c.if-self.false in
-    let leaves = λ (batches : List Batch) (lists : LeavesNow old (Holds j.place.shape batches)). lists_leave j.place.shape j.place.start j.place.gate j.place.number old stands batches lists batch new c.write_batch.ensures.runs.honest
+    let leaves = λ (batches : List Batch) (lists : LeavesNow old (Holds j.place.shape batches)). lists_leave j.place.shape j.place.start j.place.gate j.place.number old stands batches lists batch new c.write_batch.ensures.performs.runs.honest
     (λ honest. c.write_batch.ensures.any_moment j.place.shape (stands honest).batches batch (λ _. ready j.place.shape j.place.start j.place.gate j.place.number c.body_count-bodies.result old items c.sectors_of-body.result.now (stands honest) is c.if-used-bodies.false c.sectors_of-body.ensures.length body c.requires.entries)) in
     subst (λ (v : JournalView g.row.D.Denot). (batches : List Batch) → LeavesNow (g.D.Disk.state v.device) (Holds v.shape batches)
     → LeavesOnly (g.D.Disk.state v.device) new (λ left. Holds v.shape batches left ⊎ Holds v.shape (batches ++ batch ∷ []) left)) c.self.view_is leaves
@@ -119,7 +119,7 @@ returns-clause-any_moment_listed g c =
     let is : c.body_count-bodies.result ≡ size_of batch = c.body_count-bodies.ensures ∙ ap bodies c.len.ensures.value in
     let body = subst (λ (s : Image). IsBody j.place.number batch (take (bodies (length items)) s)) (sym c.sectors_of-body.ensures.cut) (subst (λ (l : List Record). IsBody j.place.number (record { version = Two; records = l }) (take (bodies (length l)) (take 512 c.put_body.new.text ∷ drop 512 c.put_body.new.text ∷ []))) c.deref.ensures.0 c.put_body.ensures.spelled) in
     let stands = c.self.invariant.stands c.if-self.false in
-    let leaves = λ (batches : List Batch) (lists : LeavesNow old (Holds j.place.shape batches)). lists_leave j.place.shape j.place.start j.place.gate j.place.number old stands batches lists batch new c.write_batch.ensures.runs.honest
+    let leaves = λ (batches : List Batch) (lists : LeavesNow old (Holds j.place.shape batches)). lists_leave j.place.shape j.place.start j.place.gate j.place.number old stands batches lists batch new c.write_batch.ensures.performs.runs.honest
     (λ honest. c.write_batch.ensures.any_moment j.place.shape (stands honest).batches batch (λ _. ready j.place.shape j.place.start j.place.gate j.place.number c.body_count-bodies.result old items c.sectors_of-body.result.now (stands honest) is c.if-used-bodies.false c.sectors_of-body.ensures.length body c.requires.entries)) in
     subst (λ (v : JournalView g.row.D.Denot). (batches : List Batch) → LeavesNow (g.D.Disk.state v.device) (Holds v.shape batches)
     → LeavesOnly (g.D.Disk.state v.device) new (λ left. Holds v.shape batches left ⊎ Holds v.shape (batches ++ batch ∷ []) left)) c.self.view_is leaves
@@ -134,7 +134,7 @@ returns-clause-listed g c =
     let is : c.body_count-bodies.result ≡ size_of batch = c.body_count-bodies.ensures ∙ ap bodies c.len.ensures.value in
     let body = subst (λ (s : Image). IsBody j.place.number batch (take (bodies (length items)) s)) (sym c.sectors_of-body.ensures.cut) (subst (λ (l : List Record). IsBody j.place.number (record { version = Two; records = l }) (take (bodies (length l)) (take 512 c.put_body.new.text ∷ drop 512 c.put_body.new.text ∷ []))) c.deref.ensures.0 c.put_body.ensures.spelled) in
     let stands = c.self.invariant.stands c.if-self.false in
-    let stood = λ (batches : List Batch) (lists : LeavesNow old (Holds j.place.shape batches)). lists_stand j.place.shape j.place.start j.place.gate j.place.number old stands batches lists batch new c.write_batch.ensures.runs.honest
+    let stood = λ (batches : List Batch) (lists : LeavesNow old (Holds j.place.shape batches)). lists_stand j.place.shape j.place.start j.place.gate j.place.number old stands batches lists batch new c.write_batch.ensures.performs.runs.honest
     (start_of j.place.shape.half old.image)
     (λ honest. open_ok c.write_batch.result _ (sym c.is_err.ensures.value ∙ c.if-is_err.false) c.write_batch.ensures.written j.place.shape (stands honest).batches batch honest
     (ready j.place.shape j.place.start j.place.gate j.place.number c.body_count-bodies.result old items c.sectors_of-body.result.now (stands honest) is c.if-used-bodies.false c.sectors_of-body.ensures.length body c.requires.entries)) in
@@ -200,13 +200,13 @@ pub returns-then-is_err-clause-told : goal.returns-then-is_err-clause-told
 returns-then-is_err-clause-told g c = record {
   ok = tt;
   err = subst (λ (v : JournalView g.row.D.Denot). LastFails (g.D.Disk.state v.device) (g.D.Disk.state c.write_batch.new.disk)) c.self.view_is
-      (open_err c.write_batch.result _ (sym c.is_err.ensures.value ∙ c.if-is_err.true) c.write_batch.ensures.told.err);
+      (open_err c.write_batch.result _ (sym c.is_err.ensures.value ∙ c.if-is_err.true) c.write_batch.ensures.performs.told.err);
 }
 
 pub returns-clause-told : goal.returns-clause-told
 returns-clause-told g c = record {
   ok = subst (λ (v : JournalView g.row.D.Denot). NoneFails (g.D.Disk.state v.device) (g.D.Disk.state c.write_batch.new.disk)) c.self.view_is
-      (open_ok c.write_batch.result _ (sym c.is_err.ensures.value ∙ c.if-is_err.false) c.write_batch.ensures.told.ok);
+      (open_ok c.write_batch.result _ (sym c.is_err.ensures.value ∙ c.if-is_err.false) c.write_batch.ensures.performs.told.ok);
   err = tt;
 }
 
@@ -222,7 +222,7 @@ returns-clause-calls g c =
     let body = subst (λ (s : Image). IsBody j.place.number batch (take (bodies (length items)) s)) (sym c.sectors_of-body.ensures.cut) (subst (λ (l : List Record). IsBody j.place.number (record { version = Two; records = l }) (take (bodies (length l)) (take 512 c.put_body.new.text ∷ drop 512 c.put_body.new.text ∷ []))) c.deref.ensures.0 c.put_body.ensures.spelled) in
     let place = c.self.invariant.place in
     let gate : half_start (nat_lt 2 j.place.start) j.place.shape.half + (j.place.gate - j.place.start) ≡ j.place.gate = omega (arith, begins_at j.place.shape.half j.place.start (omega (arith, place.within.half.0)) place.halves, place.low) in
-    let made = open_ok c.write_batch.result (new.trace ≡ old.trace ++ append_calls j.place.gate (take c.body_count-bodies.result sectors)) (sym c.is_err.ensures.value ∙ c.if-is_err.false) c.write_batch.ensures.follows.all in
+    let made = open_ok c.write_batch.result (new.trace ≡ old.trace ++ append_calls j.place.gate (take c.body_count-bodies.result sectors)) (sym c.is_err.ensures.value ∙ c.if-is_err.false) c.write_batch.ensures.performs.follows.all in
     let here : (b : Image) × IsBody j.place.number batch b × (new.trace ≡ old.trace ++ append_calls (half_start (nat_lt 2 j.place.start) j.place.shape.half + (j.place.gate - j.place.start)) b) =
     (take (bodies (length items)) sectors, body, made ∙ ap (λ k. old.trace ++ append_calls j.place.gate (take k sectors)) is ∙ ap (λ n. old.trace ++ append_calls n (take (bodies (length items)) sectors)) (sym gate)) in
     subst (λ (v : JournalView g.row.D.Denot). (b : Image) × IsBody v.number batch b × (new.trace ≡ (g.D.Disk.state v.device).trace ++ append_calls (half_start v.is_second v.shape.half + v.used) b)) c.self.view_is here
@@ -239,7 +239,7 @@ returns-then-is_err-clause-calls_before g c _ =
     let body = subst (λ (s : Image). IsBody j.place.number batch (take (bodies (length items)) s)) (sym c.sectors_of-body.ensures.cut) (subst (λ (l : List Record). IsBody j.place.number (record { version = Two; records = l }) (take (bodies (length l)) (take 512 c.put_body.new.text ∷ drop 512 c.put_body.new.text ∷ []))) c.deref.ensures.0 c.put_body.ensures.spelled) in
     let place = c.self.invariant.place in
     let gate : half_start (nat_lt 2 j.place.start) j.place.shape.half + (j.place.gate - j.place.start) ≡ j.place.gate = omega (arith, begins_at j.place.shape.half j.place.start (omega (arith, place.within.half.0)) place.halves, place.low) in
-    let made = open_err c.write_batch.result (StopsIn (append_calls j.place.gate (take c.body_count-bodies.result sectors)) old new) (sym c.is_err.ensures.value ∙ c.if-is_err.true) c.write_batch.ensures.follows.front in
+    let made = open_err c.write_batch.result (StopsIn (append_calls j.place.gate (take c.body_count-bodies.result sectors)) old new) (sym c.is_err.ensures.value ∙ c.if-is_err.true) c.write_batch.ensures.performs.follows.front in
     let here : (b : Image) × IsBody j.place.number batch b × StopsIn (append_calls (half_start (nat_lt 2 j.place.start) j.place.shape.half + (j.place.gate - j.place.start)) b) old new = (
       take (bodies (length items)) sectors,
       body,
