@@ -11,7 +11,7 @@ pub trait Rest {
     fn rest(&self);
 }
 
-/// A way to rest, and how often it was gone, which only proofs read. The only way to count is to
+/// A way to rest, and how often it was taken, which only proofs read. The only way to count is to
 /// rest so, so the count binds.
 #[derive(Drop)]
 pub struct Rests<W: Drop> {

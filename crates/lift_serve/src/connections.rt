@@ -64,13 +64,6 @@ pub(crate) struct Over {
     ghost none_left: { connections.value.left ≡ 0 },
 }
 
-/// That what a thread of a serving was for is over.
-pub(crate) trait Finished {}
-
-impl Finished for Left {}
-
-impl Finished for Over {}
-
 /// The connections that are open, and how many may still end before all of them are closed.
 /// Contracts see the numbers of those that are open, the next number, and how many are left.
 #[derive(Drop)]

@@ -6,7 +6,7 @@ ghost use Rattle.lift_desk.specs.Seats.{AreSeatsOf, IsClerkOf, OwesNothing, seat
 ghost use Rattle.lift_parts.specs.Parts.{AreParts};
 ghost use Rattle.lift_serve.specs.Relaying.{HaveRunOn, first_told, told, undone};
 
-use crate::connections::Finished;
+use crate::connections::{Left, Over};
 use crate::relaying::Parts;
 use crate::serving::{ServeFault, Served, unserved};
 use lift_clerk::Clerk;
@@ -269,8 +269,8 @@ pub(crate) fn push<T: Drop>(values: &mut Vec<T>, value: T) -> Result<(), Lacking
     }
 }
 
-/// A thread of a scope, which returns once what it is for is over.
-pub(crate) fn start<'s, E, T: Finished + Send + Drop + 's, F: FnOnce() -> T + Send + Drop + 's>(
+/// A thread of a scope, for this work.
+fn start<'s, E, T: Send + Drop + 's, F: FnOnce() -> T + Send + Drop + 's>(
     scope: &Scope<'s, E>,
     work: F,
 ) -> Result<(), Lacking>
@@ -281,6 +281,28 @@ pub(crate) fn start<'s, E, T: Finished + Send + Drop + 's, F: FnOnce() -> T + Se
         Ok(_) => Ok(()),
         Err(_) => Err(Lacking { what: Lack::Thread }),
     }
+}
+
+/// A thread of a scope for the accepting, which returns once that is over.
+pub(crate) fn start_accepting<'s, E, F: FnOnce() -> Over + Send + Drop + 's>(
+    scope: &Scope<'s, E>,
+    work: F,
+) -> Result<(), Lacking>
+    requires { F.pre work }
+    ensures lack { IfErr result (λ lacking. lacking.what ≡ Lack.Thread) }
+{
+    start(scope, work)
+}
+
+/// A thread of a scope for a connection, which returns once that is counted as ended.
+pub(crate) fn start_session<'s, E, F: FnOnce() -> Left + Send + Drop + 's>(
+    scope: &Scope<'s, E>,
+    work: F,
+) -> Result<(), Lacking>
+    requires { F.pre work }
+    ensures lack { IfErr result (λ lacking. lacking.what ≡ Lack.Thread) }
+{
+    start(scope, work)
 }
 
 /// A view of a listening socket.

@@ -13,7 +13,7 @@ use crate::connections::{Connections, Ending, Left, Over, Ticket};
 use crate::keep_alive::watch;
 use crate::lacks::{
     Lack, Lacking, Lacks, Noted, Refusal, listen_again, open_desk, part, read_ahead, run_parts,
-    share, share_again, start,
+    share, share_again, start_accepting, start_session,
 };
 use crate::lobby::Lobby;
 use crate::pace::{Bells, Pace};
@@ -222,7 +222,7 @@ fn accept_all<'s, 'd: 's, E, R: Threads + Wait + Clock + Sync>(
         };
         let number = ticket.number();
         let work = move || attend_stream(rt, alloc, shared, ticket, stream);
-        if let Err(lacking) = start(scope, work) {
+        if let Err(lacking) = start_session(scope, work) {
             let noted = shared.note(rt, lacking);
             let _left = shared.leave(rt, number, Ending::Lacking(noted));
         }
@@ -285,7 +285,7 @@ where
                 × (result.refusal ≡ told (undone fault)) }
         {
             let work = move || welcome(rt, alloc, listener, shared);
-            if let Err(lacking) = start(scope, work) {
+            if let Err(lacking) = start_accepting(scope, work) {
                 return lacking.unrun(parts);
             }
             let ran = run_parts(rt, gate, parts);
