@@ -1,4 +1,9 @@
 pub mod Earlier
 pub mod Costs
 pub mod Times
-pub mod Timetables
+pub mod Weighted
+pub mod Delayed
+pub mod Leaving
+pub mod Putting
+pub mod Missing
+pub mod Joining

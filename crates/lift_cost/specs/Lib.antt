@@ -1,4 +1,5 @@
 pub mod Calls
 pub mod Cost
 pub mod Laws
-pub mod Timetable
+pub mod Ways
+pub mod Delays

@@ -1,20 +1,19 @@
 //! Times among given halts.
 
-ghost use Rattle.std.specs.Prelude.{◌≡◌, ◌+◌, ◌*◌, ◌<◌, ◌≤◌, length, sum_by, slice_index};
-ghost use Rattle.lift_stops.specs.StopList.{same_halt, halt_at, stop_list};
-ghost use Rattle.lift_cost.specs.Calls.{AreWithin};
-ghost use Rattle.lift_cost.specs.Cost.{moment_at, arrival_at, total_etd, own_etd, waiting_row};
-ghost use Rattle.lift_cost.specs.Cost.{with_call};
-ghost use Rattle.lift_cost.specs.Timetable.{place_of};
+ghost use Rattle.std.specs.Prelude.{◌≡◌, ◌≢◌, ◌+◌, ◌*◌, ◌<◌, ◌≤◌, false, All, List, length};
+ghost use Rattle.lift_base.specs.declared.history.Row.{Row as RowValue};
+ghost use Rattle.lift_stops.specs.StopList.{same_halt, halt_at};
+ghost use Rattle.lift_cost.specs.Cost.{moment_at, arrival_at, total_etd, own_etd, with_call};
+ghost use Rattle.lift_cost.specs.Delays.{AreOpen, Joins};
 
 use crate::call::{NewCall, waiting_row};
-use crate::timetable::{fill_delays, place_of};
+use crate::ways::Ways;
 use lift_base::{Halt, Party, Position, Row};
 use lift_building::Building;
-use lift_stops::pass_of;
+use lift_stops::{Leaving, pass_of};
 
 /// Whether two halts are the same.
-pub(crate) fn same_halt(a: &Halt, b: &Halt) -> bool
+fn same_halt(a: &Halt, b: &Halt) -> bool
     ensures { result ≡ same_halt a.now b.now }
 {
     a.pass == b.pass && a.floor == b.floor
@@ -40,15 +39,6 @@ fn goal_of(position: &Position, row: &Row) -> Halt
     let pass = pass_of(row, *position);
     let floor = row.to;
     Halt { pass, floor }
-}
-
-/// The place of that halt in a table.
-fn goal_place(position: &Position, row: &Row) -> usize
-    ensures value { result ≡ place_of (halt_at position.now row.now row.now.to) }
-    ensures limit { result < 192 }
-    ensures floor { row.now.to < 64 }
-{
-    place_of(&goal_of(position, row))
 }
 
 /// When a car that leaves the position's floor now, and makes these halts, is at one of them; 0
@@ -81,57 +71,94 @@ fn weighed(party: Party, time: u32) -> u64
     u64::from(party.get()) * u64::from(time)
 }
 
-/// How much later the passengers of some calls are where they leave, once for each of them, by a
-/// table of delays.
-fn later_among(position: &Position, rows: &[Row], delays: &[u32; 192]) -> u64
-    requires few { length rows.now ≤ 32 }
-    ensures value { result ≡ sum_by (λ row. row.party * slice_index delays.now
-        (place_of (halt_at position.now row row.to))) rows.now }
-    ensures limit { result ≤ 32 * (15 * 4294967295) }
+/// How much later all others are where they leave because of a new call of passengers who ride from
+/// one floor to another, once for each person, and when those are where they leave; by the halts at
+/// which they board and leave. In ms.
+fn later_by_ride(
+    building: &Building,
+    position: &Position,
+    halts: &[Halt],
+    leaving: &Leaving,
+    boards: &Halt,
+    goal: &Halt,
+) -> (u64, u32)
+    requires here { position.now.floor < building.now.floors }
+    requires boards { boards.now.floor < building.now.floors }
+    requires goal { goal.now.floor < building.now.floors }
+    requires few { length halts.now ≤ 66 }
+    requires within { All (λ halt. halt.floor < building.now.floors) halts.now }
+    ensures joins { (rows : List RowValue) (row : RowValue)
+        → AreOpen building.now position.now rows halts.now leaving.now
+        → row.aboard ≡ false → row.from ≢ row.to
+        → boards.now ≡ halt_at position.now row row.from
+        → goal.now ≡ halt_at position.now row row.to
+        → Joins building.now position.now rows row result.0 result.1 }
+    ensures limit { result.0 ≤ 5 * (66 * (65535 * 4294967295)) }
 {
-    let mut later = 0u64;
-    for row in rows {
-        later += weighed(row.party, delays[goal_place(position, row)]);
-    }
-    later
+    let _lawful = building.floors();
+    let dir = position.dir;
+    let ways = Ways::new(position.floor);
+    let (ways, _boards, behind) = ways.stop_at(building, leaving, halts, dir, boards);
+    ways.end_at(building, leaving, behind, dir, goal)
 }
 
-/// What a new call adds to the times of all passengers, and the time of its own. The second halts
-/// are those with it.
+/// The same of passengers who leave where they board.
+fn later_by_stay(
+    building: &Building,
+    position: &Position,
+    halts: &[Halt],
+    leaving: &Leaving,
+    goal: &Halt,
+) -> (u64, u32)
+    requires here { position.now.floor < building.now.floors }
+    requires goal { goal.now.floor < building.now.floors }
+    requires few { length halts.now ≤ 66 }
+    requires within { All (λ halt. halt.floor < building.now.floors) halts.now }
+    ensures joins { (rows : List RowValue) (row : RowValue)
+        → AreOpen building.now position.now rows halts.now leaving.now
+        → row.aboard ≡ false → row.from ≡ row.to
+        → goal.now ≡ halt_at position.now row row.to
+        → Joins building.now position.now rows row result.0 result.1 }
+    ensures limit { result.0 ≤ 5 * (66 * (65535 * 4294967295)) }
+{
+    let _lawful = building.floors();
+    let ways = Ways::new(position.floor);
+    ways.end_at(building, leaving, halts, position.dir, goal)
+}
+
+/// What a new call adds to the times of all passengers, and the time of its own, by the halts of a
+/// car and who leaves there.
 pub fn added_among(
     building: &Building,
     position: &Position,
-    rows: &[Row],
     call: &NewCall,
     halts: &[Halt],
-    halts_with: &[Halt],
+    leaving: &Leaving,
 ) -> (u64, u64)
     requires here { position.now.floor < building.now.floors }
-    requires calls { AreWithin building.now.floors rows.now }
     requires from { call.now.from < building.now.floors }
     requires to { call.now.to < building.now.floors }
-    requires few { length rows.now ≤ 32 }
-    requires few_halts { length halts.now ≤ 66 }
-    requires few_with { length halts_with.now ≤ 66 }
-    requires halts { halts.now ≡ stop_list rows.now position.now }
-    requires halts_with { halts_with.now ≡ stop_list (with_call rows.now call.now) position.now }
-    ensures added { result.0 + total_etd building.now position.now rows.now
-        ≡ total_etd building.now position.now (with_call rows.now call.now) }
-    ensures own { result.1 ≡ own_etd building.now position.now rows.now call.now }
+    requires few { length halts.now ≤ 66 }
+    requires within { All (λ halt. halt.floor < building.now.floors) halts.now }
+    ensures added { (rows : List RowValue)
+        → AreOpen building.now position.now rows halts.now leaving.now
+        → result.0 + total_etd building.now position.now rows
+        ≡ total_etd building.now position.now (with_call rows call.now) }
+    ensures own { (rows : List RowValue)
+        → AreOpen building.now position.now rows halts.now leaving.now
+        → result.1 ≡ own_etd building.now position.now rows call.now }
     ensures no_loss { result.1 ≤ result.0 }
 {
-    let _lawful = building.floors();
     let goal = goal_of(position, &waiting_row(call));
-    let mut delays = [0u32; 192];
-    let arrives = fill_delays(
-        building,
-        position.floor,
-        halts,
-        halts_with,
-        &goal,
-        &mut delays,
-    );
-    let others = later_among(position, rows, &delays);
+    let (others, arrives) = if call.from == call.to {
+        later_by_stay(building, position, halts, leaving, &goal)
+    } else {
+        let boards = Halt {
+            pass: goal.pass,
+            floor: call.from,
+        };
+        later_by_ride(building, position, halts, leaving, &boards, &goal)
+    };
     let own = weighed(call.party, arrives);
     (others + own, own)
 }

@@ -1,8 +1,7 @@
 //! New calls.
-ghost use Rattle.std.specs.Prelude.{◌≡◌, ◌≤◌, length};
-ghost use Rattle.lift_cost.specs.Cost.{waiting_row, with_call};
+ghost use Rattle.std.specs.Prelude.{◌≡◌};
+ghost use Rattle.lift_cost.specs.Cost.{waiting_row};
 
-use arrayvec::ArrayVec;
 use lift_base::{Floor, Letter, Number, Party, Row, Terminal};
 
 /// A call that no car has taken yet, for a party of passengers.
@@ -29,15 +28,4 @@ pub fn waiting_row(call: &NewCall) -> Row
         party: call.party,
         aboard: false,
     }
-}
-
-/// The open calls and the new one.
-pub fn with_call(rows: &[Row], call: &NewCall) -> ArrayVec<Row, 33>
-    requires { length rows.now ≤ 32 }
-    ensures { result.items ≡ with_call rows.now call.now }
-{
-    let mut all = ArrayVec::new();
-    let _fits = all.try_extend_from_slice(rows);
-    all.push(waiting_row(call));
-    all
 }

@@ -1,14 +1,14 @@
-//! Costs from nothing: the stop lists are made for each.
+//! Costs from nothing: the stop list, and the table of who leaves where, are made for each.
 
 ghost use Rattle.std.specs.Prelude.{◌≡◌, ◌+◌, ◌*◌, ◌<◌, ◌≤◌, length};
 ghost use Rattle.lift_cost.specs.Calls.{AreWithin, IsWithin};
 ghost use Rattle.lift_cost.specs.Cost.{etd, total_etd, own_etd, with_call, total_cost, degradation};
 
 use crate::among::{added_among, etd_among};
-use crate::call::{NewCall, with_call};
+use crate::call::NewCall;
 use lift_base::{Position, Row};
 use lift_building::Building;
-use lift_stops::stop_list;
+use lift_stops::{Leaving, stop_list};
 
 /// The estimated time to destination of one of a car's open calls: how long from now until the car
 /// is where its passengers leave.
@@ -34,10 +34,9 @@ fn added(building: &Building, position: &Position, rows: &[Row], call: &NewCall)
     ensures own { result.1 ≡ own_etd building.now position.now rows.now call.now }
     ensures no_loss { result.1 ≤ result.0 }
 {
-    let all = with_call(rows, call);
     let halts = stop_list(rows, *position);
-    let halts_with = stop_list(&all, *position);
-    added_among(building, position, rows, call, &halts, &halts_with)
+    let leaving = Leaving::of(rows, position);
+    added_among(building, position, call, &halts, &leaving)
 }
 
 /// What a new call adds to the times of all passengers of a car, its own with them: each call's

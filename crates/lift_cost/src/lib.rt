@@ -7,7 +7,7 @@ mod call;
 mod cost;
 mod laws;
 mod scheduled;
-mod timetable;
+mod ways;
 
 pub use among::arrival_at;
 pub use call::{NewCall, waiting_row};

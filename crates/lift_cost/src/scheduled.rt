@@ -1,11 +1,11 @@
-//! Costs read from a car's schedule, which keeps its stop list.
+//! Costs read from a car's schedule, which keeps its stop list and who leaves where.
 
 ghost use Rattle.std.specs.Prelude.{◌≡◌, ◌+◌, ◌*◌, ◌<◌, ◌≤◌, length};
 ghost use Rattle.lift_cost.specs.Calls.{AreWithin, IsWithin};
 ghost use Rattle.lift_cost.specs.Cost.{etd, total_etd, own_etd, with_call, total_cost, degradation};
 
 use crate::among::{added_among, etd_among};
-use crate::call::{NewCall, waiting_row};
+use crate::call::NewCall;
 use lift_base::Row;
 use lift_building::Building;
 use lift_stops::Schedule;
@@ -31,14 +31,12 @@ fn added(building: &Building, schedule: &Schedule, call: &NewCall) -> (u64, u64)
     ensures no_loss { result.1 ≤ result.0 }
 {
     let position = schedule.position();
-    let halts_with = schedule.halts_with(&waiting_row(call));
     added_among(
         building,
         &position,
-        schedule.rows(),
         call,
         schedule.halts(),
-        &halts_with,
+        schedule.leaving(),
     )
 }
 

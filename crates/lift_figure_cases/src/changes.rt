@@ -2,10 +2,10 @@
 use crate::numbers::Numbers;
 use crate::trip::{costs_in, plain_costs, row_of, schedule_with};
 use arrayvec::ArrayVec;
-use lift_base::{Dir, Floor, Party, Position, Row, Stop};
+use lift_base::{Dir, Floor, Halt, Party, Pass, Position, Row, Stop};
 use lift_building::Building;
-use lift_cost::{NewCall, etd, etd_of};
-use lift_stops::{Schedule, next_stop, stop_list};
+use lift_cost::{NewCall, etd, etd_of, waiting_row};
+use lift_stops::{Leaving, Schedule, next_stop, pass_of, stop_list};
 
 fn next_floor(numbers: &mut Numbers) -> u8 {
     (numbers.next() % 10) as u8
@@ -66,7 +66,75 @@ fn are_halts_same(schedule: &Schedule, rows: &[Row], position: &Position, more: 
         && halts_with.as_slice() == stop_list(with_more.rows(), *position).as_slice()
 }
 
-/// Whether a new call's costs and all calls' times are the same both ways.
+/// How many persons of these calls leave at a halt.
+fn leaving_at(rows: &[Row], position: &Position, halt: &Halt) -> u32 {
+    let mut persons = 0u32;
+    for row in rows {
+        if pass_of(row, *position) == halt.pass && row.to == halt.floor {
+            persons = persons.saturating_add(u32::from(row.party.get()));
+        }
+    }
+    persons
+}
+
+/// Whether as many leave at each floor in a pass, by the schedule and by a table made anew, as of
+/// these calls.
+fn are_leaving_in(schedule: &Schedule, rows: &[Row], position: &Position, pass: Pass) -> bool {
+    if rows.len() > 33 {
+        return false;
+    }
+    let anew = Leaving::of(rows, position);
+    for number in 0..64u8 {
+        let floor = Floor::new(number).unwrap_or_default();
+        let halt = Halt { pass, floor };
+        let persons = leaving_at(rows, position, &halt);
+        if u32::from(schedule.leaving().at(&halt)) != persons
+            || u32::from(anew.at(&halt)) != persons
+        {
+            return false;
+        }
+    }
+    true
+}
+
+/// The same in all passes.
+fn are_leaving_same(schedule: &Schedule, rows: &[Row], position: &Position) -> bool {
+    are_leaving_in(schedule, rows, position, Pass::First)
+        && are_leaving_in(schedule, rows, position, Pass::Second)
+        && are_leaving_in(schedule, rows, position, Pass::Third)
+}
+
+/// The times of all passengers, each call's once for each of its persons.
+fn times_of(building: &Building, position: &Position, rows: &[Row]) -> u64 {
+    let mut sum = 0u64;
+    if rows.len() <= 33 {
+        for row in rows {
+            let time = etd(building, *position, rows, row);
+            sum = sum.saturating_add(time.saturating_mul(u64::from(row.party.get())));
+        }
+    }
+    sum
+}
+
+/// Whether a new call's cost is what it adds to the times of all passengers.
+fn is_cost_the_sums(
+    building: &Building,
+    rows: &[Row],
+    position: &Position,
+    call: &NewCall,
+) -> bool {
+    let mut all: ArrayVec<Row, 33> = ArrayVec::new();
+    if all.try_extend_from_slice(rows).is_err() || all.try_push(waiting_row(call)).is_err() {
+        return false;
+    }
+    let Some((cost, _)) = plain_costs(building, position, rows, call) else {
+        return false;
+    };
+    times_of(building, position, rows).saturating_add(cost) == times_of(building, position, &all)
+}
+
+/// Whether a new call's costs, all calls' times and who leaves where are the same both ways, and the
+/// cost is what the call adds.
 fn are_costs_same(
     building: &Building,
     schedule: &Schedule,
@@ -83,7 +151,7 @@ fn are_costs_same(
             return false;
         }
     }
-    true
+    is_cost_the_sums(building, rows, position, call) && are_leaving_same(schedule, rows, position)
 }
 
 /// The calls that are open after a stop.

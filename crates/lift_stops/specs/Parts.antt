@@ -1,14 +1,7 @@
 -- How lists of halts compare.
-use Rattle.std.specs.Prelude.{◌≡◌, ◌⊎◌, ◌||◌, Bool, true, false, List, [], ◌∷◌}
+use Rattle.std.specs.Prelude.{◌≡◌, ◌||◌, Bool, true, false, List, [], ◌∷◌}
 use Rattle.lift_base.specs.declared.travel.Halt.{Halt}
 use Rattle.lift_stops.specs.StopList.{same_halt}
-
--- the first list has halts of the second, in the order in which they stand there
-abbrev pub IsPartOf : List Halt → List Halt → Type 0
-IsPartOf [] others = Unit {0}
-IsPartOf (halt ∷ halts) [] = ⊥
-IsPartOf (halt ∷ halts) (other ∷ others) =
-    ((halt ≡ other) × IsPartOf halts others) ⊎ IsPartOf (halt ∷ halts) others
 
 -- the halt stands in the list
 abbrev pub has_halt : Halt → List Halt → Bool

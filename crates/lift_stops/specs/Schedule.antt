@@ -1,10 +1,11 @@
 -- What a schedule stands for.
-use Rattle.std.specs.Prelude.{◌≡◌, ◌≤◌, ◌*◌, List, All, length}
+use Rattle.std.specs.Prelude.{◌≡◌, ℕ, ◌≤◌, ◌*◌, List, All, length}
 use Rattle.lift_base.specs.declared.travel.Halt.{Halt}
 use Rattle.lift_base.specs.declared.travel.Position.{Position}
 use Rattle.lift_base.specs.declared.travel.Stop.{Stop}
 use Rattle.lift_base.specs.declared.history.Row.{Row}
 use Rattle.lift_stops.specs.StopList.{HasFloors, stop_list}
+use Rattle.lift_stops.specs.Leaving.{AreLeaving}
 
 -- where a car is, and its open calls
 pub record ScheduleState : Type 0 where
@@ -15,10 +16,12 @@ pub record ScheduleState : Type 0 where
 abbrev pub position_after : Stop → Position
 position_after stop = record { floor = stop.floor; dir = stop.dir }
 
--- The halts are the stop list of the calls, at most two for each. Each leg is a floor that a
--- building may have.
-pub record IsPlanned (position : Position) (rows : List Row) (halts : List Halt) : Type 0 where
+-- The halts are the stop list of the calls, at most two for each, and the table tells how many
+-- persons leave there. Each leg is a floor that a building may have.
+pub record IsPlanned (position : Position) (rows : List Row) (halts : List Halt)
+    (table : List ℕ) : Type 0 where
   pub listed : halts ≡ stop_list rows position
   pub short : length halts ≤ 2 * length rows
   pub few : length rows ≤ 33
   pub floors : All HasFloors rows
+  pub leaving : AreLeaving rows position table

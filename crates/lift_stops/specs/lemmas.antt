@@ -1,3 +1,4 @@
 pub mod Insertion
 pub mod Halts
 pub mod Listed
+pub mod Leaving

@@ -7,7 +7,9 @@ ghost use Rattle.lift_base.specs.History.{row_after};
 ghost use Rattle.lift_stops.specs.Parts.{AllDiffer};
 ghost use Rattle.lift_stops.specs.StopList.{StopsInOrder, stop_list, next_stop};
 ghost use Rattle.lift_stops.specs.Schedule.{position_after};
+ghost use Rattle.lift_stops.specs.Leaving.{AreLeaving};
 
+use crate::leaving::Leaving;
 use crate::marks::write_halts;
 use crate::stops::{insert_row, stop_of};
 use arrayvec::ArrayVec;
@@ -38,13 +40,15 @@ fn rows_after(rows: &[Row], stop: &Stop) -> ArrayVec<Row, 33>
     left
 }
 
-/// Where a car is, its open calls, and the halts that it still has to make for them. After any
-/// changes these are the halts of the stop list that is made from nothing.
+/// Where a car is, its open calls, the halts that it still has to make for them, and how many
+/// persons leave there. After any changes these are the halts of the stop list that is made from
+/// nothing.
 #[derive(Drop)]
 pub struct Schedule {
     position: Position,
     rows: ArrayVec<Row, 33>,
     halts: ArrayVec<Halt, 66>,
+    leaving: Leaving,
 }
 
 impl Model for Schedule {
@@ -54,7 +58,7 @@ impl Model for Schedule {
 
     ghost view = { λ s. record { position = s.position; rows = s.rows.items } };
 
-    ghost invariant = { λ s. IsPlanned s.position s.rows.items s.halts.items };
+    ghost invariant = { λ s. IsPlanned s.position s.rows.items s.halts.items s.leaving };
 }
 
 impl Schedule {
@@ -66,6 +70,7 @@ impl Schedule {
             position,
             rows: ArrayVec::new(),
             halts: ArrayVec::new(),
+            leaving: Leaving::new(),
         }
     }
 
@@ -75,6 +80,7 @@ impl Schedule {
         ensures { self.new ≡ record self.old { rows = self.old.rows ++ row ∷ [] } }
     {
         insert_row(&mut self.halts, &self.position, &row);
+        self.leaving.add(&self.position, &row);
         self.rows.push(row);
     }
 
@@ -109,6 +115,7 @@ impl Schedule {
             dir: stop.dir,
         };
         write_halts(&mut self.halts, &left, &self.position);
+        self.leaving = Leaving::of(&left, &self.position);
         self.rows = left;
     }
 
@@ -118,6 +125,7 @@ impl Schedule {
     {
         let position = &position;
         write_halts(&mut self.halts, &self.rows, position);
+        self.leaving = Leaving::of(&self.rows, position);
         self.position = *position;
     }
 
@@ -144,6 +152,13 @@ impl Schedule {
         let mut halts = copy_of(&self.halts);
         insert_row(&mut halts, &self.position, row);
         halts
+    }
+
+    /// How many persons leave at each halt.
+    pub fn leaving(&self) -> &Leaving
+        ensures { AreLeaving self.now.rows self.now.position result.now }
+    {
+        &self.leaving
     }
 
     /// The stop that the car makes next.

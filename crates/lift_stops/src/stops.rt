@@ -4,7 +4,7 @@ ghost use Rattle.std.specs.Prelude.{◌≡◌, ◌≢◌, ℕ, ◌+◌, ◌<◌,
 ghost use Rattle.std.specs.Prelude.{IfErr, Contains, insert, length, slice_index_or};
 ghost use Rattle.arrayvec.specs.ArrayVec.{array_vec_len};
 ghost use Rattle.lift_base.specs.declared.history.Row.{Row as RowValue};
-ghost use Rattle.lift_stops.specs.Insertion.{put, rank_of};
+ghost use Rattle.lift_stops.specs.Insertion.{IsSplit, put, rank_of};
 ghost use Rattle.lift_stops.specs.Parts.{AllDiffer};
 ghost use Rattle.lift_stops.specs.StopList.{HasFloors, StopsInOrder, is_ahead, pass_of, dir_in};
 ghost use Rattle.lift_stops.specs.StopList.{stop_list, stop_of, next_stop};
@@ -88,6 +88,36 @@ pub fn find_halt(halts: &[Halt], dir: Dir, halt: &Halt) -> Result<usize, usize>
         }
     }
     Err(halts.len())
+}
+
+/// A stop list split at a halt.
+#[derive(Drop)]
+pub struct Split<'h> {
+    /// The halts before it.
+    pub before: &'h [Halt],
+    /// Whether the halt is in the list.
+    pub is_there: bool,
+    /// The halts behind it.
+    pub behind: &'h [Halt],
+}
+
+/// Splits the sorted halts of a car of this direction at a halt, or where that is to be put.
+pub fn split_at<'h>(halts: &'h [Halt], dir: Dir, halt: &Halt) -> Split<'h>
+    ensures { IsSplit (rank_of dir) halt.now halts.now result.before.now result.is_there
+        result.behind.now }
+{
+    match find_halt(halts, dir, halt) {
+        Ok(at) => Split {
+            before: &halts[..at],
+            is_there: true,
+            behind: &halts[at + 1..],
+        },
+        Err(at) => Split {
+            before: &halts[..at],
+            is_there: false,
+            behind: &halts[at..],
+        },
+    }
 }
 
 /// Puts a halt at its place, unless it is there already.

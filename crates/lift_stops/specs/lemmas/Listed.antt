@@ -1,11 +1,11 @@
 -- What every stop list keeps: its halts differ, stand at legs of its calls, and stay when calls
 -- join.
 use Rattle.std.proofs.Common.{◌≡◌, ◌≢◌, ℕ, ◌<◌, Bool, true, false, cond, not, ◌||◌, ◌&&◌, ◌==◌}
-use Rattle.std.proofs.Common.{List, [], ◌∷◌, ◌++◌, refl, sym, ap, subst, ◌∙◌, arith, inl, inr, ◌⊎◌}
+use Rattle.std.proofs.Common.{List, [], ◌∷◌, refl, sym, ap, subst, ◌∙◌, arith, inl, inr, ◌⊎◌}
 use Rattle.std.proofs.Common.{filter, get_or, Contains, zero-add}
 use Rattle.std.specs.List.{list_any, list_all, AllByRecursion, range_with_len}
 use Rattle.std.proofs.lemmas.Bool.{cases_Bool, and_parts, eqb-true, eq-eqb}
-use Rattle.std.proofs.lemmas.List.Folds.{list_any-append, list_any_at, list_all_at}
+use Rattle.std.proofs.lemmas.List.Folds.{list_any_at, list_all_at}
 use Rattle.std.proofs.lemmas.List.FromFn.{get_or-range_with_len}
 use Rattle.lift_base.specs.declared.travel.Dir.{Dir}
 use Rattle.lift_base.specs.declared.travel.Dir.TheVariants.{Up, Down}
@@ -18,7 +18,7 @@ use Rattle.lift_base.specs.declared.history.Record.TheVariants.{Row as RowRecord
 use Rattle.lift_base.specs.Records.{IsRecord}
 use Rattle.lift_stops.specs.StopList.{pass_of, same_pass, same_halt, halt_at, legs_of, is_halt_of}
 use Rattle.lift_stops.specs.StopList.{is_needed, all_halts, stop_list, StopsInOrder}
-use Rattle.lift_stops.specs.Parts.{IsPartOf, has_halt, AllDiffer}
+use Rattle.lift_stops.specs.Parts.{has_halt, AllDiffer}
 use Rattle.lift_stops.specs.lemmas.Halts.{stop_list-own, floors_of}
 
 -- ---- one halt stands where it stands
@@ -98,23 +98,6 @@ differ_kept p (g ∷ gs) differ =
     differ_at (p g) g (filter p gs) (λ h same.
     none_kept p h gs (differ.0 h same)) (differ_kept p gs differ.1)
 
-part_skips : (g : Halt) (hs gs : List Halt) → IsPartOf hs gs → IsPartOf hs (g ∷ gs)
-part_skips g [] gs part = tt
-part_skips g (h ∷ hs) gs part = inr part
-
-part_at : (less more : Bool) (g : Halt) (hs gs : List Halt) → (less ≡ true → more ≡ true)
-    → IsPartOf hs gs → IsPartOf (cond less (g ∷ hs) hs) (cond more (g ∷ gs) gs)
-part_at true true g hs gs kept part = inl (refl, part)
-part_at true false g hs gs kept part = absurd (let no = kept refl in cc)
-part_at false true g hs gs kept part = part_skips g hs gs part
-part_at false false g hs gs kept part = part
-
-part_kept : (p q : Halt → Bool) → ((h : Halt) → p h ≡ true → q h ≡ true) → (gs : List Halt)
-    → IsPartOf (filter p gs) (filter q gs)
-part_kept p q kept [] = tt
-part_kept p q kept (g ∷ gs) =
-    part_at (p g) (q g) g (filter p gs) (filter q gs) (kept g) (part_kept p q kept gs)
-
 at_at : (At : ℕ → Type 0) (keep : Bool) (g : Halt) (rest : List Halt) → (keep ≡ true → At g.floor)
     → AllByRecursion (λ (h : Halt). At h.floor) rest
     → AllByRecursion (λ (h : Halt). At h.floor) (cond keep (g ∷ rest) rest)
@@ -160,18 +143,6 @@ pub stops_differ : (rows : List Row) (position : Position) → AllDiffer (stop_l
 unfolding stop_list
 stops_differ rows position =
     differ_kept (is_needed rows position) (all_halts position.dir) (halts_differ position.dir)
-
-any_more : (p : Row → Bool) (rows : List Row) (row : Row) → list_any p rows ≡ true
-    → list_any p (rows ++ row ∷ []) ≡ true
-any_more p rows row e = list_any-append p rows (row ∷ []) ∙ rw e
-
--- a call that joins takes no halt away
-pub stops_stay : (rows : List Row) (row : Row) (position : Position)
-    → IsPartOf (stop_list rows position) (stop_list (rows ++ row ∷ []) position)
-unfolding stop_list
-stops_stay rows row position =
-    part_kept (is_needed rows position) (is_needed (rows ++ row ∷ []) position) (λ h.
-    any_more (λ (r : Row). is_halt_of position r h) rows row) (all_halts position.dir)
 
 any_leg : (At : ℕ → Type 0) (floor : ℕ) (legs : List ℕ) → list_any (λ leg. leg == floor) legs ≡ true
     → AllByRecursion At legs → At floor

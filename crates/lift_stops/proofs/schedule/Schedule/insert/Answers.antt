@@ -23,4 +23,5 @@ invariant_of-self c =
       short = omega (arith, long, before, added);
       few = omega (arith, long, few);
       floors = All-push HasFloors rows c.args.row c.self.invariant.floors c.insert_row.ensures.floors;
+      leaving = c.add.ensures rows (omega (arith, few)) c.self.invariant.leaving;
     })

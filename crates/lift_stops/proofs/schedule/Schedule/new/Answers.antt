@@ -10,4 +10,5 @@ invariant_of-result c = rw (c.new.ensures, c.new-2.ensures) (record {
   short = omega arith;
   few = omega arith;
   floors = All-nil HasFloors;
+  leaving = c.new-3.ensures c.args.position;
 })

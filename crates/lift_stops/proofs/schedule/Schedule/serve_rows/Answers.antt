@@ -1,9 +1,10 @@
-use Rattle.std.proofs.Common.{arith, ap, ◌∙◌, List, length}
+use Rattle.std.proofs.Common.{arith, ap, ◌∙◌, subst, List, length}
 use Rattle.std.specs.List.{flat_map}
 use Rattle.lift_base.specs.declared.history.Row.{Row}
 use Rattle.lift_base.specs.History.{row_after}
 use Rattle.lift_stops.specs.StopList.{stop_list}
 use Rattle.lift_stops.specs.Schedule.{position_after}
+use Rattle.lift_stops.specs.Leaving.{AreLeaving}
 use Rattle.lift_stops.proofs.Passing.{length-after}
 use Rattle.lift_stops.proofs.schedule.Schedule.serve_rows.Goals as goal
 
@@ -21,4 +22,5 @@ invariant_of-self c =
       short = omega (arith, count, lent);
       few = omega (arith, left, few, length-after stop rows);
       floors = rw same at c.write_halts.ensures.floors;
+      leaving = subst (λ (rs : List Row). AreLeaving rs (position_after stop) c.of-self-inside.result) c.deref-3.ensures.0 c.of-self-inside.ensures;
     }

@@ -1,0 +1,79 @@
+//! How many persons leave a car at each of its halts.
+
+ghost use Rattle.std.specs.Prelude.{◌≡◌, ◌<◌, ◌≤◌, List, [], ◌∷◌, ◌++◌, length, slice_index};
+ghost use Rattle.lift_base.specs.declared.history.Row.{Row as RowValue};
+ghost use Rattle.lift_base.specs.declared.travel.Position.{Position as PositionValue};
+ghost use Rattle.lift_stops.specs.Leaving.{AreLeaving, leaving_at, place_of};
+
+use crate::stops::pass_of;
+use lift_base::{Halt, Position, Row};
+use std::marker::Model;
+
+/// Where a halt stands in a table.
+fn place_of(halt: &Halt) -> usize
+    ensures value { result ≡ place_of halt.now }
+    ensures limit { result < 192 }
+    ensures floor { halt.now.floor < 64 }
+{
+    let floor = usize::from(halt.floor.get());
+    64 * usize::from(halt.pass.number() - 1) + floor
+}
+
+/// How many persons of a car's open calls leave at each halt.
+#[derive(Drop)]
+pub struct Leaving {
+    persons: [u16; 192],
+}
+
+impl Model for Leaving {
+    ghost use Rattle.std.specs.Prelude.{ℕ, List};
+
+    ghost Value = { List ℕ };
+
+    ghost view = { λ l. l.persons };
+}
+
+impl Leaving {
+    /// A table in which nobody leaves.
+    pub(crate) fn new() -> Self
+        ensures { (position : PositionValue) → AreLeaving [] position result }
+    {
+        Leaving { persons: [0; 192] }
+    }
+
+    /// Counts one call more, of a car at this position.
+    pub(crate) fn add(&mut self, position: &Position, row: &Row)
+        ensures { (rows : List RowValue) → length rows ≤ 32
+            → AreLeaving rows position.now self.old
+            → AreLeaving (rows ++ row.now ∷ []) position.now self.new }
+    {
+        let halt = Halt {
+            pass: pass_of(row, *position),
+            floor: row.to,
+        };
+        let place = place_of(&halt);
+        let persons = u16::from(row.party.get());
+        self.persons[place] = self.persons[place].saturating_add(persons);
+    }
+
+    /// Who leaves where, of these calls of a car at this position, at most 33.
+    pub fn of(rows: &[Row], position: &Position) -> Self
+        requires { length rows.now ≤ 33 }
+        ensures { AreLeaving rows.now position.now result }
+    {
+        let mut leaving = Leaving::new();
+        for row in rows {
+            leaving.add(position, row);
+        }
+        leaving
+    }
+
+    /// How many persons leave at a halt.
+    pub fn at(&self, halt: &Halt) -> u16
+        ensures value { result ≡ slice_index self.now (place_of halt.now) }
+        ensures told { (rows : List RowValue) (position : PositionValue)
+            → AreLeaving rows position self.now → result ≡ leaving_at rows position halt.now }
+    {
+        self.persons[place_of(halt)]
+    }
+}
