@@ -1,4 +1,4 @@
--- Halts of a list, and floors below a limit.
+-- Halts of a list, floors below a limit, and either of two tests.
 use Rattle.std.proofs.Common.{◌≡◌, ℕ, ◌<◌, Bool, true, false, ◌||◌, List, refl, inl, inr}
 use Rattle.std.proofs.lemmas.Bool.{cases_Bool}
 use Rattle.std.specs.List.{AllByRecursion}
@@ -12,6 +12,10 @@ AllBelow floors hs = AllByRecursion (λ h. h.floor < floors) hs
 pub or_right : (a b : Bool) → b ≡ true → (a || b) ≡ true
 or_right true b e = refl
 or_right false b e = e
+
+pub neither : (a b : Bool) → (a || b) ≡ false → (a ≡ false) × (b ≡ false)
+neither true b e = absurd cc
+neither false b e = (refl, e)
 
 pub not_here : (g h : Halt) (gs : List Halt) → ((k : Halt) → same_halt g k ≡ true → has_halt k gs ≡ false) → has_halt h gs ≡ true → same_halt g h ≡ false
 not_here g h gs differ has =

@@ -22,6 +22,7 @@ use Rattle.lift_cost.specs.Calls.{AreWithin}
 use Rattle.lift_cost.specs.Cost.{moment_at, arrival_at, etd, total_etd}
 use Rattle.lift_cost.specs.Delays.{persons_in}
 use Rattle.lift_cost.specs.Ways.{weighted}
+use Rattle.lift_cost.proofs.Earlier.{neither}
 use Rattle.lift_cost.proofs.Weighted.{Agree, weighted-agree, agree_below}
 
 -- ---- one call
@@ -42,10 +43,6 @@ halts_turned g h =
     let passes = passes_turned g.pass h.pass in
     let floors : (g.floor == h.floor) ≡ (h.floor == g.floor) = same_tests g.floor h.floor h.floor g.floor (λ e. sym e) (λ e. sym e) in
     ap (λ b. b && (g.floor == h.floor)) passes ∙ ap (λ b. same_pass h.pass g.pass && b) floors
-
-neither : (a b : Bool) → (a || b) ≡ false → (a ≡ false) × (b ≡ false)
-neither true b e = absurd cc
-neither false b e = (refl, e)
 
 -- this many at one halt, and nobody elsewhere
 abbrev at_one : Halt → ℕ → Halt → ℕ

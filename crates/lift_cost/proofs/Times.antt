@@ -11,7 +11,7 @@ use Rattle.lift_stops.specs.Parts.{has_halt, AllDiffer}
 use Rattle.lift_stops.specs.lemmas.Listed.{same_itself}
 use Rattle.lift_cost.specs.Cost.{moment_at}
 use Rattle.lift_cost.specs.Laws.{way_behind, ArrivalsAddUp, ArrivalsAreAtPlaces, OthersHaveNone}
-use Rattle.lift_cost.proofs.Earlier.{not_here}
+use Rattle.lift_cost.proofs.Earlier.{neither, not_here, or_right}
 
 range_more : (a n : ℕ) → range_with_len a (suc n) ≡ range_with_len a n ++ (a + n) ∷ []
 range_more a zero = let e : a ≡ a + 0 = omega arith in ap (λ m. m ∷ []) e
@@ -30,10 +30,6 @@ add_up plan floor halts (suc n) within =
     let more : sum_by way (range_with_len 0 (suc n)) ≡ sum_by way (range_with_len 0 n) + way n =
     ap (λ (ns : List ℕ). sum_by way ns) (range_more 0 n) ∙ sum_by_push way (range_with_len 0 n) (0 + n) ∙ ap (λ m. sum_by way (range_with_len 0 n) + way m) e in
     omega (arith, so_far, next, more)
-
-or_right : (a b : Bool) → b ≡ true → (a || b) ≡ true
-or_right true b e = refl
-or_right false b e = e
 
 has_at_place : (hs : List Halt) (place : ℕ) (h : Halt) → slice_get hs place ≡ Some h → has_halt h hs ≡ true
 has_at_place [] place h e = absurd cc
@@ -56,10 +52,6 @@ pub at_places : ArrivalsAreAtPlaces
 at_places plan floor halts place halt differ e =
     let count = (arrivals_are plan floor halts).count in
     moment_at_place halts (arrivals_of plan floor halts) place halt (omega (arith, count)) differ e
-
-neither : (a b : Bool) → (a || b) ≡ false → (a ≡ false) × (b ≡ false)
-neither true b e = absurd cc
-neither false b e = (refl, e)
 
 pub no_moment : (hs : List Halt) (times : List ℕ) (h : Halt) → has_halt h hs ≡ false → moment_at h hs times ≡ 0
 no_moment [] times h e = refl

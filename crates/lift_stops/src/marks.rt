@@ -25,7 +25,7 @@ struct Marks {
 }
 
 /// How many floors a car that travels all of them in this direction reaches before this one.
-fn place_of(dir: Dir, floor: Floor) -> u32
+fn bit_of(dir: Dir, floor: Floor) -> u32
     ensures place { result ≡ floor_rank dir floor }
     ensures below { result < 64 }
     ensures floor { floor < 64 }
@@ -56,7 +56,7 @@ fn mark(set: u64, dir: Dir, floor: Floor) -> u64
         → has_bit result place ≡ (has_bit set place || floor == floor_rank dir place) }
     ensures floor { floor < 64 }
 {
-    set | 1 << place_of(dir, floor)
+    set | 1 << bit_of(dir, floor)
 }
 
 /// A set of the pass in which a car makes this call, with the floors that the call needs.

@@ -14,8 +14,6 @@ use Rattle.lift_base.specs.declared.travel.Pass.TheVariants.{First, Second, Thir
 use Rattle.lift_base.specs.declared.travel.Halt.{Halt}
 use Rattle.lift_base.specs.declared.travel.Position.{Position}
 use Rattle.lift_base.specs.declared.history.Row.{Row}
-use Rattle.lift_base.specs.declared.history.Record.TheVariants.{Row as RowRecord}
-use Rattle.lift_base.specs.Records.{IsRecord}
 use Rattle.lift_stops.specs.StopList.{pass_of, same_pass, same_halt, halt_at, legs_of, is_halt_of}
 use Rattle.lift_stops.specs.StopList.{is_needed, all_halts, stop_list, StopsInOrder}
 use Rattle.lift_stops.specs.Parts.{has_halt, AllDiffer}
@@ -244,10 +242,3 @@ pub stops_in_order : (rows : List Row) (row : Row) → Contains rows row → row
 stops_in_order rows row among apart below_from below_to =
     λ position. stop_list-own rows row position among apart
     (floors_of row row.aboard below_from below_to)
-
--- the same of a call that the journal may hold
-pub stops_in_order-of_record : (rows : List Row) (row : Row) → Contains rows row
-    → IsRecord (RowRecord row) → StopsInOrder rows row
-stops_in_order-of_record rows row among lawful =
-    stops_in_order rows row among lawful.1.apart (let high = lawful.0.1.from_range in
-    omega (arith, high)) (let high = lawful.0.1.to_range in omega (arith, high))
