@@ -10,6 +10,7 @@ _liftd() {
     elif [[ $word == -* && $command = format ]]; then
         mapfile -t COMPREPLY < <(compgen -W "--half" -- "$word")
     elif [[ $command != replay && $before != --* ]]; then
+        compopt -o filenames
         mapfile -t COMPREPLY < <(compgen -f -- "$word")
     fi
 }

@@ -8,7 +8,8 @@
  * fails and does nothing; `interrupt`, it says that a signal came; `short`, it moves a single byte; `nothing`, it moves none;
  * `pretend`, it writes nothing and says that it wrote all. `short` and `nothing` leave calls alone that move no bytes, `pretend`
  * those that write none. With REFUSE_COUNT, a path, the number of calls is written there at the end.
- * Counted are the calls that read, write and synchronize files and connections, open files, and take connections in.
+ * Counted are the calls that read, write and synchronize files and connections, lock files and drop what is cached of them, open
+ * files, and take connections in.
  */
 #include <errno.h>
 #include <fcntl.h>
@@ -84,6 +85,13 @@ ssize_t send(int fd, const void *bytes, size_t count, int flags) {
 }
 
 int fsync(int fd) { return fails(NULL) ? -1 : (int)syscall(SYS_fsync, fd); }
+
+int flock(int fd, int operation) { return fails(NULL) ? -1 : (int)syscall(SYS_flock, fd, operation); }
+
+/* (it tells its error, and not by errno) */
+int posix_fadvise(int fd, off_t offset, off_t size, int advice) {
+    return fails(NULL) || syscall(SYS_fadvise64, fd, offset, size, advice) ? errno : 0;
+}
 
 int fdatasync(int fd) { return fails(NULL) ? -1 : (int)syscall(SYS_fdatasync, fd); }
 

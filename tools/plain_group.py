@@ -3,7 +3,7 @@
 Written from docs/formats.md, docs/definitions.md and docs/scripts.md alone, and sharing nothing with the program: each
 question about a call is answered by a search of the whole list of entries, each commit is a list of device calls that is
 carried out one by one, and each recovery reads the whole image. `report` is what a script has to report, `shown` what
-`liftd show` has to tell of an image.
+`liftd show` has to tell of an image. What is refused of a building or an image is also told in words, for the owner's kit in dist/.
 
 `wrong` breaks one rule on purpose, so that a campaign can be seen to notice it; its names are in WRONG.
 """
@@ -60,7 +60,15 @@ Stopped = namedtuple("Stopped", "floor dir")
 
 
 class Refused(Exception):
-    """An opening that is refused: the journal's fault, with its sector or its place."""
+    """An opening that is refused: the journal's fault, with its sector or its place; and in words why."""
+
+    def __init__(self, *fault, why=""):
+        super().__init__(*fault)
+        self.why = why
+
+
+class Broken(Exception):
+    """A rule of the chain that doesn't hold, in words."""
 
 
 class Failed(Exception):
@@ -68,74 +76,122 @@ class Failed(Exception):
 
 
 class BadBuilding(Exception):
-    """A building's text that is refused: the number of its first fault, and floors for the last one."""
+    """A building's text that is refused: the number of its first fault, and floors for the last one; where it is, and what."""
+
+    def __init__(self, place, told, *fault):
+        super().__init__(*fault)
+        self.place, self.told = place, told
 
 
 # The building's text
 
+MOST_WITHIN = 80  # arrays and tables within one another
 
-def integer(value, low, high):
+
+def shown_value(value):
+    """A value of TOML, as a message shows it."""
+    kinds = {bool: "a boolean", str: "a string", float: "a float", list: "an array", dict: "a table", int: "an integer"}
+    kind = kinds.get(type(value), "a date or a time")
+    return kind if isinstance(value, (list, dict)) else f"{kind}, {str(value)[:40]!r}"
+
+
+def beyond_the_dialect(value, within=0):
+    """What Python's reader of TOML takes and liftd's doesn't: an integer of more than 64 bits, values too deep in one another."""
+    if within > MOST_WITHIN:
+        return f"more than {MOST_WITHIN} arrays or tables stand within one another"
+    if type(value) is int and not -(2**63) <= value < 2**63:
+        return f"the integer {str(value)[:40]} has more than 64 bits"
+    inner = value.values() if isinstance(value, dict) else value if isinstance(value, list) else ()
+    return next(filter(None, (beyond_the_dialect(item, within + 1) for item in inner)), None)
+
+
+def toml_of(text):
+    """The table that a text is. TOML 1.1, which liftd reads, has a few forms that Python's reader refuses; no building needs them."""
+    try:
+        table = tomllib.loads(text.removeprefix("\ufeff"))
+        fault = beyond_the_dialect(table, -1)
+    except (ValueError, RecursionError) as refused:
+        fault = str(refused)
+    if fault:
+        raise BadBuilding("the text", f"is no TOML: {fault}", 1)
+    return table
+
+
+def integer(value, place, low, high):
     if type(value) is not int:
-        raise BadBuilding(3)
+        raise BadBuilding(place, f"is {shown_value(value)}, and has to be an integer", 3)
     if not low <= value <= high:
-        raise BadBuilding(4)
+        raise BadBuilding(place, f"is {value}, and " + (f"has to be {low}" if low == high else f"may be {low} to {high}"), 4)
     return value
 
 
-def key(table, name):
+def key(table, name, of=""):
     if name not in table:
-        raise BadBuilding(2)
+        raise BadBuilding(name + of, "is missing", 2)
     return table[name]
 
 
-def array(value, fault=3):
+def array(value, place, of="an array"):
     if not isinstance(value, list):
-        raise BadBuilding(fault)
+        raise BadBuilding(place, f"is {shown_value(value)}, and has to be {of}", 3)
     return value
 
 
-def building_of(text):
-    try:
-        table = tomllib.loads(text)
-    except tomllib.TOMLDecodeError:
-        raise BadBuilding(1) from None
-    floors = integer(key(table, "floors"), 2, 64)
-    door = integer(key(table, "door_ms"), 0, 60_000)
-    kiosks = array(key(table, "kiosks"))
-    if not 1 <= len(kiosks) <= 47:
-        raise BadBuilding(4)
-    for floor in kiosks:
-        integer(floor, 0, floors - 1)
-    flight = array(key(table, "flight"))
-    if len(flight) != floors:
-        raise BadBuilding(5)
+def counted(items, place, least, most):
+    if not least <= len(items) <= most:
+        raise BadBuilding(place, f"has {len(items)} items, and may have {least} to {most}", 4)
+    return items
+
+
+def as_many_as_floors(items, place, name, floors):
+    if len(items) != floors:
+        raise BadBuilding(place, f"has {len(items)} {name}, and floors is {floors}", 5)
+    return items
+
+
+def flight_of(value, floors):
+    flight = as_many_as_floors(array(value, "flight"), "flight", "rows", floors)
     for i, row in enumerate(flight):
-        if len(array(row)) != floors:
-            raise BadBuilding(5)
+        as_many_as_floors(array(row, f"flight[{i}]"), f"flight[{i}]", "items", floors)
         for j, time in enumerate(row):
-            integer(time, 0 if i == j else 1, 0 if i == j else 600_000)
-    cars = []
-    told = array(key(table, "cars"))
-    if not 1 <= len(told) <= 16:
-        raise BadBuilding(4)
-    for car in told:
-        if not isinstance(car, dict):
-            raise BadBuilding(3)
-        places = integer(key(car, "places"), 1, 32)
-        serves = range(floors)
-        if "serves" in car:
-            serves = array(car["serves"])
-            if not serves:
-                raise BadBuilding(4)
-            for floor in serves:
-                integer(floor, 0, floors - 1)
-        cars.append(Car(places, frozenset(serves)))
-    for i in range(floors):
-        for j in range(floors):
-            over = flight[i][j] + door
-            for k in range(floors):
-                if flight[i][k] > over + flight[j][k]:
-                    raise BadBuilding(6, i, j, k)
+            integer(time, f"flight[{i}][{j}]", 0 if i == j else 1, 0 if i == j else 600_000)
+    return flight
+
+
+def car_of(value, letter, floors):
+    if not isinstance(value, dict):
+        raise BadBuilding(f"car {letter}", f"is {shown_value(value)}, and has to be a table", 3)
+    of = f" of car {letter}"
+    places = integer(key(value, "places", of), f"places{of}", 1, 32)
+    if "serves" not in value:
+        return Car(places, frozenset(range(floors)))
+    serves = array(value["serves"], f"serves{of}")
+    if not serves:
+        raise BadBuilding(f"serves{of}", "has no item, and needs one at least", 4)
+    return Car(places, frozenset(integer(floor, f"serves[{at}]{of}", 0, floors - 1) for at, floor in enumerate(serves)))
+
+
+def no_detour(flight, door):
+    """No stop on the way saves time."""
+    for i, row in enumerate(flight):
+        for j, first in enumerate(row):
+            for k, second in enumerate(flight[j]):
+                if row[k] > first + door + second:
+                    way = f"by way of floor {j} with its doors it takes {first} + {door} + {second} = {first + door + second}"
+                    raise BadBuilding(f"flight[{i}][{k}]", f"is {row[k]}, but {way}", 6, i, j, k)
+
+
+def building_of(text):
+    table = toml_of(text)
+    floors = integer(key(table, "floors"), "floors", 2, 64)
+    door = integer(key(table, "door_ms"), "door_ms", 0, 60_000)
+    kiosks = counted(array(key(table, "kiosks"), "kiosks"), "kiosks", 1, 47)
+    for at, floor in enumerate(kiosks):
+        integer(floor, f"kiosks[{at}]", 0, floors - 1)
+    flight = flight_of(key(table, "flight"), floors)
+    cars = counted(array(key(table, "cars"), "cars", "an array of tables"), "cars", 1, 16)
+    cars = [car_of(car, chr(65 + at), floors) for at, car in enumerate(cars)]
+    no_detour(flight, door)
     return Building(floors, door, kiosks, flight, cars)
 
 
@@ -372,62 +428,118 @@ def format_sectors(shape):
 
 
 Read = namedtuple("Read", "shape second base entries used batches records")
+Batch = namedtuple("Batch", "at number version records")
+# The batches of a half, where their chain ends, and the rule that is broken there.
+Chain = namedtuple("Chain", "batches end broken")
+
+
+def in_bytes(told):
+    return told.hex(" ").upper()
 
 
 def read_stamp(sectors):
     if len(sectors) < 2:
-        raise Refused(2)
+        raise Refused(2, why="it has no sector 1 for the stamp")
     told = sectors[1]
     shape = Shape(told[8], told[9], told[10], int.from_bytes(told[12:16], "big"))
-    if told != stamp(shape) or not (2 <= shape.floors <= 64 and 1 <= shape.cars <= 16 and 1 <= shape.kiosks <= 47):
-        raise Refused(2)
-    if not 64 <= shape.half <= 1_000_000 or len(sectors) < 2 + 2 * shape.half:
-        raise Refused(2)
+    if told[:8] != b"LIFTJRNL":
+        raise Refused(2, why=f"the stamp begins with {in_bytes(told[:8])}, and not with the letters LIFTJRNL")
+    if told != stamp(shape):
+        raise Refused(2, why="the stamp has other bytes than zeros where it says nothing")
+    for name, value, low, high in zip(shape._fields, shape, (2, 1, 1, 64), (64, 16, 47, 1_000_000)):
+        if not low <= value <= high:
+            raise Refused(2, why=f"the stamp's {'sectors of a half' if name == 'half' else name}: {value}, and there may be {low} to {high}")
+    if len(sectors) < 2 + 2 * shape.half:
+        raise Refused(2, why=f"it has {len(sectors)} sectors, and by its stamp {2 + 2 * shape.half}")
     return shape
 
 
-def read_batch(half, at, number, version):
-    """The version and the records behind an open gate, or None where they break a rule."""
-    if at + 2 >= len(half):
-        return None
-    header = half[at + 1][:16]
+def read_header(header, number, version):
+    """The version and the count of records that a body's first sixteen bytes tell."""
     count = int.from_bytes(header[4:6], "big")
-    if header[:2] != b"LB" or header[2] not in (1, 2) or header[3] or header[6:8] != bytes(2) or header[12:] != bytes(4):
-        return None
-    if not 1 <= count <= 63 or header[2] < version and wrong != "versions-fall":
-        return None
+    if header[:2] != b"LB":
+        raise Broken(f"its body begins with {in_bytes(header[:2])}, and not with 4C 42")
+    if header[2] not in (1, 2):
+        raise Broken(f"its version is {header[2]}, and may be 1 or 2")
+    if header[3] or header[6:8] != bytes(2) or header[12:] != bytes(4):
+        raise Broken(f"a byte of its header that says nothing isn't zero: {in_bytes(header)}")
+    if not 1 <= count <= 63:
+        raise Broken(f"it has {count} records, and may have 1 to 63")
+    if header[2] < version and wrong != "versions-fall":
+        raise Broken(f"its version is {header[2]} after one of version {version}")
     if header[8:12] != number_bytes(number) and wrong != "number-unread":
-        return None
+        raise Broken(f"its number is {int.from_bytes(header[8:12], 'big')}, and has to be {number}")
+    return header[2], count
+
+
+def read_batch(half, at, number, version):
+    """The batch behind an open gate."""
+    if at + 2 >= len(half):
+        raise Broken("the half has no room for its body and the next gate")
+    version, count = read_header(half[at + 1][:16], number, version)
     if at + 1 + bodies(count) >= len(half):
-        return None
-    told = b"".join(half[at + 1:at + 1 + bodies(count)])
+        raise Broken(f"the half has no room for its {count} records and the next gate")
+    told = b"".join(half[at + 1 + place] for place in range(bodies(count)))
     if any(told[16 + 16 * count:]) and wrong != "tail-unread":
-        return None
-    records = [read_record(header[2], told[16 + 16 * place:32 + 16 * place]) for place in range(count)]
-    return None if None in records else (header[2], records)
+        raise Broken("what follows its records isn't zero")
+    records = []
+    for place in range(16, 16 + 16 * count, 16):
+        record = read_record(version, told[place:place + 16])
+        if record is None:
+            raise Broken(f"its record {len(records) + 1} of {count} is none: {in_bytes(told[place:place + 16])}")
+        records.append(record)
+    return Batch(at, number, version, records)
 
 
-def in_order(records):
-    """Whether these may be what a chain begins with: a base or none, or its beginning; then entries alone."""
-    stage, car, terminal = 0, 0, -1
-    for place, record in enumerate(records):
+class Order:
+    """How far a chain's records have come: a base or none, open calls first; then entries alone."""
+
+    OPEN_CALLS, LAST, ENTRIES = 1, 2, 3
+
+    def __init__(self):
+        self.stage, self.car, self.terminal = 0, 0, -1
+
+    def take(self, record):
         if isinstance(record, Row):
-            if stage > 1 or stage == 0 and place or record.car < car:
-                return False
-            stage, car = 1, record.car
+            self.come_to(self.OPEN_CALLS, "an open call", record.car >= self.car, "of a lower car than the one before it")
+            self.car = record.car
         elif isinstance(record, Last):
-            if stage > 2 or stage == 0 and place or record.terminal <= terminal:
-                return False
-            stage, terminal = 2, record.terminal
+            self.come_to(self.LAST, "a last command", record.terminal > self.terminal, "of a terminal not above the one before it")
+            self.terminal = record.terminal
         elif isinstance(record, Done):
-            if stage > 2 or stage == 0 and place:
-                return False
-            stage = 3
+            self.come_to(self.LAST, "a count of done calls", True, "")
+            self.stage = self.ENTRIES
+        elif self.is_within_base():
+            raise Broken("an entry stands in a base, before its count of done calls")
         else:
-            if stage in (1, 2):
-                return False
-            stage = 3
-    return True
+            self.stage = self.ENTRIES
+
+    def come_to(self, stage, name, is_right, why):
+        if self.stage > stage:
+            raise Broken(f"{name} stands after {'a last command' if self.stage == self.LAST else 'the base or an entry'}")
+        if not is_right:
+            raise Broken(f"{name} is {why}")
+        self.stage = stage
+
+    def is_within_base(self):
+        return self.stage in (self.OPEN_CALLS, self.LAST)
+
+
+def read_chain(half):
+    """The chain of gates and batches from a half's first sector on."""
+    batches, at, version, order = [], 0, 1, Order()
+    try:
+        while half[at][0] == OPEN:
+            batch = read_batch(half, at, len(batches) + 1, version)
+            for record in batch.records:
+                order.take(record)
+            batches.append(batch)
+            version, at = batch.version, at + 1 + bodies(len(batch.records))
+        if order.is_within_base() and wrong != "base-unended":
+            raise Broken("the base ends without its count of done calls")
+    except Broken as rule:
+        return Chain(batches, at, str(rule))
+    return Chain(batches, at, None)
 
 
 def read_image(sectors):
@@ -435,18 +547,12 @@ def read_image(sectors):
     shape = read_stamp(sectors)
     second = sectors[0][0] == OPEN
     first = 2 + shape.half if second else 2
-    half = sectors[first:first + shape.half]
-    records, version, number, at = [], 1, 1, 0
-    while half[at][0] == OPEN:
-        told = read_batch(half, at, number, version)
-        if told is None or not in_order(records + told[1]):
-            raise Refused(3, first + at)
-        version, records, number = told[0], records + told[1], number + 1
-        at += 1 + bodies(len(told[1]))
+    chain = read_chain(sectors[first:first + shape.half])
+    if chain.broken:
+        raise Refused(3, first + chain.end, why=chain.broken)
+    records = [record for batch in chain.batches for record in batch.records]
     based = [record for record in records if not isinstance(record, (Allot, Stop))]
-    if based and not isinstance(based[-1], Done) and wrong != "base-unended":
-        raise Refused(3, first + at)
-    return Read(shape, second, based, records[len(based):], at, number, records)
+    return Read(shape, second, based, records[len(based):], chain.end, len(chain.batches) + 1, records)
 
 
 def is_allowed_call(building, kiosk, it):

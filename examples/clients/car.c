@@ -5,6 +5,7 @@
 #include <stdlib.h>
 #include <string.h>
 #include <sys/socket.h>
+#include <sys/time.h>
 #include <unistd.h>
 
 static FILE *lines;
@@ -17,12 +18,14 @@ static int tell(const char *line, char *answer, int room) {
 static long greet(int port, const char *letter) {
     struct sockaddr_in address = {.sin_family = AF_INET, .sin_port = htons(port)};
     char line[80], answer[80];
+    struct timeval wait = {.tv_sec = 75}; /* for each answer */
     long last;
     int stream = socket(AF_INET, SOCK_STREAM, 0);
     address.sin_addr.s_addr = htonl(INADDR_LOOPBACK);
     if (lines) fclose(lines);
     lines = NULL;
     if (connect(stream, (struct sockaddr *)&address, sizeof address) != 0) return close(stream), -1;
+    setsockopt(stream, SOL_SOCKET, SO_RCVTIMEO, &wait, sizeof wait);
     lines = fdopen(stream, "r+");
     snprintf(line, sizeof line, "CAR %s", letter);
     return tell(line, answer, sizeof answer) && sscanf(answer, "READY %ld", &last) == 1 ? last : -1;

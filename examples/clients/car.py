@@ -12,7 +12,7 @@ def main(port, letter, floor, direction, idles):
     last = None
     while True:
         try:
-            stream = socket.create_connection(("127.0.0.1", port), timeout=90)
+            stream = socket.create_connection(("127.0.0.1", port), timeout=75)
             lines = stream.makefile("rw", newline="\n")
 
             def tell(line):

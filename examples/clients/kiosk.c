@@ -4,6 +4,7 @@
 #include <stdio.h>
 #include <stdlib.h>
 #include <sys/socket.h>
+#include <sys/time.h>
 #include <unistd.h>
 
 static FILE *lines;
@@ -17,6 +18,7 @@ static int tell(const char *line, char *answer, int room) {
 static long connect_to(int port, int kiosk) {
     struct sockaddr_in address = {.sin_family = AF_INET, .sin_port = htons(port)};
     char line[80], answer[80];
+    struct timeval wait = {.tv_sec = 75}; /* for each answer */
     long last;
     address.sin_addr.s_addr = htonl(INADDR_LOOPBACK);
     snprintf(line, sizeof line, "KIOSK %d", kiosk);
@@ -28,6 +30,7 @@ static long connect_to(int port, int kiosk) {
             close(stream);
             continue;
         }
+        setsockopt(stream, SOL_SOCKET, SO_RCVTIMEO, &wait, sizeof wait);
         lines = fdopen(stream, "r+");
         if (lines && tell(line, answer, sizeof answer) && sscanf(answer, "READY %ld", &last) == 1) return last;
     }
@@ -42,7 +45,11 @@ int main(int count, char **words) {
             snprintf(line, sizeof line, "CALL %ld %d", last + 1, atoi(words[at]));
             if (!tell(line, answer, sizeof answer)) { connect_to(port, kiosk); continue; }
             if (sscanf(answer, "CAR %c", &letter) == 1) { printf("floor %s: car %c\n", words[at], letter); last++; break; }
-            if (sscanf(answer, "NO %d", &reason) == 1) { printf("floor %s: refused, reason %d\n", words[at], reason); break; }
+            if (sscanf(answer, "NO %d", &reason) == 1) {
+                if (reason >= 4 && reason <= 6) { last = connect_to(port, kiosk); continue; } /* the greeting tells the last number */
+                printf("floor %s: refused, reason %d\n", words[at], reason);
+                break;
+            }
             connect_to(port, kiosk); /* UNKNOWN, LATE, SPENT: ask again with this number */
         }
     return 0;

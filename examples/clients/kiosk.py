@@ -16,7 +16,7 @@ class Kiosk:
         """Connects until the greeting comes; `READY <last> [letter]` says which number was last."""
         while True:
             try:
-                stream = socket.create_connection(("127.0.0.1", self.port), timeout=90)
+                stream = socket.create_connection(("127.0.0.1", self.port), timeout=75)
                 self.lines = stream.makefile("rw", newline="\n")
                 greeting = self.tell(f"KIOSK {self.kiosk}").split()
             except OSError:
@@ -34,7 +34,8 @@ class Kiosk:
         return self.lines.readline().rstrip("\n")
 
     def call(self, floor, party=1):
-        """Asks until the call is answered: a letter, or the reason of a refusal. Its number stays the same, so it is never asked twice over."""
+        """Asks until the call is answered: a letter, or the reason of a refusal. Its number stays the same, so it is never asked twice
+        over, until it is told that the number is another call's."""
         number = self.last + 1
         while True:
             try:
@@ -44,9 +45,11 @@ class Kiosk:
             if answer[:1] == ["CAR"]:
                 self.last = number
                 return "car " + answer[1]
-            if answer[:1] == ["NO"]:
+            if answer[:1] == ["NO"] and answer[1] not in ("4", "5", "6"):
                 return "refused, reason " + answer[1]
             self.connect()  # UNKNOWN, LATE, SPENT or a closed connection: ask again with this number
+            if answer[:1] == ["NO"]:
+                number = self.last + 1  # that number is another call's: the greeting has told the last one
 
 
 if __name__ == "__main__":

@@ -6,7 +6,7 @@ ghost use Rattle.lift_journal.specs.Order.{IsEntry};
 use crate::fault::Fault;
 use arrayvec::ArrayVec;
 use lift_base::{Dir, Entry, Floor, Letter, Number, Record, Shape, push_some};
-use lift_disk::{Disk, FileDisk};
+use lift_disk::{Disk, FileDisk, ToldFiles};
 use lift_journal::{Journal, Visitor};
 use std::fs::{File, Files};
 
@@ -38,7 +38,10 @@ fn stops(count: usize) -> ArrayVec<Record, 63>
     batch
 }
 
-fn journal_at<F: Files<File = File>>(rt: &F, image: &str) -> Result<Journal<FileDisk>, Fault> {
+fn journal_at<F: Files<File = File> + ToldFiles>(
+    rt: &F,
+    image: &str,
+) -> Result<Journal<FileDisk<F::Told>>, Fault> {
     let disk = FileDisk::open(rt, image)?;
     match Journal::open(disk) {
         Ok(journal) => Ok(journal),
@@ -47,7 +50,11 @@ fn journal_at<F: Files<File = File>>(rt: &F, image: &str) -> Result<Journal<File
 }
 
 /// Makes an empty journal with so many sectors in a half.
-pub(crate) fn format<F: Files<File = File>>(rt: &F, image: &str, half: u32) -> Result<(), Fault> {
+pub(crate) fn format<F: Files<File = File> + ToldFiles>(
+    rt: &F,
+    image: &str,
+    half: u32,
+) -> Result<(), Fault> {
     let shape = Shape {
         floors: 64,
         cars: 16,
@@ -63,7 +70,7 @@ pub(crate) fn format<F: Files<File = File>>(rt: &F, image: &str, half: u32) -> R
 }
 
 /// Appends batches of 63 records up to the end of the half; how many.
-pub(crate) fn fill<F: Files<File = File>>(rt: &F, image: &str) -> Result<u32, Fault> {
+pub(crate) fn fill<F: Files<File = File> + ToldFiles>(rt: &F, image: &str) -> Result<u32, Fault> {
     let mut journal = journal_at(rt, image)?;
     let batch = stops(63);
     let mut batches = 0u32;
@@ -78,7 +85,7 @@ pub(crate) fn fill<F: Files<File = File>>(rt: &F, image: &str) -> Result<u32, Fa
 }
 
 /// Opens a journal; the sectors of its halves.
-pub(crate) fn open<F: Files<File = File>>(rt: &F, image: &str) -> Result<u32, Fault> {
+pub(crate) fn open<F: Files<File = File> + ToldFiles>(rt: &F, image: &str) -> Result<u32, Fault> {
     let journal = journal_at(rt, image)?;
     Ok(journal.shape().half)
 }
@@ -100,7 +107,10 @@ impl Visitor for Count {
 }
 
 /// Opens a journal and counts its batches and their records as they are read.
-pub(crate) fn walk<F: Files<File = File>>(rt: &F, image: &str) -> Result<(u32, u64), Fault> {
+pub(crate) fn walk<F: Files<File = File> + ToldFiles>(
+    rt: &F,
+    image: &str,
+) -> Result<(u32, u64), Fault> {
     let disk = FileDisk::open(rt, image)?;
     let mut count = Count {
         batches: 0,
@@ -113,7 +123,11 @@ pub(crate) fn walk<F: Files<File = File>>(rt: &F, image: &str) -> Result<(u32, u
 }
 
 /// Appends so many batches of one record; how many had room.
-pub(crate) fn append<F: Files<File = File>>(rt: &F, image: &str, count: u32) -> Result<u32, Fault> {
+pub(crate) fn append<F: Files<File = File> + ToldFiles>(
+    rt: &F,
+    image: &str,
+    count: u32,
+) -> Result<u32, Fault> {
     let mut journal = journal_at(rt, image)?;
     let batch = stops(1);
     let mut batches = 0u32;
@@ -128,7 +142,11 @@ pub(crate) fn append<F: Files<File = File>>(rt: &F, image: &str, count: u32) -> 
 }
 
 /// Reads the first sectors of a file in order, so many of those that are there.
-pub(crate) fn read<F: Files<File = File>>(rt: &F, file: &str, sectors: u32) -> Result<u32, Fault> {
+pub(crate) fn read<F: Files<File = File> + ToldFiles>(
+    rt: &F,
+    file: &str,
+    sectors: u32,
+) -> Result<u32, Fault> {
     let mut disk = FileDisk::open(rt, file)?;
     let mut buffer = [0; 512];
     let sectors = sectors.min(disk.sectors());
@@ -141,7 +159,11 @@ pub(crate) fn read<F: Files<File = File>>(rt: &F, file: &str, sectors: u32) -> R
 }
 
 /// Writes a sector of a new file and syncs it, so many times.
-pub(crate) fn sync<F: Files<File = File>>(rt: &F, file: &str, count: u32) -> Result<(), Fault> {
+pub(crate) fn sync<F: Files<File = File> + ToldFiles>(
+    rt: &F,
+    file: &str,
+    count: u32,
+) -> Result<(), Fault> {
     let mut disk = FileDisk::create(rt, file, 1000)?;
     for time in 0..count {
         if time % 1000 < disk.sectors() {

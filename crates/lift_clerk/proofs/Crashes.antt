@@ -1,69 +1,96 @@
 -- What crashes leave, and the letters that it shows.
-use Rattle.std.proofs.Common.{ℕ, suc, zero, ◌≡◌, ◌-◌, ◌+◌, ◌<◌, ◌≤◌, ◌⊎◌, inl, inr, Bool, true, false, List, [], ◌∷◌, ◌++◌, length, take, drop, replicate, Option, Some, refl, sym, ap, subst, ◌∙◌, arith}
+use Rattle.std.proofs.Common.{ℕ, suc, zero, ◌≡◌, ◌-◌, ◌+◌, ◌<◌, ◌≤◌, inl, inr, Bool, true, false, List, [], ◌∷◌, ◌++◌, length, take, drop, replicate, Option, Some, refl, sym, ap, subst, ◌∙◌, arith}
 use Rattle.std.specs.Prelude.{IsTrue, All, Contains, option_and_then}
 use Rattle.std.proofs.Math.Seq.{take-length, drop-length}
 use Rattle.std.proofs.lemmas.Bool.{false≢true}
 use Rattle.std.proofs.lemmas.List.{append-nil, length-append}
 use Rattle.lift_base.specs.declared.command.Reply.{Reply}
 use Rattle.lift_base.specs.declared.history.Entry.{Entry}
-use Rattle.lift_building.specs.Plan.{Plan}
+use Rattle.lift_building.specs.Plan.{Plan, IsBuilding}
 use Rattle.lift_disk.specs.Disk.{Image}
 use Rattle.lift_keeper.specs.Images.{IsImageOf, IsInDoubt}
 use Rattle.lift_register.specs.Register.{RegisterState, register_of}
 use Rattle.lift_register.specs.Joins.{RegistersJoin}
-use Rattle.lift_policy.specs.Eligible.{Choice, any_eligible}
+use Rattle.lift_policy.specs.Eligible.{any_eligible}
 use Rattle.lift_policy.specs.Step.{State}
 use Rattle.lift_policy.specs.Run.{Run}
 use Rattle.lift_policy.specs.declared.command.Command.{Command}
 use Rattle.lift_world.specs.declared.event.Event.{Event}
-use Rattle.lift_world.specs.declared.event.Event.TheVariants.{Seal, Pull, Body as BodyWrite, FirstSync, Gate}
+use Rattle.lift_world.specs.declared.event.Event.TheVariants.{Seal, Pull, Body as BodyWrite, FirstSync, Gate, Cut, Reopen}
+use Rattle.lift_world.specs.declared.event.Kept.{Kept}
 use Rattle.lift_world.specs.declared.event.Kept.TheVariants.{Safe, WithBatch}
 use Rattle.lift_world.specs.declared.event.Phase.TheVariants.{Writing, Synced, GateWritten}
 use Rattle.lift_world.specs.declared.event.Power.{Power}
 use Rattle.lift_world.specs.declared.event.Power.TheVariants.{Running, Broken, Off}
 use Rattle.lift_world.specs.declared.event.Taken.{Taken}
-use Rattle.lift_world.specs.World.{World, Batch, is_running, is_off, state_of, safe_list, batch_of, may_keep, acknowledged, register_after}
+use Rattle.lift_world.specs.World.{World, Batch, is_running, is_off, state_of, safe_list, batch_of, may_keep, outcome, acknowledged}
 use Rattle.lift_world.specs.Next.{next, goes, in_phase, writes_of, bodies}
 use Rattle.lift_world.specs.Asking.{asked_on}
 use Rattle.lift_world.specs.Headline.{StillNames, RecoversAcknowledged, RecoversLetters}
-use Rattle.lift_world.specs.Policies.{RunsAreAny}
-use Rattle.lift_world.specs.Turns.{IsAtRest, scanned, take_events, with_replies}
+use Rattle.lift_world.specs.Turns.{IsAtRest, scanned, take_events, calls_to, with_replies}
+use Rattle.lift_world.specs.Headline.{IsHeld}
+use Rattle.lift_world.specs.Headline.{IsOfBuilding}
 use Rattle.lift_clerk.specs.Clerk.{ClerkState}
-use Rattle.lift_clerk.specs.Turn.{IsEither}
-use Rattle.lift_clerk.specs.Visits.{commands_of}
-use Rattle.lift_clerk.specs.Machine.{IsMachineOf, IsReached, ShowsWhole, ShowsBroken, IsKept, IsKeptAtGate, kept_of, events_to_gate, CrashesAreCuts, CrashesWithinTurns, CrashesWithinFailures, CutsShowLetters, BeginsAfterCrash}
+use Rattle.lift_clerk.specs.Machine.{LooksAgree, IsMachineOf, IsReached, ShowsWhole, ShowsBroken, WaitsNowhere, kept_of}
+use Rattle.lift_clerk.specs.History.{BeginsOver, ShowsGiven}
 use Rattle.lift_clerk.specs.Laws.{Laws}
-use Rattle.lift_clerk.specs.lemmas.Served.{all_apart}
+use Rattle.lift_clerk.specs.Answered.{AreApart}
+use Rattle.lift_clerk.specs.Steps.{DecidesOn, MayAdd}
 use Rattle.lift_clerk.specs.lemmas.Standing.{fresh}
-use Rattle.lift_clerk.specs.lemmas.Asked.{Asked, ask, reaches, rests, goes_behind, run_in}
-use Rattle.lift_clerk.specs.lemmas.Turned.{splits, register_with, safe_all}
+use Rattle.lift_clerk.specs.lemmas.Asked.{Asked, ask, reaches, rests, goes_behind}
+use Rattle.lift_clerk.specs.lemmas.Turned.{splits, register_with, safe_all, decided_in}
 use Rattle.lift_clerk.proofs.Doubts.{was_safe, in_doubt}
 use Rattle.lift_clerk.specs.lemmas.Reopened.{with_nothing, begins_after_cut}
 
-kept_safe : (w : World) (plan : Plan) (register : RegisterState) (left : Image) → w.building ≡ plan → register_after (safe_list w) ≡ register → IsImageOf plan register left → IsKept w (safe_list w) left
+-- some power cut now would keep these entries, and the image reads as their register
+pub record IsKept (w : World) (entries : List Entry) (left : Image) : Type 0 where
+  pub kept : Kept
+  pub may_be_kept : IsTrue (may_keep w kept)
+  pub outcome_is : outcome w kept ≡ entries
+  pub reads : IsImageOf w.building (register_of w.base entries) left
+
+-- these events lead to where it would, and nothing was answered in them
+pub record IsCutAt (w : World) (entries : List Entry) (left : Image) : Type 0 where
+  pub before : List Event
+  pub there : World
+  pub possible : goes before w ≡ Some there
+  pub same_building : there.building ≡ w.building
+  pub same_base : there.base ≡ w.base
+  pub given_is : there.given ≡ w.given
+  pub reached : IsReached there
+  pub keeps : IsKept there entries left
+
+cut_now : (w : World) (entries : List Entry) (left : Image) → IsReached w → IsKept w entries left → IsCutAt w entries left
+cut_now w entries left reached k = record { before = []; there = w; possible = refl; same_building = refl; same_base = refl; given_is = refl; reached = reached; keeps = k }
+
+-- the events of a turn up to the write of its gate
+abbrev events_to_gate : List Command → List (Option ℕ) → ℕ → List Event
+events_to_gate commands letters count = take_events commands letters ++ (Seal ∷ Pull ∷ calls_to (bodies count + 1) GateWritten)
+
+kept_safe : (w : World) (plan : Plan) (register : RegisterState) (left : Image) → w.building ≡ plan → register_of w.base (safe_list w) ≡ register → IsImageOf plan register left → IsKept w (safe_list w) left
 kept_safe w plan register left b r reads = record {
   kept = Safe;
   may_be_kept = refl;
   outcome_is = refl;
-  reads = subst (λ (p : Plan). IsImageOf p (register_after (safe_list w)) left) (sym b) (subst (λ (x : RegisterState). IsImageOf plan x left) (sym r) reads);
+  reads = subst (λ (p : Plan). IsImageOf p (register_of w.base (safe_list w)) left) (sym b) (subst (λ (x : RegisterState). IsImageOf plan x left) (sym r) reads);
 }
 
-kept_with_batch : (w : World) (plan : Plan) (register : RegisterState) (left : Image) → w.building ≡ plan → IsTrue (may_keep w WithBatch) → register_after (safe_list w ++ batch_of w) ≡ register
+kept_with_batch : (w : World) (plan : Plan) (register : RegisterState) (left : Image) → w.building ≡ plan → IsTrue (may_keep w WithBatch) → register_of w.base (safe_list w ++ batch_of w) ≡ register
     → IsImageOf plan register left → IsKept w (safe_list w ++ batch_of w) left
 kept_with_batch w plan register left b may r reads = record {
   kept = WithBatch;
   may_be_kept = may;
   outcome_is = refl;
-  reads = subst (λ (p : Plan). IsImageOf p (register_after (safe_list w ++ batch_of w)) left) (sym b) (subst (λ (x : RegisterState). IsImageOf plan x left) (sym r) reads);
+  reads = subst (λ (p : Plan). IsImageOf p (register_of w.base (safe_list w ++ batch_of w)) left) (sym b) (subst (λ (x : RegisterState). IsImageOf plan x left) (sym r) reads);
 }
 
 -- with no batch it is the register of what is safe
-kept_without : RegistersJoin → (w : World) (plan : Plan) (old : RegisterState) (batch : List Entry) (left : Image) → w.building ≡ plan → register_after (safe_list w) ≡ old → batch ≡ []
+kept_without : RegistersJoin → (w : World) (plan : Plan) (old : RegisterState) (batch : List Entry) (left : Image) → w.building ≡ plan → register_of w.base (safe_list w) ≡ old → batch ≡ []
     → IsImageOf plan (register_of old batch) left → IsKept w (safe_list w ++ batch) left
 kept_without registers w plan old batch left b safe none reads =
     subst (λ (xs : List Entry). IsKept w xs left) (sym (append-nil (safe_list w)) ∙ ap (λ (xs : List Entry). safe_list w ++ xs) (sym none))
     (kept_safe w plan (register_of old batch) left b
-    (sym (with_nothing registers (safe_list w)) ∙ ap (λ (x : RegisterState). register_of x []) safe ∙ ap (register_of old) (sym none)) reads)
+    (sym (with_nothing registers w.base (safe_list w)) ∙ ap (λ (x : RegisterState). register_of x []) safe ∙ ap (register_of old) (sym none)) reads)
 
 module _ {D P : Type 0} (laws : Laws) (w : World) (clerk : ClerkState D P) (left : Image) (m : IsMachineOf w clerk) where
   abbrev plan : Plan
@@ -77,7 +104,7 @@ module _ {D P : Type 0} (laws : Laws) (w : World) (clerk : ClerkState D P) (left
   by_doubt br (x ∷ xs) d reads =
       subst (λ (ys : List Entry). IsKept w (safe_list w ++ ys) left) br.doubt (kept_with_batch w plan (register_of clerk.keeper.writer.register doubt) left m.building
       (br.may_be_kept (λ none. let wrong : x ∷ xs ≡ [] = sym d ∙ none in cc))
-      (ap (λ (ys : List Entry). register_after (safe_list w ++ ys)) br.doubt ∙ register_with laws.registers w doubt clerk.keeper.writer.register br.safe) reads)
+      (ap (λ (ys : List Entry). register_of w.base (safe_list w ++ ys)) br.doubt ∙ register_with laws.registers w doubt clerk.keeper.writer.register br.safe) reads)
 
   by_state : (b : Bool) → clerk.keeper.writer.is_broken ≡ b → (either : IsInDoubt plan clerk.keeper.writer.register doubt left) → IsKept w (kept_of (safe_list w) doubt either) left
   by_state false e (inl reads) = kept_safe w plan clerk.keeper.writer.register left m.building (m.whole e).safe reads
@@ -85,8 +112,12 @@ module _ {D P : Type 0} (laws : Laws) (w : World) (clerk : ClerkState D P) (left
   by_state true e (inl reads) = kept_safe w plan clerk.keeper.writer.register left m.building (m.broken e).safe reads
   by_state true e (inr reads) = by_doubt (m.broken e) doubt refl reads
 
-pub crashes_are_cuts : {D P : Type 0} → Laws → CrashesAreCuts D P
-crashes_are_cuts laws w clerk left m either = by_state laws w clerk left m clerk.keeper.writer.is_broken refl either
+-- with nothing on its way but what is in doubt
+pub crashes_are_cuts : {D P : Type 0} → Laws → (w : World) (clerk : ClerkState D P) (batch : List Entry) (left : Image) → IsMachineOf w clerk → batch ≡ clerk.keeper.writer.doubt
+    → (doubt : IsInDoubt clerk.keeper.writer.plan clerk.keeper.writer.register batch left) → IsKept w (kept_of (safe_list w) batch doubt) left
+crashes_are_cuts laws w clerk batch left m same =
+    subst (λ (xs : List Entry). (doubt : IsInDoubt clerk.keeper.writer.plan clerk.keeper.writer.register xs left) → IsKept w (kept_of (safe_list w) xs doubt) left) (sym same)
+    (λ doubt. by_state laws w clerk left m clerk.keeper.writer.is_broken refl doubt)
 
 -- a batch on its way to its gate
 once : (w v : World) (e : Event) (es : List Event) → next w e ≡ Some v → goes (e ∷ es) w ≡ goes es v
@@ -174,80 +205,79 @@ module _ (laws : Laws) (w : World) (reached : IsReached w) (rest : IsAtRest w) (
       ∙ goes_behind (take_events (c ∷ cs) scan.0) (Seal ∷ Pull ∷ calls) w1 w2 scan.1
       ∙ once w2 w3 Seal (Pull ∷ calls) sealed ∙ once w3 w4 Pull calls pulled ∙ written
 
-  pub at_gate : (plan : Plan) (register : RegisterState) (left : Image) → w.building ≡ plan → register_after (w.accepted ++ state.batch) ≡ register → IsImageOf plan register left
-      → IsKeptAtGate w (c ∷ cs) (length state.batch) (w.accepted ++ state.batch) left
+  pub at_gate : (plan : Plan) (register : RegisterState) (left : Image) → w.building ≡ plan → register_of w.base (w.accepted ++ state.batch) ≡ register → IsImageOf plan register left
+      → IsCutAt w (w.accepted ++ state.batch) left
   at_gate plan register left b q reads = record {
-    before = a.events;
-    of_terminals = a.theirs;
-    letters = scan.0;
+    before = a.events ++ events_to_gate (c ∷ cs) scan.0 (length state.batch);
     there = there;
     possible = possible;
     same_building = refl;
+    same_base = refl;
     given_is = refl;
-    reached = reaches laws w reached (a.events ++ events_to_gate (c ∷ cs) scan.0 (length state.batch)) there possible refl;
-    keeps = subst (λ (xs : List Entry). IsKept there xs left) kept_is (kept_with_batch there plan register left b refl (ap register_after kept_is ∙ q) reads);
+    reached = reaches laws w reached (a.events ++ events_to_gate (c ∷ cs) scan.0 (length state.batch)) there possible refl refl;
+    keeps = subst (λ (xs : List Entry). IsKept there xs left) kept_is (kept_with_batch there plan register left b refl (ap (register_of w.base) kept_is ∙ q) reads);
   }
 
 module _ (laws : Laws) (w : World) (reached : IsReached w) (rest : IsAtRest w) (plan : Plan) (old : RegisterState) (left : Image) (building : w.building ≡ plan)
-    (safe : register_after (safe_list w) ≡ old) where
+    (safe : register_of w.base (safe_list w) ≡ old) where
   by_batch : (cs : List Command) (rs : List Reply) (state : State) → Asked w cs → Run w.building any_eligible (state_of w) cs rs state → (batch : List Entry) → state.batch ≡ batch
-      → (register : RegisterState) → register ≡ register_of old state.batch → IsImageOf plan register left
-      → IsKept w (safe_list w ++ state.batch) left ⊎ IsKeptAtGate w cs (length state.batch) (safe_list w ++ state.batch) left
-  by_batch cs rs state a r [] e register q reads =
-      inl (kept_without laws.registers w plan old state.batch left building safe e (subst (λ (x : RegisterState). IsImageOf plan x left) q reads))
-  by_batch [] [] state a r (x ∷ xs) e register q reads =
+      → IsImageOf plan (register_of old state.batch) left → IsCutAt w (safe_list w ++ state.batch) left
+  by_batch cs rs state a r [] e reads = cut_now w (safe_list w ++ state.batch) left reached (kept_without laws.registers w plan old state.batch left building safe e reads)
+  by_batch [] [] state a r (x ∷ xs) e reads =
       let none : state.batch ≡ [] = ap (λ (s : State). s.batch) r ∙ ap (λ (n : ℕ). drop n w.accepted) rest.all_sealed ∙ drop-length w.accepted in
       let wrong : x ∷ xs ≡ [] = sym e ∙ none in
       cc
-  by_batch [] (reply ∷ rs) state a r (x ∷ xs) e register q reads = absurd r
-  by_batch (c ∷ cs) [] state a r (x ∷ xs) e register q reads = absurd r
-  by_batch (c ∷ cs) (reply ∷ rs) state a r (x ∷ xs) e register q reads =
+  by_batch [] (reply ∷ rs) state a r (x ∷ xs) e reads = absurd r
+  by_batch (c ∷ cs) [] state a r (x ∷ xs) e reads = absurd r
+  by_batch (c ∷ cs) (reply ∷ rs) state a r (x ∷ xs) e reads =
       let l : length state.batch ≡ suc (length xs) = ap length e in
       let all : w.accepted ≡ safe_list w = sym (safe_all w rest) in
-      inr (subst (λ (ys : List Entry). IsKeptAtGate w (c ∷ cs) (length state.batch) (ys ++ state.batch) left) all
-      (at_gate laws w reached rest c cs reply rs state a r (omega arith) plan register left building
-      (ap (λ (ys : List Entry). register_after (ys ++ state.batch)) all ∙ register_with laws.registers w state.batch old safe ∙ sym q) reads))
+      subst (λ (ys : List Entry). IsCutAt w (ys ++ state.batch) left) all
+      (at_gate laws w reached rest c cs reply rs state a r (omega arith) plan (register_of old state.batch) left building
+      (ap (λ (ys : List Entry). register_of w.base (ys ++ state.batch)) all ∙ register_with laws.registers w state.batch old safe) reads)
 
   within : (cs : List Command) (rs : List Reply) (state : State) → Asked w cs → Run w.building any_eligible (state_of w) cs rs state
-      → (register : RegisterState) → register ≡ register_of old state.batch → (either : IsEither plan old register left)
-      → IsKept w (kept_of (safe_list w) state.batch either) left ⊎ IsKeptAtGate w cs (length state.batch) (kept_of (safe_list w) state.batch either) left
-  within cs rs state a r register q (inl reads) = inl (kept_safe w plan old left building safe reads)
-  within cs rs state a r register q (inr reads) = by_batch cs rs state a r state.batch refl register q reads
+      → (doubt : IsInDoubt plan old state.batch left) → IsCutAt w (kept_of (safe_list w) state.batch doubt) left
+  within cs rs state a r (inl reads) = cut_now w (safe_list w) left reached (kept_safe w plan old left building safe reads)
+  within cs rs state a r (inr reads) = by_batch cs rs state a r state.batch refl reads
 
-pub crashes_within_turns : {D P : Type 0} → Laws → (choice : Choice) → RunsAreAny choice → CrashesWithinTurns D P choice
-crashes_within_turns laws choice any w before after counts left t m agree either =
-    let cs : List Command = commands_of 0 t.turn.visits in
-    let state : State = t.turn.decided in
-    let wh : ShowsWhole w before.keeper = m.whole t.was_whole in
-    let a : Asked w cs = ask laws w m.reached (splits laws w before after m) (rests w wh.at_rest) cs agree (all_apart 0 t.turn.visits) in
-    let run : Run w.building any_eligible (state_of w) cs t.turn.replies state =
-    run_in choice any w before.keeper.writer.plan before.keeper.state cs t.turn.replies state m.building wh.state t.turn.run in
-    within laws w m.reached wh.at_rest before.keeper.writer.plan before.keeper.writer.register left m.building wh.safe cs t.turn.replies state a run
-    after.keeper.state.register (ap (λ (s : State). s.register) t.turn.after ∙ t.turn.safe) either
+-- with a batch that the rules accept
+pub crashes_within : {D P : Type 0} → Laws → (w : World) (clerk : ClerkState D P) (commands : List Command) (replies : List Reply) (decided : State) (left : Image)
+    → AreApart commands → DecidesOn clerk.keeper commands replies decided → IsMachineOf w clerk → LooksAgree w commands
+    → (doubt : IsInDoubt clerk.keeper.writer.plan clerk.keeper.writer.register decided.batch left) → IsCutAt w (kept_of (safe_list w) decided.batch doubt) left
+crashes_within laws w clerk cs rs state left apart d m agree doubt =
+    let wh : ShowsWhole w clerk.keeper = m.whole d.was_whole in
+    let a : Asked w cs = ask laws w m.reached (splits laws w clerk clerk m) (rests w wh.at_rest) cs agree apart in
+    within laws w m.reached wh.at_rest clerk.keeper.writer.plan clerk.keeper.writer.register left m.building wh.safe cs rs state a (decided_in w clerk m.building wh.state cs rs state d) doubt
 
-pub crashes_within_failures : {D P : Type 0} → Laws → (choice : Choice) → RunsAreAny choice → CrashesWithinFailures D P choice
-crashes_within_failures laws choice any w before after left t m agree either =
-    let cs : List Command = commands_of 0 t.turn.visits in
-    let state : State = after.keeper.state in
-    let rs : List Reply = t.turn.run.0.0 in
-    let wh : ShowsWhole w before.keeper = m.whole t.was_whole in
-    let a : Asked w cs = ask laws w m.reached (splits laws w before after m) (rests w wh.at_rest) cs agree (all_apart 0 t.turn.visits) in
-    let run : Run w.building any_eligible (state_of w) cs rs state =
-    run_in choice any w before.keeper.writer.plan before.keeper.state cs rs state m.building wh.state t.turn.run.0.1 in
-    within laws w m.reached wh.at_rest before.keeper.writer.plan before.keeper.writer.register left m.building wh.safe cs rs state a run after.keeper.state.register t.turn.register either
+-- Whatever batch is on its way, a power cut keeps what the image tells of it.
+abbrev pub Agrees : {D P : Type 0} → World → (clerk : ClerkState D P) (batch : List Entry) → MayAdd clerk.keeper batch → Type 0
+Agrees w clerk waits (inl same) = Unit {0}
+Agrees w clerk waits (inr a) = LooksAgree w a.commands
+
+pub cuts_at : {D P : Type 0} → Laws → (w : World) (clerk : ClerkState D P) (batch : List Entry) (left : Image) → IsMachineOf w clerk → (may : MayAdd clerk.keeper batch) → Agrees w clerk batch may
+    → (doubt : IsInDoubt clerk.keeper.writer.plan clerk.keeper.writer.register batch left) → IsCutAt w (kept_of (safe_list w) batch doubt) left
+cuts_at laws w clerk waits left m (inl same) agrees = λ doubt. cut_now w (kept_of (safe_list w) waits doubt) left m.reached (crashes_are_cuts laws w clerk waits left m same doubt)
+cuts_at laws w clerk waits left m (inr a) agrees =
+    subst (λ (xs : List Entry). (doubt : IsInDoubt clerk.keeper.writer.plan clerk.keeper.writer.register xs left) → IsCutAt w (kept_of (safe_list w) xs doubt) left) a.is
+    (λ doubt. crashes_within laws w clerk a.commands a.replies a.decided left a.apart a.decides m agrees doubt)
 
 -- each letter
-pub cuts_show_letters : Laws → CutsShowLetters
-cuts_show_letters laws w entries left sound reached k = record {
+pub cuts_show_letters : Laws → (w : World) (entries : List Entry) (left : Image) → IsBuilding w.building → IsOfBuilding w.building w.base → IsReached w → IsKept w entries left
+    → ShowsGiven w.building w.base entries w.given left
+cuts_show_letters laws w entries left sound of reached k = record {
   reads = k.reads;
-  holds = subst (λ (xs : List Entry). All (Contains xs) (acknowledged w)) k.outcome_is
-      (subst (λ (v : World). RecoversAcknowledged v) reached.1 (laws.acknowledged w.building reached.0 sound) k.kept k.may_be_kept);
-  letters = subst (λ (xs : List Entry). All (StillNames xs) (acknowledged w)) k.outcome_is
-      (subst (λ (v : World). RecoversLetters v) reached.1 (laws.letters w.building reached.0 sound) k.kept k.may_be_kept);
+  holds = subst (λ (xs : List Entry). All (IsHeld w.base xs) (acknowledged w)) k.outcome_is
+      (subst (λ (v : World). RecoversAcknowledged v) reached.1 (laws.acknowledged w.building w.base reached.0 sound of) k.kept k.may_be_kept);
+  letters = subst (λ (xs : List Entry). All (StillNames w.base xs) (acknowledged w)) k.outcome_is
+      (subst (λ (v : World). RecoversLetters v) reached.1 (laws.letters w.building w.base reached.0 sound of) k.kept k.may_be_kept);
 }
 
-pub begins_after_crash : {D P : Type 0} → Laws → BeginsAfterCrash D P
-begins_after_crash laws w clerk entries image reached building begins k only =
-    let reads : IsImageOf clerk.keeper.writer.plan (register_after entries) image = subst (λ (p : Plan). IsImageOf p (register_after entries) image) building k.reads in
-    let b = begins_after_cut laws w clerk k.kept reached building k.may_be_kept begins (sym (only (register_after entries) reads) ∙ ap register_after (sym k.outcome_is)) in
-    (k.kept, b.0, b.1, b.2, b.3, b.4 ∙ k.outcome_is, b.5)
+-- a clerk that begins over what the cut left
+pub begins_after_crash : {D P : Type 0} → Laws → (w : World) (clerk : ClerkState D P) (plan : Plan) (entries : List Entry) (image : Image) → IsReached w → w.building ≡ plan
+    → (k : IsKept w entries image) → BeginsOver plan image clerk
+    → (after : World) × (goes (Cut k.kept ∷ Reopen k.kept ∷ []) w ≡ Some after) × (after.given ≡ w.given) × (after.base ≡ w.base) × IsMachineOf after clerk × (safe_list after ≡ entries) × WaitsNowhere after
+begins_after_crash laws w clerk plan entries image reached building k over =
+    let reads : IsImageOf plan (register_of w.base entries) image = subst (λ (p : Plan). IsImageOf p (register_of w.base entries) image) building k.reads in
+    let b = begins_after_cut laws w clerk k.kept reached (building ∙ sym over.same_plan) k.may_be_kept over.begins (sym (over.only (register_of w.base entries) reads) ∙ ap (register_of w.base) (sym k.outcome_is)) in
+    (b.0, b.1, b.2, b.3, b.4, b.5 ∙ k.outcome_is, b.6)

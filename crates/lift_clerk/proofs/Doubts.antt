@@ -1,5 +1,5 @@
 -- Turns that fail, and turns of a broken clerk.
-use Rattle.std.proofs.Common.{ℕ, ◌≡◌, ◌-◌, ◌<◌, List, [], ◌∷◌, ◌++◌, length, map, take, drop, Option, Some, refl, sym, ap, subst, ◌∙◌, arith}
+use Rattle.std.proofs.Common.{ℕ, ◌≡◌, ◌-◌, ◌<◌, true, List, [], ◌∷◌, ◌++◌, length, map, take, drop, Option, Some, refl, sym, ap, subst, ◌∙◌, arith}
 use Rattle.std.specs.Prelude.{IsTrue}
 use Rattle.std.specs.List.{AllByRecursion}
 use Rattle.std.proofs.Math.Seq.{take-length, drop-length, take-append_seam, drop-append_seam}
@@ -7,6 +7,8 @@ use Rattle.std.proofs.lemmas.List.{append-nil, length-append, length-drop, take-
 use Rattle.lift_base.specs.declared.command.Reply.{Reply}
 use Rattle.lift_base.specs.declared.history.Entry.{Entry}
 use Rattle.lift_building.specs.Plan.{Plan}
+use Rattle.lift_register.specs.Register.{RegisterState}
+use Rattle.lift_register.specs.Register.{register_of}
 use Rattle.lift_keeper.specs.Keeper.{KeeperView}
 use Rattle.lift_policy.specs.Eligible.{Choice, any_eligible}
 use Rattle.lift_policy.specs.Step.{State}
@@ -16,20 +18,24 @@ use Rattle.lift_world.specs.declared.event.Event.{Event}
 use Rattle.lift_world.specs.declared.event.Kept.TheVariants.{WithBatch}
 use Rattle.lift_world.specs.declared.event.Phase.TheVariants.{GateWritten}
 use Rattle.lift_world.specs.declared.event.Taken.{Taken}
-use Rattle.lift_world.specs.World.{World, state_of, safe_list, batch_of, may_keep, register_after}
+use Rattle.lift_world.specs.World.{World, state_of, safe_list, batch_of, may_keep}
 use Rattle.lift_world.specs.Next.{goes, answer_of, unknown_to}
 use Rattle.lift_world.specs.Asking.{asked_on}
 use Rattle.lift_world.specs.Beside.{is_of_terminals}
 use Rattle.lift_world.specs.Policies.{RunsAreAny}
 use Rattle.lift_world.specs.Turns.{IsAtRest, IsBrokenAtRest, with_replies, failed, failed_events, turned_broken, broken_events, HasRun}
 use Rattle.lift_clerk.specs.Visits.{commands_of}
-use Rattle.lift_clerk.specs.Machine.{ShowsWhole, ShowsBroken, events_while_broken, FailuresAreFailures, BrokenTurnsAreBroken}
+use Rattle.lift_clerk.specs.Machine.{IsMachineOf, LooksAgree, Follows, Fails, ShowsWhole, ShowsBroken, events_while_broken, FailuresAreFailures, BrokenTurnsAreBroken}
+use Rattle.lift_clerk.specs.Clerk.{ClerkState}
+use Rattle.lift_clerk.specs.Turn.{IsBrokenTurn}
+use Rattle.lift_clerk.specs.Steps.{LeavesInDoubt, AnswersUnknown}
+use Rattle.lift_keeper.specs.Writer.{WriterView}
 use Rattle.lift_clerk.specs.Laws.{Laws}
-use Rattle.lift_clerk.specs.lemmas.Served.{all_apart}
+use Rattle.lift_clerk.specs.lemmas.Served.{answers_of}
 use Rattle.lift_clerk.specs.lemmas.Standing.{fresh}
 use Rattle.lift_clerk.specs.lemmas.Words.{Ends}
-use Rattle.lift_clerk.specs.lemmas.Asked.{Asked, ask, rests, rests_broken, goes_behind, run_in, not_both}
-use Rattle.lift_clerk.specs.lemmas.Turned.{splits, follows, safe_all, asked_rests}
+use Rattle.lift_clerk.specs.lemmas.Asked.{Asked, ask, rests, rests_broken, goes_behind, not_both}
+use Rattle.lift_clerk.specs.lemmas.Turned.{splits, follows, safe_all, asked_rests, decided_in}
 
 -- what was decided is no matter where each is answered Unknown
 forgotten : (plan : Plan) (choice : Choice) (state next : State) (cs : List Command) (rs : List Reply) → Run plan choice state cs rs next
@@ -103,6 +109,7 @@ module _ (laws : Laws) (w : World) where
             possible = goes_behind a.events (failed_events (c ∷ cs) t.0 folds GateWritten (length state.batch)) w w1 a.possible ∙ t.1 folds;
             ends = record {
               building = refl;
+              base = refl;
               asked = refl;
               answered = ap (λ (ts : List Taken). w.answered ++ map answer_of ts) unknown;
               given = ap (λ (ts : List Taken). w.given ++ ts) unknown;
@@ -139,7 +146,7 @@ module _ (laws : Laws) (w : World) where
       first = [];
       theirs = tt;
       possible = refl;
-      ends = record { building = refl; asked = sym (append-nil w.asked); answered = sym (append-nil w.answered); given = sym (append-nil w.given) };
+      ends = record { building = refl; base = refl; asked = sym (append-nil w.asked); answered = sym (append-nil w.answered); given = sym (append-nil w.given) };
       alone = λ none. (refl, refl);
     },
     record { rest = rest; safe_is = refl; batch_is = refl },
@@ -160,7 +167,7 @@ module _ (laws : Laws) (w : World) where
               first = a.events;
               theirs = a.theirs;
               possible = goes_behind a.events (broken_events (c ∷ cs) t.0) w w1 a.possible ∙ t.1;
-              ends = record { building = refl; asked = refl; answered = refl; given = refl };
+              ends = record { building = refl; base = refl; asked = refl; answered = refl; given = refl };
               alone = a.alone;
             },
             record { rest = laws.broken_rest w1 (c ∷ cs) state rest1; safe_is = still_safe w state.batch rest; batch_is = still_in_doubt w state.batch rest },
@@ -171,46 +178,88 @@ module _ (laws : Laws) (w : World) where
           → (letters : List (Option ℕ)) × (end : World) × EndsBroken w (events_while_broken (c ∷ cs) letters) (c ∷ cs) end × Doubts end (safe_list w) (batch_of w) × (may_keep end WithBatch ≡ may_keep w WithBatch)
       by_run r = by_replies r.0 r.1 r.2
 
-pub failures_are_failures : {D P : Type 0} → Laws → (choice : Choice) → RunsAreAny choice → FailuresAreFailures D P choice
-failures_are_failures laws choice any w before after t m agree =
-    let cs : List Command = commands_of 0 t.turn.visits in
-    let state : State = after.keeper.state in
-    let rs : List Reply = t.turn.run.0.0 in
-    let wh : ShowsWhole w before.keeper = m.whole t.was_whole in
-    let a : Asked w cs = ask laws w m.reached (splits laws w before after m) (rests w wh.at_rest) cs agree (all_apart 0 t.turn.visits) in
-    let run : Run w.building any_eligible (state_of w) cs rs state =
-    run_in choice any w before.keeper.writer.plan before.keeper.state cs rs state m.building wh.state t.turn.run.0.1 in
-    let e = ends_in_doubt laws w wh.at_rest cs rs state a run t.turn.some in (
+-- A batch that the device fails is a failed turn of the machine.
+pub failed_batches_are_failures : {D P : Type 0} → Laws → (w : World) (before after : ClerkState D P) → (t : LeavesInDoubt before after) → IsMachineOf w before → LooksAgree w t.commands
+    → (letters : List (Option ℕ)) × ((folds : ℕ) → Follows w (failed_events t.commands letters folds GateWritten (length t.decided.batch)) (with_replies t.commands t.replies) (safe_list w) after)
+failed_batches_are_failures laws w before after t m agree =
+    let cs : List Command = t.commands in
+    let state : State = t.decided in
+    let wh : ShowsWhole w before.keeper = m.whole t.decides.was_whole in
+    let a : Asked w cs = ask laws w m.reached (splits laws w before after m) (rests w wh.at_rest) cs agree t.answers.apart in
+    let run : Run w.building any_eligible (state_of w) cs t.decided_so state = decided_in w before m.building wh.state cs t.decided_so state t.decides in
+    let e = ends_in_doubt laws w wh.at_rest cs t.decided_so state a run t.some in (
       e.0,
       λ folds.
           let k = e.1 folds in
-          let ends : Ends w cs t.turn.replies k.0 = subst (λ (xs : List Reply). Ends w cs xs k.0) (sym t.turn.run.1) k.1.ends in
-          follows laws w before after m t.turn.visits t.turn.replies t.turn.serves agree t.same_plan (failed_events cs e.0 folds GateWritten (length state.batch)) k.0
+          let ends : Ends w cs t.replies k.0 = subst (λ (xs : List Reply). Ends w cs xs k.0) (sym t.unknown) k.1.ends in
+          follows laws w before after m cs t.replies t.answers agree t.same_plan (failed_events cs e.0 folds GateWritten (length state.batch)) k.0
           (record { first = k.1.first; theirs = k.1.theirs; possible = k.1.possible; ends = ends; alone = k.1.alone }) (safe_list w) k.2.safe_is
           (λ whole. not_both after.keeper.writer.is_broken whole t.breaks)
           (λ broken. record {
             at_rest = k.2.rest;
-            safe = ap register_after k.2.safe_is ∙ wh.safe ∙ sym t.same_register;
-            doubt = k.2.batch_is ∙ sym t.turn.doubt;
+            safe = ap (λ (r : RegisterState). register_of r (safe_list k.0)) k.1.ends.base ∙ ap (register_of w.base) k.2.safe_is ∙ wh.safe ∙ sym t.same_register;
+            doubt = k.2.batch_is ∙ sym t.doubt;
             may_be_kept = λ some. k.3;
           }),
     )
 
-pub broken_turns_are_broken : {D P : Type 0} → Laws → BrokenTurnsAreBroken D P
-broken_turns_are_broken laws w before after t was_broken m agree =
-    let cs : List Command = commands_of 0 t.visits in
-    let br : ShowsBroken w before.keeper = m.broken was_broken in
-    let a : Asked w cs = ask laws w m.reached (splits laws w before after m) (rests_broken w br.at_rest) cs agree (all_apart 0 t.visits) in
+-- what a clerk's failed turn leaves in doubt
+abbrev pub leaves_in_doubt : {D P : Type 0} → (choice : Choice) → RunsAreAny choice → (before after : ClerkState D P) → Fails choice before after → LeavesInDoubt before after
+leaves_in_doubt choice any before after t = record {
+  commands = commands_of 0 t.turn.visits;
+  decided_so = t.turn.run.0.0;
+  replies = t.turn.replies;
+  decided = after.keeper.state;
+  desk = t.turn.desk;
+  decides = record {
+    was_whole = t.was_whole;
+    run = any before.keeper.writer.plan before.keeper.state (commands_of 0 t.turn.visits) t.turn.run.0.0 after.keeper.state t.turn.run.0.1;
+    shows = t.turn.register;
+  };
+  unknown = t.turn.run.1;
+  answers = answers_of before.seat after.seat t.turn.visits t.turn.replies t.turn.serves;
+  some = t.turn.some;
+  doubt = t.turn.doubt;
+  breaks = t.breaks;
+  same_register = t.same_register;
+  same_plan = t.same_plan;
+}
+
+pub failures_are_failures : {D P : Type 0} → Laws → (choice : Choice) → RunsAreAny choice → FailuresAreFailures D P choice
+failures_are_failures laws choice any w before after t m agree = failed_batches_are_failures laws w before after (leaves_in_doubt choice any before after t) m agree
+
+-- What is answered behind a fault is a turn of the broken machine.
+pub unknowns_are_broken_turns : {D P : Type 0} → Laws → (w : World) (before after : ClerkState D P) → (t : AnswersUnknown before after) → IsMachineOf w before → LooksAgree w t.commands
+    → (letters : List (Option ℕ)) × Follows w (events_while_broken t.commands letters) (with_replies t.commands t.replies) (safe_list w) after
+unknowns_are_broken_turns {D} laws w before after t m agree =
+    let cs : List Command = t.commands in
+    let br : ShowsBroken w before.keeper = m.broken t.was_broken in
+    let a : Asked w cs = ask laws w m.reached (splits laws w before after m) (rests_broken w br.at_rest) cs agree t.answers.apart in
     let k = ends_still_broken laws w br.at_rest cs a in
-    let ends : Ends w cs t.replies k.1 = subst (λ (xs : List Reply). Ends w cs xs k.1) (sym t.run.0) k.2.ends in (
+    let ends : Ends w cs t.replies k.1 = subst (λ (xs : List Reply). Ends w cs xs k.1) (sym t.unknown) k.2.ends in (
       k.0,
-      follows laws w before after m t.visits t.replies t.serves agree (ap (λ (x : KeeperView _). x.writer.plan) t.rests) (events_while_broken cs k.0) k.1
+      follows laws w before after m cs t.replies t.answers agree (ap (λ (x : WriterView D). x.plan) t.rests) (events_while_broken cs k.0) k.1
           (record { first = k.2.first; theirs = k.2.theirs; possible = k.2.possible; ends = ends; alone = k.2.alone }) (safe_list w) k.3.safe_is
-          (λ whole. not_both before.keeper.writer.is_broken (ap (λ (x : KeeperView _). x.writer.is_broken) (sym t.rests) ∙ whole) was_broken)
-          (λ broken. subst (λ (x : KeeperView _). ShowsBroken k.1 x) (sym t.rests) (record {
+          (λ whole. not_both before.keeper.writer.is_broken (ap (λ (x : WriterView D). x.is_broken) (sym t.rests) ∙ whole) t.was_broken)
+          (λ broken. record {
             at_rest = k.3.rest;
-            safe = ap register_after k.3.safe_is ∙ br.safe;
-            doubt = k.3.batch_is ∙ br.doubt;
-            may_be_kept = λ some. k.4 ∙ br.may_be_kept some;
-          })),
+            safe = ap (λ (r : RegisterState). register_of r (safe_list k.1)) k.2.ends.base ∙ ap (register_of w.base) k.3.safe_is ∙ br.safe ∙ ap (λ (x : WriterView D). x.register) (sym t.rests);
+            doubt = k.3.batch_is ∙ br.doubt ∙ ap (λ (x : WriterView D). x.doubt) (sym t.rests);
+            may_be_kept = λ some. k.4 ∙ br.may_be_kept (λ none. some (ap (λ (x : WriterView D). x.doubt) t.rests ∙ none));
+          }),
     )
+
+-- what a broken clerk's turn answers
+abbrev pub answers_unknown : {D P : Type 0} → (before after : ClerkState D P) → IsBrokenTurn before after → before.keeper.writer.is_broken ≡ true → AnswersUnknown before after
+answers_unknown {D} before after t was = record {
+  commands = commands_of 0 t.visits;
+  replies = t.replies;
+  desk = t.desk;
+  unknown = t.run.0;
+  answers = answers_of before.seat after.seat t.visits t.replies t.serves;
+  was_broken = was;
+  rests = ap (λ (x : KeeperView D). x.writer) t.rests;
+}
+
+pub broken_turns_are_broken : {D P : Type 0} → Laws → BrokenTurnsAreBroken D P
+broken_turns_are_broken laws w before after t was m agree = unknowns_are_broken_turns laws w before after (answers_unknown before after t was) m agree

@@ -3,11 +3,11 @@ pub mod Turning
 pub mod Doubts
 pub mod Crashes
 pub mod Terminals
-pub mod Moved
 pub mod Told
 pub mod Histories
 pub mod Moments
 pub mod Begun
+pub mod Groups
 pub mod Stood
 pub mod Pasts
-pub mod Passed
+pub mod Called

@@ -1,26 +1,35 @@
 -- What a crash at any moment of a running call shows.
-use Rattle.std.proofs.Common.{◌≡◌, ◌⊎◌, inl, inr, Bool, true, false, List, refl, sym, subst}
-use Rattle.std.specs.Prelude.{Result, Ok, Err, IfOk}
+use Rattle.std.proofs.Common.{◌≡◌, inl, inr, Bool, true, false, List, [], ◌++◌, refl, sym, ap, subst, ◌∙◌}
+use Rattle.std.proofs.lemmas.List.{append-nil}
+use Rattle.std.specs.Prelude.{Result, Err}
 use Rattle.lift_base.specs.declared.history.Entry.{Entry}
 use Rattle.lift_building.specs.Plan.{Plan}
-use Rattle.lift_disk.specs.Disk.{DiskState, Image, LeavesNow, LeavesOnly, LeavesNoOther}
-use Rattle.lift_register.specs.Register.{RegisterState}
-use Rattle.lift_disk.specs.lemmas.Moments.{leaves_none, leaves_weaker}
+use Rattle.lift_disk.specs.Disk.{DiskState, LeavesNow, LeavesOnly}
+use Rattle.lift_register.specs.Register.{RegisterState, register_of}
 use Rattle.lift_policy.specs.Eligible.{Choice}
+use Rattle.lift_policy.specs.Step.{State}
+use Rattle.lift_journal.specs.declared.fault.JournalFault.TheVariants.{Broken}
 use Rattle.lift_keeper.specs.Images.{IsImageOf, IsInDoubt}
 use Rattle.lift_keeper.specs.Keeper.{KeeperView}
 use Rattle.lift_keeper.specs.declared.fault.KeeperFault.{KeeperFault}
+use Rattle.lift_keeper.specs.declared.fault.KeeperFault.TheVariants.{Journal}
 use Rattle.lift_world.specs.declared.event.Taken.{Taken}
+use Rattle.lift_world.specs.Policies.{RunsAreAny}
+use Rattle.lift_world.specs.Turns.{with_replies}
 use Rattle.lift_clerk.specs.declared.counts.Counts.{Counts}
 use Rattle.lift_clerk.specs.Clerk.{ClerkState}
-use Rattle.lift_clerk.specs.Turn.{IsBrokenTurn, IsEither}
-use Rattle.lift_clerk.specs.Machine.{Turns, Fails, kept_of}
-use Rattle.lift_clerk.specs.History.{History, ShowsGiven, ShowsEither, MomentsShow, TurnShows, CrashesShowGiven, CrashesInTurnsShowGiven, CrashesInFailuresShowGiven}
-
-shows_either : {A B : Type 0} (plan : Plan) (safe batch : List Entry) (given : List Taken) (left : Image) (o : A ⊎ B) → ShowsGiven plan (kept_of safe batch o) given left
-    → ShowsEither plan safe batch given left
-shows_either plan safe batch given left (inl without) s = inl s
-shows_either plan safe batch given left (inr whole) s = inr s
+use Rattle.lift_clerk.specs.Turn.{IsBrokenTurn}
+use Rattle.lift_clerk.specs.Visits.{commands_of}
+use Rattle.lift_clerk.specs.Machine.{Turns, Fails}
+use Rattle.lift_clerk.specs.Steps.{group_of, MakesSafe, LeavesInDoubt, MayAdd}
+use Rattle.lift_clerk.specs.History.{History, Turned, Failed, TurnedWhileBroken}
+use Rattle.lift_clerk.specs.Keeping.{Keeps, CrashesKeep, LeavesSafe, Advances, AdvancesFrom}
+use Rattle.lift_clerk.specs.Once.{TurnAdvances, Safe, InDoubt, Unknown}
+use Rattle.lift_clerk.specs.lemmas.Turned.{makes_safe}
+use Rattle.lift_clerk.specs.lemmas.Grouped.{grouped_safe, grouped_doubt, grouped_unknown}
+use Rattle.lift_clerk.proofs.Doubts.{leaves_in_doubt, answers_unknown}
+use Rattle.lift_clerk.specs.lemmas.Keeps.{kept_now}
+use Rattle.lift_clerk.proofs.Histories.{moments_stand}
 
 -- what a keeper tells of its safe register is told of its clerk's
 pub safe_of : {D : Type 0} (state : D → DiskState) (keeper own : KeeperView D) (register : RegisterState) → keeper ≡ own → register ≡ keeper.writer.register
@@ -37,55 +46,85 @@ in_doubt_of {D} state keeper own register e r k =
     subst (λ (v : KeeperView D). v.writer.is_broken ≡ true → LeavesNow (state v.writer.device) (IsInDoubt v.writer.plan v.writer.register v.writer.doubt)) e
     (subst (λ (x : RegisterState). keeper.writer.is_broken ≡ true → LeavesNow (state keeper.writer.device) (IsInDoubt keeper.writer.plan x keeper.writer.doubt)) r k)
 
-module _ {D P : Type 0} (chooses : P → Choice) (before after : ClerkState D P) (old new : DiskState) where
+-- what a crash may leave, broken or not
+pub doubt_now : {D : Type 0} (state : D → DiskState) (keeper : KeeperView D) → (keeper.writer.is_broken ≡ false → LeavesNow (state keeper.writer.device) (IsImageOf keeper.writer.plan keeper.writer.register))
+    → (keeper.writer.is_broken ≡ true → LeavesNow (state keeper.writer.device) (IsInDoubt keeper.writer.plan keeper.writer.register keeper.writer.doubt)) → (b : Bool) → keeper.writer.is_broken ≡ b
+    → LeavesSafe keeper.writer (state keeper.writer.device)
+doubt_now state keeper whole broken false e = λ honest left may. inl (whole e honest left may)
+doubt_now state keeper whole broken true e = broken e
+
+module _ {D P : Type 0} (state : D → DiskState) (law : CrashesKeep D) (before : ClerkState D P) where
   abbrev plan : Plan
   plan = before.keeper.writer.plan
 
-  pub now_shows : CrashesShowGiven D P chooses
-      → (before.keeper.writer.is_broken ≡ false → LeavesNow old (IsImageOf plan before.keeper.writer.register))
-      → (before.keeper.writer.is_broken ≡ true → LeavesNow old (IsInDoubt plan before.keeper.writer.register before.keeper.writer.doubt))
-      → (safe : List Entry) (given : List Taken) → History chooses before safe given → LeavesNow old (ShowsEither plan safe before.keeper.writer.doubt given)
-  now_shows law whole broken safe given h = by_state before.keeper.writer.is_broken refl
-    where
-      shown : (left : Image) → IsInDoubt plan before.keeper.writer.register before.keeper.writer.doubt left → ShowsEither plan safe before.keeper.writer.doubt given left
-      shown left doubt = shows_either plan safe before.keeper.writer.doubt given left doubt (law before safe given left h doubt)
+  abbrev register : RegisterState
+  register = before.keeper.writer.register
 
-      by_state : (b : Bool) → before.keeper.writer.is_broken ≡ b → LeavesNow old (ShowsEither plan safe before.keeper.writer.doubt given)
-      by_state false e = λ honest left may. shown left (inl (whole e honest left may))
-      by_state true e = λ honest left may. shown left (broken e honest left may)
+  abbrev old : DiskState
+  old = state before.keeper.writer.device
 
-  pub whole_shows : CrashesShowGiven D P chooses
-      → (before.keeper.writer.is_broken ≡ false → LeavesNow old (IsImageOf plan before.keeper.writer.register)) → before.keeper.writer.is_broken ≡ false
-      → (safe : List Entry) (given : List Taken) → History chooses before safe given → LeavesNow old (ShowsGiven plan safe given)
-  whole_shows law whole e safe given h = λ honest left may. law before safe given left h (inl (whole e honest left may))
+  pub keeps_whole : (before.keeper.writer.is_broken ≡ false → LeavesNow old (IsImageOf plan register)) → before.keeper.writer.is_broken ≡ false
+      → (base : RegisterState) (safe : List Entry) (given : List Taken) → History base (group_of before) safe given → LeavesNow old (Keeps D plan base safe given)
+  keeps_whole whole e base safe given h = λ honest left may. law base (group_of before) safe before.keeper.writer.doubt given left h (inl refl) (inl (whole e honest left may))
 
-  pub turn_shows : CrashesInTurnsShowGiven D P chooses → (result : Result Counts KeeperFault)
-      → (before.keeper.writer.is_broken ≡ false → LeavesOnly old new (IsEither plan before.keeper.writer.register after.keeper.state.register))
-      → IfOk result (λ counts. TurnShows chooses before after counts old new)
-  turn_shows law (Ok counts) moments = λ t safe given h.
-      leaves_weaker old new (IsEither plan before.keeper.writer.register after.keeper.state.register) (ShowsEither plan safe t.turn.decided.batch given)
-      (λ honest left either. shows_either plan safe t.turn.decided.batch given left either (law before after safe given counts left h t either)) (moments t.was_whole)
-  turn_shows law (Err fault) moments = tt
+-- One turn, with what a crash may leave at each moment of it and from its end on.
+module _ {D P : Type 0} (state : D → DiskState) (law : CrashesKeep D) (before after : ClerkState D P) (choice : Choice) (any : RunsAreAny choice)
+    (while_whole : before.keeper.writer.is_broken ≡ false → (batch : List Entry) → after.keeper.state.register ≡ register_of before.keeper.writer.register batch
+    → LeavesOnly (state before.keeper.writer.device) (state after.keeper.writer.device) (IsInDoubt before.keeper.writer.plan before.keeper.writer.register batch))
+    (while_broken : before.keeper.writer.is_broken ≡ true
+    → LeavesOnly (state before.keeper.writer.device) (state after.keeper.writer.device) (IsInDoubt before.keeper.writer.plan before.keeper.writer.register before.keeper.writer.doubt))
+    (leaves : LeavesSafe after.keeper.writer (state after.keeper.writer.device)) where
+  abbrev its : Plan
+  its = before.keeper.writer.plan
 
-  pub failure_shows : CrashesInFailuresShowGiven D P chooses → Fails (chooses before.policy) before after
-      → (before.keeper.writer.is_broken ≡ false → LeavesOnly old new (IsEither plan before.keeper.writer.register after.keeper.state.register))
-      → MomentsShow chooses before after.keeper.writer.doubt old new
-  failure_shows law t moments safe given h =
-      leaves_weaker old new (IsEither plan before.keeper.writer.register after.keeper.state.register) (ShowsEither plan safe after.keeper.writer.doubt given)
-      (λ honest left either. subst (λ (batch : List Entry). ShowsEither plan safe batch given left) (sym t.turn.doubt)
-      (shows_either plan safe after.keeper.state.batch given left either (law before after safe given left h t either))) (moments t.was_whole)
+  abbrev was : RegisterState
+  was = before.keeper.writer.register
 
-  pub reopening_shows : CrashesShowGiven D P chooses → LeavesOnly old new (IsInDoubt plan before.keeper.writer.register before.keeper.writer.doubt)
-      → MomentsShow chooses before before.keeper.writer.doubt old new
-  reopening_shows law moments safe given h =
-      leaves_weaker old new (IsInDoubt plan before.keeper.writer.register before.keeper.writer.doubt) (ShowsEither plan safe before.keeper.writer.doubt given)
-      (λ honest left doubt. shows_either plan safe before.keeper.writer.doubt given left doubt (law before safe given left h doubt)) moments
+  abbrev first : DiskState
+  first = state before.keeper.writer.device
 
--- of a broken clerk the device had no call
-pub broken_turn_shows : {D P : Type 0} (chooses : P → Choice) (state : D → DiskState) (before after : ClerkState D P) → IsBrokenTurn before after
-    → LeavesNoOther (state before.keeper.writer.device)
-    → ((safe : List Entry) (given : List Taken) → History chooses before safe given → LeavesNow (state before.keeper.writer.device) (ShowsEither before.keeper.writer.plan safe before.keeper.writer.doubt given))
-    → MomentsShow chooses before before.keeper.writer.doubt (state before.keeper.writer.device) (state after.keeper.writer.device)
-broken_turn_shows {D} chooses state before after t only now safe given h =
-    let shown : Image → Type 0 = ShowsEither before.keeper.writer.plan safe before.keeper.writer.doubt given in
-    subst (λ (k : KeeperView D). LeavesOnly (state before.keeper.writer.device) (state k.writer.device) shown) (sym t.rests) (leaves_none (state before.keeper.writer.device) shown only (now safe given h))
+  abbrev last : DiskState
+  last = state after.keeper.writer.device
+
+  nothing_more : (base : RegisterState) (safe : List Entry) (given : List Taken) → History base (group_of after) safe given → History base (group_of after) (safe ++ []) given
+  nothing_more base safe given h = subst (λ (xs : List Entry). History base (group_of after) xs given) (sym (append-nil safe)) h
+
+  advances : (batch more : List Entry) (told : List Taken) (base : RegisterState) (safe : List Entry) (given : List Taken) → MayAdd before.keeper batch → LeavesOnly first last (IsInDoubt its was batch)
+      → History base (group_of before) safe given → History base (group_of after) (safe ++ more) (given ++ told) → AdvancesFrom base (group_of before) safe given (group_of after) batch more told first last
+  advances batch more told base safe given may moments h k = record {
+    history = k;
+    stands = moments_stand law (group_of before) batch may first last moments base safe given h;
+    now = kept_now law base (group_of after) (safe ++ more) (given ++ told) k last leaves;
+  }
+
+  -- it answers Ok
+  safe_advances : (counts : Counts) (t : Turns choice before after counts)
+      → Advances (group_of before) (group_of after) t.turn.decided.batch t.turn.decided.batch (with_replies (commands_of 0 t.turn.visits) t.turn.replies) first last
+  safe_advances counts t base safe given h =
+      let s : MakesSafe before after = makes_safe choice any before after counts t in
+      advances t.turn.decided.batch t.turn.decided.batch (with_replies (commands_of 0 t.turn.visits) t.turn.replies) base safe given
+      (inr (record { commands = s.commands; replies = s.replies; decided = s.decided; apart = s.answers.apart; decides = s.decides; is = refl }))
+      (while_whole t.was_whole t.turn.decided.batch (ap (λ (x : State). x.register) t.turn.after ∙ t.turn.safe)) h
+      (Turned h (grouped_safe before after s))
+
+  -- the device fails it
+  failed_advances : (t : Fails choice before after)
+      → Advances (group_of before) (group_of after) after.keeper.state.batch [] (with_replies (commands_of 0 t.turn.visits) t.turn.replies) first last
+  failed_advances t base safe given h =
+      let s : LeavesInDoubt before after = leaves_in_doubt choice any before after t in
+      advances after.keeper.state.batch [] (with_replies (commands_of 0 t.turn.visits) t.turn.replies) base safe given
+      (inr (record { commands = s.commands; replies = s.decided_so; decided = s.decided; apart = s.answers.apart; decides = s.decides; is = refl }))
+      (while_whole t.was_whole after.keeper.state.batch t.turn.register) h
+      (nothing_more base safe _ (Failed h (grouped_doubt before after s)))
+
+  -- it was broken
+  broken_advances : before.keeper.writer.is_broken ≡ true → (t : IsBrokenTurn before after)
+      → Advances (group_of before) (group_of after) before.keeper.writer.doubt [] (with_replies (commands_of 0 t.visits) t.replies) first last
+  broken_advances is t base safe given h =
+      advances before.keeper.writer.doubt [] (with_replies (commands_of 0 t.visits) t.replies) base safe given (inl refl) (while_broken is) h
+      (nothing_more base safe _ (TurnedWhileBroken h (grouped_unknown before after (answers_unknown before after t is))))
+
+  pub turn_advances : (result : Result Counts KeeperFault) → (result ≡ Err (Journal Broken) → before.keeper.writer.is_broken ≡ true) → TurnAdvances state choice before after result
+  turn_advances result is batch more told (Safe {counts = counts} t) = safe_advances counts t
+  turn_advances result is batch more told (InDoubt t) = failed_advances t
+  turn_advances result is batch more told (Unknown t) = broken_advances (is refl) t

@@ -1,9 +1,9 @@
--- What a turn takes was asked before it, by the desk's rule.
-use Rattle.std.proofs.Common.{◌≡◌, ◌≢◌, inr, ℕ, suc, ◌+◌, ◌*◌, ◌^◌, ◌<◌, ◌≤◌, true, List, [], ◌∷◌, ◌++◌, map, length, Option, Some, None, refl, sym, ap, ◌∙◌, subst, arith, append_assoc, add-zero}
+-- What a step takes was asked before it, by the desk's rule.
+use Rattle.std.proofs.Common.{◌≡◌, ◌≢◌, inr, ℕ, suc, ◌+◌, ◌*◌, ◌^◌, ◌<◌, ◌≤◌, Bool, true, false, cond, eqb, List, [], ◌∷◌, ◌++◌, map, length, refl, sym, ap, ◌∙◌, subst, arith, append_assoc}
 use Rattle.std.specs.Prelude.{All, filter}
 use Rattle.std.specs.List.{AllByRecursion}
-use Rattle.std.proofs.lemmas.Bool.{eqb-true}
-use Rattle.std.proofs.lemmas.List.{append_cancel_left}
+use Rattle.std.proofs.lemmas.Bool.{eqb-true, ne_eqb, eq-eqb, false≢true}
+use Rattle.std.proofs.lemmas.List.{append_cancel_left, append-nil}
 use Rattle.std.proofs.lemmas.List.Elements.{filter_passes}
 use mathlib.Core.List.{IsPrefix, map-append}
 use Rattle.lift_base.specs.declared.travel.Dir.{Dir}
@@ -16,19 +16,19 @@ use Rattle.lift_desk.specs.declared.view.ClerkView.{ClerkView}
 use Rattle.lift_desk.specs.declared.words.Ask.{Ask}
 use Rattle.lift_desk.specs.Words.{dir_bit, body_bits, ask_word, IsBody}
 use Rattle.lift_desk.specs.Spelled.{ask_words, IsAsk}
-use Rattle.lift_desk.specs.Steps.{with_taking}
-use Rattle.lift_desk.specs.Seats.{ClerkPlace, view_at}
+use Rattle.lift_desk.specs.Seats.{view_at}
 use Rattle.lift_policy.specs.declared.command.Command.{Command}
 use Rattle.lift_world.specs.declared.event.Taken.{Taken}
 use Rattle.lift_world.specs.World.{World, asks}
 use Rattle.lift_world.specs.Turns.{with_replies}
-use Rattle.lift_clerk.specs.Visits.{Visit, FindsAt, Finds, command_at, commands_of, with_reply, replies_behind, served}
-use Rattle.lift_clerk.specs.Machine.{ask_of, waiting_in, LooksAgree, ShowsWords}
-use Rattle.lift_clerk.specs.Group.{ShowsTerminal}
-use Rattle.lift_clerk.specs.lemmas.Groups.{last_has}
+use Rattle.lift_clerk.specs.Answered.{ask_of, AreOthers, AreApart, Answers}
+use Rattle.lift_clerk.specs.Machine.{waiting_in, LooksAgree, ShowsWords}
+use Rattle.lift_clerk.specs.Steps.{GroupState}
+use Rattle.lift_clerk.specs.Group.{Terminals, ShowsTerminal, IsGroup, TakesAsks, WereAsked}
+use Rattle.lift_clerk.specs.lemmas.Lists.{no_asks}
 use Rattle.lift_clerk.specs.lemmas.Standing.{waiting_is}
-use Rattle.lift_clerk.specs.lemmas.Visiting.{taken-new}
 use Rattle.lift_clerk.specs.lemmas.Words.{asks_both, asks_count, splits_of}
+use Rattle.lift_clerk.proofs.Groups.{last_has}
 
 -- a word spells one ask
 dir_same : (d e : Dir) → dir_bit d ≡ dir_bit e → d ≡ e
@@ -90,77 +90,94 @@ stand_waits w [] rs h = tt
 stand_waits w (c ∷ cs) [] h = tt
 stand_waits w (c ∷ cs) (r ∷ rs) h = ((λ none. let wrong : c ∷ [] ≡ [] = sym h.0 ∙ none in cc), stand_waits w cs rs h.1)
 
--- one look, at a terminal that asked at most one more than was answered
-module _ (w : World) (t : ℕ) (p : ClerkPlace) (word : ℕ) (own : TerminalView) (shows : ShowsWords w t p.view) (theirs : ShowsTerminal w t own) (few : length shows.waiting ≤ 1)
-    (fits : IsPrefix (with_taking p.view word).taken own.asked) where
+-- one command, of a terminal that asked at most one more than was answered
+module _ (w : World) (c : Command) (view : ClerkView) (own : TerminalView) (shows : ShowsWords w c.terminal view) (theirs : ShowsTerminal w c.terminal own) (few : length shows.waiting ≤ 1)
+    (spelled : IsAsk (ask_of c)) (fits : IsPrefix (view.taken ++ ask_words (suc (length view.taken)) (ask_of c ∷ [])) own.asked) where
+  abbrev t : ℕ
+  t = c.terminal
+
+  abbrev word : ℕ
+  word = ask_word (suc (length view.taken)) c.number c.body
+
   abbrev firsts : List Ask
   firsts = map ask_of shows.first
 
   all_asks : map ask_of (filter (asks t) w.asked) ≡ firsts ++ map ask_of shows.waiting
   all_asks = ap (map ask_of) shows.asked ∙ map-append ask_of shows.first shows.waiting
 
-  module _ (ask : Ask) (finds : FindsAt p (record { word = word; found = Some ask })) where
-    abbrev command : Command
-    command = record { terminal = t; number = ask.number; body = ask.body }
+  begins : word ∷ fits.0 ≡ ask_words (1 + length firsts) (map ask_of shows.waiting)
+  begins =
+      append_cancel_left (ask_words 1 firsts) (word ∷ fits.0) (ask_words (1 + length firsts) (map ask_of shows.waiting))
+      (ap (λ (xs : List ℕ). xs ++ word ∷ fits.0) (sym shows.taken) ∙ sym (append_assoc view.taken (word ∷ []) fits.0) ∙ fits.1 ∙ theirs.asked ∙ ap (ask_words 1) all_asks
+      ∙ asks_both 1 firsts (map ask_of shows.waiting))
 
-    begins : word ∷ fits.0 ≡ ask_words (1 + length firsts) (map ask_of shows.waiting)
-    begins =
-        append_cancel_left (ask_words 1 firsts) (word ∷ fits.0) (ask_words (1 + length firsts) (map ask_of shows.waiting))
-        (ap (λ (xs : List ℕ). xs ++ word ∷ fits.0) (sym shows.taken) ∙ sym (append_assoc p.view.taken (word ∷ []) fits.0)
-        ∙ ap (λ (xs : List ℕ). xs ++ fits.0) (sym (taken-new p.view word finds.reads.0)) ∙ fits.1 ∙ theirs.asked ∙ ap (ask_words 1) all_asks
-        ∙ asks_both 1 firsts (map ask_of shows.waiting))
+  one : (d : Command) → shows.waiting ≡ d ∷ [] → waiting_in w t ≡ c ∷ []
+  one d e =
+      let asked : filter (asks t) w.asked ≡ shows.first ++ d ∷ [] = shows.asked ∙ ap (λ (cs : List Command). shows.first ++ cs) e in
+      let at : d.terminal ≡ t =
+      eqb-true d.terminal t (last_has (λ (x : Command). asks t x ≡ true) shows.first d [] (subst (All (λ (x : Command). asks t x ≡ true)) asked (filter_passes (asks t) w.asked))) in
+      let theirs_spelled : IsAsk (ask_of d) = last_has IsAsk firsts (ask_of d) [] (subst (All IsAsk) (all_asks ∙ ap (λ (cs : List Command). firsts ++ map ask_of cs) e) theirs.in_range) in
+      let count : suc (length view.taken) ≡ 1 + length firsts = omega (arith, ap length shows.taken, asks_count 1 firsts) in
+      let first : word ≡ ask_word (1 + length firsts) d.number d.body =
+      cons-head word (ask_word (1 + length firsts) d.number d.body) fits.0 [] (begins ∙ ap (λ (cs : List Command). ask_words (1 + length firsts) (map ask_of cs)) e) in
+      let same = ask_same (1 + length firsts) (ask_of c) (ask_of d) spelled theirs_spelled (ap (λ (n : ℕ). ask_word n c.number c.body) (sym count) ∙ first) in
+      let is : d ≡ c = λ i. record { terminal = at i; number = sym same.0 i; body = sym same.1 i } in
+      waiting_is w t (splits_of w t view shows) ∙ e ∙ ap (λ (x : Command). x ∷ []) is
 
-    one : (d : Command) → shows.waiting ≡ d ∷ [] → waiting_in w t ≡ command ∷ []
-    one d e =
-        let asked : filter (asks t) w.asked ≡ shows.first ++ d ∷ [] = shows.asked ∙ ap (λ (cs : List Command). shows.first ++ cs) e in
-        let at : d.terminal ≡ t =
-        eqb-true d.terminal t (last_has (λ (x : Command). asks t x ≡ true) shows.first d [] (subst (All (λ (x : Command). asks t x ≡ true)) asked (filter_passes (asks t) w.asked))) in
-        let spelled : IsAsk (ask_of d) = last_has IsAsk firsts (ask_of d) [] (subst (All IsAsk) (all_asks ∙ ap (λ (cs : List Command). firsts ++ map ask_of cs) e) theirs.in_range) in
-        let count : suc (length p.view.taken) ≡ 1 + length firsts = omega (arith, ap length shows.taken, asks_count 1 firsts) in
-        let first : word ≡ ask_word (1 + length firsts) d.number d.body =
-        cons-head word (ask_word (1 + length firsts) d.number d.body) fits.0 [] (begins ∙ ap (λ (cs : List Command). ask_words (1 + length firsts) (map ask_of cs)) e) in
-        let same = ask_same (1 + length firsts) ask (ask_of d) finds.in_range spelled
-        (ap (λ (n : ℕ). ask_word n ask.number ask.body) (sym count) ∙ sym finds.reads.1 ∙ first) in
-        let is : d ≡ command = λ i. record { terminal = at i; number = sym same.0 i; body = sym same.1 i } in
-        waiting_is w t (splits_of w t p.view shows) ∙ e ∙ ap (λ (x : Command). x ∷ []) is
+  by_waiting : (waiting : List Command) → shows.waiting ≡ waiting → waiting_in w t ≡ c ∷ []
+  by_waiting [] e = let wrong : word ∷ fits.0 ≡ [] = begins ∙ ap (λ (cs : List Command). ask_words (1 + length firsts) (map ask_of cs)) e in cc
+  by_waiting (d ∷ []) e = one d e
+  by_waiting (d ∷ f ∷ more) e = let many = few in absurd (omega (arith, ap length e))
 
-    by_waiting : (waiting : List Command) → shows.waiting ≡ waiting → waiting_in w t ≡ command ∷ []
-    by_waiting [] e = let wrong : word ∷ fits.0 ≡ [] = begins ∙ ap (λ (cs : List Command). ask_words (1 + length firsts) (map ask_of cs)) e in cc
-    by_waiting (d ∷ []) e = one d e
-    by_waiting (d ∷ f ∷ more) e = let many = few in absurd (omega (arith, ap length e))
+  pub stands : waiting_in w t ≡ c ∷ []
+  stands = by_waiting shows.waiting refl
 
-    pub stands : waiting_in w t ≡ command ∷ []
-    stands = by_waiting shows.waiting refl
+-- one of each terminal at most
+own_alone : (c : Command) (cs : List Command) → AreOthers c.terminal cs → filter (asks c.terminal) (c ∷ cs) ≡ c ∷ []
+own_alone c cs others =
+    ap (λ (b : Bool). cond b (c ∷ filter (asks c.terminal) cs) (filter (asks c.terminal) cs)) (eq-eqb c.terminal c.terminal refl)
+    ∙ ap (λ (xs : List Command). c ∷ xs) (no_asks c.terminal cs others)
 
-  pub stands_at : (found : Option Ask) → FindsAt p (record { word = word; found = found }) → Stand w (command_at t found)
-  stands_at None finds = tt
-  stands_at (Some ask) finds = (stands ask finds, tt)
+not_own : (t : ℕ) (c : Command) (cs : List Command) → c.terminal ≢ t → filter (asks t) (c ∷ cs) ≡ filter (asks t) cs
+not_own t c cs apart = ap (λ (b : Bool). cond b (c ∷ filter (asks t) cs) (filter (asks t) cs)) (ne_eqb c.terminal t apart)
 
-stand_both : (w : World) (xs ys : List Command) → Stand w xs → Stand w ys → Stand w (xs ++ ys)
-stand_both w [] ys h k = k
-stand_both w (x ∷ xs) ys h k = (h.0, stand_both w xs ys h.1 k)
+shorter : (xs ys zs : List ℕ) → IsPrefix (xs ++ ys) zs → IsPrefix (xs ++ []) zs
+shorter xs ys zs p = (ys ++ p.0, ap (λ (ns : List ℕ). ns ++ (ys ++ p.0)) (append-nil xs) ∙ sym (append_assoc xs ys p.0) ∙ p.1)
 
-reply_takes_none : (view : ClerkView) (found : Option Ask) (replies : List Reply) → (with_reply view found replies).taken ≡ view.taken
-reply_takes_none view None replies = refl
-reply_takes_none view (Some ask) [] = refl
-reply_takes_none view (Some ask) (reply ∷ replies) = refl
+module _ {D : Type 0} (w : World) (group : GroupState D) (terminals : Terminals) (g : IsGroup w group terminals)
+    (few : (t : ℕ) (v : ClerkView) (k : ShowsWords w t v) → length k.waiting ≤ 1) where
+  abbrev taken : ℕ → List ℕ
+  taken t = (view_at group.seat t).taken
 
-pub stand_from : (w : World) (terminals : ℕ → TerminalView) → ((t : ℕ) → ShowsTerminal w t (terminals t)) → (few : (t : ℕ) (v : ClerkView) (k : ShowsWords w t v) → length k.waiting ≤ 1)
-    → (first : ℕ) (places : List ClerkPlace) (visits : List Visit) (replies : List Reply) → ((k : ℕ) → ShowsWords w (first + k) (view_at places k))
-    → ((k : ℕ) → IsPrefix (view_at (served places visits replies) k).taken (terminals (first + k)).asked) → Finds places visits → Stand w (commands_of first visits)
-stand_from w terminals theirs few first places [] replies shows fits finds = tt
-stand_from w terminals theirs few first [] (u ∷ visits) replies shows fits finds = absurd finds
-stand_from w terminals theirs few first (p ∷ places) (u ∷ visits) replies shows fits finds =
-    let here : ShowsWords w first p.view = subst (λ n. ShowsWords w n p.view) (add-zero first) (shows 0) in
-    let front : IsPrefix (with_taking p.view u.word).taken (terminals first).asked =
-    subst (λ (xs : List ℕ). IsPrefix xs (terminals first).asked) (reply_takes_none (with_taking p.view u.word) u.found replies)
-    (subst (λ n. IsPrefix (with_reply (with_taking p.view u.word) u.found replies).taken (terminals n).asked) (add-zero first) (fits 0)) in
-    stand_both w (command_at first u.found) (commands_of (suc first) visits)
-    (stands_at w first p u.word (terminals first) here (theirs first) (few first p.view here) front u.found finds.0)
-    (stand_from w terminals theirs few (suc first) places visits (replies_behind u.found replies)
-    (λ k. subst (λ n. ShowsWords w n (view_at places k)) (behind k) (shows (suc k)))
-    (λ k. subst (λ n. IsPrefix (view_at (served places visits (replies_behind u.found replies)) k).taken (terminals n).asked) (behind k) (fits (suc k)))
-    finds.1)
-  where
-    behind : (k : ℕ) → first + suc k ≡ suc first + k
-    behind k = omega arith
+  abbrev FrontAt : ℕ → List Command → Type 0
+  FrontAt t own = IsPrefix (taken t ++ ask_words (suc (length (taken t))) (map ask_of own)) (terminals t).asked
+
+  abbrev Front : List Command → Type 0
+  Front cs = (t : ℕ) → FrontAt t (filter (asks t) cs)
+
+  later_at : (c : Command) (cs : List Command) → AreOthers c.terminal cs → Front (c ∷ cs) → (t : ℕ) (b : Bool) → eqb c.terminal t ≡ b → FrontAt t (filter (asks t) cs)
+  later_at c cs others front t true e =
+      subst (FrontAt t) (sym (no_asks t cs (subst (λ (x : ℕ). AreOthers x cs) (eqb-true c.terminal t e) others)))
+      (shorter (taken t) (ask_words (suc (length (taken t))) (map ask_of (filter (asks t) (c ∷ cs)))) (terminals t).asked (front t))
+  later_at c cs others front t false e = subst (FrontAt t) (not_own t c cs (λ q. absurd (false≢true (sym e ∙ eq-eqb c.terminal t q)))) (front t)
+
+  stand_all : (cs : List Command) → AreApart cs → All IsAsk (map ask_of cs) → Front cs → Stand w cs
+  stand_all [] apart spelled front = tt
+  stand_all (c ∷ cs) apart spelled front =
+      let t : ℕ = c.terminal in
+      let shows : ShowsWords w t (view_at group.seat t) = g.machine.words t in (
+        stands w c (view_at group.seat t) (terminals t) shows (g.theirs t) (few t (view_at group.seat t) shows) (spelled 0 (ask_of c) (omega arith))
+            (subst (FrontAt t) (own_alone c cs apart.0) (front t)),
+        stand_all cs apart.1 (λ k d below. spelled (suc k) d (omega arith)) (λ u. later_at c cs apart.0 front u (eqb c.terminal u) refl),
+      )
+
+  pub asked_stand : (cs : List Command) → AreApart cs → WereAsked group terminals cs → Stand w cs
+  asked_stand cs apart asked = stand_all cs apart asked.in_range asked.front
+
+-- what a step took was asked
+pub taken_asked : {D : Type 0} (before after : GroupState D) (terminals : Terminals) (cs : List Command) (rs : List Reply) → Answers before.seat after.seat cs rs → TakesAsks after terminals
+    → WereAsked before terminals cs
+taken_asked before after terminals cs rs answers takes = record {
+  in_range = answers.in_range;
+  front = λ t. subst (λ (xs : List ℕ). IsPrefix xs (terminals t).asked) (answers.grows t).taken (takes t);
+}

@@ -74,7 +74,7 @@ module _ {D P : Type 0} (laws : Laws) (w : World) (clerk : ClerkState D P) (m : 
   still : (event : Event) → next w event ≡ Some end → IsMachineOf end clerk
   still event e = record {
     building = m.building;
-    reached = reaches laws w m.reached (event ∷ []) end (goes_once w end event e) refl;
+    reached = reaches laws w m.reached (event ∷ []) end (goes_once w end event e) refl refl;
     words = words;
     whole = λ q. let k = m.whole q in let r = k.at_rest in record {
       at_rest = record {

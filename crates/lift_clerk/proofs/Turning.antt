@@ -72,7 +72,7 @@ nothing_waits batch is_broken settled whole = ⊎_elim (λ none. none) (λ broke
 pub failed_turn : {D P : Type 0} (desk : List TableId) (choice : Choice) (old new : ClerkState D P) (seat : List ClerkPlace) (decided : State) (answers : List Answer)
     → IsClerkOf desk old.seat
     → (scans : Scans choice old.keeper.writer.plan old.keeper.writer.is_broken old.seat seat old.keeper.state decided answers (length desk))
-    → new.seat ≡ served old.seat scans.visits (replies_told false answers) → All IsReply (replies_told false answers)
+    → new.seat ≡ served old.seat scans.visits (replies_told false answers) → All IsReply (replies_told false answers) → new.desk ≡ old.desk
     → (old.keeper.state.batch ≡ []) ⊎ (old.keeper.writer.is_broken ≡ true)
     → old.keeper.writer.is_broken ≡ false
     → new.keeper.state ≡ decided
@@ -80,12 +80,13 @@ pub failed_turn : {D P : Type 0} (desk : List TableId) (choice : Choice) (old ne
     → new.keeper.writer.doubt ≡ decided.batch
     → decided.register ≡ register_of old.keeper.writer.register decided.batch
     → IsFailedTurn choice old new
-failed_turn desk choice old new seat decided answers seated scans stored in_range settled whole same some doubt register =
+failed_turn desk choice old new seat decided answers seated scans stored in_range same_desk settled whole same some doubt register =
     let commands = commands_of 0 scans.visits in
     let many = many-commands answers commands scans.scanned.terminals in
     record {
       visits = scans.visits;
       replies = replies_told false answers;
+      desk = same_desk;
       serves = serves_all desk old.seat seat new.seat scans.visits answers false scans.count seated scans.scanned stored in_range;
       begins = nothing_waits old.keeper.state.batch old.keeper.writer.is_broken settled whole;
       run = (
@@ -104,18 +105,19 @@ failed_turn desk choice old new seat decided answers seated scans stored in_rang
 pub broken_turn : {D P : Type 0} (desk : List TableId) (choice : Choice) (old new : ClerkState D P) (seat : List ClerkPlace) (answers : List Answer) (between : KeeperView D)
     → IsClerkOf desk old.seat
     → (scans : Scans choice old.keeper.writer.plan old.keeper.writer.is_broken old.seat seat old.keeper.state between.state answers (length desk))
-    → new.seat ≡ served old.seat scans.visits (replies_told false answers) → All IsReply (replies_told false answers)
+    → new.seat ≡ served old.seat scans.visits (replies_told false answers) → All IsReply (replies_told false answers) → new.desk ≡ old.desk
     → old.keeper.writer.is_broken ≡ true
     → between.writer ≡ old.keeper.writer
     → new.keeper ≡ between
     → IsBrokenTurn old new
-broken_turn desk choice old new seat answers between seated scans stored in_range broken writer same =
+broken_turn desk choice old new seat answers between seated scans stored in_range same_desk broken writer same =
     let commands = commands_of 0 scans.visits in
     let many = many-commands answers commands scans.scanned.terminals in
     let rests = rest_of choice old.keeper.writer.plan old.keeper.writer.is_broken old.keeper.state between.state commands (replies_in answers) broken scans.decides in
     record {
       visits = scans.visits;
       replies = replies_told false answers;
+      desk = same_desk;
       serves = serves_all desk old.seat seat new.seat scans.visits answers false scans.count seated scans.scanned stored in_range;
       run = (told_unknown answers commands many, ap (λ k. k.state) same ∙ rests);
       rests = same ∙ same_keeper between old.keeper rests writer;

@@ -2,10 +2,13 @@ pub mod Visits
 pub mod Clerk
 pub mod Turn
 pub mod Scanning
+pub mod Answered
+pub mod Steps
 pub mod Machine
 pub mod Once
 pub mod Laws
 pub mod History
+pub mod Keeping
 pub mod Group
 pub mod Past
 pub mod lemmas

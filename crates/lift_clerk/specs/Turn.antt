@@ -1,14 +1,11 @@
 -- What a turn of the clerk does.
-use Rattle.std.specs.Prelude.{ℕ, ◌≡◌, ◌⊎◌, ◌<◌, List, [], length, Result, Ok, Err}
+use Rattle.std.specs.Prelude.{ℕ, ◌≡◌, ◌<◌, List, [], length, Result, Ok, Err}
 use Rattle.lift_base.specs.declared.command.Reply.{Reply}
-use Rattle.lift_building.specs.Plan.{Plan}
-use Rattle.lift_disk.specs.Disk.{Image}
-use Rattle.lift_register.specs.Register.{RegisterState, register_of}
+use Rattle.lift_register.specs.Register.{register_of}
 use Rattle.lift_policy.specs.Eligible.{Choice}
 use Rattle.lift_policy.specs.Step.{State}
 use Rattle.lift_policy.specs.Run.{Run, FailedRun, RunWhileBroken}
 use Rattle.lift_keeper.specs.declared.fault.KeeperFault.{KeeperFault}
-use Rattle.lift_keeper.specs.Images.{IsImageOf}
 use Rattle.lift_keeper.specs.Keeper.{KeeperView}
 use Rattle.lift_clerk.specs.declared.counts.Counts.{Counts}
 use Rattle.lift_clerk.specs.Visits.{Visit, commands_of, Serves}
@@ -25,6 +22,7 @@ pub record IsTurn {D P : Type 0} (choice : Choice) (old new : ClerkState D P)
   pub visits : List Visit
   pub replies : List Reply
   pub decided : State
+  pub desk : new.desk ≡ old.desk
   pub serves : Serves old.seat new.seat visits replies
   pub begins : old.keeper.state.batch ≡ []
   pub run : Run old.keeper.writer.plan choice old.keeper.state
@@ -39,6 +37,7 @@ pub record IsTurn {D P : Type 0} (choice : Choice) (old new : ClerkState D P)
 pub record IsFailedTurn {D P : Type 0} (choice : Choice) (old new : ClerkState D P) : Type 0 where
   pub visits : List Visit
   pub replies : List Reply
+  pub desk : new.desk ≡ old.desk
   pub serves : Serves old.seat new.seat visits replies
   pub begins : old.keeper.state.batch ≡ []
   pub run : FailedRun old.keeper.writer.plan choice old.keeper.state
@@ -53,6 +52,7 @@ pub record IsFailedTurn {D P : Type 0} (choice : Choice) (old new : ClerkState D
 pub record IsBrokenTurn {D P : Type 0} (old new : ClerkState D P) : Type 0 where
   pub visits : List Visit
   pub replies : List Reply
+  pub desk : new.desk ≡ old.desk
   pub serves : Serves old.seat new.seat visits replies
   pub run : RunWhileBroken old.keeper.state (commands_of 0 visits) replies new.keeper.state
   pub rests : new.keeper ≡ old.keeper
@@ -61,7 +61,3 @@ pub record IsBrokenTurn {D P : Type 0} (old new : ClerkState D P) : Type 0 where
 abbrev pub entries_in : {D : Type 0} → Result Counts KeeperFault → KeeperView D → ℕ
 entries_in (Ok counts) new = counts.accepted
 entries_in (Err fault) new = length new.state.batch
-
--- the image reads as one of these two registers
-abbrev pub IsEither : Plan → RegisterState → RegisterState → Image → Type 0
-IsEither plan before after image = IsImageOf plan before image ⊎ IsImageOf plan after image

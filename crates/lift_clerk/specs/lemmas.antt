@@ -8,4 +8,6 @@ pub mod Asked
 pub mod Turned
 pub mod Reopened
 pub mod Committed
-pub mod Groups
+pub mod Grouped
+pub mod Keeps
+pub mod Based

@@ -1,61 +1,46 @@
 //! What every history of a group leads to, and what every crash then shows.
 
-ghost use Rattle.std.specs.Prelude.{◌≡◌, ◌++◌, false, List, [], Err, IfOk, IfErr};
+ghost use Rattle.std.specs.Prelude.{◌≡◌, ◌++◌, false, List, [], IfOk, IfErr};
 ghost use Rattle.lift_base.specs.declared.history.Entry.{Entry};
 ghost use Rattle.lift_disk.specs.Disk.{MayLeave, LeavesNow};
-ghost use Rattle.lift_register.specs.Register.{empty};
+ghost use Rattle.lift_register.specs.Register.{RegisterState};
 ghost use Rattle.lift_desk.specs.Seats.{IsClerkOf, OwesNothing, clerk_of};
 ghost use Rattle.lift_decider.specs.Decider.{starting};
 ghost use Rattle.lift_journal.specs.Calls.{opening_of};
 ghost use Rattle.lift_keeper.specs.Prelude.{Reopens as Recovers, RefusesReopening, StopsOpening};
 ghost use Rattle.lift_world.specs.declared.event.Taken.{Taken};
-ghost use Rattle.lift_clerk.specs.Once.{TurnsOnce, ReopensOnce};
-ghost use Rattle.lift_clerk.specs.Laws.{CallLaws};
-ghost use Rattle.lift_clerk.specs.History.{History, HistoriesAreRuns, CrashesShowGiven};
-ghost use Rattle.lift_clerk.specs.History.{CrashesInTurnsShowGiven, CrashesInFailuresShowGiven};
-ghost use Rattle.lift_clerk.specs.History.{GoesOnOver, ShowsGiven, ShowsEither, MomentsShow};
-ghost use Rattle.lift_clerk.specs.History.{TurnShows};
+ghost use Rattle.lift_clerk.specs.Steps.{group_of};
+ghost use Rattle.lift_clerk.specs.Once.{TurnsOnce, TurnAdvances, ReopensOnce};
+ghost use Rattle.lift_clerk.specs.History.{History, HistoriesAreRuns, GoesOnOver};
+ghost use Rattle.lift_clerk.specs.Keeping.{Keeps, KeepsNow, CrashesKeep, MomentsStand, MomentsKeep};
 
 use crate::clerk::Clerk;
 use crate::counts::Counts;
-use crate::machine::{
-    crashes_are_the_machines, reopen_once, reopenings_are_the_machines, told_asks_are_found,
-    turn_once, turns_are_the_machines,
-};
+use crate::machine::{laws, reopen_once, turn_once};
 use lift_building::Building;
 use lift_desk::{ClerkSeat, Desk};
 use lift_disk::Disk;
-use lift_journal::JournalFault;
 use lift_keeper::{Keeper, KeeperFault};
 use lift_policy::Policy;
+use lift_world::policies_are_covered;
 
-// What is proved of each call.
-pub(crate) fn call_laws<D: Disk, P: Policy>()
-    ensures { CallLaws D P P.chooses }
+/// Whatever has happened to a group, over all its clerks and their parts, turns, tells, faults,
+/// reopenings and power cuts, some run of the machine leads there, in which just the same commands
+/// were answered. So a crash at any moment leaves an image that reads as the register of what is
+/// safe, or of that with the batch on its way. These entries hold each that was ever acknowledged,
+/// and each letter that was ever given still names its car; and whoever begins over it goes on with
+/// just this.
+pub fn histories_are_runs<D: Disk>()
+    ensures runs { HistoriesAreRuns D }
+    ensures kept { CrashesKeep D }
+    ensures moments { MomentsKeep D D.state }
 {
-    turns_are_the_machines::<D, P>();
-    reopenings_are_the_machines::<D, P>();
-    crashes_are_the_machines::<D, P>();
-    told_asks_are_found::<D, P>();
-}
-
-/// Whatever has happened to a group, over all its clerks, turns, tells, faults, reopenings and
-/// power cuts, some run of the machine leads there, in which just the same commands were answered.
-/// So a crash at any moment leaves an image that reads as the register of what is safe, or of that
-/// with the batch on its way. These entries hold each that was ever acknowledged, and each letter
-/// that was ever given still names its car.
-pub fn histories_are_runs<D: Disk, P: Policy>()
-    ensures runs { HistoriesAreRuns D P P.chooses }
-    ensures between { CrashesShowGiven D P P.chooses }
-    ensures within { CrashesInTurnsShowGiven D P P.chooses }
-    ensures within_failed { CrashesInFailuresShowGiven D P P.chooses }
-{
-    call_laws::<D, P>();
+    laws();
 }
 
 /// A clerk at a new desk, over a device that a crash may have left: the recovery. It writes
-/// nothing. Where the journal is empty a history begins; where its image is one that a crash of an
-/// earlier clerk left, that clerk's goes on.
+/// nothing. Over whatever register the journal holds a history begins; where its image is one that a
+/// crash of an earlier clerk left, that clerk's goes on.
 ///
 /// An `Err` is that of `Keeper::open`, and hands the device back.
 pub fn begin_over<'d, 'b, D: Disk, P: Policy + Drop>(
@@ -81,10 +66,11 @@ pub fn begin_over<'d, 'b, D: Disk, P: Policy + Drop>(
         Recovers building.now (D.state disk) (D.state clerk.keeper.writer.device)
         clerk.keeper.writer.register clerk.keeper.writer.half clerk.keeper.writer.is_second
         clerk.keeper.writer.used) }
-    ensures first { IfOk result (λ clerk. clerk.keeper.writer.register ≡ empty
-        → History P.chooses clerk [] []) }
+    ensures first { IfOk result (λ clerk.
+        History clerk.keeper.writer.register (group_of clerk) [] []) }
     ensures again { IfOk result (λ clerk. (D.state disk).is_honest
-        → GoesOnOver P.chooses building.now (D.state clerk.keeper.writer.device).image clerk) }
+        → GoesOnOver building.now (D.state clerk.keeper.writer.device).image
+        (group_of clerk)) }
     ensures seen { IfOk result (λ clerk. (D.state disk).is_honest
         → MayLeave (D.state disk) (D.state clerk.keeper.writer.device).image) }
     ensures refused { IfErr result (λ err.
@@ -101,43 +87,40 @@ pub fn begin_over<'d, 'b, D: Disk, P: Policy + Drop>(
     Ok(Clerk::new(desk, seat, keeper, policy))
 }
 
-/// Whatever has happened by now, each image that a crash now may leave shows each letter that was
-/// ever given.
+/// Whatever has happened by now, each image that a crash now may leave keeps it: it shows each letter
+/// that was ever given, and a clerk that begins over it goes on with just these answers.
 pub fn crash_shows_letters<D: Disk, P: Policy + Drop>(clerk: &Clerk<'_, '_, D, P>)
-    ensures now { (safe : List Entry) (given : List Taken) → History P.chooses clerk.now safe given
-        → LeavesNow (D.state clerk.now.keeper.writer.device)
-        (ShowsEither clerk.now.keeper.writer.plan safe clerk.now.keeper.writer.doubt given) }
-    // While nothing has failed, it is of just what is safe.
+    ensures now { (base : RegisterState) (safe : List Entry) (given : List Taken)
+        → History base (group_of clerk.now) safe given
+        → KeepsNow base (group_of clerk.now) safe given (D.state clerk.now.keeper.writer.device) }
+    // While nothing has failed, it keeps just what is safe.
     ensures whole { clerk.now.keeper.writer.is_broken ≡ false
-        → (safe : List Entry) (given : List Taken) → History P.chooses clerk.now safe given
+        → (base : RegisterState) (safe : List Entry) (given : List Taken)
+        → History base (group_of clerk.now) safe given
         → LeavesNow (D.state clerk.now.keeper.writer.device)
-        (ShowsGiven clerk.now.keeper.writer.plan safe given) }
+        (Keeps D clerk.now.keeper.writer.plan base safe given) }
 {
-    histories_are_runs::<D, P>();
+    histories_are_runs::<D>();
     let _safe = clerk.keeper().safe_register();
 }
 
-/// One turn. Whatever has happened before it, each image that a crash at any moment of the call may
-/// leave shows each letter that was given until then: it is of what was safe, or of that with the
-/// turn's batch.
+/// One turn. Whatever has happened before it, its batch is safe behind the rest where it answers
+/// Ok, and just its commands were answered. Each image that a crash at any moment of the call may
+/// leave keeps what was given until then: it is of what was safe, or of that with the turn's batch.
+/// From its end on each keeps what the turn answers too.
 pub fn turn_shows_letters<D: Disk, P: Policy + Drop>(
     clerk: &mut Clerk<'_, '_, D, P>,
 ) -> Result<Counts, KeeperFault>
     ensures turn { TurnsOnce
         D.state (P.chooses clerk.old.policy) clerk.old clerk.new result }
-    ensures turns { IfOk result (λ counts.
-        TurnShows P.chooses clerk.old clerk.new counts (D.state clerk.old.keeper.writer.device)
-        (D.state clerk.new.keeper.writer.device)) }
-    ensures fails { result ≡ Err (KeeperFault.Journal JournalFault.Disk)
-        → MomentsShow P.chooses clerk.old clerk.new.keeper.writer.doubt
-        (D.state clerk.old.keeper.writer.device) (D.state clerk.new.keeper.writer.device) }
-    ensures rests { result ≡ Err (KeeperFault.Journal JournalFault.Broken)
-        → MomentsShow P.chooses clerk.old clerk.old.keeper.writer.doubt
-        (D.state clerk.old.keeper.writer.device) (D.state clerk.new.keeper.writer.device) }
+    ensures advances { TurnAdvances
+        D.state (P.chooses clerk.old.policy) clerk.old clerk.new result }
 {
-    histories_are_runs::<D, P>();
-    crash_shows_letters(clerk);
-    turn_once(clerk)
+    histories_are_runs::<D>();
+    policies_are_covered::<P>();
+    let turned = turn_once(clerk);
+    let _safe = clerk.keeper().safe_register();
+    turned
 }
 
 /// One reopening likewise.
@@ -145,9 +128,9 @@ pub fn reopening_shows_letters<D: Disk, P: Policy + Drop>(
     clerk: &mut Clerk<'_, '_, D, P>,
 ) -> Result<(), KeeperFault>
     ensures reopening { ReopensOnce D.state clerk.old clerk.new result }
-    ensures moments { MomentsShow P.chooses clerk.old clerk.old.keeper.writer.doubt
+    ensures moments { MomentsStand (group_of clerk.old) clerk.old.keeper.writer.doubt
         (D.state clerk.old.keeper.writer.device) (D.state clerk.new.keeper.writer.device) }
 {
-    histories_are_runs::<D, P>();
+    histories_are_runs::<D>();
     reopen_once(clerk)
 }

@@ -12,14 +12,9 @@ mod scan;
 
 pub use clerk::Clerk;
 pub use counts::Counts;
-pub use group::{
-    ask_once, hear_once, pasts_are_runs, pasts_go_on, terminals_are_the_machines, turn_goes_on,
-};
+pub use group::{ask_once, calls_are_steps, hear_once, pasts_go_on, turn_goes_on};
 pub use history::{
     begin_over, crash_shows_letters, histories_are_runs, reopening_shows_letters,
     turn_shows_letters,
 };
-pub use machine::{
-    crashes_are_the_machines, reopening_moves_the_machine, reopenings_are_the_machines,
-    told_asks_are_found, turn_moves_the_machine, turns_are_the_machines,
-};
+pub use machine::turns_are_the_machines;

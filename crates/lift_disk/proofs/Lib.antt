@@ -1,5 +1,8 @@
 pub mod Fills
 pub mod Cuts
+mod Passed
+mod OnFile
+mod Synced
 mod Traces
 mod Walks
 pub mod Waiting

@@ -1,5 +1,5 @@
 -- One call more of a device on a file, and of the file.
-use Rattle.std.proofs.Common.{◌≡◌, ◌++◌, ◌*◌, ◌-◌, ◌≤◌, [], ◌∷◌, ℕ, List, length, Some, refl, sym, ◌∙◌, ap, arith}
+use Rattle.std.proofs.Common.{◌≡◌, ◌++◌, ◌*◌, ◌-◌, ◌≤◌, [], ◌∷◌, ℕ, Bool, true, false, List, length, Some, refl, sym, ◌∙◌, ap, arith}
 use Rattle.std.proofs.lemmas.Grind.{merely}
 use Rattle.std.proofs.lemmas.Option.{get_or_from_slice_get, slice_get-get_or}
 use Rattle.std.proofs.Math.ListN.{get_or-append}
@@ -7,8 +7,8 @@ use Rattle.lift_disk.specs.Files.{HasGiven}
 use Rattle.lift_disk.specs.Runs.{GivesRun}
 use Rattle.lift_disk.specs.Trace.{Access}
 use Rattle.lift_disk.specs.Trace.Access.{Read as ReadSector, Write as WriteSector, Sync as SyncSectors}
-use Rattle.lift_disk.specs.FileCalls.{FileCall, in_bytes, without_given}
-use Rattle.lift_disk.specs.FileCalls.FileCall.{Read, ReadSectors, Write, SyncData, SetLength, SyncAll, GetLength}
+use Rattle.lift_disk.specs.FileCalls.{FileCall, in_bytes, sync_calls, without_given}
+use Rattle.lift_disk.specs.FileCalls.FileCall.{Read, ReadSectors, Write, SyncData, SetLength, SyncAll, GetLength, DropCached, Lock}
 
 in_bytes-push : (calls : List Access) (call : Access) → in_bytes (calls ++ call ∷ []) ≡ in_bytes calls ++ in_bytes (call ∷ [])
 in_bytes-push [] call = refl
@@ -16,21 +16,32 @@ in_bytes-push (ReadSector sector ∷ calls) call = ap (λ (l : List FileCall). R
 in_bytes-push (WriteSector sector bytes ∷ calls) call = ap (λ (l : List FileCall). Write (sector * 512) bytes ∷ l) (in_bytes-push calls call)
 in_bytes-push (SyncSectors ∷ calls) call = ap (λ (l : List FileCall). SyncData ∷ l) (in_bytes-push calls call)
 
-without_given-push : (calls : List FileCall) (call : FileCall) → without_given (calls ++ call ∷ []) ≡ without_given calls ++ without_given (call ∷ [])
-without_given-push [] call = refl
-without_given-push (Read offset bytes ∷ calls) call = ap (λ (l : List FileCall). Read offset [] ∷ l) (without_given-push calls call)
-without_given-push (ReadSectors offset run ∷ calls) call = ap (λ (l : List FileCall). Read offset [] ∷ l) (without_given-push calls call)
-without_given-push (Write offset bytes ∷ calls) call = ap (λ (l : List FileCall). Write offset bytes ∷ l) (without_given-push calls call)
-without_given-push (SyncData ∷ calls) call = ap (λ (l : List FileCall). SyncData ∷ l) (without_given-push calls call)
-without_given-push (SetLength bytes ∷ calls) call = ap (λ (l : List FileCall). SetLength bytes ∷ l) (without_given-push calls call)
-without_given-push (SyncAll ∷ calls) call = ap (λ (l : List FileCall). SyncAll ∷ l) (without_given-push calls call)
-without_given-push (GetLength bytes ∷ calls) call = ap (λ (l : List FileCall). GetLength bytes ∷ l) (without_given-push calls call)
+without_given-append : (calls more : List FileCall) → without_given (calls ++ more) ≡ without_given calls ++ without_given more
+without_given-append [] more = refl
+without_given-append (Read offset bytes ∷ calls) more = ap (λ (l : List FileCall). Read offset [] ∷ l) (without_given-append calls more)
+without_given-append (ReadSectors offset run ∷ calls) more = ap (λ (l : List FileCall). Read offset [] ∷ l) (without_given-append calls more)
+without_given-append (Write offset bytes ∷ calls) more = ap (λ (l : List FileCall). Write offset bytes ∷ l) (without_given-append calls more)
+without_given-append (SyncData ∷ calls) more = ap (λ (l : List FileCall). SyncData ∷ l) (without_given-append calls more)
+without_given-append (SetLength bytes ∷ calls) more = ap (λ (l : List FileCall). SetLength bytes ∷ l) (without_given-append calls more)
+without_given-append (SyncAll ∷ calls) more = ap (λ (l : List FileCall). SyncAll ∷ l) (without_given-append calls more)
+without_given-append (GetLength bytes ∷ calls) more = ap (λ (l : List FileCall). GetLength bytes ∷ l) (without_given-append calls more)
+without_given-append (Lock ∷ calls) more = ap (λ (l : List FileCall). Lock ∷ l) (without_given-append calls more)
+without_given-append (DropCached ∷ calls) more = without_given-append calls more
+
+-- a sync of a device is one of its file, whatever is dropped behind it
+pub synced_once : (known : Bool) → without_given (sync_calls known) ≡ in_bytes (SyncSectors ∷ [])
+synced_once true = refl
+synced_once false = refl
+
+pub more_calls : (calls after : List Access) (of_files filed : List FileCall) (call : Access) (more : List FileCall) → without_given of_files ≡ in_bytes calls → after ≡ calls ++ call ∷ [] → filed ≡ of_files ++ more
+    → without_given more ≡ in_bytes (call ∷ []) → without_given filed ≡ in_bytes after
+more_calls calls after of_files filed call more same then filed_more is =
+    ap without_given filed_more ∙ without_given-append of_files more ∙ ap (λ (l : List FileCall). l ++ without_given more) same ∙ ap (λ (l : List FileCall). in_bytes calls ++ l) is
+    ∙ sym (in_bytes-push calls call) ∙ ap in_bytes (sym then)
 
 pub one_more : (calls after : List Access) (of_files filed : List FileCall) (call : Access) (of_file : FileCall) → without_given of_files ≡ in_bytes calls → after ≡ calls ++ call ∷ [] → filed ≡ of_files ++ of_file ∷ []
     → without_given (of_file ∷ []) ≡ in_bytes (call ∷ []) → without_given filed ≡ in_bytes after
-one_more calls after of_files filed call of_file same more filed_more is =
-    ap without_given filed_more ∙ without_given-push of_files of_file ∙ ap (λ (l : List FileCall). l ++ without_given (of_file ∷ [])) same ∙ ap (λ (l : List FileCall). in_bytes calls ++ l) is
-    ∙ sym (in_bytes-push calls call) ∙ ap in_bytes (sym more)
+one_more calls after of_files filed call of_file = more_calls calls after of_files filed call (of_file ∷ [])
 
 -- the last call gave these sectors
 pub given_run : (calls filed : List FileCall) (offset sector count : ℕ) (run rest : List (List ℕ)) → count ≤ length run → offset ≡ sector * 512 → filed ≡ calls ++ ReadSectors offset run ∷ []

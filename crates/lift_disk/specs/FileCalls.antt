@@ -1,6 +1,7 @@
 -- The calls of a file that have succeeded, in their order, and the calls of a device that they
 -- stand for.
-use Rattle.std.specs.Prelude.{◌≡◌, ◌++◌, ◌+◌, ◌*◌, ◌==◌, [], ◌∷◌, ℕ, List, Result, OnOk, OnErr}
+use Rattle.std.specs.Prelude.{◌≡◌, ◌⊎◌, ◌++◌, ◌+◌, ◌*◌, ◌==◌, [], ◌∷◌, ℕ, List, Result, OnOk}
+use Rattle.std.specs.Prelude.{OnErr, Bool, true, false}
 use Rattle.std.specs.Prelude.{refl, cond, get_or, IfOk}
 use Rattle.std.specs.Coded.{Coded, code_by, coded×, coded_ℕ, coded_list}
 use Rattle.lift_disk.specs.Trace.{Access}
@@ -22,6 +23,10 @@ pub data FileCall : Type 0 where
   SyncAll : FileCall
   -- the file's length in bytes, which it told
   GetLength : ℕ → FileCall
+  -- what is read of it from now on is what its disk holds
+  DropCached : FileCall
+  -- the lock that one process has at a time
+  Lock : FileCall
 
 -- how the logic stores a call
 abbrev pub to_parts : FileCall → ℕ × (ℕ × List (List ℕ))
@@ -32,13 +37,17 @@ to_parts (SetLength bytes) = (3, (bytes, []))
 to_parts SyncAll = (4, (0, []))
 to_parts (ReadSectors offset run) = (5, (offset, run))
 to_parts (GetLength bytes) = (6, (bytes, []))
+to_parts DropCached = (7, (0, []))
+to_parts Lock = (8, (0, []))
 
 abbrev pub of_parts : ℕ × (ℕ × List (List ℕ)) → FileCall
 of_parts p = cond (p.0 == 0) (Read p.1.0 (get_or p.1.1 0 []))
     (cond (p.0 == 1) (Write p.1.0 (get_or p.1.1 0 []))
     (cond (p.0 == 2) SyncData
     (cond (p.0 == 3) (SetLength p.1.0)
-    (cond (p.0 == 4) SyncAll (cond (p.0 == 5) (ReadSectors p.1.0 p.1.1) (GetLength p.1.0))))))
+    (cond (p.0 == 4) SyncAll
+    (cond (p.0 == 5) (ReadSectors p.1.0 p.1.1)
+    (cond (p.0 == 6) (GetLength p.1.0) (cond (p.0 == 7) DropCached Lock)))))))
 
 pub there_and_back : (call : FileCall) → of_parts (to_parts call) ≡ call
 there_and_back (Read offset bytes) = refl
@@ -48,6 +57,8 @@ there_and_back (SetLength bytes) = refl
 there_and_back SyncAll = refl
 there_and_back (ReadSectors offset run) = refl
 there_and_back (GetLength bytes) = refl
+there_and_back DropCached = refl
+there_and_back Lock = refl
 
 abbrev pub file_calls_code : Coded (List FileCall)
 file_calls_code = coded_list
@@ -63,7 +74,7 @@ in_bytes (ReadSector sector ∷ calls) = Read (sector * 512) [] ∷ in_bytes cal
 in_bytes (WriteSector sector bytes ∷ calls) = Write (sector * 512) bytes ∷ in_bytes calls
 in_bytes (SyncSectors ∷ calls) = SyncData ∷ in_bytes calls
 
--- these calls, but for the bytes that reads gave
+-- these calls, but for the bytes that reads gave, and for what was dropped behind a sync
 abbrev pub without_given : List FileCall → List FileCall
 without_given [] = []
 without_given (Read offset bytes ∷ calls) = Read offset [] ∷ without_given calls
@@ -73,6 +84,8 @@ without_given (SyncData ∷ calls) = SyncData ∷ without_given calls
 without_given (SetLength bytes ∷ calls) = SetLength bytes ∷ without_given calls
 without_given (SyncAll ∷ calls) = SyncAll ∷ without_given calls
 without_given (GetLength bytes ∷ calls) = GetLength bytes ∷ without_given calls
+without_given (DropCached ∷ calls) = without_given calls
+without_given (Lock ∷ calls) = Lock ∷ without_given calls
 
 -- Exactly one call of a file: this one if it succeeded, else one that failed.
 pub record IsOneCall {F T E : Type 0} (gives : F → FileCall → F → Type 0) (fails : F → F → Type 0)
@@ -86,10 +99,36 @@ pub record IsOneAnswer {F T E : Type 0} (gives : F → FileCall → F → Type 0
   pub made : IfOk result (λ answer. gives old (call answer) new)
   pub failed : OnErr result (fails old new)
 
--- One call more if it succeeded, else one failure more.
-pub record MakesCall {T E : Type 0} (result : Result T E) (call : FileCall)
+-- These calls, one behind the other, lead from one state to another.
+abbrev pub LeadsBy : {F : Type 0} → (gives : F → FileCall → F → Type 0) → List FileCall
+    → (old new : F) → Type 0
+LeadsBy gives [] old new = new ≡ old
+LeadsBy {F} gives (call ∷ calls) old new =
+    (between : F) × gives old call between × LeadsBy gives calls between new
+
+-- the calls of a file by which a device makes safe what was written: where it isn't known that no
+-- call has failed, what is cached is dropped behind the sync
+abbrev pub sync_calls : Bool → List FileCall
+sync_calls true = SyncData ∷ []
+sync_calls false = SyncData ∷ DropCached ∷ []
+
+-- one of these calls has failed, behind those before it, and none was made after it
+abbrev pub FailsIn : {F : Type 0} → (gives : F → FileCall → F → Type 0)
+    → (fails : F → F → Type 0) → List FileCall → (old new : F) → Type 0
+FailsIn gives fails [] old new = ⊥
+FailsIn {F} gives fails (call ∷ calls) old new =
+    fails old new ⊎ (between : F) × gives old call between × FailsIn gives fails calls between new
+
+-- Just these calls, in their order, up to one that fails.
+pub record AreCalls {F T E : Type 0} (gives : F → FileCall → F → Type 0) (fails : F → F → Type 0)
+    (result : Result T E) (calls : List FileCall) (old new : F) : Type 0 where
+  pub made : OnOk result (LeadsBy gives calls old new)
+  pub failed : OnErr result (FailsIn gives fails calls old new)
+
+-- These calls more if all of them succeeded, else one failure more.
+pub record MakesCalls {T E : Type 0} (result : Result T E) (calls : List FileCall)
     (old_calls new_calls : List FileCall) (old_failures new_failures : ℕ) : Type 0 where
-  pub listed : OnOk result (new_calls ≡ old_calls ++ call ∷ [])
+  pub listed : OnOk result (new_calls ≡ old_calls ++ calls)
   pub unfailed : OnOk result (new_failures ≡ old_failures)
   pub unlisted : OnErr result (new_calls ≡ old_calls)
   pub failed : OnErr result (new_failures ≡ old_failures + 1)

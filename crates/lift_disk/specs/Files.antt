@@ -1,45 +1,36 @@
 -- What is said of a device on a real file.
-use Rattle.std.specs.Prelude.{ℕ, ◌≡◌, ◌≤◌, ◌-◌, ◌*◌, ◌/◌, if◌then◌else◌, nat_lt, List, [], ◌∷◌}
-use Rattle.std.specs.Prelude.{◌++◌, false, slice_get, Some, take, Result, OnOk}
-use Rattle.lift_disk.specs.FileCalls.{FileCall}
+use Rattle.std.specs.Prelude.{ℕ, ◌≡◌, ◌↔◌, ◌≤◌, ◌-◌, ◌*◌, List, [], ◌∷◌}
+use Rattle.std.specs.Prelude.{◌++◌, slice_get, Option, Some, take, Result, OnOk, OnErr, Bool, true}
+use Rattle.std.specs.Prelude.{false}
+use Rattle.lift_disk.specs.FileCalls.{FileCall, LeadsBy, sync_calls}
 use Rattle.lift_disk.specs.FileCalls.FileCall.{ReadSectors, GetLength}
-use Rattle.lift_disk.specs.Traced.{making_of, calls_of, failures_of}
+use Rattle.lift_disk.specs.Holding.{on_file, sectors_in}
+use Rattle.lift_disk.specs.Traced.{making_of, calls_of, failures_of, file_of, IsMadeOf}
 use Rattle.lift_disk.specs.Disk.{DiskState}
 use Rattle.lift_disk.specs.declared.sectors.SectorFile.{SectorFile}
-use Rattle.lift_disk.specs.declared.file.FileDisk.{FileDisk}
+use Rattle.lift_disk.specs.declared.told.ToldFile.{Ghosts as Told}
 
--- the whole sectors of so many bytes, as many of them as can be numbered
-abbrev pub sectors_in : ℕ → ℕ
-sectors_in bytes = if nat_lt (bytes / 512) 4294967295 then bytes / 512 else 4294967295
+-- Its sectors, its counts and its calls, a failed one of which is one of its file, over what its
+-- file holds: it is as honest as that.
+abbrev pub sector_file_state_of : {F : Type 0} {told : Told F} → (holds : F → DiskState)
+    → SectorFile F told → DiskState
+sector_file_state_of holds d = on_file (holds (file_of d.file)) d.sectors (failures_of d.file)
+    d.calls.count d.writes.count d.trace.calls
 
--- Its sectors, its counts and its calls: a failed one is one of its file. Nothing shows that it is
--- honest, so nothing is said of what it holds.
-abbrev pub sector_file_state_of : {F : Type 0} → SectorFile F → DiskState
-sector_file_state_of d = record {
-  size = d.sectors;
-  failures = failures_of d.file;
-  calls = d.calls.count;
-  writes = d.writes.count;
-  trace = d.trace.calls;
-  is_honest = ⊥;
-  is_inert = ⊥;
-  image = [];
-  synced = [];
-  is_loose = λ _. ⊥;
-  is_steady = ⊥;
-  settles = λ _ _. ⊥;
-  is_short = false;
-  fails_at = λ _. ⊥;
-  moment = 0;
-  left_since = λ _ _. ⊥;
-}
+-- how many writes it has had
+abbrev pub writes_of : {F : Type 0} {told : Told F} → SectorFile F told → ℕ
+writes_of d = d.writes.count
+
+-- its file
+abbrev pub file_below : {F : Type 0} {told : Told F} → SectorFile F told → F
+file_below d = file_of d.file
 
 -- the calls of its file by which that was made, before those of the device
-abbrev pub making_below : {F : Type 0} → SectorFile F → List FileCall
+abbrev pub making_below : {F : Type 0} {told : Told F} → SectorFile F told → List FileCall
 making_below d = making_of d.file
 
 -- the calls of its file that the device has made, but for those that failed
-abbrev pub calls_below : {F : Type 0} → SectorFile F → List FileCall
+abbrev pub calls_below : {F : Type 0} {told : Told F} → SectorFile F told → List FileCall
 calls_below d = calls_of d.file
 
 -- One of these calls gave these bytes for the sector, by itself or among its neighbours.
@@ -58,19 +49,44 @@ abbrev pub AsksForRun : {T E : Type 0} → (old : List FileCall) → (sector cou
 AsksForRun old sector count run result new =
     OnOk result (new ≡ old ++ ReadSectors (sector * 512) (take count run) ∷ [])
 
--- the same of a file of the system
-abbrev pub file_state_of : FileDisk → DiskState
-file_state_of d = sector_file_state_of d.device
+-- Whether it is known that no call of its file has failed since the last sync that dropped what was
+-- cached. Of a file that was just opened it isn't.
+abbrev pub is_known_steady : {F : Type 0} {told : Told F} → SectorFile F told → Bool
+is_known_steady d = d.is_steady
 
-abbrev pub file_making_of : FileDisk → List FileCall
-file_making_of d = making_below d.device
+-- a call that failed leaves that unknown, and another one changes nothing of it
+pub record KeepsKnown {F T E : Type 0} {told : Told F} (result : Result T E)
+    (old new : SectorFile F told) : Type 0 where
+  pub ok : OnOk result (is_known_steady new ≡ is_known_steady old)
+  pub err : OnErr result (is_known_steady new ≡ false)
 
-abbrev pub file_calls_of : FileDisk → List FileCall
-file_calls_of d = calls_below d.device
+-- A sync: behind it that is known, if it succeeded. Then the calls of the file were one where it was
+-- known before, and else the two by which what is cached is dropped.
+pub record SyncsByCalls {F T E : Type 0} {told : Told F} (result : Result T E)
+    (old new : SectorFile F told) : Type 0 where
+  pub made : OnOk result (calls_below new ≡ calls_below old ++ sync_calls (is_known_steady old))
+  pub ok : OnOk result (is_known_steady new ≡ true)
+  pub err : OnErr result (is_known_steady new ≡ false)
 
--- Its file was there and was not made: it was asked for its length once, before the calls of the
--- device, and the sectors are the whole ones of what it told.
-pub record IsMeasured (d : FileDisk) : Type 0 where
+-- A device on a file that was there and was not made: it was opened, and after these calls asked for
+-- its length, before the calls of the device, and the sectors are the whole ones of what it told. The
+-- device is honest exactly where that file was when it was opened, and has what that held.
+pub record IsMeasured {F : Type 0} {told : Told F} (opens : Option F → Type 0)
+    (gives : F → FileCall → F → Type 0) (holds : F → DiskState) (first : List FileCall)
+    (d : SectorFile F told) : Type 0 where
+  pub file : F
+  pub opened : opens (Some file)
   pub bytes : ℕ
-  pub asked : file_making_of d ≡ GetLength bytes ∷ []
-  pub size : (file_state_of d).size ≡ sectors_in bytes
+  pub led : LeadsBy gives (first ++ GetLength bytes ∷ []) file (file_below d)
+  pub asked : making_below d ≡ first ++ GetLength bytes ∷ []
+  pub size : (sector_file_state_of holds d).size ≡ sectors_in bytes
+  pub honest : (sector_file_state_of holds d).is_honest ↔ (holds file).is_honest
+  pub unknown : is_known_steady d ≡ false
+
+-- A device of so many sectors on a file that was made: the device is honest exactly where that file
+-- was when it was opened.
+pub record IsMadeDevice {F : Type 0} {told : Told F} (opens : Option F → Type 0)
+    (names : F → Type 0) (gives : F → FileCall → F → Type 0) (holds : F → DiskState) (sectors : ℕ)
+    (d : SectorFile F told) : Type 0 where
+  pub made : IsMadeOf opens names gives holds sectors (file_below d)
+  pub honest : (sector_file_state_of holds d).is_honest ↔ (holds made.file).is_honest

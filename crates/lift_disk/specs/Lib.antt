@@ -9,5 +9,6 @@ pub mod Outcomes
 pub mod Faults
 pub mod Files
 pub mod Runs
+pub mod Holding
 pub mod Below
 pub mod lemmas

@@ -10,7 +10,8 @@ use Rattle.lift_disk.specs.Trace.{Access}
 use Rattle.lift_disk.specs.Trace.Access.{Read, Write, Sync}
 use Rattle.lift_disk.specs.FileCalls.{FileCall}
 use Rattle.lift_disk.specs.FileCalls.FileCall.{Read as ReadBytes, Write as WriteBytes, SyncData}
-use Rattle.lift_disk.specs.FileCalls.FileCall.{ReadSectors, SetLength, SyncAll, GetLength}
+use Rattle.lift_disk.specs.FileCalls.FileCall.{ReadSectors, SetLength, SyncAll, GetLength, DropCached}
+use Rattle.lift_disk.specs.FileCalls.FileCall.{Lock}
 use Rattle.lift_disk.specs.Disk.{Image}
 use Rattle.lift_disk.specs.Calls.{Call, writes_of}
 use Rattle.lift_disk.specs.Calls.Call.{Write as Written, Sync as Synced}
@@ -29,6 +30,8 @@ file_call_of called.SyncData = SyncData
 file_call_of (called.SetLength bytes) = SetLength bytes
 file_call_of called.SyncAll = SyncAll
 file_call_of (called.GetLength bytes) = GetLength bytes
+file_call_of called.DropCached = DropCached
+file_call_of called.Lock = Lock
 
 abbrev pub first_after : Change → Image → Image
 first_after (change.First image) first = image.now

@@ -1,18 +1,59 @@
 -- What is known of a file whose calls are listed.
-use Rattle.std.specs.Prelude.{◌≡◌, ℕ, List, Result}
-use Rattle.lift_disk.specs.FileCalls.{FileCall, IsOneCall, MakesCall}
-use Rattle.lift_disk.specs.FileCalls.FileCall.{SetLength, SyncAll}
+use Rattle.std.specs.Prelude.{◌≡◌, ◌↔◌, ◌+◌, ◌-◌, ◌*◌, ◌/◌, ◌++◌, ℕ, zero, suc, List, [], ◌∷◌, Result}
+use Rattle.std.specs.Prelude.{Option, Some, true, min, replicate}
+use Rattle.std.specs.Fs.{new_options, with_create, with_read, with_write}
+use Rattle.std.specs.declared.fs.options.OpenOptions.{OpenOptions}
+use Rattle.lift_disk.specs.Disk.{DiskState}
+use Rattle.lift_disk.specs.Holding.{sectors_in}
+use Rattle.lift_disk.specs.FileCalls.{AreCalls, FileCall, IsOneCall, LeadsBy, MakesCalls}
+use Rattle.lift_disk.specs.FileCalls.FileCall.{Lock, SetLength, SyncAll, Write}
+use Rattle.lift_disk.specs.Runs.{joined}
 use Rattle.lift_disk.specs.declared.traced.TracedFile.{TracedFile}
 
 -- the file itself
 abbrev pub file_of : {F : Type 0} → TracedFile F → F
 file_of f = f.file
 
--- the file was given a length, and then all of it was made safe, by a call each
-abbrev pub IsSized : {F : Type 0} → (gives : F → FileCall → F → Type 0) → (bytes : ℕ)
-    → (old new : F) → Type 0
-IsSized {F} gives bytes old new =
-    (between : F) × gives old (SetLength bytes) between × gives between SyncAll new
+-- how a file is opened that is only looked at
+abbrev pub to_be_read : OpenOptions
+to_be_read = with_read new_options true
+
+-- how one that is there is opened: to be read and written, neither made nor emptied
+abbrev pub to_be_used : OpenOptions
+to_be_used = with_write to_be_read true
+
+-- how one is made, or is opened to be made anew: it isn't emptied yet
+abbrev pub to_be_made : OpenOptions
+to_be_made = with_create to_be_used true
+
+-- one of the writes of a file of so many sectors of zeros: 128 sectors each, the last one the rest
+abbrev pub zero_write : (sectors i : ℕ) → FileCall
+zero_write sectors i = Write (i * 128 * 512)
+    (joined (replicate (min 128 (sectors - i * 128)) (replicate 512 0)))
+
+-- the first so many of them
+abbrev pub zero_writes : (sectors count : ℕ) → List FileCall
+zero_writes sectors zero = []
+zero_writes sectors (suc count) = zero_writes sectors count ++ zero_write sectors count ∷ []
+
+-- The calls by which a file of so many sectors of zeros is made: nothing is done before the lock is
+-- had, and all of it is written, so that it has its room, and made safe.
+abbrev pub making_calls : (sectors : ℕ) → List FileCall
+making_calls sectors =
+    (Lock ∷ SetLength 0 ∷ SetLength (sectors * 512) ∷ [])
+    ++ zero_writes sectors ((sectors + 127) / 128) ++ SyncAll ∷ []
+
+-- A file that was opened so, made by these calls, and then named by its folder for good. It is as
+-- honest as it was when it was opened, and has so many sectors.
+pub record IsMadeOf {F : Type 0} (opens : Option F → Type 0) (names : F → Type 0)
+    (gives : F → FileCall → F → Type 0) (holds : F → DiskState) (sectors : ℕ)
+    (made : F) : Type 0 where
+  pub file : F
+  pub opened : opens (Some file)
+  pub led : LeadsBy gives (making_calls sectors) file made
+  pub named : names made
+  pub honest : (holds made).is_honest ↔ (holds file).is_honest
+  pub size : (holds file).is_honest → (holds made).size ≡ sectors_in (sectors * 512)
 
 -- its calls by which it was made, before those of a device
 abbrev pub making_of : {F : Type 0} → TracedFile F → List FileCall
@@ -30,6 +71,22 @@ failures_of f = f.failures.count
 pub record IsTraced {F T E : Type 0} (gives : F → FileCall → F → Type 0) (fails : F → F → Type 0)
     (result : Result T E) (call : FileCall) (old new : TracedFile F) : Type 0 where
   pub one : IsOneCall gives fails result call (file_of old) (file_of new)
-  pub made : MakesCall result call (calls_of old) (calls_of new) (failures_of old)
+  pub made : MakesCalls result (call ∷ []) (calls_of old) (calls_of new) (failures_of old)
       (failures_of new)
   pub making : making_of new ≡ making_of old
+
+-- Just these calls of the file, up to one that fails: listed if all succeeded, else counted once.
+pub record AreTraced {F T E : Type 0} (gives : F → FileCall → F → Type 0) (fails : F → F → Type 0)
+    (result : Result T E) (calls : List FileCall) (old new : TracedFile F) : Type 0 where
+  pub all : AreCalls gives fails result calls (file_of old) (file_of new)
+  pub made : MakesCalls result calls (calls_of old) (calls_of new) (failures_of old)
+      (failures_of new)
+  pub making : making_of new ≡ making_of old
+
+-- These calls of the file, by which it is made or opened, before those of a device.
+pub record IsMaking {F : Type 0} (gives : F → FileCall → F → Type 0) (calls : List FileCall)
+    (old new : TracedFile F) : Type 0 where
+  pub led : LeadsBy gives calls (file_of old) (file_of new)
+  pub listed : making_of new ≡ making_of old ++ calls
+  pub uncalled : calls_of new ≡ calls_of old
+  pub unfailed : failures_of new ≡ failures_of old

@@ -19,6 +19,8 @@ pub(crate) enum Called<'a> {
     SyncAll,
     /// It told this length.
     GetLength(u64),
+    DropCached,
+    Lock,
 }
 
 #[derive(Drop)]

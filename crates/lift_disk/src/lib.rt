@@ -27,5 +27,5 @@ pub use outcome::Outcome;
 pub use rule::{FaultRule, Flaky, Fuse};
 pub use runs::{Ahead, MOST_AHEAD, RunDisk};
 pub use sectors::SectorFile;
-pub use told::ToldFile;
+pub use told::{HostFile, SystemFile, ToldFile, ToldFiles};
 pub use traced::TracedFile;

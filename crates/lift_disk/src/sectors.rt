@@ -1,17 +1,17 @@
 //! Sectors on a file, by its calls alone.
-ghost use Rattle.std.specs.Prelude.{◌≡◌, ◌*◌, ◌++◌, [], ◌∷◌, OnOk};
-ghost use Rattle.lift_disk.specs.Disk.{MakesRead};
+ghost use Rattle.std.specs.Prelude.{◌≡◌, ◌↔◌, ◌*◌, ◌++◌, [], ◌∷◌, IsTrue, OnOk, false};
+ghost use Rattle.std.proofs.Common.{◌∙◌};
 ghost use Rattle.lift_disk.specs.FileCalls.FileCall.{Read as ReadBytes};
 ghost use Rattle.lift_disk.specs.FileCalls.{in_bytes, without_given};
+ghost use Rattle.lift_disk.specs.Holding.{IsKnownSteady};
 ghost use Rattle.lift_disk.specs.Traced.{calls_of, failures_of, making_of};
 
 use crate::runs::{Ahead, RunDisk};
+use crate::told::ToldFile;
 use crate::trace::{Made, ProofTrace};
 use crate::traced::TracedFile;
 use crate::{Disk, DiskFault};
 use lift_base::ProofCount;
-use std::fs::OpenFile;
-use std::os::unix::fs::FileExt;
 
 pub(crate) const SECTOR_BYTES: u64 = 512;
 
@@ -25,32 +25,45 @@ pub(crate) fn offset_of(sector: u32) -> u64
 /// A device on anything that takes the calls of a file: each of its calls is one of the file's, at
 /// the sector's offset.
 #[derive(Drop)]
-pub struct SectorFile<F: Drop> {
+pub struct SectorFile<F: ToldFile + Drop> {
     file: TracedFile<F>,
     sectors: u32,
+    /// It is known that no call has failed since the last sync that dropped what was cached.
+    is_steady: bool,
     calls: ProofCount,
     writes: ProofCount,
     trace: ProofTrace,
     ghost at_offsets: { without_given file.calls.calls ≡ in_bytes trace.calls },
+    ghost steady: { IsTrue is_steady → (F.holds file.file).is_honest
+        → (F.holds file.file).size ≡ sectors → IsKnownSteady (F.holds file.file) },
 }
 
-impl<F: FileExt + OpenFile + Drop> SectorFile<F> {
-    ghost use Rattle.lift_disk.specs.Files.{sector_file_state_of, making_below, calls_below};
+impl<F: ToldFile + Drop> SectorFile<F> {
+    ghost use Rattle.lift_disk.specs.Files.{sector_file_state_of, file_below, making_below};
+    ghost use Rattle.lift_disk.specs.Files.{calls_below, is_known_steady};
+    ghost use Rattle.lift_disk.specs.Traced.{file_of};
 
     /// So many sectors of a file that was not called yet. It makes no call of it.
     pub fn over(file: TracedFile<F>, sectors: u32) -> SectorFile<F>
         requires { calls_of file ≡ [] }
+        ensures same { file_below result ≡ file_of file }
         ensures making { making_below result ≡ making_of file }
         ensures uncalled { calls_below result ≡ [] }
-        ensures size { (sector_file_state_of result).size ≡ sectors }
-        ensures failures { (sector_file_state_of result).failures ≡ failures_of file }
-        ensures calls { (sector_file_state_of result).calls ≡ 0 }
-        ensures writes { (sector_file_state_of result).writes ≡ 0 }
-        ensures trace { (sector_file_state_of result).trace ≡ [] }
+        ensures size { (sector_file_state_of F.holds result).size ≡ sectors }
+        ensures failures { (sector_file_state_of F.holds result).failures ≡ failures_of file }
+        ensures calls { (sector_file_state_of F.holds result).calls ≡ 0 }
+        ensures writes { (sector_file_state_of F.holds result).writes ≡ 0 }
+        ensures trace { (sector_file_state_of F.holds result).trace ≡ [] }
+        // It is honest exactly where the file is, and where it has so many whole sectors.
+        ensures honest { (sector_file_state_of F.holds result).is_honest
+            ↔ ((F.holds (file_of file)).is_honest × ((F.holds (file_of file)).size ≡ sectors)) }
+        ensures image { (sector_file_state_of F.holds result).image ≡ (F.holds (file_of file)).image }
+        ensures unknown { is_known_steady result ≡ false }
     {
         SectorFile {
             file,
             sectors,
+            is_steady: false,
             calls: ProofCount::new(),
             writes: ProofCount::new(),
             trace: ProofTrace::new(),
@@ -58,33 +71,38 @@ impl<F: FileExt + OpenFile + Drop> SectorFile<F> {
     }
 }
 
-impl<F: FileExt + OpenFile + Drop> Disk for SectorFile<F> {
+impl<F: ToldFile + Drop> Disk for SectorFile<F> {
     ghost use Rattle.lift_disk.specs.Files.{sector_file_state_of, calls_below};
+    ghost use Rattle.lift_disk.specs.Files.{KeepsKnown, SyncsByCalls};
+    ghost use Rattle.lift_disk.specs.Traced.{file_of};
 
-    ghost state = { λ d. sector_file_state_of d };
+    ghost state = { λ d. sector_file_state_of F.holds d };
 
-    ghost whole = { λ d no. absurd no };
+    // these are the bytes that its file gave
+    ghost read_gives = { λ old sector bytes result new. OnOk result (calls_below new
+        ≡ calls_below old ++ ReadBytes (sector * 512) bytes ∷ []) × KeepsKnown result old new };
 
-    ghost counts_now = { λ d no. absurd no };
+    ghost write_gives = { λ old _ _ result new. KeepsKnown result old new };
 
-    ghost only_now = { λ d no. absurd no };
+    // what is cached is dropped behind a sync, unless it is known that this isn't needed
+    ghost sync_gives = { λ old result new. SyncsByCalls result old new };
 
-    ghost may_lose = { λ d no. absurd no };
+    ghost whole = { λ d honest. F.whole (file_of d.file) honest.0 ∙ honest.1 };
+
+    ghost counts_now = { λ d honest. F.counts_now (file_of d.file) honest.0 };
+
+    ghost only_now = { λ d honest. F.only_now (file_of d.file) honest.0 };
+
+    ghost may_lose = { λ d honest. F.may_lose (file_of d.file) honest.0 };
 
     fn sectors(&self) -> u32 {
         self.sectors
     }
 
-    fn read(&mut self, sector: u32, buffer: &mut [u8; 512]) -> Result<(), DiskFault>
-        // of any sector, and beside what each device promises: these are the bytes that its file
-        // gave
-        ensures given { OnOk result (calls_below self.new
-            ≡ calls_below self.old ++ ReadBytes (sector * 512) buffer.new ∷ []) }
-        ensures made { MakesRead result sector (sector_file_state_of self.old)
-            (sector_file_state_of self.new) }
-    {
+    fn read(&mut self, sector: u32, buffer: &mut [u8; 512]) -> Result<(), DiskFault> {
         self.calls = ProofCount::next(&self.calls);
         if self.file.read(buffer, offset_of(sector)).is_err() {
+            self.is_steady = false;
             return Err(DiskFault);
         }
         self.trace = self.trace.then(&Made::Read(u64::from(sector)));
@@ -94,7 +112,9 @@ impl<F: FileExt + OpenFile + Drop> Disk for SectorFile<F> {
     fn write(&mut self, sector: u32, bytes: &[u8; 512]) -> Result<(), DiskFault> {
         self.calls = ProofCount::next(&self.calls);
         self.writes = ProofCount::next(&self.writes);
+        self.file.announce(sector);
         if self.file.write(bytes, offset_of(sector)).is_err() {
+            self.is_steady = false;
             return Err(DiskFault);
         }
         self.trace = self.trace.then(&Made::Write(u64::from(sector), bytes));
@@ -103,15 +123,17 @@ impl<F: FileExt + OpenFile + Drop> Disk for SectorFile<F> {
 
     fn sync(&mut self) -> Result<(), DiskFault> {
         self.calls = ProofCount::next(&self.calls);
-        if self.file.sync().is_err() {
+        if self.file.sync(self.is_steady).is_err() {
+            self.is_steady = false;
             return Err(DiskFault);
         }
+        self.is_steady = true;
         self.trace = self.trace.then(&Made::Sync);
         Ok(())
     }
 }
 
-impl<F: FileExt + OpenFile + Drop> RunDisk for SectorFile<F> {
+impl<F: ToldFile + Drop> RunDisk for SectorFile<F> {
     ghost use Rattle.lift_disk.specs.Files.{AsksForRun, HasGiven, calls_below};
 
     ghost has_given = { λ d. HasGiven (calls_below d) };
@@ -120,12 +142,15 @@ impl<F: FileExt + OpenFile + Drop> RunDisk for SectorFile<F> {
     ghost read_run_gives = { λ old sector count run result new.
         AsksForRun (calls_below old) sector count run result (calls_below new) };
 
-    fn announce(&mut self, _sector: u32) {}
+    fn announce(&mut self, sector: u32) {
+        self.file.announce(sector);
+    }
 
     fn read_run(&mut self, sector: u32, count: usize, buffer: &mut Ahead) -> Result<(), DiskFault> {
         self.calls = ProofCount::next(&self.calls);
         let run = &mut buffer[..count];
         if self.file.read_sectors(run, offset_of(sector)).is_err() {
+            self.is_steady = false;
             return Err(DiskFault);
         }
         self.trace = self.trace.then(&Made::Read(u64::from(sector)));
@@ -135,13 +160,13 @@ impl<F: FileExt + OpenFile + Drop> RunDisk for SectorFile<F> {
     fn write_run(&mut self, sector: u32, run: &[[u8; 512]]) -> Result<(), DiskFault> {
         self.calls = ProofCount::next(&self.calls);
         self.writes = ProofCount::next(&self.writes);
-        let flattened = run.as_flattened();
-        if self.file.write(flattened, offset_of(sector)).is_err() {
+        if self.file.write_sectors(run, offset_of(sector)).is_err() {
+            self.is_steady = false;
             return Err(DiskFault);
         }
         self.trace = self
             .trace
-            .then(&Made::WriteRun(u64::from(sector), flattened));
+            .then(&Made::WriteRun(u64::from(sector), run.as_flattened()));
         Ok(())
     }
 }

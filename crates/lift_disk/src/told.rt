@@ -1,14 +1,28 @@
 //! A file whose calls are told.
-ghost use Rattle.std.specs.Prelude.{⊤};
+ghost use Rattle.std.specs.Prelude.{◌↔◌, ◌≡◌, ◌∷◌, [], ℕ, List, Option, Some, None, ⊤};
+ghost use Rattle.std.specs.Prelude.{IfOk, OnErr, OnOk};
+ghost use Rattle.std.specs.declared.fs.options.OpenOptions.{OpenOptions as Options};
+ghost use Rattle.lift_disk.specs.Disk.{CountsNow, DiskState, IsWhole, LeavesNoOther, MayLose};
 ghost use Rattle.lift_disk.specs.FileCalls.{FileCall, IsOneAnswer, IsOneCall};
 ghost use Rattle.lift_disk.specs.FileCalls.FileCall.{Read, ReadSectors, Write, SyncData};
-ghost use Rattle.lift_disk.specs.FileCalls.FileCall.{GetLength, SetLength, SyncAll};
+ghost use Rattle.lift_disk.specs.FileCalls.FileCall.{DropCached, GetLength, Lock, SetLength};
+ghost use Rattle.lift_disk.specs.FileCalls.FileCall.{SyncAll};
+ghost use Rattle.lift_disk.specs.Holding.{sectors_in};
+ghost use Rattle.lift_disk.specs.Holding.{IsKnownSteady, IsSameFile, OpensSector, Reads, Syncs};
+ghost use Rattle.lift_disk.specs.Holding.{Writes, WritesBack};
+ghost use Rattle.lift_disk.specs.Holding.{nothing_known};
+ghost use Rattle.lift_disk.specs.Runs.{joined};
 
-use std::fs::OpenFile;
-use std::io;
+use std::fs::{File, OpenFile, OpenOptions};
+use std::os::fd::AsRawFd;
 use std::os::unix::fs::FileExt;
+use std::rt::LibcRuntime;
+use std::{fs, io};
 
 /// A file whose calls are told: each step from one state to the next is a call of it.
+///
+/// What it holds is told as of a device of sectors, and whether it is honest: what each call does
+/// to that is promised of an honest file alone. Of a file of the system nothing shows that it is.
 pub trait ToldFile {
     /// This call has succeeded, and leads from one state to the next.
     ghost gives: { Self → FileCall → Self → Type 0 };
@@ -16,66 +30,249 @@ pub trait ToldFile {
     /// A call that has failed leads from one state to the next.
     ghost fails: { Self → Self → Type 0 };
 
-    /// Reads so many bytes as the buffer has from this offset on.
-    fn read_told(&mut self, buffer: &mut [u8], offset: u64) -> io::Result<()>
-        ensures one { IsOneCall gives fails result (Read offset buffer.new) self.old self.new };
+    /// What it holds, by its whole sectors, as many of them as can be numbered.
+    ghost holds: { Self → DiskState };
+
+    /// What was written has reached the disk, or was given up.
+    ghost is_written_back: { Self → Type 0 };
+
+    /// Takes the lock that one process has at a time, or fails at once. It is had until the file
+    /// is closed.
+    fn lock_told(&mut self) -> io::Result<()>
+        ensures one { IsOneCall gives fails result Lock self.old self.new }
+        ensures same { IsSameFile (holds self.old) (holds self.new) };
+
+    /// Says that a sector is to be written. It is no call: from now on a crash may leave any bytes
+    /// at all in the sector, as if its write had begun.
+    fn announce_told(&mut self, sector: u32)
+        ensures opens { OpensSector sector (holds self.old) (holds self.new) };
+
+    /// Reads the sector from this offset on.
+    fn read_told(&mut self, buffer: &mut [u8; 512], offset: u64) -> io::Result<()>
+        ensures one { IsOneCall gives fails result (Read offset buffer.new) self.old self.new }
+        ensures held { Reads result offset (buffer.new ∷ []) (holds self.old) (holds self.new) };
 
     /// Reads so many sectors as the buffer has from this offset on.
     fn read_sectors_told(&mut self, buffer: &mut [[u8; 512]], offset: u64) -> io::Result<()>
         ensures one { IsOneCall gives fails result (ReadSectors offset buffer.new) self.old
-            self.new };
+            self.new }
+        ensures held { Reads result offset buffer.new (holds self.old) (holds self.new) };
 
-    /// Writes these bytes from this offset on.
-    fn write_told(&mut self, bytes: &[u8], offset: u64) -> io::Result<()>
-        ensures one { IsOneCall gives fails result (Write offset bytes.now) self.old self.new };
+    /// Writes this sector from this offset on.
+    fn write_told(&mut self, bytes: &[u8; 512], offset: u64) -> io::Result<()>
+        ensures one { IsOneCall gives fails result (Write offset bytes.now) self.old self.new }
+        ensures held { Writes result offset (bytes.now ∷ []) (holds self.old) (holds self.new) };
 
-    /// By `fdatasync`: the bytes and what is needed to find them, without the file's times.
+    /// Writes these sectors from this offset on.
+    fn write_sectors_told(&mut self, run: &[[u8; 512]], offset: u64) -> io::Result<()>
+        ensures one { IsOneCall gives fails result (Write offset (joined run.now)) self.old
+            self.new }
+        ensures held { Writes result offset run.now (holds self.old) (holds self.new) };
+
+    /// By `fdatasync`: the bytes and what is needed to find them, without the file's times. It is
+    /// relied on where no call has failed since the last sync: a system that failed to write
+    /// something back may never try again, and say Ok.
     fn sync_data_told(&mut self) -> io::Result<()>
-        ensures one { IsOneCall gives fails result SyncData self.old self.new };
+        ensures one { IsOneCall gives fails result SyncData self.old self.new }
+        ensures held { Syncs (IsKnownSteady (holds self.old)) result (holds self.old)
+            (holds self.new) };
+
+    /// By `fdatasync` too, where a call may have failed: what was written is given to the disk.
+    fn write_back_told(&mut self) -> io::Result<()>
+        ensures one { IsOneCall gives fails result SyncData self.old self.new }
+        ensures held { WritesBack result (holds self.old) (holds self.new) }
+        ensures back { OnOk result (is_written_back self.new) };
+
+    /// Drops what is cached, so that what is read from now on is what the disk holds.
+    fn drop_cached_told(&mut self) -> io::Result<()>
+        ensures one { IsOneCall gives fails result DropCached self.old self.new }
+        ensures held { Syncs (is_written_back self.old) result (holds self.old) (holds self.new) };
 
     /// Makes it so many bytes long.
     fn set_length_told(&mut self, bytes: u64) -> io::Result<()>
-        ensures one { IsOneCall gives fails result (SetLength bytes) self.old self.new };
+        ensures one { IsOneCall gives fails result (SetLength bytes) self.old self.new }
+        ensures honest { (holds self.new).is_honest ↔ (holds self.old).is_honest }
+        ensures size { OnOk result ((holds self.old).is_honest
+            → (holds self.new).size ≡ sectors_in bytes) };
 
     /// Makes all of it safe, its length too.
     fn sync_all_told(&mut self) -> io::Result<()>
-        ensures one { IsOneCall gives fails result SyncAll self.old self.new };
+        ensures one { IsOneCall gives fails result SyncAll self.old self.new }
+        ensures held { Syncs (IsKnownSteady (holds self.old)) result (holds self.old)
+            (holds self.new) };
 
     /// How many bytes it has.
     fn length_told(&mut self) -> io::Result<u64>
-        ensures one { IsOneAnswer gives fails result GetLength self.old self.new };
+        ensures one { IsOneAnswer gives fails result GetLength self.old self.new }
+        ensures same { IsSameFile (holds self.old) (holds self.new) }
+        ensures size { IfOk result (λ bytes. (holds self.old).is_honest
+            → (holds self.old).size ≡ sectors_in bytes) };
+
+    /// The image has as many sectors as the file.
+    ghost whole: { (file : Self) → IsWhole (holds file) };
+
+    /// This moment is one of those since an earlier one.
+    ghost counts_now: { (file : Self) → CountsNow (holds file) };
+
+    /// Since this moment there is no other.
+    ghost only_now: { (file : Self) → LeavesNoOther (holds file) };
+
+    /// Sectors that aren't loose are as the last sync left them.
+    ghost may_lose: { (file : Self) → MayLose (holds file) };
 }
 
-impl<F: FileExt + OpenFile> ToldFile for F {
+/// What a file of the system takes beside reads, writes and syncs.
+pub trait HostFile: FileExt + OpenFile {
+    /// Takes the lock that one open file has at a time, or fails at once.
+    fn try_lock(&self) -> io::Result<()>;
+
+    /// Asks the system to forget what it has cached of the file and written to the disk.
+    fn drop_cached(&self) -> io::Result<()>;
+}
+
+impl HostFile for File {
+    fn try_lock(&self) -> io::Result<()> {
+        File::try_lock(self).map_err(io::Error::from)
+    }
+
+    fn drop_cached(&self) -> io::Result<()> {
+        match libc::posix_fadvise(self.as_raw_fd(), 0, 0, libc::POSIX_FADV_DONTNEED) {
+            0 => Ok(()),
+            error => Err(io::Error::from_raw_os_error(error)),
+        }
+    }
+}
+
+/// A file of the system, or what stands for one: nothing is known of what it holds.
+#[derive(Drop)]
+pub struct SystemFile<F> {
+    file: F,
+}
+
+impl<F> SystemFile<F> {
+    /// A file that was opened to be read and written.
+    pub fn over(file: F) -> SystemFile<F> {
+        SystemFile { file }
+    }
+}
+
+impl<F: HostFile> ToldFile for SystemFile<F> {
     ghost gives = { λ _ _ _. ⊤ };
 
     ghost fails = { λ _ _. ⊤ };
 
-    fn read_told(&mut self, buffer: &mut [u8], offset: u64) -> io::Result<()> {
-        self.read_exact_at(buffer, offset)
+    ghost holds = { λ _. nothing_known };
+
+    ghost is_written_back = { λ _. ⊤ };
+
+    ghost whole = { λ _ no. absurd no };
+
+    ghost counts_now = { λ _ no. absurd no };
+
+    ghost only_now = { λ _ no. absurd no };
+
+    ghost may_lose = { λ _ no. absurd no };
+
+    fn lock_told(&mut self) -> io::Result<()> {
+        self.file.try_lock()
+    }
+
+    fn announce_told(&mut self, _sector: u32) {}
+
+    fn read_told(&mut self, buffer: &mut [u8; 512], offset: u64) -> io::Result<()> {
+        self.file.read_exact_at(buffer, offset)
     }
 
     fn read_sectors_told(&mut self, buffer: &mut [[u8; 512]], offset: u64) -> io::Result<()> {
-        self.read_exact_at(buffer.as_flattened_mut(), offset)
+        self.file.read_exact_at(buffer.as_flattened_mut(), offset)
     }
 
-    fn write_told(&mut self, bytes: &[u8], offset: u64) -> io::Result<()> {
-        self.write_all_at(bytes, offset)
+    fn write_told(&mut self, bytes: &[u8; 512], offset: u64) -> io::Result<()> {
+        self.file.write_all_at(bytes, offset)
+    }
+
+    fn write_sectors_told(&mut self, run: &[[u8; 512]], offset: u64) -> io::Result<()> {
+        self.file.write_all_at(run.as_flattened(), offset)
     }
 
     fn sync_data_told(&mut self) -> io::Result<()> {
-        self.sync_data()
+        self.file.sync_data()
+    }
+
+    fn write_back_told(&mut self) -> io::Result<()> {
+        self.file.sync_data()
+    }
+
+    fn drop_cached_told(&mut self) -> io::Result<()> {
+        self.file.drop_cached()
     }
 
     fn set_length_told(&mut self, bytes: u64) -> io::Result<()> {
-        self.set_len(bytes)
+        self.file.set_len(bytes)
     }
 
     fn sync_all_told(&mut self) -> io::Result<()> {
-        self.sync_all()
+        self.file.sync_all()
     }
 
     fn length_told(&mut self) -> io::Result<u64> {
-        Ok(self.metadata()?.len())
+        Ok(self.file.metadata()?.len())
+    }
+}
+
+/// What opens files whose calls are told. A device is proved for each, whatever its call gives: so
+/// its file is one that was opened by the options and at the path that a clause names.
+pub trait ToldFiles {
+    type Told: ToldFile + Drop;
+
+    /// What was given where a file was to be opened by these options at a path.
+    ghost opens: { Self → Options → List ℕ → Option Self.Told → Type 0 };
+
+    /// At this path the folder names this file for good: a power cut doesn't take the name back.
+    ghost names: { Self → List ℕ → Self.Told → Type 0 };
+
+    /// Whether a plain file is at the path.
+    fn is_file_told(&self, path: &str) -> io::Result<bool>;
+
+    /// The file at the path, by these options.
+    fn open_told(&self, how: &OpenOptions, path: &str) -> io::Result<Self::Told>
+        ensures opened { IfOk result (λ file. opens self.now how.now path.now (Some file)) }
+        ensures refused { OnErr result (opens self.now how.now path.now None) };
+
+    /// Makes the folder safe in which this file was made.
+    fn sync_folder_told(&self, path: &str, made: &Self::Told) -> io::Result<()>
+        ensures named { OnOk result (names self.now path.now made.now) };
+}
+
+/// The folder of a path. Where the path is a link it is the link's.
+fn folder_of(path: &str) -> &str {
+    match path.rsplit_once('/') {
+        Some(("", _)) => "/",
+        Some((folder, _)) => folder,
+        None => ".",
+    }
+}
+
+/// Of the host alone: a runtime that is known by its bounds brings its own.
+impl ToldFiles for LibcRuntime {
+    type Told = SystemFile<File>;
+
+    ghost opens = { λ _ _ _ _. ⊤ };
+
+    ghost names = { λ _ _ _. ⊤ };
+
+    fn is_file_told(&self, path: &str) -> io::Result<bool> {
+        Ok(fs::metadata(self, path)?.is_file())
+    }
+
+    fn open_told(&self, how: &OpenOptions, path: &str) -> io::Result<SystemFile<File>> {
+        Ok(SystemFile::over(how.open(self, path)?))
+    }
+
+    fn sync_folder_told(&self, path: &str, _made: &SystemFile<File>) -> io::Result<()> {
+        OpenOptions::new()
+            .read(true)
+            .open(self, folder_of(path))?
+            .sync_all()
     }
 }

@@ -1,22 +1,25 @@
 -- What the worlds of the two parts show, where nothing happens.
+use Rattle.lift_clerk.specs.Answered.{ask_of}
 use Rattle.std.proofs.Common.{ℕ, zero, suc, ◌≡◌, Bool, true, false, List, [], ◌∷◌, ◌++◌, length, map, drop, Some, refl, sym, ap, subst, ◌∙◌, arith}
 use Rattle.std.specs.Prelude.{filter}
+use Rattle.lift_parts.specs.Line.{Tries, tried}
 use Rattle.std.proofs.Math.Seq.{drop-length}
 use Rattle.std.proofs.lemmas.List.{append-nil, length-append, length-map}
 use Rattle.lift_base.specs.declared.history.Entry.{Entry}
+use Rattle.lift_register.specs.Register.{register_of}
 use Rattle.lift_desk.specs.Spelled.{ask_words}
 use Rattle.lift_desk.specs.declared.view.ClerkView.{ClerkView}
 use Rattle.lift_desk.specs.Seats.{ClerkPlace, view_at, ahead_from}
 use Rattle.lift_policy.specs.Step.{State}
 use Rattle.lift_policy.specs.declared.command.Command.{Command}
 use Rattle.lift_world.specs.declared.event.Event.{Event}
-use Rattle.lift_world.specs.World.{World, Batch, start, asks, register_after, state_of, safe_list}
+use Rattle.lift_world.specs.World.{World, Batch, start, asks, state_of, safe_list}
 use Rattle.lift_world.specs.Next.{run, goes}
 use Rattle.lift_world.specs.Headline.{HearsInOrder, QueuesFew, AllAskOneByOne}
 use Rattle.lift_world.specs.Relay.{IsQueueInOrder, IsBetweenScans}
 use Rattle.lift_clerk.specs.Clerk.{ClerkState}
 use Rattle.lift_clerk.specs.Turn.{settled}
-use Rattle.lift_clerk.specs.Machine.{IsReached, IsMachineOf, ShowsWords, ask_of}
+use Rattle.lift_clerk.specs.Machine.{IsReached, IsMachineOf, ShowsWords}
 use Rattle.lift_clerk.specs.lemmas.Turned.{safe_all}
 use Rattle.lift_parts.specs.Batch.{BatchState}
 use Rattle.lift_parts.specs.Allocator.{AllocatorState}
@@ -28,21 +31,21 @@ use Rattle.lift_parts.specs.Tie.{queued_in, on_way, AreQueued, AreDecided, Shows
 -- what holds at each point of a run
 module _ (laws : RelayLaws) (w : World) (reached : IsReached w) where
   pub order : IsQueueInOrder w
-  order = subst IsQueueInOrder reached.1 (laws.in_order w.building reached.0)
+  order = subst IsQueueInOrder reached.1 (laws.in_order w.building w.base reached.0)
 
   pub hears : HearsInOrder w
-  hears = subst HearsInOrder reached.1 (laws.hears w.building reached.0)
+  hears = subst HearsInOrder reached.1 (laws.hears w.building w.base reached.0)
 
   pub few_queued : QueuesFew w
-  few_queued = subst QueuesFew reached.1 (laws.few_queued w.building reached.0)
+  few_queued = subst QueuesFew reached.1 (laws.few_queued w.building w.base reached.0)
 
   pub one_by_one : AllAskOneByOne w
-  one_by_one = subst AllAskOneByOne reached.1 (laws.one_by_one w.building reached.0)
+  one_by_one = subst AllAskOneByOne reached.1 (laws.one_by_one w.building w.base reached.0)
 
-  pub reaches : (events : List Event) (end : World) → goes events w ≡ Some end → end.building ≡ w.building → IsReached end
-  reaches events end e b = (
+  pub reaches : (events : List Event) (end : World) → goes events w ≡ Some end → end.building ≡ w.building → end.base ≡ w.base → IsReached end
+  reaches events end e b s = (
     reached.0 ++ events,
-    ap (λ x. run (reached.0 ++ events) (start x)) b ∙ laws.joined (start w.building) reached.0 events ∙ ap (run events) reached.1 ∙ laws.possible w events end e,
+    ap (λ x. run (reached.0 ++ events) (start x end.base)) b ∙ ap (λ x. run (reached.0 ++ events) (start w.building x)) s ∙ laws.joined (start w.building w.base) reached.0 events ∙ ap (run events) reached.1 ∙ laws.possible w events end e,
   )
 
 -- nothing on its way
@@ -95,7 +98,7 @@ module _ {D P : Type 0} (laws : RelayLaws) (w : World) (clerk : ClerkState D P) 
   same_broken : f.writer.is_broken ≡ clerk.keeper.writer.is_broken
   same_broken = ap (λ (v : Rattle.lift_keeper.specs.Writer.WriterView D). v.is_broken) p.writer
 
-  split_by : (b : Bool) → clerk.keeper.writer.is_broken ≡ b → IsBetweenScans w × (w.queue ≡ []) × (w.due ≡ []) × (register_after (safe_list w) ≡ f.writer.register)
+  split_by : (b : Bool) → clerk.keeper.writer.is_broken ≡ b → IsBetweenScans w × (w.queue ≡ []) × (w.due ≡ []) × (register_of w.base (safe_list w) ≡ f.writer.register)
   split_by false e =
       let k = m.whole e in
       (((laws.parts w).split k.at_rest).0, k.at_rest.nothing_queued, k.at_rest.nothing_due, k.safe ∙ ap (λ (v : Rattle.lift_keeper.specs.Writer.WriterView D). v.register) (sym p.writer))
@@ -103,7 +106,7 @@ module _ {D P : Type 0} (laws : RelayLaws) (w : World) (clerk : ClerkState D P) 
       let k = m.broken e in
       (((laws.parts w).split_broken k.at_rest).0, k.at_rest.nothing_queued, k.at_rest.nothing_due, k.safe ∙ ap (λ (v : Rattle.lift_keeper.specs.Writer.WriterView D). v.register) (sym p.writer))
 
-  there : IsBetweenScans w × (w.queue ≡ []) × (w.due ≡ []) × (register_after (safe_list w) ≡ f.writer.register)
+  there : IsBetweenScans w × (w.queue ≡ []) × (w.due ≡ []) × (register_of w.base (safe_list w) ≡ f.writer.register)
   there = split_by clerk.keeper.writer.is_broken refl
 
   split_whole : f.writer.is_broken ≡ false → RunsWhole w a f []
@@ -155,13 +158,6 @@ module _ {D P : Type 0} (laws : RelayLaws) (w : World) (clerk : ClerkState D P) 
 pub splits_are_no_events : {D P : Type 0} → RelayLaws → SplitsAreNoEvents D P
 splits_are_no_events laws w clerk a f p is m = splits laws w clerk a f p is m
 
--- nothing changes
-pub full_turns : {D P : Type 0} → FullTurnsAreNoEvents D P
-full_turns {D} {P} w a b f counts t m = subst (λ (x : AllocatorState P). IsRelayOf w x f) (sym t.same) m
-
-pub empty_turns : {D P : Type 0} → EmptyTurnsAreNoEvents D P
-empty_turns {D} {P} w a f g result t m = subst (λ (x : FlusherState D). IsRelayOf w a x) (sym t.same) m
-
 -- another allocator that shows the same
 pub record ShowsSame {P : Type 0} (a b : AllocatorState P) : Type 0 where
   pub plan : b.plan ≡ a.plan
@@ -203,6 +199,39 @@ shown_same w a b f plan state seats sent taken m = record {
   };
   broken = m.broken;
 }
+
+-- what is tried and refused shows nothing
+pub full_turns : {D P : Type 0} → FullTurnsAreNoEvents D P
+full_turns {D} {P} w a b f counts t m =
+    shown_same w a b f (ap (λ (x : AllocatorState P). x.plan) t.same) (λ e q. ap (λ (x : AllocatorState P). x.state) t.same) (ap (λ (x : AllocatorState P). length x.seat) t.same)
+    (ap (λ (x : AllocatorState P). x.end.sent ++ x.hand) t.same) (λ n. ap (λ (x : AllocatorState P). (view_at x.seat n).taken) t.same) m
+
+tried_once : {D P : Type 0} (w : World) (a : AllocatorState P) (f : FlusherState D) (tries : Tries) → IsRelayOf w a f → IsRelayOf w a (record f { end = record f.end { tries = tries } })
+tried_once w a f tries m = record {
+  building = m.building;
+  same_plan = m.same_plan;
+  reached = m.reached;
+  between = m.between;
+  nothing_due = m.nothing_due;
+  safe = m.safe;
+  seats = m.seats;
+  waiting = m.waiting;
+  line = m.line;
+  queue = m.queue;
+  words = m.words;
+  whole = λ e. let k = m.whole e in record {
+    between = k.between;
+    state = k.state;
+    accepted = k.accepted;
+    decided = k.decided;
+    register = k.register;
+    no_doubt = k.no_doubt;
+  };
+  broken = λ e. let k = m.broken e in record { between = k.between; doubt = k.doubt; may_be_kept = k.may_be_kept };
+}
+
+pub empty_turns : {D P : Type 0} → EmptyTurnsAreNoEvents D P
+empty_turns {D} {P} w a f g result t m = subst (λ (x : FlusherState D). IsRelayOf w a x) (sym t.same) (tried_once w a f (tried f.end.tries true) m)
 
 pub sendings : {D P : Type 0} → SendingsAreNoEvents D P
 sendings {D} {P} w a b f s m =

@@ -1,4 +1,5 @@
 -- A scan is the machine's.
+use Rattle.lift_clerk.specs.Answered.{AreApart, AreOthers, ask_of}
 use Rattle.std.proofs.Common.{ℕ, zero, suc, ◌≡◌, ◌≢◌, ◌+◌, ◌<◌, ◌≤◌, Bool, true, false, cond, eqb, List, [], ◌∷◌, ◌++◌, length, map, Option, Some, None, refl, sym, ap, subst, ◌∙◌, arith, append_assoc}
 use Rattle.std.specs.Prelude.{filter, count_by, All, Contains}
 use Rattle.std.specs.List.{AllByRecursion, flat_map}
@@ -16,7 +17,7 @@ use Rattle.lift_desk.specs.Rule.{CountTurns, IsAhead}
 use Rattle.lift_desk.specs.Words.{turn_of, last_of, body_bits, ask_word}
 use Rattle.lift_desk.specs.Spelled.{ask_words, IsAsk}
 use Rattle.lift_desk.specs.Steps.{with_taking}
-use Rattle.lift_desk.specs.Seats.{ClerkPlace, no_table, placed_at, view_at, TakesOf}
+use Rattle.lift_desk.specs.Seats.{ClerkPlace, view_at, TakesOf}
 use Rattle.lift_desk.specs.lemmas.WordLists.{last_of-push, turn_of-last_of, CountTurns-front, turn_at_most, turn_is_last}
 use Rattle.lift_policy.specs.Eligible.{Choice}
 use Rattle.lift_policy.specs.Step.{State}
@@ -30,9 +31,9 @@ use Rattle.lift_world.specs.Headline.{AsksOneByOne}
 use Rattle.lift_world.specs.Turns.{AreFound}
 use Rattle.lift_clerk.specs.Turn.{settled}
 use Rattle.lift_clerk.specs.Visits.{Visit, command_at, commands_of, served}
-use Rattle.lift_clerk.specs.Machine.{IsReached, ask_of}
-use Rattle.lift_clerk.specs.lemmas.Lists.{AreOthers, no_asks}
-use Rattle.lift_clerk.specs.lemmas.Served.{AreApart, behind}
+use Rattle.lift_clerk.specs.Machine.{IsReached}
+use Rattle.lift_clerk.specs.lemmas.Lists.{no_asks}
+use Rattle.lift_clerk.specs.lemmas.Served.{behind}
 use Rattle.lift_clerk.specs.lemmas.Standing.{finds_last}
 use Rattle.lift_clerk.specs.lemmas.Words.{asks_both, asks_count}
 use Rattle.lift_clerk.specs.lemmas.Visiting.{taken-new, taken-old}
@@ -42,10 +43,16 @@ use Rattle.lift_parts.specs.Scan.{TakesAt, TakesEach}
 use Rattle.lift_parts.specs.Allocator.{AllocatorState, IsScanTurn}
 use Rattle.lift_parts.specs.Flusher.{FlusherState}
 use Rattle.lift_parts.specs.Laws.{RelayLaws}
-use Rattle.lift_parts.specs.Tie.{command_of, queued_in, on_way, ShowsBoth, IsRelayOf, TakesAsked, Reads, AsksNext, AllAskNext, QueuedHaveRoom, NothingTakenIsNoEvent}
+use Rattle.lift_parts.specs.Tie.{command_of, queued_in, on_way, ShowsBoth, IsRelayOf, TakesAsked, QueuedHaveRoom, NothingTakenIsNoEvent}
 use Rattle.lift_parts.specs.lemmas.Used.{below_is}
 use Rattle.lift_parts.proofs.OneAsk.{bits_small, word_turn, one_ask}
 use Rattle.lift_parts.proofs.Tied.{hears, one_by_one, shown_same, nothing_gathered}
+
+-- each look takes the word of its place's next turn, or nothing
+abbrev pub Reads : List ClerkPlace → List Visit → Type 0
+Reads places [] = Unit {0}
+Reads [] (visit ∷ visits) = ⊥
+Reads (place ∷ places) (visit ∷ visits) = TakesOf place.view visit.word visit.found × Reads places visits
 
 -- ---- what is on its way of a terminal
 module _ (t : ℕ) where
@@ -305,19 +312,6 @@ module _ (laws : RelayLaws) (w : World) (reached : IsReached w) (only : OnlyQueu
       let rest = looks_from (suc first) places visits (λ k t e. same (suc k) t (omega arith)) takes.1
       (λ k t e. subst (TakesAsked w.asked t) (served_behind p places u.word u.found visits k) (asked (suc k) t (omega arith))) in
       ((here.0, rest.0), all_both (command_at first u.found) (commands_of (suc first) visits) here.1 rest.1)
-
-  -- so do those that were asked next
-  pub stands_next : (c : Command) → AsksNext w.asked (ahead c.terminal) c → Stands w c.terminal (s c.terminal).waiting c
-  stands_next c k =
-      let x = s c.terminal in
-      let front : List Command = x.first ++ on_way w c.terminal in
-      let long : length front ≡ length k.before = omega (arith, ap length x.taken, asks_count 1 (map ask_of front), length-map front ask_of, k.as_many) in
-      let last : x.waiting ≡ c ∷ [] = same_behind front k.before x.waiting (c ∷ []) long (sym x.asked ∙ k.asked_is) in
-      stands_where laws w reached only c.terminal (placed_at no_table (ahead c.terminal)) (later c.terminal) x c last
-
-  pub all_next : (places : List ClerkPlace) → ((t : ℕ) → view_at places t ≡ ahead t) → (cs : List Command) → AllAskNext w.asked places cs → AllStand cs
-  all_next places same [] k = tt
-  all_next places same (c ∷ cs) k = (stands_next c (subst (λ (v : ClerkView). AsksNext w.asked v c) (same c.terminal) k.0), all_next places same cs k.1)
 
   -- so they are found
   pub found : (cs : List Command) → length w.queue ≤ 4 → AllStand cs → AreApart cs → AreFound w cs

@@ -1,4 +1,5 @@
 -- What a scan that took something leads to.
+use Rattle.lift_clerk.specs.Answered.{ask_of}
 use Rattle.std.proofs.Common.{ℕ, suc, ◌≡◌, ◌≢◌, ◌+◌, ◌-◌, ◌≤◌, Bool, true, false, List, [], ◌∷◌, ◌++◌, length, map, take, drop, Option, Some, refl, sym, ap, subst, ◌∙◌, arith, append_assoc}
 use Rattle.std.specs.Prelude.{filter}
 use Rattle.std.proofs.Math.Seq.{take-length, drop-length}
@@ -10,6 +11,7 @@ use Rattle.lift_base.specs.declared.command.Reply.{Reply}
 use Rattle.lift_base.specs.declared.history.Entry.{Entry}
 use Rattle.lift_building.specs.Plan.{Plan}
 use Rattle.lift_register.specs.Register.{RegisterState}
+use Rattle.lift_register.specs.Register.{register_of}
 use Rattle.lift_desk.specs.declared.view.ClerkView.{ClerkView}
 use Rattle.lift_desk.specs.Spelled.{ask_words}
 use Rattle.lift_desk.specs.Seats.{ClerkPlace, view_at}
@@ -18,7 +20,7 @@ use Rattle.lift_policy.specs.Step.{State}
 use Rattle.lift_policy.specs.Run.{Run}
 use Rattle.lift_policy.specs.declared.command.Command.{Command}
 use Rattle.lift_world.specs.declared.event.Taken.{Taken as Held}
-use Rattle.lift_world.specs.World.{World, Batch, asks, register_after, state_of, safe_list, batch_of}
+use Rattle.lift_world.specs.World.{World, Batch, asks, state_of, safe_list, batch_of}
 use Rattle.lift_world.specs.Next.{goes}
 use Rattle.lift_world.specs.Policies.{RunsAreAny}
 use Rattle.lift_world.specs.Relay.{IsBetweenScans, flown, allocated, allocator_events}
@@ -26,7 +28,7 @@ use Rattle.lift_world.specs.Turns.{AreFound, with_replies}
 use Rattle.lift_world.specs.lemmas.Ordered.{end_above}
 use Rattle.lift_world.specs.lemmas.Steps.{GoesOn, state_goes_on, steps_go_on}
 use Rattle.lift_clerk.specs.Visits.{commands_of, served}
-use Rattle.lift_clerk.specs.Machine.{IsReached, ask_of}
+use Rattle.lift_clerk.specs.Machine.{IsReached}
 use Rattle.lift_clerk.specs.declared.counts.Counts.{Counts}
 use Rattle.lift_clerk.specs.lemmas.Served.{all_apart}
 use Rattle.lift_clerk.specs.lemmas.Words.{asks_both, asks_count}
@@ -36,9 +38,9 @@ use Rattle.lift_parts.specs.Batch.{BatchState, AreBelow, commands_in, replies_in
 use Rattle.lift_parts.specs.Allocator.{AllocatorState, IsScanTurn}
 use Rattle.lift_parts.specs.Flusher.{FlusherState}
 use Rattle.lift_parts.specs.Laws.{RelayLaws}
-use Rattle.lift_parts.specs.Tie.{held_as, command_of, entries_of, queued_in, on_way, AreQueued, AreDecided, ShowsBoth, RunsWhole, RunsBroken, IsRelayOf, LeadsOn, TakesAsked, AllTakesAsked, Reads, HasRoom, ScansAreAllocations, NextsAreAllocations}
+use Rattle.lift_parts.specs.Tie.{held_as, command_of, entries_of, queued_in, on_way, AreQueued, AreDecided, ShowsBoth, RunsWhole, RunsBroken, IsRelayOf, LeadsOn, TakesAsked, AllTakesAsked, HasRoom, ScansAreAllocations}
 use Rattle.lift_parts.proofs.Tied.{order, reaches}
-use Rattle.lift_parts.proofs.TiedScan.{is_queued, AllStand, looks_from, all_next, found, waits, left, below}
+use Rattle.lift_parts.proofs.TiedScan.{Reads, is_queued, AllStand, looks_from, found, waits, left, below}
 
 -- ---- how far the accepted entries are safe, or in doubt
 module _ (laws : RelayLaws) (w : World) (reached : IsReached w) where
@@ -99,19 +101,19 @@ held_all [] = refl
 held_all (t ∷ taken) = ap (λ (xs : List Held). held_as t ∷ xs) (held_all taken)
 
 -- the register of the decided state is that of all that is accepted then
-runs_go_on : (plan : Plan) (choice : Choice) (prefix : List Entry) (state next : State) (cs : List Command) (rs : List Reply) → GoesOn prefix state → Run plan choice state cs rs next → GoesOn prefix next
-runs_go_on plan choice prefix state next [] [] k r = subst (GoesOn prefix) (sym r) k
-runs_go_on plan choice prefix state next [] (reply ∷ rs) k r = absurd r
-runs_go_on plan choice prefix state next (c ∷ cs) [] k r = absurd r
-runs_go_on plan choice prefix state next (c ∷ cs) (reply ∷ rs) k r =
-    runs_go_on plan choice prefix r.0 next cs rs (steps_go_on plan choice prefix state c.terminal c.number c.body reply r.0 k r.1) r.2
+runs_go_on : (plan : Plan) (choice : Choice) (base : RegisterState) (prefix : List Entry) (state next : State) (cs : List Command) (rs : List Reply) → GoesOn base prefix state → Run plan choice state cs rs next → GoesOn base prefix next
+runs_go_on plan choice base prefix state next [] [] k r = subst (GoesOn base prefix) (sym r) k
+runs_go_on plan choice base prefix state next [] (reply ∷ rs) k r = absurd r
+runs_go_on plan choice base prefix state next (c ∷ cs) [] k r = absurd r
+runs_go_on plan choice base prefix state next (c ∷ cs) (reply ∷ rs) k r =
+    runs_go_on plan choice base prefix r.0 next cs rs (steps_go_on plan choice base prefix state c.terminal c.number c.body reply r.0 k r.1) r.2
 
 pub register_is : (w : World) (choice : Choice) (cs : List Command) (rs : List Reply) (state : State) → IsBetweenScans w → Run w.building choice (state_of w) cs rs state
-    → register_after (w.accepted ++ state.batch) ≡ state.register
+    → register_of w.base (w.accepted ++ state.batch) ≡ state.register
 register_is w choice cs rs state k r =
     let front : take w.sealed w.accepted ≡ w.accepted = ap (λ (n : ℕ). take n w.accepted) k.all_sealed ∙ take-length w.accepted in
-    ap (λ (xs : List Entry). register_after (xs ++ state.batch)) (sym front)
-    ∙ sym (runs_go_on w.building choice (take w.sealed w.accepted) (state_of w) state cs rs (state_goes_on w) r)
+    ap (λ (xs : List Entry). register_of w.base (xs ++ state.batch)) (sym front)
+    ∙ sym (runs_go_on w.building choice w.base (take w.sealed w.accepted) (state_of w) state cs rs (state_goes_on w) r)
 
 -- ---- the events
 allocates : RelayLaws → (w : World) (cs : List Command) (rs : List Reply) (state : State) → cs ≢ [] → IsBetweenScans w → AreFound w cs → Run w.building any_eligible (state_of w) cs rs state
@@ -185,7 +187,7 @@ module _ {D P : Type 0} (laws : RelayLaws) (choice : Choice) (any : RunsAreAny c
       reached = reached;
       between = record { nothing_taken = m.between.nothing_taken; all_sealed = refl };
       nothing_due = m.nothing_due;
-      safe = ap register_after (safe_stays laws w m.reached state.batch) ∙ m.safe;
+      safe = ap (register_of w.base) (safe_stays laws w m.reached state.batch) ∙ m.safe;
       seats = ap (λ (s : List ClerkPlace). length s) t.looked ∙ Rattle.lift_clerk.specs.lemmas.Visiting.length-served a.seat t.visits [] ∙ m.seats;
       waiting = waiting;
       line = t.some some ∙ ap (λ (xs : List BatchState). xs ++ t.batch ∷ []) m.line ∙ append_assoc f.end.received m.waiting (t.batch ∷ []);
@@ -204,10 +206,11 @@ module _ {D P : Type 0} (laws : RelayLaws) (choice : Choice) (any : RunsAreAny c
       given_is = sym (append-nil w.given);
       safe_is = safe_stays laws w m.reached state.batch;
       same_building = refl;
+      same_base = refl;
       answered_is = sym (append-nil w.answered);
       same_asked = refl;
       same_heard = refl;
-      shows = shown (reaches laws w m.reached (allocator_events cs letters) end possible refl) whole broken;
+      shows = shown (reaches laws w m.reached (allocator_events cs letters) end possible refl refl) whole broken;
     }
 
   -- while nothing has failed it is decided by the policy
@@ -246,7 +249,7 @@ module _ {D P : Type 0} (laws : RelayLaws) (choice : Choice) (any : RunsAreAny c
 
   pub shown_here : f.writer.is_broken ≡ false → IsRelayOf (allocated w cs replies t.decided) b f
   shown_here e =
-      shown replies t.decided (same_here e) (reaches laws w m.reached (allocator_events cs (made_here e).0) (allocated w cs replies t.decided) (made_here e).1 refl)
+      shown replies t.decided (same_here e) (reaches laws w m.reached (allocator_events cs (made_here e).0) (allocated w cs replies t.decided) (made_here e).1 refl refl)
       (λ q. whole_here e) (λ q. not_both f.writer.is_broken e q)
 
   -- after a fault what is decided is no matter
@@ -289,8 +292,3 @@ looks_asked laws choice w a b f counts t m asked =
 pub scans_are_allocations : {D P : Type 0} → RelayLaws → (choice : Choice) → RunsAreAny choice → ScansAreAllocations D P choice
 scans_are_allocations laws choice any w a b f counts t some asked room m =
     allocation laws choice any w a b f counts t some (few_before choice w a b f counts t room m) m (looks_asked laws choice w a b f counts t m asked)
-
-pub nexts_are_allocations : {D P : Type 0} → RelayLaws → (choice : Choice) → RunsAreAny choice → NextsAreAllocations D P choice
-nexts_are_allocations laws choice any w a b f counts t some reads asked room m =
-    allocation laws choice any w a b f counts t some (few_before choice w a b f counts t room m) m
-    (reads, all_next laws w m.reached (is_queued w a f m) (λ (n : ℕ). view_at a.seat n) (λ (n : ℕ). view_at f.seat n) m.words a.seat (λ n. refl) (commands_of 0 t.visits) asked)

@@ -77,7 +77,7 @@ module _ {D P : Type 0} (laws : RelayLaws) (w : World) (a : AllocatorState P) (f
   still event e = record {
     building = m.building;
     same_plan = m.same_plan;
-    reached = reaches laws w m.reached (event ∷ []) end (goes_once w end event e) refl;
+    reached = reaches laws w m.reached (event ∷ []) end (goes_once w end event e) refl refl;
     between = record { nothing_taken = m.between.nothing_taken; all_sealed = m.between.all_sealed };
     nothing_due = m.nothing_due;
     safe = m.safe;

@@ -1,8 +1,7 @@
 -- The part that takes and decides, ahead of the answers.
-use Rattle.std.specs.Prelude.{ℕ, ◌≡◌, ◌≢◌, ◌≤◌, ◌+◌, ◌⊎◌, List, [], ◌∷◌, ◌++◌, length}
+use Rattle.std.specs.Prelude.{ℕ, ◌≡◌, ◌≢◌, ◌≤◌, ◌+◌, ◌⊎◌, List, [], ◌∷◌, ◌++◌, length, true, false}
 use Rattle.atomic_table.specs.Seated.{TableId}
 use Rattle.lift_building.specs.Plan.{Plan}
-use Rattle.lift_register.specs.Register.{RegisterState}
 use Rattle.lift_desk.specs.Seats.{ClerkPlace, IsClerkOf}
 use Rattle.lift_policy.specs.Eligible.{Choice}
 use Rattle.lift_policy.specs.Step.{State}
@@ -10,9 +9,9 @@ use Rattle.lift_policy.specs.Run.{Run}
 use Rattle.lift_clerk.specs.declared.counts.Counts.{Counts}
 use Rattle.lift_clerk.specs.Turn.{settled}
 use Rattle.lift_clerk.specs.Visits.{Visit, commands_of, served}
-use Rattle.lift_parts.specs.Batch.{BatchState, after, turns_behind, turns_of, commands_in}
+use Rattle.lift_parts.specs.Batch.{BatchState, turns_behind, turns_of, commands_in}
 use Rattle.lift_parts.specs.Batch.{replies_in, noted_in}
-use Rattle.lift_parts.specs.Line.{SendState, Begins, IsNext, WasFull}
+use Rattle.lift_parts.specs.Line.{SendState, Tries, tried, Begins, IsNext, WasFull}
 use Rattle.lift_parts.specs.Scan.{TakesEach, turns_in, words_of}
 
 pub record AllocatorState (P : Type 0) : Type 0 where
@@ -39,11 +38,10 @@ DecidesAlong plan choice state (batch ∷ batches) last =
     × (batch.entries ≡ decided.batch) × DecidesAlong plan choice (settled decided) batches last
 
 -- where the batches go on from what was sent: behind a batch in hand
-abbrev pub GoesOnBehind : Plan → List TableId → RegisterState → List ℕ → List BatchState
-    → RegisterState → List ℕ → Type 0
+abbrev pub GoesOnBehind : Plan → List TableId → State → List ℕ → List BatchState → State → List ℕ → Type 0
 GoesOnBehind plan desk sent turns [] shown taken = (shown ≡ sent) × (taken ≡ turns)
 GoesOnBehind plan desk sent turns (batch ∷ []) shown taken = IsNext plan desk sent turns batch
-    × (shown ≡ after batch) × (taken ≡ turns_behind batch)
+    × (shown ≡ batch.after) × (taken ≡ turns_behind batch)
 GoesOnBehind plan desk sent turns (batch ∷ other ∷ batches) shown taken = ⊥
 
 -- What is true of every allocator: what was sent, and then the batch in hand, is a run of the
@@ -54,18 +52,24 @@ pub record IsAllocator {P : Type 0} (choice : Choice) (a : AllocatorState P) : T
   pub at_desk : a.end.desk ≡ a.desk
   pub all_sealed : a.state.batch ≡ []
   pub decides : DecidesAlong a.plan choice a.start (a.end.sent ++ a.hand) a.state
-  pub goes_on : GoesOnBehind a.plan a.desk a.end.register a.end.turns a.hand a.state.register
+  pub goes_on : GoesOnBehind a.plan a.desk a.end.state a.end.turns a.hand a.state
       (turns_of a.seat)
   -- each batch took a turn of some terminal
   pub few : length a.end.sent + length a.hand ≤ turns_in a.seat
 
--- The line was full at one moment: nothing is looked at, and the batch stays in hand.
+-- The batch in hand was tried once, and refused, since the line was full at that try: nothing is
+-- looked at, and the batch stays in hand.
 pub record IsFullTurn {P : Type 0} (old new : AllocatorState P) (counts : Counts) : Type 0 where
   pub in_hand : old.hand ≢ []
   pub was_full : WasFull old.end
-  pub same : new ≡ old
+  pub same : new ≡ record old { end = record old.end { tries = tried old.end.tries true } }
   pub taken : counts.taken ≡ 0
   pub accepted : counts.accepted ≡ 0
+
+-- the tries of an end once a batch in hand was sent, if there is one
+abbrev pub tries_behind : List BatchState → Tries → Tries
+tries_behind [] tries = tries
+tries_behind (batch ∷ batches) tries = tried tries false
 
 -- The batch in hand was sent, if there was one. Then each terminal was looked at once, in rising
 -- order, and what was asked there was decided, each command with a note of the word that its look
@@ -88,7 +92,9 @@ pub record IsScanTurn {P : Type 0} (choice : Choice) (old new : AllocatorState P
   pub some : commands_of 0 visits ≢ []
       → new.end.sent ++ new.hand ≡ (old.end.sent ++ old.hand) ++ batch ∷ []
   pub sent : Begins (old.end.sent ++ old.hand) new.end.sent
+  -- a batch stays in hand only where it was tried behind that, and refused
   pub full : new.hand ≢ [] → WasFull new.end
+  pub refused : new.hand ≢ [] → new.end.tries ≡ tried (tries_behind old.hand old.end.tries) true
   pub same_place : (new.desk ≡ old.desk) × (new.plan ≡ old.plan) × (new.policy ≡ old.policy)
       × (new.start ≡ old.start) × (new.end.line ≡ old.end.line)
   pub taken : counts.taken ≡ length (commands_of 0 visits)

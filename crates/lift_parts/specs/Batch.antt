@@ -5,7 +5,7 @@ use Rattle.atomic_table.specs.Seated.{TableId}
 use Rattle.lift_base.specs.declared.command.Reply.{Reply}
 use Rattle.lift_base.specs.declared.history.Entry.{Entry}
 use Rattle.lift_building.specs.Plan.{Plan}
-use Rattle.lift_register.specs.Prelude.{RegisterState, register_of, FitFrom}
+use Rattle.lift_register.specs.Prelude.{register_of, FitFrom}
 use Rattle.lift_desk.specs.Words.{turn_of, last_of, ask_word}
 use Rattle.lift_desk.specs.Spelled.{IsAsk}
 use Rattle.lift_desk.specs.Seats.{ClerkPlace, IsNoteOf}
@@ -13,6 +13,7 @@ use Rattle.lift_policy.specs.declared.command.Command.{Command}
 use Rattle.lift_policy.specs.Eligible.{any_eligible}
 use Rattle.lift_policy.specs.Step.{State}
 use Rattle.lift_policy.specs.Run.{Run}
+use Rattle.lift_clerk.specs.Answered.{AreApart}
 use Rattle.lift_parts.specs.declared.taken.Taken.{Taken}
 
 pub record BatchState : Type 0 where
@@ -20,9 +21,11 @@ pub record BatchState : Type 0 where
   pub commands : List Taken
   -- what was accepted of it
   pub entries : List Entry
-  -- the building and the register that it was decided in and on, and the desk that it was taken at
+  -- the building that it was decided in, what decisions read before it and behind it, and the desk
+  -- that it was taken at
   pub building : Plan
-  pub before : RegisterState
+  pub before : State
+  pub after : State
   pub desk : List TableId
   -- the turn of the last ask that was taken before it, of each terminal
   pub turns : List ℕ
@@ -70,28 +73,28 @@ AreNoted desk turns [] = Unit {0}
 AreNoted desk turns (taken ∷ commands) = IsNoted desk turns taken
     × AreNoted desk (turns_with turns taken) commands
 
--- Its commands with their replies are a run of the rules on the register that it was decided on,
--- and its entries are what that run accepted.
+-- what its commands led to, with what was accepted of them
+abbrev pub decided : BatchState → State
+decided batch = record batch.after { batch = batch.entries }
+
+-- Its commands with their replies are a run of the rules from before it to behind it, which
+-- accepted just its entries.
 pub record IsDecided (batch : BatchState) : Type 0 where
-  pub first : State
-  pub last : State
-  pub on_register : first.register ≡ batch.before
-  pub sealed : first.batch ≡ []
-  pub run : Run batch.building any_eligible first (commands_in batch.commands)
-      (replies_in batch.commands) last
-  pub entries : batch.entries ≡ last.batch
+  pub run : Run batch.building any_eligible batch.before (commands_in batch.commands)
+      (replies_in batch.commands) (decided batch)
+  pub shows : batch.after.register ≡ register_of batch.before.register batch.entries
+  pub sealed : (batch.before.batch ≡ []) × (batch.after.batch ≡ [])
 
 -- What is true of every batch: its entries fit where they were decided, its commands are of
--- terminals of the desk, each has a note of its ask, and its replies and entries are of one run.
+-- terminals of the desk, at most one of each, each has a note of its ask, and its replies and
+-- entries are of one run.
 pub record IsBatch (batch : BatchState) : Type 0 where
-  pub fits : FitFrom batch.building batch.before batch.entries
+  pub fits : FitFrom batch.building batch.before.register batch.entries
+  pub apart : AreApart (commands_in batch.commands)
   pub at_desk : AreBelow (length batch.desk) (commands_in batch.commands)
   pub noted : AreNoted batch.desk batch.turns batch.commands
   pub decided : IsDecided batch
 
--- the register that a batch leads to, and the turns
-abbrev pub after : BatchState → RegisterState
-after batch = register_of batch.before batch.entries
-
+-- the turns that a batch leads to
 abbrev pub turns_behind : BatchState → List ℕ
 turns_behind batch = turns_after batch.turns batch.commands

@@ -15,8 +15,9 @@ use Rattle.lift_clerk.specs.Scanning.{told}
 use Rattle.lift_clerk.specs.Visits.{Visit, FindsAt}
 use Rattle.lift_parts.specs.declared.taken.Taken.{Taken}
 use Rattle.lift_parts.specs.declared.counts.FlushCounts.{FlushCounts}
-use Rattle.lift_parts.specs.Batch.{BatchState, IsDecided}
-use Rattle.lift_parts.specs.Line.{ReceiveState, ReceivesOne, WasEmpty}
+use Rattle.lift_clerk.specs.Answered.{AreApart}
+use Rattle.lift_parts.specs.Batch.{BatchState, IsDecided, AreBelow, commands_in}
+use Rattle.lift_parts.specs.Line.{ReceiveState, ReceivesOne, WasEmpty, tried}
 
 pub record FlusherState (D : Type 0) : Type 0 where
   pub desk : List TableId
@@ -38,7 +39,7 @@ pub record IsFlusher {D : Type 0} (f : FlusherState D) : Type 0 where
   pub seated : IsClerkOf f.desk f.seat
   pub of_building : f.end.building ≡ f.writer.plan
   pub at_desk : f.end.desk ≡ f.desk
-  pub safe : f.writer.is_broken ≡ false → f.writer.register ≡ f.end.register
+  pub safe : f.writer.is_broken ≡ false → f.writer.register ≡ f.end.state.register
   pub settled : IsSettled f.seat f.end.turns
 
 -- a look at the terminal of a command, at most one ask found there
@@ -98,11 +99,12 @@ entries_of (batch ∷ batches) = length batch.entries + entries_of batches
 abbrev pub entries_between : ReceiveState → ReceiveState → ℕ
 entries_between old new = entries_of (drop (length old.received) new.received)
 
--- A turn that received no batch. The line was empty at one moment, and nothing changes.
+-- A turn that received no batch. It tried once to, the line was empty at that try, and nothing else
+-- changes.
 pub record IsEmptyTurn {D : Type 0} (old new : FlusherState D)
     (result : Result FlushCounts KeeperFault) : Type 0 where
   pub was_empty : WasEmpty old.end
-  pub same : new ≡ old
+  pub same : new ≡ record old { end = record old.end { tries = tried old.end.tries true } }
   pub whole : old.writer.is_broken ≡ false → result ≡ Ok (record { batches = 0; answers = 0 })
   pub broken : old.writer.is_broken ≡ true → result ≡ Err (Journal Broken)
 
@@ -118,3 +120,5 @@ pub record IsBatchTurn {D : Type 0} (old new : FlusherState D) (batch : BatchSta
   pub fails : result ≡ Err (Journal Disk)
       → (new.writer.doubt ≡ batch.entries) × (batch.entries ≢ [])
   pub decided : IsDecided batch
+  pub at_desk : AreBelow (length batch.desk) (commands_in batch.commands)
+  pub apart : AreApart (commands_in batch.commands)

@@ -8,8 +8,7 @@ pub mod Parts
 pub mod Turns
 pub mod Laws
 pub mod Tie
-pub mod Words
-pub mod Course
 pub mod History
-pub mod Runs
+pub mod Past
+pub mod Keeping
 pub mod lemmas

@@ -1,9 +1,22 @@
 -- The two ends as contracts see them.
-use Rattle.std.specs.Prelude.{◌≡◌, ℕ, List, [], ◌∷◌, ◌++◌, ◌<◌, ◌≤◌, length}
+use Rattle.std.specs.Prelude.{◌≡◌, ℕ, Bool, true, false, not, List, [], ◌∷◌, ◌++◌, ◌<◌, ◌≤◌, length}
 use Rattle.atomic_table.specs.Seated.{TableId}
 use Rattle.lift_building.specs.Plan.{Plan}
-use Rattle.lift_register.specs.Register.{RegisterState}
-use Rattle.lift_parts.specs.Batch.{BatchState, after, turns_behind}
+use Rattle.lift_policy.specs.Step.{State}
+use Rattle.lift_parts.specs.Batch.{BatchState, turns_behind}
+
+-- An end's tries on its line: whether it has made an odd number of them, and whether the last one
+-- was refused. Each push or pop that is tried counts, and nothing else does.
+pub record Tries : Type 0 where
+  pub odd : Bool
+  pub refused : Bool
+
+abbrev pub no_tries : Tries
+no_tries = record { odd = false; refused = false }
+
+-- one try more, which was refused or went through
+abbrev pub tried : Tries → Bool → Tries
+tried tries refused = record { odd = not tries.odd; refused = refused }
 
 pub record SendState : Type 0 where
   pub line : TableId
@@ -12,9 +25,11 @@ pub record SendState : Type 0 where
   pub gone : List BatchState
   pub building : Plan
   pub desk : List TableId
-  -- the register behind all that was sent, and the turns of the terminals
-  pub register : RegisterState
+  -- what decisions read behind all that was sent, and the turns of the terminals
+  pub state : State
   pub turns : List ℕ
+  -- its pushes
+  pub tries : Tries
 
 pub record ReceiveState : Type 0 where
   pub line : TableId
@@ -23,31 +38,32 @@ pub record ReceiveState : Type 0 where
   pub known : List BatchState
   pub building : Plan
   pub desk : List TableId
-  -- the register behind all that was received, and the turns of the terminals
-  pub register : RegisterState
+  -- what decisions read behind all that was received, and the turns of the terminals
+  pub state : State
   pub turns : List ℕ
+  -- its pops
+  pub tries : Tries
 
 -- the second list goes on where the first ends
 abbrev pub Begins : List BatchState → List BatchState → Type 0
 Begins first whole = (rest : List BatchState) × (whole ≡ first ++ rest)
 
--- the batch was decided in this building, at this desk, on this register, and taken behind these
--- turns
-pub record IsNext (building : Plan) (desk : List TableId) (register : RegisterState)
+-- the batch was decided in this building, at this desk, on this state, and taken behind these turns
+pub record IsNext (building : Plan) (desk : List TableId) (state : State)
     (turns : List ℕ) (batch : BatchState) : Type 0 where
   pub of_building : batch.building ≡ building
   pub at_desk : batch.desk ≡ desk
-  pub on_register : batch.before ≡ register
+  pub on_state : batch.before ≡ state
   pub on_turns : batch.turns ≡ turns
 
--- each of these batches goes on from the register and the turns that those before it leave, from
--- these to those
-abbrev pub GoesOn : Plan → List TableId → RegisterState → List ℕ → List BatchState → RegisterState
+-- each of these batches goes on from the state and the turns that those before it leave, from these
+-- to those
+abbrev pub GoesOn : Plan → List TableId → State → List ℕ → List BatchState → State
     → List ℕ → Type 0
 GoesOn building desk first turns [] last ended = (first ≡ last) × (turns ≡ ended)
 GoesOn building desk first turns (batch ∷ batches) last ended =
     IsNext building desk first turns batch
-    × GoesOn building desk (after batch) (turns_behind batch) batches last ended
+    × GoesOn building desk batch.after (turns_behind batch) batches last ended
 
 -- a new line, which goes on from where this batch was decided
 pub record IsLine (first : BatchState) (sender : SendState) (receiver : ReceiveState) : Type 0 where
@@ -58,8 +74,9 @@ pub record IsLine (first : BatchState) (sender : SendState) (receiver : ReceiveS
     gone = [];
     building = first.building;
     desk = first.desk;
-    register = first.before;
+    state = first.before;
     turns = first.turns;
+    tries = no_tries;
   }
   pub receiver_is : receiver ≡ record {
     line = receiver.line;
@@ -67,31 +84,34 @@ pub record IsLine (first : BatchState) (sender : SendState) (receiver : ReceiveS
     known = [];
     building = first.building;
     desk = first.desk;
-    register = first.before;
+    state = first.before;
     turns = first.turns;
+    tries = no_tries;
   }
 
 -- the batch joins at the back, behind fewer than four that weren't received
 pub record SendsOne (old : SendState) (batch : BatchState) (new : SendState) : Type 0 where
   pub same : (new.line ≡ old.line) × (new.building ≡ old.building) × (new.desk ≡ old.desk)
   pub sends : new.sent ≡ old.sent ++ batch ∷ []
-  pub register : new.register ≡ after batch
+  pub state : new.state ≡ batch.after
   pub turns : new.turns ≡ turns_behind batch
   pub items : List BatchState
   pub few : length items < 4
   pub before : new.sent ≡ new.gone ++ (items ++ batch ∷ [])
   pub later : Begins old.gone new.gone
+  pub tries : new.tries ≡ tried old.tries false
 
 -- the batch leaves at the front, it goes on from what was received, and what is behind it was sent
 pub record ReceivesOne (old : ReceiveState) (batch : BatchState) (new : ReceiveState) : Type 0 where
   pub same : (new.line ≡ old.line) × (new.building ≡ old.building) × (new.desk ≡ old.desk)
-  pub next : IsNext old.building old.desk old.register old.turns batch
+  pub next : IsNext old.building old.desk old.state old.turns batch
   pub receives : new.received ≡ old.received ++ batch ∷ []
-  pub register : new.register ≡ after batch
+  pub state : new.state ≡ batch.after
   pub turns : new.turns ≡ turns_behind batch
   pub known : Begins new.received new.known
   pub few : length new.received ≤ 66060225
   pub later : Begins old.known new.known
+  pub tries : new.tries ≡ tried old.tries false
 
 -- at one moment four of these batches were in the line, and at least what was received by the last
 -- push had left it
@@ -106,3 +126,14 @@ pub record WasFull (s : SendState) : Type 0 where
 -- line
 abbrev pub WasEmpty : ReceiveState → Type 0
 WasEmpty s = Begins s.known s.received
+
+-- The end tried once more to send, and was refused, where the line was full: that try alone
+-- changes anything.
+pub record IsRefused (old new : SendState) : Type 0 where
+  pub tries : new ≡ record old { tries = tried old.tries true }
+  pub was_full : WasFull old
+
+-- It tried once more to receive, where the line was empty.
+pub record FindsNone (old new : ReceiveState) : Type 0 where
+  pub tries : new ≡ record old { tries = tried old.tries true }
+  pub was_empty : WasEmpty old

@@ -18,6 +18,7 @@ pub record AreParts {D P : Type 0} (clerk : ClerkState D P) (a : AllocatorState 
   pub policy : a.policy ≡ clerk.policy
   pub writer : f.writer ≡ clerk.keeper.writer
   pub line : f.end.line ≡ a.end.line
+  pub behind : f.end.state ≡ a.state
   pub nothing_sent : (a.end.sent ≡ []) × (a.end.gone ≡ []) × (f.end.received ≡ [])
       × (f.end.known ≡ []) × (a.hand ≡ [])
 
@@ -41,6 +42,8 @@ pub record IsRejoined {D P : Type 0} (a : AllocatorState P) (f : FlusherState D)
   pub nothing_in_hand : a.hand ≡ []
   pub all_answered : OwesNothing f.seat
   pub all_safe : (f.writer.is_broken ≡ true) ⊎ (a.state.register ≡ f.writer.register)
+  -- what the flusher has received is all that the allocator decides on
+  pub same_state : a.state ≡ f.end.state
   -- not their number alone
   pub same_batches : a.end.sent ≡ f.end.received
 

@@ -9,6 +9,6 @@ use Rattle.lift_parts.specs.Line.{GoesOn}
 pub record Queued (sender : SendState) (receiver : ReceiveState) : Type 0 where
   pub items : List BatchState
   pub in_order : sender.sent ≡ receiver.received ++ items
-  pub goes_on : GoesOn sender.building sender.desk receiver.register receiver.turns items
-      sender.register sender.turns
+  pub goes_on : GoesOn sender.building sender.desk receiver.state receiver.turns items
+      sender.state sender.turns
   pub four : length items ≤ 4

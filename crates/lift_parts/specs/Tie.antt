@@ -1,16 +1,15 @@
 -- What the machine of events is while the two parts run, and which of its events their turns are.
+use Rattle.lift_clerk.specs.Answered.{answer_words, ask_of}
 use Rattle.std.specs.Prelude.{ℕ, ◌≡◌, ◌≢◌, ◌≤◌, ◌+◌, Bool, true, false, List, [], ◌∷◌, ◌++◌, length}
 use Rattle.std.specs.Prelude.{map, filter, count_by, All, IsTrue, Some, Option, Result, Ok, Err}
-use Rattle.std.specs.List.{AllByRecursion, flat_map}
+use Rattle.std.specs.List.{flat_map}
 use Rattle.lift_base.specs.declared.history.Entry.{Entry}
-use Rattle.lift_building.specs.Plan.{IsBuilding}
-use Rattle.lift_disk.specs.Disk.{Image}
-use Rattle.lift_keeper.specs.Images.{IsInDoubt}
+use Rattle.lift_register.specs.Register.{register_of}
 use Rattle.lift_journal.specs.declared.fault.JournalFault.TheVariants.{Disk, Broken}
 use Rattle.lift_desk.specs.declared.view.ClerkView.{ClerkView}
 use Rattle.lift_desk.specs.Rule.{IsAhead}
 use Rattle.lift_desk.specs.Spelled.{ask_words, IsAsk}
-use Rattle.lift_desk.specs.Seats.{ClerkPlace, TakesOf, view_at}
+use Rattle.lift_desk.specs.Seats.{ClerkPlace, view_at}
 use Rattle.lift_policy.specs.Eligible.{Choice}
 use Rattle.lift_policy.specs.declared.command.Command.{Command}
 use Rattle.lift_keeper.specs.declared.fault.KeeperFault.{KeeperFault}
@@ -19,7 +18,7 @@ use Rattle.lift_world.specs.declared.event.Event.{Event}
 use Rattle.lift_world.specs.declared.event.Kept.TheVariants.{WithBatch}
 use Rattle.lift_world.specs.declared.event.Phase.TheVariants.{GateWritten}
 use Rattle.lift_world.specs.declared.event.Taken.{Taken as Held}
-use Rattle.lift_world.specs.World.{World, Batch, asks, is_answer_to, register_after, state_of}
+use Rattle.lift_world.specs.World.{World, Batch, asks, is_answer_to, state_of}
 use Rattle.lift_world.specs.World.{safe_list, batch_of, may_keep}
 use Rattle.lift_world.specs.Next.{next, goes, answer_of, unknown_to}
 use Rattle.lift_world.specs.Beside.{is_of_terminals}
@@ -27,9 +26,8 @@ use Rattle.lift_world.specs.Relay.{IsBetweenScans, IsBetweenFlushes, IsBrokenBet
 use Rattle.lift_world.specs.Relay.{allocator_events, flusher_events, failing_flush, broken_flush}
 use Rattle.lift_clerk.specs.declared.counts.Counts.{Counts}
 use Rattle.lift_clerk.specs.Clerk.{ClerkState}
-use Rattle.lift_clerk.specs.Visits.{Visit, commands_of}
-use Rattle.lift_clerk.specs.Machine.{IsReached, IsMachineOf, Shows, kept_of, ask_of, answer_words}
-use Rattle.lift_clerk.specs.Turn.{IsEither}
+use Rattle.lift_clerk.specs.Visits.{commands_of}
+use Rattle.lift_clerk.specs.Machine.{IsReached, IsMachineOf}
 use Rattle.lift_parts.specs.declared.taken.Taken.{Taken}
 use Rattle.lift_parts.specs.declared.counts.FlushCounts.{FlushCounts}
 use Rattle.lift_parts.specs.Batch.{BatchState, AreBelow, commands_in}
@@ -99,7 +97,7 @@ pub record RunsWhole {D P : Type 0} (w : World) (a : AllocatorState P) (f : Flus
   pub state : state_of w ≡ a.state
   pub accepted : w.accepted ≡ safe_list w ++ entries_of waiting
   pub decided : AreDecided (length (safe_list w)) waiting w.queue
-  pub register : f.writer.register ≡ f.end.register
+  pub register : f.writer.register ≡ f.end.state.register
   pub no_doubt : f.writer.doubt ≡ []
 
 -- After a fault the machine's batch in doubt is the writer's: a crash may keep it. What is decided
@@ -118,7 +116,7 @@ pub record IsRelayOf {D P : Type 0} (w : World) (a : AllocatorState P)
   pub reached : IsReached w
   pub between : IsBetweenScans w
   pub nothing_due : w.due ≡ []
-  pub safe : register_after (safe_list w) ≡ f.writer.register
+  pub safe : register_of w.base (safe_list w) ≡ f.writer.register
   pub seats : length a.seat ≡ length f.seat
   pub waiting : List BatchState
   pub line : a.end.sent ++ a.hand ≡ f.end.received ++ waiting
@@ -137,6 +135,7 @@ pub record LeadsOn {D P : Type 0} (w : World) (events : List Event) (given : Lis
   pub given_is : end.given ≡ w.given ++ given
   pub safe_is : safe_list end ≡ safe
   pub same_building : end.building ≡ w.building
+  pub same_base : end.base ≡ w.base
   pub answered_is : end.answered ≡ w.answered ++ map answer_of given
   pub same_asked : end.asked ≡ w.asked
   pub same_heard : end.heard ≡ w.heard
@@ -220,33 +219,6 @@ ScansAreAllocations D P choice =
     → (letters : List (Option ℕ))
     × LeadsOn w (allocator_events (commands_of 0 t.visits) letters) [] (safe_list w) b f
 
--- each look takes the word of its place's next turn, or nothing
-abbrev pub Reads : List ClerkPlace → List Visit → Type 0
-Reads places [] = Unit {0}
-Reads [] (visit ∷ visits) = ⊥
-Reads (place ∷ places) (visit ∷ visits) = TakesOf place.view visit.word visit.found
-    × Reads places visits
-
--- The command is what its terminal asked behind all that was taken there.
-pub record AsksNext (asked : List Command) (view : ClerkView) (command : Command) : Type 0 where
-  pub before : List Command
-  pub asked_is : filter (asks command.terminal) asked ≡ before ++ command ∷ []
-  pub as_many : length before ≡ length view.taken
-
-abbrev pub AllAskNext : List Command → List ClerkPlace → List Command → Type 0
-AllAskNext asked places commands =
-    AllByRecursion (λ (c : Command). AsksNext asked (view_at places c.terminal) c) commands
-
--- So it is where each look took the word of the next turn, and what that says was asked next.
-abbrev pub NextsAreAllocations : (D P : Type 0) → Choice → Type 0
-NextsAreAllocations D P choice =
-    (w : World) (a b : AllocatorState P) (f : FlusherState D) (counts : Counts)
-    (t : IsScanTurn choice a b counts) → commands_of 0 t.visits ≢ []
-    → Reads a.seat t.visits → AllAskNext w.asked a.seat (commands_of 0 t.visits) → HasRoom b f
-    → IsRelayOf w a f
-    → (letters : List (Option ℕ))
-    × LeadsOn w (allocator_events (commands_of 0 t.visits) letters) [] (safe_list w) b f
-
 -- each ask is found by the flusher's own look
 abbrev pub all_found : ℕ → Bool
 all_found terminal = true
@@ -257,7 +229,7 @@ pub record Flushes {D : Type 0} (f g : FlusherState D) (batch : BatchState)
   pub turn : IsBatchTurn f g batch (Ok counts)
   pub was_whole : f.writer.is_broken ≡ false
   pub is_whole : g.writer.is_broken ≡ false
-  pub register : g.writer.register ≡ g.end.register
+  pub register : g.writer.register ≡ g.end.state.register
   pub no_doubt : g.writer.doubt ≡ []
   pub same_plan : g.writer.plan ≡ f.writer.plan
 
@@ -301,31 +273,3 @@ BrokenFlushesAreBroken D P =
     → FlushesBroken f g batch → ReceivesSent a g → IsRelayOf w a f
     → (q : Batch) × LeadsOn w (broken_flush all_found q)
     (map unknown_to (map held_as batch.commands)) (safe_list w) a g
-
--- What a crash may leave between two turns of the flusher, whatever the allocator has taken or
--- sent, reads as the register of what is safe, or after a fault of that with the batch in doubt. It
--- holds all that was acknowledged, and shows each letter that was given.
-abbrev pub CrashesOfPartsShow : (D P : Type 0) → Type 0
-CrashesOfPartsShow D P = (w : World) (a : AllocatorState P) (f : FlusherState D) (left : Image)
-    → IsBuilding w.building → IsRelayOf w a f
-    → (doubt : IsInDoubt f.writer.plan f.writer.register f.writer.doubt left)
-    → Shows w (kept_of (safe_list w) f.writer.doubt doubt) left
-
--- So it does at any moment of a flusher's turn, of what was given before it: it reads as the
--- register of what was safe, or of that with the turn's batch.
-abbrev pub CrashesInFlushesShow : (D P : Type 0) → Type 0
-CrashesInFlushesShow D P =
-    (w : World) (a : AllocatorState P) (f g : FlusherState D) (batch : BatchState)
-    (counts : FlushCounts) (left : Image) → IsBuilding w.building
-    → Flushes f g batch counts → ReceivesSent a g → IsRelayOf w a f
-    → (either : IsEither f.writer.plan f.writer.register g.end.register left)
-    → Shows w (kept_of (safe_list w) batch.entries either) left
-
--- And of one that the device fails.
-abbrev pub CrashesInFailuresShow : (D P : Type 0) → Type 0
-CrashesInFailuresShow D P =
-    (w : World) (a : AllocatorState P) (f g : FlusherState D) (batch : BatchState) (left : Image)
-    → IsBuilding w.building
-    → FlushFails f g batch → ReceivesSent a g → IsRelayOf w a f
-    → (either : IsEither f.writer.plan f.writer.register g.end.register left)
-    → Shows w (kept_of (safe_list w) batch.entries either) left

@@ -8,7 +8,8 @@ use Rattle.lift_clerk.specs.declared.counts.Counts.{Counts}
 use Rattle.lift_parts.specs.declared.counts.FlushCounts.{FlushCounts}
 use Rattle.lift_parts.specs.Batch.{BatchState}
 use Rattle.lift_parts.specs.Allocator.{AllocatorState, IsAllocation}
-use Rattle.lift_parts.specs.Flusher.{FlusherState, IsEmptyTurn, IsBatchTurn, entries_between}
+use Rattle.lift_parts.specs.Flusher.{FlusherState, IsFlusher, IsEmptyTurn, IsBatchTurn}
+use Rattle.lift_parts.specs.Flusher.{entries_between}
 
 -- The batch in hand, if there is one, was sent behind all that was sent before, and nothing else
 -- changes.
@@ -34,9 +35,10 @@ pub data AllocatorTurns {P : Type 0} (choice : Choice) : AllocatorState P → Al
 -- One turn of a flusher: which batch it received and what it answered, and what its commit did.
 pub record IsFlush {D : Type 0} (state : D
     → DiskState) (old new : FlusherState D) (answer : Result FlushCounts KeeperFault) : Type 0 where
+  pub before : IsFlusher old
   pub turns : IsEmptyTurn old new answer ⊎ ((batch : BatchState) × IsBatchTurn old new batch answer)
   -- it commits what it received, which leads to the register at its end of the line
-  pub commits : CommitsTo state old.writer (entries_between old.end new.end) new.end.register
+  pub commits : CommitsTo state old.writer (entries_between old.end new.end) new.end.state.register
       new.writer answer
   pub same : (new.desk ≡ old.desk) × (new.end.line ≡ old.end.line)
 

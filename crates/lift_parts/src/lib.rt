@@ -8,4 +8,6 @@ mod tie;
 
 pub use counts::FlushCounts;
 pub use taken::Taken;
-pub use tie::{relays_are_the_machines, runs_are_histories};
+pub use tie::{
+    flushes_are_steps, parts_are_clerks, relays_are_the_machines, turns_keep_what_was_given,
+};

@@ -2,22 +2,25 @@
 use Rattle.std.proofs.Common.{ℕ, Option, List, refl, inl, inr}
 use Rattle.clap.specs.Words.{Text}
 use Rattle.lift_program.specs.Ends.{IsEndFor, IsEndOf, WritesFor}
+use Rattle.lift_program.specs.Images.{ImageFiles}
 use Rattle.lift_program.specs.Words.{Asks}
 use Rattle.lift_program.specs.declared.end.End.{End}
-use Rattle.lift_program.specs.declared.end.End.TheVariants.{Replayed, Formatted, Shown, Served, Failed, OtherWords}
+use Rattle.lift_program.specs.declared.end.End.TheVariants.{Replayed, Formatted, Shown, Served, Failed, Unshown, Unserved, OtherWords}
 use Rattle.lift_program.specs.declared.fault.Fault.TheVariants.{Memory}
 use Rattle.lift_program.specs.declared.words.Request.{Request}
 
 -- an end of what the words ask for
-pub asked_end : (input : Option (List ℕ)) (words : List Text) (before after : Option (List ℕ)) (end : End) (request : Request) → Asks words request → IsEndFor request end
-    → WritesFor input request before after → IsEndOf input words before after end
-asked_end input words before after (Replayed verdict) request asks is writes = inr (request, asks, is, writes)
-asked_end input words before after (Formatted disk) request asks is writes = inr (request, asks, is, writes)
-asked_end input words before after (Shown disk) request asks is writes = inr (request, asks, is, writes)
-asked_end input words before after (Served port fault) request asks is writes = inr (request, asks, is, writes)
-asked_end input words before after (Failed fault) request asks is writes = inr (request, asks, is, writes)
-asked_end input words before after OtherWords request asks is writes = absurd is
+pub asked_end : (files : ImageFiles) (input : Option (List ℕ)) (words : List Text) (before after : Option (List ℕ)) (end : End files.Made files.Shown files.Served) (request : Request) → Asks words request → IsEndFor files request before after end
+    → WritesFor files input request before after → IsEndOf files input words before after end
+asked_end files input words before after (Replayed verdict) request asks is writes = inr (request, asks, is, writes)
+asked_end files input words before after (Formatted disk) request asks is writes = inr (request, asks, is, writes)
+asked_end files input words before after (Shown disk) request asks is writes = inr (request, asks, is, writes)
+asked_end files input words before after (Served port fault left ended) request asks is writes = inr (request, asks, is, writes)
+asked_end files input words before after (Failed fault) request asks is writes = inr (request, asks, is, writes)
+asked_end files input words before after (Unshown fault left) request asks is writes = inr (request, asks, is, writes)
+asked_end files input words before after (Unserved fault left) request asks is writes = inr (request, asks, is, writes)
+asked_end files input words before after OtherWords request asks is writes = absurd is
 
 -- memory was wanting for the words
-pub unread_words : (input : Option (List ℕ)) (words : List Text) (written : Option (List ℕ)) → IsEndOf input words written written (Failed Memory)
-unread_words input words written = inl (refl, refl)
+pub unread_words : (files : ImageFiles) (input : Option (List ℕ)) (words : List Text) (written : Option (List ℕ)) → IsEndOf files input words written written (Failed Memory)
+unread_words files input words written = inl (refl, refl)

@@ -1,5 +1,5 @@
 -- What the faults of each stage are to a whole command.
-use Rattle.std.proofs.Common.{◌≡◌, ◌≢◌, ◌≤◌, ◌+◌, ◌*◌, ◌∙◌, ℕ, List, Option, length, false, refl, sym, subst, inl, inr, arith}
+use Rattle.std.proofs.Common.{◌≡◌, ◌≢◌, ◌≤◌, ◌+◌, ◌*◌, ◌∙◌, ℕ, List, [], Option, length, false, refl, sym, subst, inl, inr, arith}
 use Rattle.lift_building.specs.Describes.{IsTextOf}
 use Rattle.lift_building.specs.Gives.{IsFirstFault}
 use Rattle.lift_building.specs.Plan.{Plan, shape_of}
@@ -8,18 +8,23 @@ use Rattle.lift_building.specs.declared.fault.BuildingFault.TheVariants.{NotToml
 use Rattle.lift_disk.specs.Disk.{DiskState}
 use Rattle.lift_journal.specs.Calls.{format_calls}
 use Rattle.lift_journal.specs.declared.fault.JournalFault.TheVariants.{Disk, NotFormatted, Damaged, Full, Broken}
+use Rattle.lift_decider.specs.Decider.{starting}
 use Rattle.lift_keeper.specs.Keeper.{KeeperView}
 use Rattle.lift_keeper.specs.Reopening.{RefusesReopening, Reopens}
 use Rattle.lift_keeper.specs.declared.fault.KeeperFault.{KeeperFault}
 use Rattle.lift_keeper.specs.declared.fault.KeeperFault.TheVariants.{Journal as OfJournal, OtherBuilding, BadEntry}
-use Rattle.lift_program.specs.Images.{IsOnlyRead, IsToBeServed, IsToBeShown, ServedImage, ShownImage, served_state_of, shown_file_of, shown_state_of}
-use Rattle.lift_disk.specs.Below.{below}
-use Rattle.lift_disk.specs.Files.{IsMeasured, file_state_of}
-use Rattle.lift_disk.specs.declared.file.FileDisk.{FileDisk}
-use Rattle.lift_program.specs.Ends.{IsFileFault, IsFormatFault, IsMadeWith, IsReplayFault, IsReportOfFault, IsServeFault, IsShowFault, IsShowingFault}
+use Rattle.std.specs.declared.fs.options.OpenOptions.{OpenOptions}
+use Rattle.lift_disk.specs.FileCalls.{FileCall}
+use Rattle.lift_disk.specs.Files.{IsMeasured, sector_file_state_of}
+use Rattle.lift_disk.specs.declared.told.ToldFile.{Ghosts as Told}
+use Rattle.lift_disk.specs.declared.sectors.SectorFile.{SectorFile}
+use Rattle.lift_program.specs.Images.{ImageFiles, IsOpened}
+use Rattle.lift_program.specs.Ends.{IsFileFault, IsFormatFault, IsMadeWith, IsReplayFault, IsReportOfFault, IsShowingFault}
 use Rattle.lift_program.specs.Faults.{of_building}
 use Rattle.lift_program.specs.Showing.{IsOpeningFault, ShowsFront, ShowsPart}
-use Rattle.lift_program.specs.Stages.{HasBuilding, HasKeeperOf, HasNoKeeperOf, IsBuildingFault, IsKeeperFault, OpensJournal, ReadsBuilding, most_text}
+use Rattle.lift_program.specs.Stages.{HasBuilding, HasKeeperOf, HasNoKeeperOf, HasRecovered, IsBuildingFault, IsLeftAs, IsUndone, IsUnkept, IsUnopenedFault, ReadsBuilding, StopsOver, most_text}
+use Rattle.lift_program.specs.declared.left.Undone.{Undone}
+use Rattle.lift_program.specs.declared.left.Undone.TheVariants.{Unopened, Opened}
 use Rattle.lift_program.proofs.Writing.{part_shown}
 use Rattle.lift_program.specs.declared.fault.Fault.{Fault}
 use Rattle.lift_program.specs.declared.fault.Fault.TheVariants.{Building, Journal, File, Memory, Network, Thread}
@@ -48,22 +53,20 @@ building_no_file (NoRoom no_memory) same = cc
 pub has_building : (plan : Plan) (text : List ℕ) → length text ≤ most_text → IsTextOf text plan → HasBuilding plan
 has_building plan text short described = record { text = text; short = short; described = described }
 
-pub has_keeper : (plan : Plan) (opened : ServedImage) (keeper : KeeperView ServedImage) → (served_state_of opened).calls ≡ 0 → (served_state_of opened).failures ≡ 0
-    → (file_state_of (below opened)).calls ≡ 0 → IsMeasured (below opened)
-    → Reopens plan (served_state_of opened) (served_state_of keeper.writer.device) keeper.writer.register keeper.writer.half keeper.writer.is_second keeper.writer.used
-    → keeper.writer.is_broken ≡ false → keeper.writer.plan ≡ plan → HasKeeperOf plan keeper
-has_keeper plan opened keeper uncalled unhurt untouched measured recovers whole own =
-    record { opened = opened; fresh = record { uncalled = uncalled; unhurt = unhurt; untouched = untouched; measured = measured }; recovers = recovers; whole = whole; own = own }
+pub has_keeper : (files : ImageFiles) (path : List ℕ) (plan : Plan) (opened : files.Served) (keeper : KeeperView files.Served) → files.is_to_be_served path opened
+    → Reopens plan (files.served_state opened) (files.served_state keeper.writer.device) keeper.writer.register keeper.writer.half keeper.writer.is_second keeper.writer.used
+    → keeper.state ≡ starting keeper.writer.register → keeper.writer.is_broken ≡ false → keeper.writer.doubt ≡ [] → keeper.writer.plan ≡ plan → HasKeeperOf files path plan keeper
+has_keeper files path plan opened keeper fresh recovers starts whole no_doubt own =
+    record { opened = opened; fresh = fresh; recovers = recovers; starts = starts; whole = whole; no_doubt = no_doubt; own = own }
 
-pub has_no_keeper : (plan : Plan) (opened left : ServedImage) (fault : KeeperFault) → (served_state_of opened).calls ≡ 0 → (served_state_of opened).failures ≡ 0
-    → (file_state_of (below opened)).calls ≡ 0 → IsMeasured (below opened)
-    → RefusesReopening plan (served_state_of opened) (served_state_of left) fault → HasNoKeeperOf ServedImage IsToBeServed served_state_of plan fault
-has_no_keeper plan opened left fault uncalled unhurt untouched measured refused =
-    record { opened = opened; fresh = record { uncalled = uncalled; unhurt = unhurt; untouched = untouched; measured = measured }; left = left; refused = refused }
+pub has_no_keeper : {D : Type 0} (is_fresh : D → Type 0) (state : D → DiskState) (plan : Plan) (opened left told : D) (refusal : KeeperFault) → told ≡ left → is_fresh opened
+    → RefusesReopening plan (state opened) (state left) refusal → HasNoKeeperOf D is_fresh state plan (Journal refusal) told
+has_no_keeper {D} is_fresh state plan opened left told refusal same fresh refused =
+    subst (λ (d : D). HasNoKeeperOf D is_fresh state plan (Journal refusal) d) (sym same) (record { opened = opened; fresh = fresh; refusal = refusal; is_refusal = refl; refused = refused })
 
 -- what the making of a journal leaves
-pub is_made : (plan : Plan) (half : ℕ) (disk : FileDisk) → HasBuilding plan → (file_state_of disk).trace ≡ format_calls (shape_of plan half)
-    → (file_state_of disk).size ≡ 2 + 2 * half → (file_state_of disk).calls ≡ 5 → (file_state_of disk).writes ≡ 3 → (file_state_of disk).failures ≡ 0
+pub is_made : (plan : Plan) (half : ℕ) (disk : DiskState) → HasBuilding plan → disk.trace ≡ format_calls (shape_of plan half)
+    → disk.size ≡ 2 + 2 * half → disk.calls ≡ 5 → disk.writes ≡ 3 → disk.failures ≡ 0
     → IsMadeWith half disk
 is_made plan half disk has made size calls writes failures =
     record { plan = plan; building = has; made = made; size = size; calls = calls; writes = writes; failures = failures }
@@ -71,23 +74,10 @@ is_made plan half disk has made size calls writes failures =
 pub reads_building : (plan : Plan) → HasBuilding plan → ReadsBuilding
 reads_building plan has = (plan, has)
 
-pub opens_journal : (plan : Plan) (keeper : KeeperView ServedImage) → HasBuilding plan → HasKeeperOf plan keeper → OpensJournal
-opens_journal plan keeper has opened = (plan, keeper, has, opened)
-
--- the image's file, or want of memory
-pub image_keeps : (plan : Plan) (fault : Fault) → IsFileFault OfImage fault → IsKeeperFault plan fault
-image_keeps plan fault (inl is) = subst (IsKeeperFault plan) (sym is) tt
-image_keeps plan fault (inr is) = subst (IsKeeperFault plan) (sym is) tt
-
 -- the building's file, or want of memory
 pub file_refuses : (fault : Fault) → IsFileFault OfBuilding fault → IsBuildingFault fault
 file_refuses fault (inl is) = subst IsBuildingFault (sym is) tt
 file_refuses fault (inr is) = subst IsBuildingFault (sym is) tt
-
--- the standard output behind the recovery, or want of memory
-pub output_serves : (plan : Plan) (keeper : KeeperView ServedImage) (fault : Fault) → HasBuilding plan → HasKeeperOf plan keeper → IsFileFault Output fault → IsServeFault fault
-output_serves plan keeper fault has opened (inl is) = subst IsServeFault (sym is) (plan, keeper, has, opened)
-output_serves plan keeper fault has opened (inr is) = subst IsServeFault (sym is) tt
 
 opening_fault : (plan : Plan) (old new : DiskState) (fault : KeeperFault) → RefusesReopening plan old new fault → IsOpeningFault fault
 opening_fault plan old new (OfJournal Disk) refuses = tt
@@ -109,84 +99,123 @@ building_formats Memory is = is
 building_formats Network is = absurd is
 building_formats Thread is = absurd is
 
-pub building_shows : (fault : Fault) → IsBuildingFault fault → IsShowFault fault
-building_shows (Building fault) is = is
-building_shows (Journal fault) is = absurd is
-building_shows (File OfBuilding) is = is
-building_shows (File OfImage) is = absurd is
-building_shows (File Input) is = absurd is
-building_shows (File Output) is = absurd is
-building_shows Memory is = is
-building_shows Network is = absurd is
-building_shows Thread is = absurd is
+pub building_undone : (fault : Fault) → IsBuildingFault fault → IsUnopenedFault fault
+building_undone (Building fault) is = is
+building_undone (Journal fault) is = absurd is
+building_undone (File OfBuilding) is = is
+building_undone (File OfImage) is = absurd is
+building_undone (File Input) is = absurd is
+building_undone (File Output) is = absurd is
+building_undone Memory is = is
+building_undone Network is = absurd is
+building_undone Thread is = absurd is
 
-pub building_serves : (fault : Fault) → IsBuildingFault fault → IsServeFault fault
-building_serves (Building fault) is = is
-building_serves (Journal fault) is = absurd is
-building_serves (File OfBuilding) is = is
-building_serves (File OfImage) is = absurd is
-building_serves (File Input) is = absurd is
-building_serves (File Output) is = absurd is
-building_serves Memory is = is
-building_serves Network is = absurd is
-building_serves Thread is = absurd is
+-- the recovery was refused, or no image could be opened
+pub keeper_undone : {D : Type 0} (is_fresh : D → Type 0) (state : D → DiskState) (plan : Plan) (undone : Undone D) → HasBuilding plan → IsUnkept is_fresh state plan undone → IsUndone is_fresh state undone
+keeper_undone is_fresh state plan (Unopened fault) has (inl is) = subst IsUnopenedFault (sym is) (plan, has)
+keeper_undone is_fresh state plan (Unopened fault) has (inr is) = subst IsUnopenedFault (sym is) tt
+keeper_undone is_fresh state plan (Opened fault left) has is = record {
+  plan = plan;
+  building = has;
+  opened = is.opened;
+  fresh = is.fresh;
+  stops = subst (StopsOver plan (state is.opened) (state left)) (sym is.is_refusal) (opening_fault plan _ _ is.refusal is.refused, is.refused);
+  moments = is.refused.moments;
+  unwritten = is.refused.writes;
+}
 
-pub keeper_serves : (plan : Plan) (fault : Fault) → HasBuilding plan → IsKeeperFault plan fault → IsServeFault fault
-keeper_serves plan (Building fault) has is = absurd is
-keeper_serves plan (Journal fault) has is = (opening_fault plan _ _ fault is.refused, (plan, has, is))
-keeper_serves plan (File OfBuilding) has is = absurd is
-keeper_serves plan (File OfImage) has is = (plan, has)
-keeper_serves plan (File Input) has is = absurd is
-keeper_serves plan (File Output) has is = absurd is
-keeper_serves plan Memory has is = tt
-keeper_serves plan Network has is = absurd is
-keeper_serves plan Thread has is = absurd is
+-- behind the recovery
+kept_left : (files : ImageFiles) (path : List ℕ) (plan : Plan) (keeper : KeeperView files.Served) (left : files.Served) (fault : Fault) → HasBuilding plan → HasKeeperOf files path plan keeper → left ≡ keeper.writer.device
+    → ((old new : DiskState) → HasRecovered plan old new → StopsOver plan old new fault) → IsLeftAs (files.is_to_be_served path) files.served_state fault left
+kept_left files path plan keeper left fault has opened is stops =
+    subst (λ (d : files.Served). IsLeftAs (files.is_to_be_served path) files.served_state fault d) (sym is) (record {
+      plan = plan;
+      building = has;
+      opened = opened.opened;
+      fresh = opened.fresh;
+      stops = stops _ _ (keeper.writer.register, keeper.writer.half, keeper.writer.is_second, keeper.writer.used, opened.recovers);
+      moments = opened.recovers.moments;
+      unwritten = opened.recovers.writes;
+    })
+
+-- the port was refused
+pub port_left : (files : ImageFiles) (path : List ℕ) (plan : Plan) (keeper : KeeperView files.Served) (left : files.Served) (fault : Fault) → HasBuilding plan → HasKeeperOf files path plan keeper → left ≡ keeper.writer.device
+    → fault ≡ Network → IsLeftAs (files.is_to_be_served path) files.served_state fault left
+port_left files path plan keeper left fault has opened is network =
+    kept_left files path plan keeper left fault has opened is (λ old new recovered. subst (StopsOver plan old new) (sym network) recovered)
+
+-- the standard output failed, or memory was wanting
+pub output_left : (files : ImageFiles) (path : List ℕ) (plan : Plan) (keeper : KeeperView files.Served) (left : files.Served) (fault : Fault) → HasBuilding plan → HasKeeperOf files path plan keeper → left ≡ keeper.writer.device
+    → IsFileFault Output fault → IsLeftAs (files.is_to_be_served path) files.served_state fault left
+output_left files path plan keeper left fault has opened is (inl output) =
+    kept_left files path plan keeper left fault has opened is (λ old new recovered. subst (StopsOver plan old new) (sym output) recovered)
+output_left files path plan keeper left fault has opened is (inr memory) =
+    kept_left files path plan keeper left fault has opened is (λ old new recovered. subst (StopsOver plan old new) (sym memory) recovered)
 
 pub image_formats : (plan : Plan) (fault : Fault) → HasBuilding plan → IsFileFault OfImage fault → IsFormatFault fault
 image_formats plan fault has (inl is) = subst IsFormatFault (sym is) (plan, has)
 image_formats plan fault has (inr is) = subst IsFormatFault (sym is) tt
 
-pub image_shows : (plan : Plan) (fault : Fault) → HasBuilding plan → IsFileFault OfImage fault → IsShowFault fault
-image_shows plan fault has (inl is) = subst IsShowFault (sym is) (plan, has)
-image_shows plan fault has (inr is) = subst IsShowFault (sym is) tt
+pub image_undone : (plan : Plan) (fault : Fault) → HasBuilding plan → IsFileFault OfImage fault → IsUnopenedFault fault
+image_undone plan fault has (inl is) = subst IsUnopenedFault (sym is) (plan, has)
+image_undone plan fault has (inr is) = subst IsUnopenedFault (sym is) tt
 
--- an image that was shown was only read
-pub only_read : (opened left : ShownImage) → IsToBeShown opened → (shown_state_of left).failures ≡ (shown_state_of opened).failures → IsOnlyRead (shown_file_of left)
-only_read opened left fresh same = record { unwritten = (below left).unwritten; unhurt = omega (arith, same ∙ fresh.unhurt) }
+recovered_left : {D : Type 0} (is_fresh : D → Type 0) (state : D → DiskState) (plan : Plan) (opened left : D) (before after : Option (List ℕ)) (fault : Fault) → HasBuilding plan
+    → is_fresh opened → (HasRecovered plan (state opened) (state left) → StopsOver plan (state opened) (state left) fault)
+    → ShowsFront plan (state opened) (state left) before after → IsLeftAs is_fresh state fault left
+recovered_left is_fresh state plan opened left before after fault has fresh stops shows =
+    let r = shows.recovers in
+    record {
+      plan = plan;
+      building = has;
+      opened = opened;
+      fresh = fresh;
+      stops = stops (shows.register, r.half, r.is_second, r.used, r.reopens);
+      moments = r.reopens.moments;
+      unwritten = r.reopens.writes;
+    }
 
--- what the showing of a journal on an image is undone for
-pub showing_shows : (plan : Plan) (opened left : ShownImage) (before after : Option (List ℕ)) (fault : Fault) → HasBuilding plan
-    → IsToBeShown opened → IsShowingFault fault
-    → ((refusal : KeeperFault) → fault ≡ Journal refusal → RefusesReopening plan (shown_state_of opened) (shown_state_of left) refusal)
-    → (IsFileFault Output fault → ShowsFront plan (shown_state_of opened) (shown_state_of left) before after) → IsShowFault fault
-showing_shows plan opened left before after (Building fault) has fresh is refused front = absurd is
-showing_shows plan opened left before after (Journal fault) has fresh is refused front =
-    (is, (plan, has, record { opened = opened; fresh = fresh; left = left; refused = refused fault refl }))
-showing_shows plan opened left before after (File OfBuilding) has fresh is refused front = absurd is
-showing_shows plan opened left before after (File OfImage) has fresh is refused front = absurd is
-showing_shows plan opened left before after (File Input) has fresh is refused front = absurd is
-showing_shows plan opened left before after (File Output) has fresh is refused front =
-    let shows = front (inl refl) in
-    record { plan = plan; building = has; opened = opened; fresh = fresh; left = left; register = shows.register; recovers = shows.recovers }
-showing_shows plan opened left before after Memory has fresh is refused front = tt
-showing_shows plan opened left before after Network has fresh is refused front = absurd is
-showing_shows plan opened left before after Thread has fresh is refused front = absurd is
+-- how the showing of a journal that is undone has left its image
+shown_left : {D : Type 0} (is_fresh : D → Type 0) (state : D → DiskState) (plan : Plan) (opened left : D) (before after : Option (List ℕ)) (fault : Fault) → HasBuilding plan
+    → is_fresh opened → IsShowingFault fault
+    → ((refusal : KeeperFault) → fault ≡ Journal refusal → RefusesReopening plan (state opened) (state left) refusal)
+    → (IsFileFault Output fault → ShowsFront plan (state opened) (state left) before after) → IsLeftAs is_fresh state fault left
+shown_left is_fresh state plan opened left before after (Building fault) has fresh is refused front = absurd is
+shown_left is_fresh state plan opened left before after (Journal fault) has fresh is refused front =
+    let r = refused fault refl in
+    record { plan = plan; building = has; opened = opened; fresh = fresh; stops = (is, r); moments = r.moments; unwritten = r.writes }
+shown_left is_fresh state plan opened left before after (File OfBuilding) has fresh is refused front = absurd is
+shown_left is_fresh state plan opened left before after (File OfImage) has fresh is refused front = absurd is
+shown_left is_fresh state plan opened left before after (File Input) has fresh is refused front = absurd is
+shown_left is_fresh state plan opened left before after (File Output) has fresh is refused front =
+    recovered_left is_fresh state plan opened left before after (File Output) has fresh (λ recovered. recovered) (front (inl refl))
+shown_left is_fresh state plan opened left before after Memory has fresh is refused front =
+    recovered_left is_fresh state plan opened left before after Memory has fresh (λ recovered. recovered) (front (inr refl))
+shown_left is_fresh state plan opened left before after Network has fresh is refused front = absurd is
+shown_left is_fresh state plan opened left before after Thread has fresh is refused front = absurd is
+
+pub showing_left : {D : Type 0} (is_fresh : D → Type 0) (state : D → DiskState) (plan : Plan) (opened left told : D) (before after : Option (List ℕ)) (fault : Fault) → told ≡ left → HasBuilding plan
+    → is_fresh opened → IsShowingFault fault
+    → ((refusal : KeeperFault) → fault ≡ Journal refusal → RefusesReopening plan (state opened) (state left) refusal)
+    → (IsFileFault Output fault → ShowsFront plan (state opened) (state left) before after) → IsLeftAs is_fresh state fault told
+showing_left {D} is_fresh state plan opened left told before after fault same has fresh is refused front =
+    subst (λ (d : D). IsLeftAs is_fresh state fault d) (sym same) (shown_left is_fresh state plan opened left before after fault has fresh is refused front)
 
 -- what was written of a journal on an image whose showing is undone
-pub showing_part : (plan : Plan) (text : List ℕ) (opened left : ShownImage) (before after : Option (List ℕ)) (fault : Fault) → IsTextOf text plan
-    → IsToBeShown opened → IsShowingFault fault → IsReportOfFault fault before after
-    → (IsFileFault Output fault → ShowsFront plan (shown_state_of opened) (shown_state_of left) before after) → ShowsPart before after
-showing_part plan text opened left before after (Building fault) described fresh is written front = absurd is
-showing_part plan text opened left before after (Journal fault) described fresh is written front = inl written
-showing_part plan text opened left before after (File OfBuilding) described fresh is written front = absurd is
-showing_part plan text opened left before after (File OfImage) described fresh is written front = absurd is
-showing_part plan text opened left before after (File Input) described fresh is written front = absurd is
-showing_part plan text opened left before after (File Output) described fresh is written front =
-    part_shown plan text opened left before after described fresh (front (inl refl))
-showing_part plan text opened left before after Memory described fresh is written front =
-    part_shown plan text opened left before after described fresh (front (inr refl))
-showing_part plan text opened left before after Network described fresh is written front = absurd is
-showing_part plan text opened left before after Thread described fresh is written front = absurd is
+pub showing_part : (files : ImageFiles) (path : List ℕ) (plan : Plan) (text : List ℕ) (opened left : files.Shown) (before after : Option (List ℕ)) (fault : Fault) → IsTextOf text plan
+    → files.is_to_be_shown path opened → IsShowingFault fault → IsReportOfFault fault before after
+    → (IsFileFault Output fault → ShowsFront plan (files.shown_state opened) (files.shown_state left) before after) → ShowsPart files path before after
+showing_part files path plan text opened left before after (Building fault) described fresh is written front = absurd is
+showing_part files path plan text opened left before after (Journal fault) described fresh is written front = inl written
+showing_part files path plan text opened left before after (File OfBuilding) described fresh is written front = absurd is
+showing_part files path plan text opened left before after (File OfImage) described fresh is written front = absurd is
+showing_part files path plan text opened left before after (File Input) described fresh is written front = absurd is
+showing_part files path plan text opened left before after (File Output) described fresh is written front =
+    part_shown files path plan text opened left before after described fresh (front (inl refl))
+showing_part files path plan text opened left before after Memory described fresh is written front =
+    part_shown files path plan text opened left before after described fresh (front (inr refl))
+showing_part files path plan text opened left before after Network described fresh is written front = absurd is
+showing_part files path plan text opened left before after Thread described fresh is written front = absurd is
 
 -- a script that couldn't be read has no report
 pub replay_report : (fault : Fault) (before after : Option (List ℕ)) → IsReplayFault fault → (fault ≡ File Input → after ≡ before) → IsReportOfFault fault before after
@@ -211,3 +240,20 @@ nothing_written (File Output) written = tt
 nothing_written Memory written = tt
 nothing_written Network written = refl
 nothing_written Thread written = tt
+
+-- of a writer that failed a front may be written
+pub output_report : (fault : Fault) (before after : Option (List ℕ)) → IsFileFault Output fault → IsReportOfFault fault before after
+output_report fault before after (inl is) = subst (λ (f : Fault). IsReportOfFault f before after) (sym is) tt
+output_report fault before after (inr is) = subst (λ (f : Fault). IsReportOfFault f before after) (sym is) tt
+
+-- an image that was opened, by the file below it
+pub is_opened : {F : Type 0} {told : Told F} (opens : OpenOptions → List ℕ → Option F → Type 0) (gives : F → FileCall → F → Type 0) (holds : F → DiskState) (how : OpenOptions) (first : List FileCall) (image : DiskState) (file below : SectorFile F told) (path : List ℕ) → below ≡ file → image.calls ≡ 0 → image.failures ≡ 0
+    → (sector_file_state_of holds file).calls ≡ 0 → IsMeasured (opens how path) gives holds first file → ((sector_file_state_of holds file).is_honest → image.is_honest) → IsOpened opens gives holds how first path image below
+is_opened {F} {told} opens gives holds how first image file below path same uncalled unhurt untouched measured honest =
+    subst (λ (f : SectorFile F told). IsOpened opens gives holds how first path image f) (sym same) (record {
+      uncalled = uncalled;
+      unhurt = unhurt;
+      untouched = untouched;
+      measured = measured;
+      honest = λ is. honest (measured.honest.1 is);
+    })

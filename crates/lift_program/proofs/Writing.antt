@@ -8,8 +8,9 @@ use Rattle.lift_building.specs.Plan.{Plan}
 use Rattle.lift_replay.specs.Replaying.{ReportsFront, ReportsInput}
 use Rattle.lift_replay.specs.Report.{register_text}
 use Rattle.lift_replay.specs.declared.lines.Verdict.{Verdict}
+use Rattle.lift_disk.specs.Disk.{DiskState}
 use Rattle.lift_program.specs.Ends.{SaysFront, serving_text}
-use Rattle.lift_program.specs.Images.{IsToBeShown, ShownImage, shown_state_of}
+use Rattle.lift_program.specs.Images.{ImageFiles}
 use Rattle.lift_program.specs.Showing.{Shows, ShowsFront, ShowsPart}
 
 -- where nothing was written, nothing of the port was
@@ -31,8 +32,8 @@ pub report_front : (input old new : Option (List ℕ)) (verdict : Verdict) → R
 report_front input old new verdict told = (told.0, told.1, (told.2.0, verdict, told.2.1, (told.2.0, ([], append-nil told.2.0), told.2.2)))
 
 -- all lines of a register are a front of them
-pub shown_front : (plan : Plan) (opened left : ShownImage) (old new : Option (List ℕ)) → Shows plan (shown_state_of opened) (shown_state_of left) old new
-    → ShowsFront plan (shown_state_of opened) (shown_state_of left) old new
+pub shown_front : (plan : Plan) (opened left : DiskState) (old new : Option (List ℕ)) → Shows plan opened left old new
+    → ShowsFront plan opened left old new
 shown_front plan opened left old new shows =
     let text : List ℕ = register_text shows.register in
     record {
@@ -42,7 +43,7 @@ shown_front plan opened left old new shows =
       written = subst (Appends old new) (sym (take_all (length text) text (omega arith))) shows.written;
     }
 
-pub part_shown : (plan : Plan) (text : List ℕ) (opened left : ShownImage) (old new : Option (List ℕ)) → IsTextOf text plan → IsToBeShown opened
-    → ShowsFront plan (shown_state_of opened) (shown_state_of left) old new → ShowsPart old new
-part_shown plan text opened left old new described fresh front =
+pub part_shown : (files : ImageFiles) (path : List ℕ) (plan : Plan) (text : List ℕ) (opened left : files.Shown) (old new : Option (List ℕ)) → IsTextOf text plan → files.is_to_be_shown path opened
+    → ShowsFront plan (files.shown_state opened) (files.shown_state left) old new → ShowsPart files path old new
+part_shown files path plan text opened left old new described fresh front =
     inr (record { text = text; plan = plan; described = described; opened = opened; fresh = fresh; left = left; front = front })

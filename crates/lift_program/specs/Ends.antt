@@ -9,8 +9,7 @@ use Rattle.clap.specs.Words.{Text}
 use Rattle.lift_base.specs.Input.{InputState}
 use Rattle.lift_base.specs.Output.{OutputState}
 use Rattle.lift_building.specs.Plan.{Plan, shape_of}
-use Rattle.lift_disk.specs.Files.{file_state_of}
-use Rattle.lift_disk.specs.declared.file.FileDisk.{FileDisk}
+use Rattle.lift_disk.specs.Disk.{DiskState}
 use Rattle.lift_disk.specs.declared.file.FileFault.{FileFault}
 use Rattle.lift_disk.specs.declared.file.FileFault.TheVariants.{System, NotAFile}
 use Rattle.lift_journal.specs.Calls.{format_calls}
@@ -19,14 +18,14 @@ use Rattle.lift_keeper.specs.declared.fault.KeeperFault.TheVariants.{Journal as 
 use Rattle.lift_replay.specs.declared.lines.Verdict.{Verdict}
 use Rattle.lift_replay.specs.declared.lines.Verdict.TheVariants.{Good, Bad}
 use Rattle.lift_replay.specs.Replaying.{ReportsFront, ReportsInput}
+use Rattle.lift_serve.specs.Open.{EndedState}
 use Rattle.lift_program.specs.Faults.{fault_text, usage_text}
 use Rattle.lift_program.specs.Output.{IsTold}
 use Rattle.lift_program.specs.Serving.{IsServing}
-use Rattle.lift_program.specs.Images.{IsToBeServed, IsToBeShown, ServedImage, ShownImage}
-use Rattle.lift_program.specs.Images.{served_state_of, shown_state_of}
+use Rattle.lift_program.specs.Images.{ImageFiles}
 use Rattle.lift_program.specs.Showing.{IsShown, IsOpeningFault, ShowsPart}
-use Rattle.lift_program.specs.Stages.{HasBuilding, HasNoBuilding, OpensJournal, OpensNoJournal}
-use Rattle.lift_program.specs.Stages.{ReadsBuilding, ReadsJournal}
+use Rattle.lift_program.specs.Stages.{HasBuilding, HasNoBuilding, IsLeftAs, IsUnopenedFault}
+use Rattle.lift_program.specs.Stages.{ReadsBuilding}
 use Rattle.lift_program.specs.Words.{Asks}
 use Rattle.lift_program.specs.declared.fault.Fault.{Fault}
 use Rattle.lift_program.specs.declared.fault.Fault.TheVariants.{Building, Journal, File, Memory}
@@ -36,44 +35,65 @@ use Rattle.lift_program.specs.declared.fault.Role.TheVariants.{Building as OfBui
 use Rattle.lift_program.specs.declared.fault.Role.TheVariants.{Image as OfImage, Input, Output}
 use Rattle.lift_program.specs.declared.end.End.{End}
 use Rattle.lift_program.specs.declared.end.End.TheVariants.{Replayed, Formatted, Shown, Served}
-use Rattle.lift_program.specs.declared.end.End.TheVariants.{Failed, OtherWords}
+use Rattle.lift_program.specs.declared.end.End.TheVariants.{Failed, Unshown, Unserved, OtherWords}
+use Rattle.lift_program.specs.declared.left.Undone.{Undone}
+use Rattle.lift_program.specs.declared.left.Undone.TheVariants.{Unopened, Opened}
 use Rattle.lift_program.specs.declared.words.Request.{Request}
 use Rattle.lift_program.specs.declared.words.Request.TheVariants.{Replay, Format, Show, Serve}
 
 -- 0 where all was done, 1 for a bad script or a fault, 2 for other words
-abbrev pub status_of : End → ℕ
+abbrev pub status_of : {M S V : Type 0} → End M S V → ℕ
 status_of (Replayed Good) = 0
 status_of (Replayed Bad) = 1
 status_of (Formatted disk) = 0
 status_of (Shown disk) = 0
-status_of (Served port None) = 0
-status_of (Served port (Some fault)) = 1
+status_of (Served port None left ended) = 0
+status_of (Served port (Some fault) left ended) = 1
 status_of (Failed fault) = 1
+status_of (Unshown fault left) = 1
+status_of (Unserved fault left) = 1
 status_of OtherWords = 2
 
+-- the line of a fault
+abbrev pub told_line : Fault → Option (List ℕ)
+told_line fault = Some (fault_text fault ++ 10 ∷ [])
+
 -- the line that is told, none where there is nothing to tell
-abbrev pub line_of : End → Option (List ℕ)
+abbrev pub line_of : {M S V : Type 0} → End M S V → Option (List ℕ)
 line_of (Replayed verdict) = None
 line_of (Formatted disk) = None
 line_of (Shown disk) = None
-line_of (Served port None) = None
-line_of (Served port (Some fault)) = Some (fault_text fault ++ 10 ∷ [])
-line_of (Failed fault) = Some (fault_text fault ++ 10 ∷ [])
+line_of (Served port None left ended) = None
+line_of (Served port (Some fault) left ended) = told_line fault
+line_of (Failed fault) = told_line fault
+line_of (Unshown fault left) = told_line fault
+line_of (Unserved fault left) = told_line fault
 line_of OtherWords = Some (usage_text ++ 10 ∷ [])
+
+-- what the work is undone for, if it is
+abbrev pub undone_for : {M S V : Type 0} → End M S V → Option Fault
+undone_for (Replayed verdict) = None
+undone_for (Formatted disk) = None
+undone_for (Shown disk) = None
+undone_for (Served port fault left ended) = None
+undone_for (Failed fault) = Some fault
+undone_for (Unshown fault left) = Some fault
+undone_for (Unserved fault left) = Some fault
+undone_for OtherWords = None
 
 -- An empty journal with so many sectors in a half was made on the device, of a building that was
 -- read: by five calls, three of them writes, of which none failed.
-pub record IsMadeWith (half : ℕ) (disk : FileDisk) : Type 0 where
+pub record IsMadeWith (half : ℕ) (disk : DiskState) : Type 0 where
   pub plan : Plan
   pub building : HasBuilding plan
-  pub made : (file_state_of disk).trace ≡ format_calls (shape_of plan half)
-  pub size : (file_state_of disk).size ≡ 2 + 2 * half
-  pub calls : (file_state_of disk).calls ≡ 5
-  pub writes : (file_state_of disk).writes ≡ 3
-  pub failures : (file_state_of disk).failures ≡ 0
+  pub made : disk.trace ≡ format_calls (shape_of plan half)
+  pub size : disk.size ≡ 2 + 2 * half
+  pub calls : disk.calls ≡ 5
+  pub writes : disk.writes ≡ 3
+  pub failures : disk.failures ≡ 0
 
 -- the journal that was asked for
-abbrev pub IsMadeFor : Request → FileDisk → Type 0
+abbrev pub IsMadeFor : Request → DiskState → Type 0
 IsMadeFor Replay disk = ⊥
 IsMadeFor (Format image building half) disk = IsMadeWith half disk
 IsMadeFor (Show image building) disk = ⊥
@@ -126,33 +146,10 @@ IsShowingFault Memory = Unit {0}
 IsShowingFault Network = ⊥
 IsShowingFault Thread = ⊥
 
--- The first of these that stands: the building's file; the first fault of its text; the image's
--- file; the recovery's refusal; the standard output. Or want of memory.
-abbrev pub IsShowFault : Fault → Type 0
-IsShowFault (Building fault) = HasNoBuilding fault
-IsShowFault (Journal fault) = IsOpeningFault fault
-    × OpensNoJournal ShownImage IsToBeShown shown_state_of fault
-IsShowFault (File OfBuilding) = Unit {0}
-IsShowFault (File OfImage) = ReadsBuilding
-IsShowFault (File Input) = ⊥
-IsShowFault (File Output) = ReadsJournal
-IsShowFault Memory = Unit {0}
-IsShowFault Network = ⊥
-IsShowFault Thread = ⊥
-
--- The first of these that stands: the building's file; the first fault of its text; the image's
--- file; the recovery's refusal; the port, and then the standard output. Or want of memory.
-abbrev pub IsServeFault : Fault → Type 0
-IsServeFault (Building fault) = HasNoBuilding fault
-IsServeFault (Journal fault) = IsOpeningFault fault
-    × OpensNoJournal ServedImage IsToBeServed served_state_of fault
-IsServeFault (File OfBuilding) = Unit {0}
-IsServeFault (File OfImage) = ReadsBuilding
-IsServeFault (File Input) = ⊥
-IsServeFault (File Output) = OpensJournal
-IsServeFault Memory = Unit {0}
-IsServeFault Network = OpensJournal
-IsServeFault Thread = ⊥
+-- so it is with an image that was opened
+abbrev pub IsShowingUndone : {D : Type 0} → Undone D → Type 0
+IsShowingUndone (Unopened fault) = Unit {0}
+IsShowingUndone (Opened fault left) = IsShowingFault fault
 
 -- what the serving itself may be undone for: a failed call of the device, and what it takes
 abbrev pub IsServingFault : Fault → Type 0
@@ -177,36 +174,61 @@ ReportsAll input before after (Err fault) = ReportsFront input before after
 abbrev pub IsUnread : {R : Type 0} → InputState R → Type 0
 IsUnread new = (new.failed ≡ true) ⊎ ((new.calls ≡ 2097152) × (new.ended ≡ false))
 
--- what a request may fail by
+-- what a request may fail by, with no image opened
 abbrev pub IsFaultOf : Request → Fault → Type 0
 IsFaultOf Replay fault = IsReplayFault fault
 IsFaultOf (Format image building half) fault = IsFormatFault fault
-IsFaultOf (Show image building) fault = IsShowFault fault
-IsFaultOf (Serve image building port sessions policy) fault = IsServeFault fault
+IsFaultOf (Show image building) fault = IsUnopenedFault fault
+IsFaultOf (Serve image building port sessions policy) fault = IsUnopenedFault fault
 
--- the open calls of a journal were asked for
-abbrev pub AsksToShow : Request → Type 0
-AsksToShow Replay = ⊥
-AsksToShow (Format image building half) = ⊥
-AsksToShow (Show image building) = Unit {0}
-AsksToShow (Serve image building port sessions policy) = ⊥
+-- the open calls of the journal at this path were asked for, and shown
+abbrev pub IsShownFor : (files : ImageFiles) → Request → files.Shown
+    → (before after : Option (List ℕ)) → Type 0
+IsShownFor files Replay disk before after = ⊥
+IsShownFor files (Format image building half) disk before after = ⊥
+IsShownFor files (Show image building) disk before after =
+    IsShown files image.now disk before after
+IsShownFor files (Serve image building port sessions policy) disk before after = ⊥
 
--- a building was to be served on this port, and the serving came to this
-abbrev pub IsServedFor : Request → ℕ → Option Fault → Type 0
-IsServedFor Replay port fault = ⊥
-IsServedFor (Format image building half) port fault = ⊥
-IsServedFor (Show image building) port fault = ⊥
-IsServedFor (Serve image building asked sessions policy) port fault =
-    (port ≡ asked) × IsServing policy fault
+-- they were asked for, and why they aren't shown, though the image was opened
+abbrev pub IsUnshownFor : (files : ImageFiles) → Request → Fault → files.Shown → Type 0
+IsUnshownFor files Replay fault left = ⊥
+IsUnshownFor files (Format image building half) fault left = ⊥
+IsUnshownFor files (Show image building) fault left = IsShowingFault fault
+    × IsLeftAs (files.is_to_be_shown image.now) files.shown_state fault left
+IsUnshownFor files (Serve image building port sessions policy) fault left = ⊥
+
+-- a building was to be served on this port over the image at this path, until so many connections
+-- had ended, and the serving came to this
+abbrev pub IsServedFor : (files : ImageFiles) → Request → ℕ → Option Fault → files.Served
+    → Option EndedState → Type 0
+IsServedFor files Replay port fault left ended = ⊥
+IsServedFor files (Format image building half) port fault left ended = ⊥
+IsServedFor files (Show image building) port fault left ended = ⊥
+IsServedFor files (Serve image building asked sessions policy) port fault left ended =
+    (port ≡ asked) × IsServing files image.now policy sessions fault left ended
+
+-- a building was to be served over the image at this path, and why it wasn't, though the image was
+-- opened
+abbrev pub IsUnservedFor : (files : ImageFiles) → Request → Fault → files.Served → Type 0
+IsUnservedFor files Replay fault left = ⊥
+IsUnservedFor files (Format image building half) fault left = ⊥
+IsUnservedFor files (Show image building) fault left = ⊥
+IsUnservedFor files (Serve image building port sessions policy) fault left =
+    IsLeftAs (files.is_to_be_served image.now) files.served_state fault left
 
 -- what a request may come to
-abbrev pub IsEndFor : Request → End → Type 0
-IsEndFor request (Replayed verdict) = request ≡ Replay
-IsEndFor request (Formatted disk) = IsMadeFor request disk
-IsEndFor request (Shown disk) = AsksToShow request
-IsEndFor request (Served port fault) = IsServedFor request port fault × IfSome fault IsServingFault
-IsEndFor request (Failed fault) = IsFaultOf request fault
-IsEndFor request OtherWords = ⊥
+abbrev pub IsEndFor : (files : ImageFiles) → Request → (before after : Option (List ℕ))
+    → End files.Made files.Shown files.Served → Type 0
+IsEndFor files request before after (Replayed verdict) = request ≡ Replay
+IsEndFor files request before after (Formatted disk) = IsMadeFor request (files.made_state disk)
+IsEndFor files request before after (Shown disk) = IsShownFor files request disk before after
+IsEndFor files request before after (Served port fault left ended) =
+    IsServedFor files request port fault left ended × IfSome fault IsServingFault
+IsEndFor files request before after (Failed fault) = IsFaultOf request fault
+IsEndFor files request before after (Unshown fault left) = IsUnshownFor files request fault left
+IsEndFor files request before after (Unserved fault left) = IsUnservedFor files request fault left
+IsEndFor files request before after OtherWords = ⊥
 
 -- what is said where a port is served
 abbrev pub serving_text : ℕ → List ℕ
@@ -219,22 +241,23 @@ SaysFront port before after = (count : ℕ) × Appends before after (take count 
 -- What is written for a request, however it ends: for a script a front of the report of the input;
 -- for a journal that is made nothing; for one that is shown a front of its open calls; for a
 -- serving a front of what says so.
-abbrev pub WritesFor : (input : Option (List ℕ)) → Request → (before after : Option (List ℕ))
+abbrev pub WritesFor : ImageFiles → (input : Option (List ℕ)) → Request → (before after : Option (List ℕ))
     → Type 0
-WritesFor input Replay before after = ReportsFront input before after
-WritesFor input (Format image building half) before after = after ≡ before
-WritesFor input (Show image building) before after = ShowsPart before after
-WritesFor input (Serve image building port sessions policy) before after =
+WritesFor files input Replay before after = ReportsFront input before after
+WritesFor files input (Format image building half) before after = after ≡ before
+WritesFor files input (Show image building) before after =
+    ShowsPart files image.now before after
+WritesFor files input (Serve image building port sessions policy) before after =
     SaysFront port before after
 
 -- What these words come to: an end of what they ask for; want of memory for them, with nothing
 -- written; or, where they ask for nothing, other words.
-abbrev pub IsEndOf : (input : Option (List ℕ)) → List Text → (before after : Option (List ℕ)) → End
-    → Type 0
-IsEndOf input words before after OtherWords = (request : Request) → Asks words request → ⊥
-IsEndOf input words before after end = ((end ≡ Failed Memory) × (after ≡ before))
-    ⊎ ((request : Request) × Asks words request × IsEndFor request end
-    × WritesFor input request before after)
+abbrev pub IsEndOf : (files : ImageFiles) → (input : Option (List ℕ)) → List Text
+    → (before after : Option (List ℕ)) → End files.Made files.Shown files.Served → Type 0
+IsEndOf files input words before after OtherWords = (request : Request) → Asks words request → ⊥
+IsEndOf files input words before after end = ((end ≡ Failed Memory) × (after ≡ before))
+    ⊎ ((request : Request) × Asks words request × IsEndFor files request before after end
+    × WritesFor files input request before after)
 
 -- What was written of a fault: nothing of a building's, an image's, a journal's, or the port's.
 abbrev pub IsReportOfFault : Fault → (before after : Option (List ℕ)) → Type 0
@@ -248,32 +271,37 @@ IsReportOfFault Memory before after = Unit {0}
 IsReportOfFault Network before after = after ≡ before
 IsReportOfFault Thread before after = Unit {0}
 
--- what was written, by the end: of a script the report of the input, and of a journal that was
--- shown its open calls
-abbrev pub IsReport : (input : Option (List ℕ)) → End → (before after : Option (List ℕ)) → Type 0
+-- what was written, by the end: of a script the report of the input, and of a serving what says so
+abbrev pub IsReport : {M S V : Type 0} → (input : Option (List ℕ)) → End M S V
+    → (before after : Option (List ℕ)) → Type 0
 IsReport input (Replayed verdict) before after = ReportsInput input before after verdict
 IsReport input (Formatted disk) before after = after ≡ before
-IsReport input (Shown disk) before after = IsShown disk before after
-IsReport input (Served port fault) before after = Appends before after (serving_text port)
+IsReport input (Shown disk) before after = Unit {0}
+IsReport input (Served port fault left ended) before after =
+    Appends before after (serving_text port)
 IsReport input (Failed fault) before after = IsReportOfFault fault before after
+IsReport input (Unshown fault left) before after = IsReportOfFault fault before after
+IsReport input (Unserved fault left) before after = IsReportOfFault fault before after
 IsReport input OtherWords before after = after ≡ before
 
 -- An end is a fault of the standard output only where that has failed, a serving at a port only
 -- where that was listened at, and a fault of the port only where it was refused.
-pub record IsCaused (has_failed : Type 0) (has_listened : ℕ → Type 0) (was_refused : Type 0)
-    (end : End) : Type 0 where
-  pub unwritten : end ≡ Failed (File Output) → has_failed
-  pub here : (port : ℕ) (fault : Option Fault) → end ≡ Served port fault → has_listened port
-  pub refused : end ≡ Failed Network → was_refused
+pub record IsCaused {M S V : Type 0} (has_failed : Type 0)
+    (has_listened : ℕ → Option EndedState → Type 0) (was_refused : Type 0)
+    (end : End M S V) : Type 0 where
+  pub unwritten : undone_for end ≡ Some (File Output) → has_failed
+  pub here : (port : ℕ) (fault : Option Fault) (left : V) (ended : Option EndedState)
+      → end ≡ Served port fault left ended → has_listened port ended
+  pub refused : undone_for end ≡ Some Network → was_refused
 
 -- The status of an end that these words come to over this input, with its report, which has its
 -- cause, and whose line was told, if it has one.
-pub record IsStatusFor {E : Type 0} (contents : E
+pub record IsStatusFor (files : ImageFiles) {E : Type 0} (contents : E
     → Option (List ℕ)) (words : List Text) (input before after : Option (List ℕ))
-    (has_failed : Type 0) (has_listened : ℕ → Type 0) (was_refused : Type 0)
+    (has_failed : Type 0) (has_listened : ℕ → Option EndedState → Type 0) (was_refused : Type 0)
     (old new : OutputState E) (status : ℕ) : Type 0 where
-  pub end : End
-  pub is_end : IsEndOf input words before after end
+  pub end : End files.Made files.Shown files.Served
+  pub is_end : IsEndOf files input words before after end
   pub reported : IsReport input end before after
   pub is_status : status ≡ status_of end
   pub told : IfSome (line_of end) (IsTold contents old new)

@@ -1,55 +1,75 @@
 -- What is said of the devices over a journal's file.
-use Rattle.std.specs.Prelude.{◌≡◌}
-use Rattle.lift_disk.specs.Below.{below, buffered_state_of}
+use Rattle.std.specs.Prelude.{◌≡◌, ℕ, List, [], ◌∷◌, Option}
+use Rattle.std.specs.declared.fs.options.OpenOptions.{OpenOptions}
+use Rattle.lift_disk.specs.Below.{below}
 use Rattle.lift_disk.specs.Disk.{DiskState}
-use Rattle.lift_disk.specs.Files.{IsMeasured, file_state_of}
-use Rattle.lift_disk.specs.contracts.file.FileDiskDisk.TheImpl.{ghosts as of_file}
-use Rattle.lift_disk.specs.contracts.file.FileDiskRunDisk.TheImpl.{ghosts as runs_of_file}
+use Rattle.lift_disk.specs.FileCalls.{FileCall}
+use Rattle.lift_disk.specs.FileCalls.FileCall.{Lock}
+use Rattle.lift_disk.specs.Files.{IsMeasured, sector_file_state_of}
+use Rattle.lift_disk.specs.Traced.{to_be_read, to_be_used}
 use Rattle.lift_disk.specs.declared.buffered.Buffered.{Buffered}
-use Rattle.lift_disk.specs.declared.file.FileDisk.{FileDisk}
-use Rattle.lift_program.specs.Unwritten.{unwritten_file_of, unwritten_state_of}
-use Rattle.lift_program.specs.contracts.unwritten.UnwrittenFileDisk.TheImpl.{ghosts as of_unwritten}
-use Rattle.lift_program.specs.contracts.unwritten.UnwrittenFileRunDisk.TheImpl.{ghosts as runs_of_unwritten}
+use Rattle.lift_disk.specs.declared.disk.Disk.{Ghosts}
+use Rattle.lift_disk.specs.declared.runs.RunDisk.{Ghosts as RunGhosts}
+use Rattle.lift_disk.specs.declared.sectors.SectorFile.{SectorFile}
+use Rattle.lift_disk.specs.declared.told.ToldFile.{Ghosts as Told}
+use Rattle.lift_program.specs.Unwritten.{unwritten_file_of}
 use Rattle.lift_program.specs.declared.unwritten.UnwrittenFile.{UnwrittenFile}
 
--- the file of a journal that is served
-abbrev pub ServedImage : Type 0
-ServedImage = Buffered FileDisk runs_of_file of_file
+-- What is said of the devices over the files that a runtime opens: the ones that are made, the ones
+-- that are served, and the ones that are shown.
+pub record ImageFiles : Type 1 where
+  pub Made : Type 0
+  pub made_state : Made → DiskState
+  pub Served : Type 0
+  pub served_state : Served → DiskState
+  -- its image was opened at this path, its lock was had, and nothing else was done
+  pub is_to_be_served : List ℕ → Served → Type 0
+  pub Shown : Type 0
+  pub shown_state : Shown → DiskState
+  -- its image was opened at this path to be read, and nothing else was done
+  pub is_to_be_shown : List ℕ → Shown → Type 0
+  -- no call of its file has failed, and none was a write
+  pub is_only_read : Shown → Type 0
 
--- that of one that is shown: it is only read
-abbrev pub ShownImage : Type 0
-ShownImage = Buffered UnwrittenFile runs_of_unwritten of_unwritten
-
--- the file with what is still to be written to it, the device's own counts and its own calls; a
--- failed one is one of the file
-abbrev pub served_state_of : ServedImage → DiskState
-served_state_of d = buffered_state_of file_state_of d
-
--- the same of a file without its writes; a failed call is one of the file, or a refused write
-abbrev pub shown_state_of : ShownImage → DiskState
-shown_state_of d = buffered_state_of unwritten_state_of d
-
--- the file of an image that is shown
-abbrev pub shown_file_of : ShownImage → FileDisk
-shown_file_of d = unwritten_file_of (below d)
-
--- An image was opened: its file was there and was not made, but asked for its length once, which
--- gives its sectors; no other call was made of it or of its file, and none has failed.
-pub record IsOpened (image : DiskState) (file : FileDisk) : Type 0 where
+-- An image was opened at this path, in this way: its file was there and was not made, but after these
+-- calls asked for its length, which gives its sectors; no other call was made of it or of its file,
+-- and none has failed. Where the file that was opened is honest, so is the image.
+pub record IsOpened {F : Type 0} {told : Told F}
+    (opens : OpenOptions → List ℕ → Option F → Type 0) (gives : F → FileCall → F → Type 0)
+    (holds : F → DiskState) (how : OpenOptions) (first : List FileCall)
+    (path : List ℕ) (image : DiskState)
+    (file : SectorFile F told) : Type 0 where
   pub uncalled : image.calls ≡ 0
   pub unhurt : image.failures ≡ 0
-  pub untouched : (file_state_of file).calls ≡ 0
-  pub measured : IsMeasured file
-
--- one that is to be served
-abbrev pub IsToBeServed : ServedImage → Type 0
-IsToBeServed d = IsOpened (served_state_of d) (below d)
-
--- one that is to be shown
-abbrev pub IsToBeShown : ShownImage → Type 0
-IsToBeShown d = IsOpened (shown_state_of d) (shown_file_of d)
+  pub untouched : (sector_file_state_of holds file).calls ≡ 0
+  pub measured : IsMeasured (opens how path) gives holds first file
+  pub honest : (holds measured.file).is_honest → image.is_honest
 
 -- No call of the file has failed, and none was a write.
-pub record IsOnlyRead (file : FileDisk) : Type 0 where
-  pub unwritten : (file_state_of file).writes ≡ 0
-  pub unhurt : (file_state_of file).failures ≡ 0
+pub record IsOnlyRead (file : DiskState) : Type 0 where
+  pub unwritten : file.writes ≡ 0
+  pub unhurt : file.failures ≡ 0
+
+-- the devices over files of this type: what a call of such a file leads to, what it holds, and what
+-- is said of the devices
+abbrev pub image_files : {F : Type 0} {told : Told F} {runs : RunGhosts (SectorFile F told)}
+    {disk : Ghosts (SectorFile F told)} {shown_runs : RunGhosts (UnwrittenFile F told)}
+    {shown_disk : Ghosts (UnwrittenFile F told)}
+    → (opens : OpenOptions → List ℕ → Option F → Type 0)
+    → (gives : F → FileCall → F → Type 0) → (holds : F → DiskState)
+    → (Buffered (SectorFile F told) runs disk → DiskState)
+    → (Buffered (UnwrittenFile F told) shown_runs shown_disk → DiskState) → ImageFiles
+image_files {F} {told} {runs} {disk} {shown_runs} {shown_disk} opens gives holds served shown =
+    record {
+      Made = SectorFile F told;
+      made_state = sector_file_state_of holds;
+      Served = Buffered (SectorFile F told) runs disk;
+      served_state = served;
+      is_to_be_served = λ path d.
+          IsOpened opens gives holds to_be_used (Lock ∷ []) path (served d) (below d);
+      Shown = Buffered (UnwrittenFile F told) shown_runs shown_disk;
+      shown_state = shown;
+      is_to_be_shown = λ path d.
+          IsOpened opens gives holds to_be_read [] path (shown d) (unwritten_file_of (below d));
+      is_only_read = λ d. IsOnlyRead (sector_file_state_of holds (unwritten_file_of (below d)));
+    }

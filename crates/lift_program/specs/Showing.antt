@@ -15,8 +15,7 @@ use Rattle.lift_register.specs.Belongs.{BelongsTo}
 use Rattle.lift_register.specs.Register.{RegisterState}
 use Rattle.lift_register.specs.WellFormed.{IsWellFormed}
 use Rattle.lift_replay.specs.Report.{register_text}
-use Rattle.lift_program.specs.Images.{IsOnlyRead, IsToBeShown, ShownImage, shown_file_of}
-use Rattle.lift_program.specs.Images.{shown_state_of}
+use Rattle.lift_program.specs.Images.{ImageFiles}
 
 -- The recovery has opened a device of the building: this is the register that it gave, and it is
 -- possible in the building.
@@ -43,31 +42,33 @@ pub record ShowsFront (plan : Plan) (old new : DiskState)
   pub count : ℕ
   pub written : Appends before after (take count (register_text register))
 
--- A front of them was, of a journal in a file that was opened, and of a building that a text
--- describes.
-pub record ShowsFrontOfFile (before after : Option (List ℕ)) : Type 0 where
+-- A front of them was, of a journal in the file that was opened at this path, and of a building that
+-- a text describes.
+pub record ShowsFrontOfFile (files : ImageFiles) (path : List ℕ)
+    (before after : Option (List ℕ)) : Type 0 where
   pub text : List ℕ
   pub plan : Plan
   pub described : IsTextOf text plan
-  pub opened : ShownImage
-  pub fresh : IsToBeShown opened
-  pub left : ShownImage
-  pub front : ShowsFront plan (shown_state_of opened) (shown_state_of left) before after
+  pub opened : files.Shown
+  pub fresh : files.is_to_be_shown path opened
+  pub left : files.Shown
+  pub front : ShowsFront plan (files.shown_state opened) (files.shown_state left) before after
 
 -- nothing was written, or such a front
-abbrev pub ShowsPart : (before after : Option (List ℕ)) → Type 0
-ShowsPart before after = (after ≡ before) ⊎ ShowsFrontOfFile before after
+abbrev pub ShowsPart : ImageFiles → (path : List ℕ) → (before after : Option (List ℕ)) → Type 0
+ShowsPart files path before after = (after ≡ before) ⊎ ShowsFrontOfFile files path before after
 
--- The open calls of the journal on the device were written, of a building that a text describes.
--- Of its file no call failed, and none was a write.
-pub record IsShown (disk : ShownImage) (before after : Option (List ℕ)) : Type 0 where
+-- The open calls of the journal in the file that was opened at this path were written, of a building
+-- that a text describes. Of the file no call failed, and none was a write.
+pub record IsShown (files : ImageFiles) (path : List ℕ) (disk : files.Shown)
+    (before after : Option (List ℕ)) : Type 0 where
   pub text : List ℕ
   pub plan : Plan
   pub described : IsTextOf text plan
-  pub opened : ShownImage
-  pub fresh : IsToBeShown opened
-  pub shows : Shows plan (shown_state_of opened) (shown_state_of disk) before after
-  pub only_read : IsOnlyRead (shown_file_of disk)
+  pub opened : files.Shown
+  pub fresh : files.is_to_be_shown path opened
+  pub shows : Shows plan (files.shown_state opened) (files.shown_state disk) before after
+  pub only_read : files.is_only_read disk
 
 -- What an opening may be refused for: what the journal's opening is, a building of another shape,
 -- or a record that doesn't fit.

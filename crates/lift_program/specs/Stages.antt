@@ -1,22 +1,24 @@
 -- How far a command came that is over a building and an image: its faults are looked for in this
 -- order, the building's file, its text, the image's file, the journal, the port.
-use Rattle.std.specs.Prelude.{ℕ, ◌≡◌, ◌≤◌, false, List, length, Option}
+use Rattle.std.specs.Prelude.{ℕ, ◌≡◌, ◌≤◌, ◌⊎◌, Bool, false, List, [], length, Option}
 use Rattle.std.specs.Io.KnownBytes.{Consumes}
 use Rattle.lift_building.specs.Describes.{IsTextOf}
 use Rattle.lift_building.specs.Gives.{IsFirstFault}
 use Rattle.lift_building.specs.Plan.{Plan}
 use Rattle.lift_building.specs.declared.fault.BuildingFault.{BuildingFault}
-use Rattle.lift_disk.specs.Disk.{DiskState}
-use Rattle.lift_program.specs.Images.{IsToBeServed, IsToBeShown, ServedImage, ShownImage}
-use Rattle.lift_program.specs.Images.{served_state_of, shown_state_of}
+use Rattle.lift_disk.specs.Disk.{DiskState, LeavesOnly, MayLeave}
+use Rattle.lift_program.specs.Images.{ImageFiles}
+use Rattle.lift_decider.specs.Decider.{starting}
 use Rattle.lift_keeper.specs.Keeper.{KeeperView}
 use Rattle.lift_keeper.specs.Reopening.{RefusesReopening, Reopens}
 use Rattle.lift_keeper.specs.declared.fault.KeeperFault.{KeeperFault}
 use Rattle.lift_register.specs.Register.{RegisterState}
-use Rattle.lift_program.specs.Showing.{Recovers}
+use Rattle.lift_program.specs.Showing.{IsOpeningFault}
 use Rattle.lift_program.specs.declared.fault.Fault.{Fault}
 use Rattle.lift_program.specs.declared.fault.Fault.TheVariants.{Building, Journal, File, Memory}
 use Rattle.lift_program.specs.declared.fault.Fault.TheVariants.{Network, Thread}
+use Rattle.lift_program.specs.declared.left.Undone.{Undone}
+use Rattle.lift_program.specs.declared.left.Undone.TheVariants.{Unopened, Opened}
 use Rattle.lift_program.specs.declared.fault.Role.TheVariants.{Building as OfBuilding}
 use Rattle.lift_program.specs.declared.fault.Role.TheVariants.{Image as OfImage, Input, Output}
 
@@ -41,48 +43,64 @@ pub record HasNoBuilding (fault : BuildingFault) : Type 0 where
   pub short : length text ≤ most_text
   pub first : IsFirstFault text fault
 
--- an image was opened, and the recovery from it, of this building, gave this keeper
-pub record HasKeeperOf (plan : Plan) (keeper : KeeperView ServedImage) : Type 0 where
-  pub opened : ServedImage
-  pub fresh : IsToBeServed opened
-  pub recovers : Reopens plan (served_state_of opened)
-      (served_state_of keeper.writer.device) keeper.writer.register keeper.writer.half
+-- the image at this path was opened, and the recovery from it, of this building, gave this keeper
+pub record HasKeeperOf (files : ImageFiles) (path : List ℕ) (plan : Plan)
+    (keeper : KeeperView files.Served) : Type 0 where
+  pub opened : files.Served
+  pub fresh : files.is_to_be_served path opened
+  pub recovers : Reopens plan (files.served_state opened)
+      (files.served_state keeper.writer.device) keeper.writer.register keeper.writer.half
       keeper.writer.is_second keeper.writer.used
+  pub starts : keeper.state ≡ starting keeper.writer.register
   pub whole : keeper.writer.is_broken ≡ false
+  pub no_doubt : keeper.writer.doubt ≡ []
   pub own : keeper.writer.plan ≡ plan
 
 -- an image was opened as such a device, and the recovery from it, of this building, was refused for
--- this
+-- this, and left it so
 pub record HasNoKeeperOf (D : Type 0) (is_fresh : D → Type 0) (state : D
-    → DiskState) (plan : Plan) (fault : KeeperFault) : Type 0 where
+    → DiskState) (plan : Plan) (fault : Fault) (left : D) : Type 0 where
   pub opened : D
   pub fresh : is_fresh opened
-  pub left : D
-  pub refused : RefusesReopening plan (state opened) (state left) fault
+  pub refusal : KeeperFault
+  pub is_refusal : fault ≡ Journal refusal
+  pub refused : RefusesReopening plan (state opened) (state left) refusal
 
 -- the building was read
 abbrev pub ReadsBuilding : Type 0
 ReadsBuilding = (plan : Plan) × HasBuilding plan
 
--- the building was read, and the recovery opened a journal of it
-abbrev pub OpensJournal : Type 0
-OpensJournal = (plan : Plan) × (keeper : KeeperView ServedImage) × HasBuilding plan
-    × HasKeeperOf plan keeper
+-- the recovery gave a register of this building
+abbrev pub HasRecovered : Plan → (old new : DiskState) → Type 0
+HasRecovered plan old new = (register : RegisterState) × (half : ℕ) × (is_second : Bool)
+    × (used : ℕ) × Reopens plan old new register half is_second used
 
--- the building was read, and the recovery, from an image that was opened, gave a register
-pub record ReadsJournal : Type 0 where
+-- Why a command went no further over a device that was opened: the recovery was refused for this; or
+-- it gave a register, and then the port was refused, or the standard output failed, or memory was
+-- wanting.
+abbrev pub StopsOver : Plan → (old new : DiskState) → Fault → Type 0
+StopsOver plan old new (Building fault) = ⊥
+StopsOver plan old new (Journal fault) = IsOpeningFault fault × RefusesReopening plan old new fault
+StopsOver plan old new (File OfBuilding) = ⊥
+StopsOver plan old new (File OfImage) = ⊥
+StopsOver plan old new (File Input) = ⊥
+StopsOver plan old new (File Output) = HasRecovered plan old new
+StopsOver plan old new Memory = HasRecovered plan old new
+StopsOver plan old new Network = HasRecovered plan old new
+StopsOver plan old new Thread = ⊥
+
+-- A building was read, and an image opened as such a device. The command is undone for this, and has
+-- left the device so: nothing was written, and each image that a crash at any moment since the
+-- opening may leave is one that it might have left before. So what was kept is kept.
+pub record IsLeftAs {D : Type 0} (is_fresh : D → Type 0) (state : D
+    → DiskState) (fault : Fault) (left : D) : Type 0 where
   pub plan : Plan
   pub building : HasBuilding plan
-  pub opened : ShownImage
-  pub fresh : IsToBeShown opened
-  pub left : ShownImage
-  pub register : RegisterState
-  pub recovers : Recovers plan (shown_state_of opened) (shown_state_of left) register
-
--- the building was read, and the recovery was refused for this
-abbrev pub OpensNoJournal : (D : Type 0) → (D → Type 0) → (D → DiskState) → KeeperFault → Type 0
-OpensNoJournal D is_fresh state fault =
-    (plan : Plan) × HasBuilding plan × HasNoKeeperOf D is_fresh state plan fault
+  pub opened : D
+  pub fresh : is_fresh opened
+  pub stops : StopsOver plan (state opened) (state left) fault
+  pub moments : LeavesOnly (state opened) (state left) (MayLeave (state opened))
+  pub unwritten : (state left).writes ≡ (state opened).writes
 
 -- what no building is had for: its file, want of memory, or its text's first fault
 abbrev pub IsBuildingFault : Fault → Type 0
@@ -96,15 +114,34 @@ IsBuildingFault Memory = Unit {0}
 IsBuildingFault Network = ⊥
 IsBuildingFault Thread = ⊥
 
+-- What no image is opened for. The first of these that stands: the building's file; the first fault
+-- of its text; the image's file. Or want of memory.
+abbrev pub IsUnopenedFault : Fault → Type 0
+IsUnopenedFault (Building fault) = HasNoBuilding fault
+IsUnopenedFault (Journal fault) = ⊥
+IsUnopenedFault (File OfBuilding) = Unit {0}
+IsUnopenedFault (File OfImage) = ReadsBuilding
+IsUnopenedFault (File Input) = ⊥
+IsUnopenedFault (File Output) = ⊥
+IsUnopenedFault Memory = Unit {0}
+IsUnopenedFault Network = ⊥
+IsUnopenedFault Thread = ⊥
+
+-- the fault that a command over an image is undone for
+abbrev pub fault_in : {D : Type 0} → Undone D → Fault
+fault_in (Unopened fault) = fault
+fault_in (Opened fault left) = fault
+
+-- why a command over an image is undone, and how it has left the image
+abbrev pub IsUndone : {D : Type 0} → (is_fresh : D → Type 0) → (state : D → DiskState) → Undone D
+    → Type 0
+IsUndone is_fresh state (Unopened fault) = IsUnopenedFault fault
+IsUndone is_fresh state (Opened fault left) = IsLeftAs is_fresh state fault left
+
 -- what no keeper of this building is had for: the image's file, want of memory, or the recovery's
 -- refusal
-abbrev pub IsKeeperFault : Plan → Fault → Type 0
-IsKeeperFault plan (Building fault) = ⊥
-IsKeeperFault plan (Journal fault) = HasNoKeeperOf ServedImage IsToBeServed served_state_of plan fault
-IsKeeperFault plan (File OfBuilding) = ⊥
-IsKeeperFault plan (File OfImage) = Unit {0}
-IsKeeperFault plan (File Input) = ⊥
-IsKeeperFault plan (File Output) = ⊥
-IsKeeperFault plan Memory = Unit {0}
-IsKeeperFault plan Network = ⊥
-IsKeeperFault plan Thread = ⊥
+abbrev pub IsUnkept : {D : Type 0} → (is_fresh : D → Type 0) → (state : D → DiskState) → Plan
+    → Undone D → Type 0
+IsUnkept {D} is_fresh state plan (Unopened fault) = (fault ≡ File OfImage) ⊎ (fault ≡ Memory)
+IsUnkept {D} is_fresh state plan (Opened fault left) =
+    HasNoKeeperOf D is_fresh state plan fault left

@@ -1,31 +1,20 @@
 -- What is said of a file that is only read.
-use Rattle.std.specs.Prelude.{◌+◌, [], false}
+use Rattle.std.specs.Prelude.{◌+◌}
 use Rattle.lift_disk.specs.Disk.{DiskState}
-use Rattle.lift_disk.specs.Files.{file_state_of}
-use Rattle.lift_disk.specs.declared.file.FileDisk.{FileDisk}
+use Rattle.lift_disk.specs.Files.{sector_file_state_of}
+use Rattle.lift_disk.specs.declared.sectors.SectorFile.{SectorFile}
+use Rattle.lift_disk.specs.declared.told.ToldFile.{Ghosts as Told}
 use Rattle.lift_program.specs.declared.unwritten.UnwrittenFile.{UnwrittenFile}
 
 -- the file itself
-abbrev pub unwritten_file_of : UnwrittenFile → FileDisk
+abbrev pub unwritten_file_of : {F : Type 0} {told : Told F} → UnwrittenFile F told → SectorFile F told
 unwritten_file_of d = d.file
 
--- A file whose writes are refused: all other calls are the file's.
-abbrev pub unwritten_state_of : UnwrittenFile → DiskState
-unwritten_state_of d = record {
-  size = (file_state_of d.file).size;
-  failures = (file_state_of d.file).failures + d.refused.count;
-  calls = (file_state_of d.file).calls + d.refused.count;
+-- A file whose writes are refused, as by a failed call: all other calls are the file's.
+abbrev pub unwritten_state_of : {F : Type 0} {told : Told F} → (F → DiskState)
+    → UnwrittenFile F told → DiskState
+unwritten_state_of holds d = record (sector_file_state_of holds d.file) {
+  failures = (sector_file_state_of holds d.file).failures + d.refused.count;
+  calls = (sector_file_state_of holds d.file).calls + d.refused.count;
   writes = d.refused.count;
-  trace = (file_state_of d.file).trace;
-  is_honest = ⊥;
-  is_inert = ⊥;
-  image = [];
-  synced = [];
-  is_loose = λ _. ⊥;
-  is_steady = ⊥;
-  settles = λ _ _. ⊥;
-  is_short = false;
-  fails_at = λ _. ⊥;
-  moment = 0;
-  left_since = λ _ _. ⊥;
 }

@@ -5,31 +5,36 @@ ghost use Rattle.lift_program.specs.Ends.{line_of, status_of};
 ghost use Rattle.lift_program.specs.Output.{IsTold};
 
 use crate::fault::Fault;
+use crate::left::Left;
 use crate::output::tell;
-use crate::unwritten::ShownImage;
 use lift_base::text::Watched;
-use lift_disk::FileDisk;
 use lift_replay::Verdict;
+use lift_serve::Ended;
 use std::io::Write;
 
-/// How the program ends.
+/// How the program ends, over the devices that it makes, shows and serves, as it has left them.
 #[derive(Drop)]
-pub enum End {
+pub enum End<M, S, V> {
     /// A script was replayed.
     Replayed(Verdict),
     /// An empty journal was made on this file.
-    Formatted(FileDisk),
+    Formatted(Left<M>),
     /// The open calls of the journal on this file were written.
-    Shown(ShownImage),
-    /// The building was served on this port; a fault that did not end that is told.
-    Served(u16, Option<Fault>),
-    /// The work is undone.
+    Shown(Left<S>),
+    /// The building was served on this port, over this image; a fault that did not end that is told.
+    /// Where none is, so many connections have ended.
+    Served(u16, Option<Fault>, Left<V>, Option<Ended>),
+    /// The work is undone, and no image was opened.
     Failed(Fault),
+    /// The open calls of the journal on this file couldn't be written.
+    Unshown(Fault, Left<S>),
+    /// The building couldn't be served over this image.
+    Unserved(Fault, Left<V>),
     /// The words are those of no command.
     OtherWords,
 }
 
-impl End {
+impl<M, S, V> End<M, S, V> {
     /// The program's status: 0 where all was done, 1 for a bad script or a fault, 2 for other
     /// words.
     pub fn status(&self) -> u8
@@ -40,9 +45,11 @@ impl End {
             End::Replayed(Verdict::Bad) => 1,
             End::Formatted(_) => 0,
             End::Shown(_) => 0,
-            End::Served(_, None) => 0,
-            End::Served(_, Some(_)) => 1,
+            End::Served(_, None, _, _) => 0,
+            End::Served(_, Some(_), _, _) => 1,
             End::Failed(_) => 1,
+            End::Unshown(_, _) => 1,
+            End::Unserved(_, _) => 1,
             End::OtherWords => 2,
         }
     }
@@ -57,9 +64,11 @@ impl End {
             End::Replayed(_) => {}
             End::Formatted(_) => {}
             End::Shown(_) => {}
-            End::Served(_, None) => {}
-            End::Served(_, Some(fault)) => fault.tell(errors),
+            End::Served(_, None, _, _) => {}
+            End::Served(_, Some(fault), _, _) => fault.tell(errors),
             End::Failed(fault) => fault.tell(errors),
+            End::Unshown(fault, _) => fault.tell(errors),
+            End::Unserved(fault, _) => fault.tell(errors),
             End::OtherWords => tell(errors, b"liftd: usage\n"),
         }
     }

@@ -3,13 +3,13 @@
 ghost use Rattle.std.specs.Prelude.{◌≡◌, ◌≢◌, ◌≤◌, ◌+◌, ◌*◌, ◌∷◌, ◌⊎◌, [], IfOk, IfErr, IfSome, OnOk};
 ghost use Rattle.std.specs.Prelude.{Err, false, length, vec_len};
 ghost use Rattle.std.specs.Str.{IsUtf8};
-ghost use Rattle.lift_disk.specs.FileCalls.FileCall.{SetLength, SyncAll};
-ghost use Rattle.lift_disk.specs.Files.{IsMeasured, file_making_of, file_state_of};
+ghost use Rattle.lift_disk.specs.FileCalls.FileCall.{Lock};
+ghost use Rattle.lift_disk.specs.Files.{IsMeasured, making_below, sector_file_state_of};
+ghost use Rattle.lift_disk.specs.Traced.{making_calls, to_be_read, to_be_used};
 ghost use Rattle.lift_replay.specs.Reading.{TakesUpTo};
 ghost use Rattle.lift_program.specs.Ends.{IsFileFault, IsImageFault, IsUncalled, IsUnread};
-ghost use Rattle.lift_program.specs.Images.{IsToBeShown};
-ghost use Rattle.lift_program.specs.Stages.{HasBuilding, HasKeeperOf, IsBuildingFault};
-ghost use Rattle.lift_program.specs.Stages.{IsKeeperFault, TakesAll, most_text};
+ghost use Rattle.lift_program.specs.Images.{image_files};
+ghost use Rattle.lift_program.specs.Stages.{HasBuilding, IsBuildingFault, TakesAll, most_text};
 ghost use Rattle.lift_program.specs.declared.fault.Role.TheVariants.{Building as OfBuilding};
 ghost use Rattle.lift_program.specs.declared.fault.Role.TheVariants.{Image as OfImage};
 
@@ -17,8 +17,7 @@ use crate::fault::{Fault, Role};
 use crate::unwritten::{ShownImage, UnwrittenFile};
 use lift_base::text::Counted;
 use lift_building::Building;
-use lift_disk::{Buffered, BufferedFile, FileDisk, FileFault};
-use lift_keeper::Keeper;
+use lift_disk::{Buffered, BufferedFile, Disk, FileFault, SectorFile, ToldFiles};
 use lift_replay::{InputFault, read_all};
 use std::alloc::Global;
 use std::fs::{File, Files};
@@ -135,54 +134,54 @@ fn refused(fault: FileFault) -> Fault
     }
 }
 
-/// The file of a journal, made or made anew.
-pub fn image_at<F: Files<File = File>>(rt: &F, path: &str, sectors: u32) -> Result<FileDisk, Fault>
-    ensures size { IfOk result (λ disk. (file_state_of disk).size ≡ sectors) }
-    ensures failures { IfOk result (λ disk. (file_state_of disk).failures ≡ 0) }
-    ensures calls { IfOk result (λ disk. (file_state_of disk).calls ≡ 0) }
-    ensures writes { IfOk result (λ disk. (file_state_of disk).writes ≡ 0) }
-    ensures trace { IfOk result (λ disk. (file_state_of disk).trace ≡ []) }
-    ensures making { IfOk result (λ disk.
-        file_making_of disk ≡ SetLength (sectors * 512) ∷ SyncAll ∷ []) }
-    ensures fault { IfErr result (IsFileFault OfImage) }
-{
-    FileDisk::create(rt, path, sectors).map_err(refused)
-}
-
-/// The file of a journal that is there. It is not made anew.
-pub fn image_in<F: Files<File = File>>(rt: &F, path: &str) -> Result<FileDisk, Fault>
-    ensures failures { IfOk result (λ disk. (file_state_of disk).failures ≡ 0) }
-    ensures calls { IfOk result (λ disk. (file_state_of disk).calls ≡ 0) }
-    ensures writes { IfOk result (λ disk. (file_state_of disk).writes ≡ 0) }
-    ensures measured { IfOk result IsMeasured }
-    ensures fault { IfErr result (IsFileFault OfImage) }
-{
-    FileDisk::open(rt, path).map_err(refused)
-}
-
-/// The image of a journal that is there, to be shown.
-pub fn image_to_show<F: Files<File = File>>(rt: &F, path: &str) -> Result<ShownImage, Fault>
-    ensures opened { IfOk result IsToBeShown }
-    ensures fault { IfErr result (IsFileFault OfImage) }
-{
-    let file = image_in(rt, path)?;
-    Ok(Buffered::over(UnwrittenFile::over(file)))
-}
-
-/// The keeper that the recovery gives, over the journal in a file.
-#[tactic(auto, using(crate::proofs::Stages::image_keeps))]
-pub fn keeper_in<'b, F: Files<File = File>>(
+/// The file of a journal, made or made anew, if its lock is to be had.
+pub fn image_at<F: ToldFiles>(
     rt: &F,
     path: &str,
-    building: &'b Building,
-) -> Result<Keeper<'b, BufferedFile>, Fault>
-    ensures opened { IfOk result (HasKeeperOf building.now) }
-    ensures settled { IfOk result (λ keeper. keeper.state.batch ≡ []) }
-    ensures fault { IfErr result (IsKeeperFault building.now) }
+    sectors: u32,
+) -> Result<SectorFile<F::Told>, Fault>
+    ensures size { IfOk result (λ disk. (sector_file_state_of F.Told.holds disk).size ≡ sectors) }
+    ensures failures { IfOk result (λ disk. (sector_file_state_of F.Told.holds disk).failures ≡ 0) }
+    ensures calls { IfOk result (λ disk. (sector_file_state_of F.Told.holds disk).calls ≡ 0) }
+    ensures writes { IfOk result (λ disk. (sector_file_state_of F.Told.holds disk).writes ≡ 0) }
+    ensures trace { IfOk result (λ disk. (sector_file_state_of F.Told.holds disk).trace ≡ []) }
+    ensures making { IfOk result (λ disk. making_below disk ≡ making_calls sectors) }
+    ensures fault { IfErr result (IsFileFault OfImage) }
 {
-    let file = image_in(rt, path)?;
-    match Keeper::open(Buffered::over(file), building) {
-        Ok(keeper) => Ok(keeper),
-        Err((_, fault)) => Err(Fault::Journal(fault)),
-    }
+    SectorFile::create(rt, path, sectors).map_err(refused)
+}
+
+/// The file of a journal that is there, if its lock is to be had. It is not made anew.
+pub fn image_in<F: ToldFiles>(rt: &F, path: &str) -> Result<SectorFile<F::Told>, Fault>
+    ensures failures { IfOk result (λ disk. (sector_file_state_of F.Told.holds disk).failures ≡ 0) }
+    ensures calls { IfOk result (λ disk. (sector_file_state_of F.Told.holds disk).calls ≡ 0) }
+    ensures writes { IfOk result (λ disk. (sector_file_state_of F.Told.holds disk).writes ≡ 0) }
+    ensures measured { IfOk result (λ disk. IsMeasured (F.opens rt.now to_be_used path.now)
+        F.Told.gives F.Told.holds (Lock ∷ []) disk) }
+    ensures fault { IfErr result (IsFileFault OfImage) }
+{
+    SectorFile::open(rt, path).map_err(refused)
+}
+
+/// The file of a journal that is there, to be read alone.
+fn image_to_read<F: ToldFiles>(rt: &F, path: &str) -> Result<SectorFile<F::Told>, Fault>
+    ensures failures { IfOk result (λ disk. (sector_file_state_of F.Told.holds disk).failures ≡ 0) }
+    ensures calls { IfOk result (λ disk. (sector_file_state_of F.Told.holds disk).calls ≡ 0) }
+    ensures writes { IfOk result (λ disk. (sector_file_state_of F.Told.holds disk).writes ≡ 0) }
+    ensures measured { IfOk result (λ disk. IsMeasured (F.opens rt.now to_be_read path.now)
+        F.Told.gives F.Told.holds [] disk) }
+    ensures fault { IfErr result (IsFileFault OfImage) }
+{
+    SectorFile::open_to_read(rt, path).map_err(refused)
+}
+
+/// The image of a journal that is there, to be shown, also beside a group that runs over it.
+pub fn image_to_show<F: ToldFiles>(rt: &F, path: &str) -> Result<ShownImage<F::Told>, Fault>
+    ensures opened { IfOk result (λ disk. (image_files (F.opens rt.now) F.Told.gives F.Told.holds
+        ⟦<BufferedFile<F::Told> as Disk>⟧.state ⟦<ShownImage<F::Told> as Disk>⟧.state).is_to_be_shown
+        path.now disk) }
+    ensures fault { IfErr result (IsFileFault OfImage) }
+{
+    let file = image_to_read(rt, path)?;
+    Ok(Buffered::over(UnwrittenFile::over(file)))
 }

@@ -1,11 +1,13 @@
 //! The making of an empty journal on a file.
 
 ghost use Rattle.std.specs.Prelude.{◌≤◌, IfOk, IfErr};
+ghost use Rattle.lift_disk.specs.Files.{sector_file_state_of};
 ghost use Rattle.lift_program.specs.Ends.{IsMadeWith, IsFormatFault};
 
 use crate::fault::Fault;
 use crate::files::{building_in, image_at};
-use lift_disk::FileDisk;
+use crate::left::Left;
+use lift_disk::{SectorFile, ToldFiles};
 use lift_journal::JournalFault;
 use lift_keeper::KeeperFault;
 use std::alloc::Global;
@@ -14,22 +16,23 @@ use std::fs::{File, Files};
 /// Makes an empty journal in the file `image`, for the building in the file `building`, with so
 /// many sectors in a half. Nothing is made for a building that is refused.
 #[tactic(auto, using(crate::proofs::Stages::building_formats, crate::proofs::Stages::image_formats, crate::proofs::Stages::is_made, crate::proofs::Stages::reads_building))]
-pub fn format<F: Files<File = File>>(
+pub fn format<F: Files<File = File> + ToldFiles>(
     rt: &F,
     alloc: Global,
     image: &str,
     building: &str,
     half: u32,
-) -> Result<FileDisk, Fault>
+) -> Result<Left<SectorFile<F::Told>>, Fault>
     requires least { 64 ≤ half }
     requires most { half ≤ 1000000 }
-    ensures made { IfOk result (IsMadeWith half) }
+    ensures made { IfOk result (λ disk.
+        IsMadeWith half (sector_file_state_of F.Told.holds disk)) }
     ensures fault { IfErr result IsFormatFault }
 {
     let shape = building_in(rt, alloc, building)?.shape(half);
     let mut disk = image_at(rt, image, 2 + 2 * half)?;
     match lift_journal::format(&mut disk, shape) {
-        Ok(()) => Ok(disk),
+        Ok(()) => Ok(Left::new(disk)),
         Err(_) => Err(Fault::Journal(KeeperFault::Journal(JournalFault::Disk))),
     }
 }

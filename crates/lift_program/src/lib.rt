@@ -7,6 +7,8 @@ mod fault;
 mod files;
 mod format;
 mod grammar;
+mod keeping;
+mod left;
 mod listening;
 mod output;
 mod replay;
@@ -18,6 +20,7 @@ mod words;
 
 pub use end::End;
 pub use fault::{Fault, Role};
+pub use left::Left;
 pub use listening::Listens;
 pub use output::Outflow;
 pub use starting::{not_given, start};

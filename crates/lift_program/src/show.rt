@@ -5,19 +5,22 @@ ghost use Rattle.std.specs.Io.KnownBytes.{Appends};
 ghost use Rattle.lift_keeper.specs.Reopening.{RefusesReopening};
 ghost use Rattle.lift_keeper.specs.declared.fault.KeeperFault.{KeeperFault as Refusal};
 ghost use Rattle.lift_replay.specs.Report.{register_text};
-ghost use Rattle.lift_program.specs.Ends.{IsFileFault, IsReportOfFault, IsShowFault};
-ghost use Rattle.lift_program.specs.Ends.{IsShowingFault};
+ghost use Rattle.lift_program.specs.Ends.{IsFileFault, IsReportOfFault, IsShowingFault};
+ghost use Rattle.lift_program.specs.Ends.{IsShowingUndone};
+ghost use Rattle.lift_program.specs.Images.{image_files};
 ghost use Rattle.lift_program.specs.Output.{HasFailed, IsSettled};
 ghost use Rattle.lift_program.specs.Showing.{IsShown, Shows, ShowsFront, ShowsPart};
+ghost use Rattle.lift_program.specs.Stages.{IsUndone, fault_in};
 ghost use Rattle.lift_program.specs.declared.fault.Fault.TheVariants.{Journal as OfJournal};
 ghost use Rattle.lift_program.specs.declared.fault.Role.TheVariants.{Output};
 
 use crate::fault::Fault;
 use crate::files::{building_in, image_to_show};
+use crate::left::{Left, Undone};
 use crate::output::{Outflow, write_out};
 use crate::unwritten::ShownImage;
 use lift_building::Building;
-use lift_disk::Disk;
+use lift_disk::{BufferedFile, Disk, ToldFiles};
 use lift_keeper::Keeper;
 use lift_register::Register;
 use lift_replay::report::push_rows;
@@ -77,28 +80,40 @@ fn show_on<D: Disk + Drop, W: Outflow>(
 
 /// Shows the open calls of the journal in the file `image`, which is of the building in the file
 /// `building`.
-#[tactic(auto, using(crate::proofs::Stages::building_shows, crate::proofs::Stages::image_shows, crate::proofs::Stages::nothing_written))]
-pub fn show<F: Files<File = File>, W: Outflow>(
+#[tactic(auto, using(crate::proofs::Stages::building_undone, crate::proofs::Stages::image_undone, crate::proofs::Stages::nothing_written))]
+pub fn show<F: Files<File = File> + ToldFiles, W: Outflow>(
     rt: &F,
     alloc: Global,
     image: &str,
     building: &str,
     writer: &mut W,
-) -> Result<ShownImage, Fault>
-    ensures shown { IfOk result (λ disk.
-        IsShown disk (W.contents writer.old) (W.contents writer.new)) }
-    ensures only { ShowsPart (W.contents writer.old) (W.contents writer.new) }
-    ensures fault { IfErr result IsShowFault }
-    ensures report { IfErr result (λ fault.
-        IsReportOfFault fault (W.contents writer.old) (W.contents writer.new)) }
-    ensures failed { result ≡ Err (Fault.File Output)
-        → HasFailed W.gives W.flushes writer.old writer.new }
+) -> Result<Left<ShownImage<F::Told>>, Undone<ShownImage<F::Told>>>
+    ensures shown { IfOk result (λ disk. IsShown (image_files (F.opens rt.now) F.Told.gives F.Told.holds
+        ⟦<BufferedFile<F::Told> as Disk>⟧.state ⟦<ShownImage<F::Told> as Disk>⟧.state) image.now disk
+        (W.contents writer.old) (W.contents writer.new)) }
+    ensures only { ShowsPart (image_files (F.opens rt.now) F.Told.gives F.Told.holds
+        ⟦<BufferedFile<F::Told> as Disk>⟧.state ⟦<ShownImage<F::Told> as Disk>⟧.state) image.now
+        (W.contents writer.old) (W.contents writer.new) }
+    ensures undone { IfErr result (IsUndone ((image_files (F.opens rt.now) F.Told.gives F.Told.holds
+        ⟦<BufferedFile<F::Told> as Disk>⟧.state ⟦<ShownImage<F::Told> as Disk>⟧.state).is_to_be_shown image.now)
+        ⟦<ShownImage<F::Told> as Disk>⟧.state) }
+    ensures showing { IfErr result IsShowingUndone }
+    ensures report { IfErr result (λ undone.
+        IsReportOfFault (fault_in undone) (W.contents writer.old) (W.contents writer.new)) }
+    ensures failed { IfErr result (λ undone. fault_in undone ≡ Fault.File Output
+        → HasFailed W.gives W.flushes writer.old writer.new) }
 {
-    let building = building_in(rt, alloc, building)?;
-    let disk = image_to_show(rt, image)?;
+    let building = match building_in(rt, alloc, building) {
+        Ok(building) => building,
+        Err(fault) => return Err(Undone::Unopened(fault)),
+    };
+    let disk = match image_to_show(rt, image) {
+        Ok(disk) => disk,
+        Err(fault) => return Err(Undone::Unopened(fault)),
+    };
     let (disk, outcome) = show_on(alloc, disk, &building, writer);
     match outcome {
-        Ok(()) => Ok(disk),
-        Err(fault) => Err(fault),
+        Ok(()) => Ok(Left::new(disk)),
+        Err(fault) => Err(Undone::Opened(fault, Left::new(disk))),
     }
 }

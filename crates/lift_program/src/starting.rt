@@ -7,6 +7,7 @@ ghost use Rattle.lift_replay.specs.declared.lines.Verdict.TheVariants.{Good};
 ghost use Rattle.lift_program.specs.declared.fault.Role.TheVariants.{Input, Output};
 ghost use Rattle.lift_program.specs.Ends.{IsCaused, IsEndFor, IsEndOf, IsReport, IsStatusFor};
 ghost use Rattle.lift_program.specs.Ends.{IsUncalled, IsUnread, WritesFor, line_of};
+ghost use Rattle.lift_program.specs.Images.{image_files};
 ghost use Rattle.lift_program.specs.Listening.{HasListened, WasRefused};
 ghost use Rattle.lift_program.specs.Output.{HasFailed, IsTold};
 ghost use Rattle.lift_program.specs.Words.{Asks, IsInRange};
@@ -15,13 +16,16 @@ ghost use Rattle.lift_program.specs.declared.words.Request.TheVariants.{Replay};
 use crate::end::End;
 use crate::fault::Fault;
 use crate::format::format;
+use crate::left::Undone;
 use crate::listening::Listens;
 use crate::output::Outflow;
 use crate::replay::replay;
 use crate::serve::serve;
 use crate::show::show;
+use crate::unwritten::ShownImage;
 use crate::words::{Request, request_of};
 use lift_base::text::{Counted, Watched};
+use lift_disk::{BufferedFile, Disk, SectorFile, ToldFiles};
 use std::alloc::Global;
 use std::convert::AsStr;
 use std::fs::{File, Files};
@@ -33,14 +37,23 @@ use std::time::Clock;
 
 /// Does what the request asks for.
 fn done<
-    F: Files<File = File> + Threads + Wait + Clock + Listens + Sync,
+    F: Files<File = File> + ToldFiles + Threads + Wait + Clock + Listens + Sync,
     R: Read + Drop,
     W: Outflow,
->(rt: &F, alloc: Global, request: Request<'_>, input: &mut Counted<R>, writer: &mut W) -> End
+>(
+    rt: &F,
+    alloc: Global,
+    request: Request<'_>,
+    input: &mut Counted<R>,
+    writer: &mut W,
+) -> End<SectorFile<F::Told>, ShownImage<F::Told>, BufferedFile<F::Told>>
     requires range { IsInRange request }
     requires uncalled { IsUncalled input.old }
-    ensures end { IsEndFor request.entry result }
-    ensures only { WritesFor (R.remaining input.old.reader) request.entry
+    ensures end { IsEndFor (image_files (F.opens rt.now) F.Told.gives F.Told.holds
+        ⟦<BufferedFile<F::Told> as Disk>⟧.state ⟦<ShownImage<F::Told> as Disk>⟧.state) request.entry
+        (W.contents writer.old) (W.contents writer.new) result }
+    ensures only { WritesFor (image_files (F.opens rt.now) F.Told.gives F.Told.holds
+        ⟦<BufferedFile<F::Told> as Disk>⟧.state ⟦<ShownImage<F::Told> as Disk>⟧.state) (R.remaining input.old.reader) request.entry
         (W.contents writer.old) (W.contents writer.new) }
     ensures report { IsReport (R.remaining input.old.reader) result (W.contents writer.old)
         (W.contents writer.new) }
@@ -62,12 +75,13 @@ fn done<
             building,
             half,
         } => match format(rt, alloc, image, building, half) {
-            Ok(disk) => End::Formatted(disk),
+            Ok(left) => End::Formatted(left),
             Err(fault) => End::Failed(fault),
         },
         Request::Show { image, building } => match show(rt, alloc, image, building, writer) {
-            Ok(disk) => End::Shown(disk),
-            Err(fault) => End::Failed(fault),
+            Ok(left) => End::Shown(left),
+            Err(Undone::Unopened(fault)) => End::Failed(fault),
+            Err(Undone::Opened(fault, left)) => End::Unshown(fault, left),
         },
         Request::Serve {
             image,
@@ -76,14 +90,15 @@ fn done<
             sessions,
             policy,
         } => match serve(rt, alloc, image, building, port, sessions, policy, writer) {
-            Ok(fault) => End::Served(port, fault),
-            Err(fault) => End::Failed(fault),
+            Ok(serving) => End::Served(port, serving.fault, serving.left, serving.ended),
+            Err(Undone::Unopened(fault)) => End::Failed(fault),
+            Err(Undone::Opened(fault, left)) => End::Unserved(fault, left),
         },
     }
 }
 
 /// Why the words weren't given: for want of memory, or since one of them is no text.
-pub fn not_given<E: Write + Drop>(error: io::Error, errors: &mut Watched<E>) -> End
+pub fn not_given<E: Write + Drop>(error: io::Error, errors: &mut Watched<E>) -> End<(), (), ()>
     ensures memory { error_kind error ≡ ErrorKind.OutOfMemory → result ≡ End.Failed Fault.Memory }
     ensures other { error_kind error ≢ ErrorKind.OutOfMemory → result ≡ End.OtherWords }
     ensures told { IfSome (line_of result) (IsTold E.contents errors.old errors.new) }
@@ -100,7 +115,7 @@ pub fn not_given<E: Write + Drop>(error: io::Error, errors: &mut Watched<E>) -> 
 /// Does what the words behind the program's name ask for, and answers how it ended. A fault writes
 /// its line to `errors`, and so do other words.
 fn carry_out<
-    F: Files<File = File> + Threads + Wait + Clock + Listens + Sync,
+    F: Files<File = File> + ToldFiles + Threads + Wait + Clock + Listens + Sync,
     S: AsStr,
     R: Read + Drop,
     W: Outflow,
@@ -112,10 +127,11 @@ fn carry_out<
     input: &mut Counted<R>,
     writer: &mut W,
     errors: &mut Watched<E>,
-) -> End
+) -> End<SectorFile<F::Told>, ShownImage<F::Told>, BufferedFile<F::Told>>
     requires uncalled { IsUncalled input.old }
     // It ends as the words ask, and nothing is written but a front of what they ask for,
-    ensures end { IsEndOf (R.remaining input.old.reader) (map S.text words.now)
+    ensures end { IsEndOf (image_files (F.opens rt.now) F.Told.gives F.Told.holds
+        ⟦<BufferedFile<F::Told> as Disk>⟧.state ⟦<ShownImage<F::Told> as Disk>⟧.state) (R.remaining input.old.reader) (map S.text words.now)
         (W.contents writer.old) (W.contents writer.new) result }
     // a fault and other words are told by their line,
     ensures told { IfSome (line_of result) (IsTold E.contents errors.old errors.new) }
@@ -148,14 +164,15 @@ fn carry_out<
 /// done, 1 for a bad script or a fault, 2 for other words. A fault writes its line to `errors`, and
 /// so do other words.
 pub fn start<
-    F: Files<File = File> + Threads + Wait + Clock + Listens + Sync,
+    F: Files<File = File> + ToldFiles + Threads + Wait + Clock + Listens + Sync,
     S: AsStr,
     R: Read + Drop,
     W: Outflow,
     E: Write + Drop,
 >(rt: &F, alloc: Global, words: &[S], reader: R, writer: &mut W, errors: &mut Watched<E>) -> u8
     // It is the status of an end that the words come to, with its report, and which is told.
-    ensures status { IsStatusFor E.contents (map S.text words.now) (R.remaining reader)
+    ensures status { IsStatusFor (image_files (F.opens rt.now) F.Told.gives F.Told.holds
+        ⟦<BufferedFile<F::Told> as Disk>⟧.state ⟦<ShownImage<F::Told> as Disk>⟧.state) E.contents (map S.text words.now) (R.remaining reader)
         (W.contents writer.old) (W.contents writer.new)
         (HasFailed W.gives W.flushes writer.old writer.new) (HasListened F.gives rt.now)
         (WasRefused F.gives rt.now) errors.old errors.new result }

@@ -1,29 +1,31 @@
 //! A file that is only read.
 ghost use Rattle.std.specs.Prelude.{◌≡◌};
-ghost use Rattle.lift_disk.specs.Files.{file_state_of};
+ghost use Rattle.std.proofs.Common.{◌∙◌};
+ghost use Rattle.lift_disk.specs.Files.{file_below, sector_file_state_of, writes_of};
 
 use lift_base::ProofCount;
-use lift_disk::{Ahead, Buffered, Disk, DiskFault, FileDisk, RunDisk};
+use lift_disk::{Ahead, Buffered, Disk, DiskFault, RunDisk, SectorFile, ToldFile};
 
 /// A file that is never written: a write of it fails, and is no call of the file.
 #[derive(Drop)]
-pub struct UnwrittenFile {
-    file: FileDisk,
+pub struct UnwrittenFile<F: ToldFile + Drop> {
+    file: SectorFile<F>,
     refused: ProofCount,
-    ghost unwritten: { (file_state_of file).writes ≡ 0 },
+    ghost unwritten: { writes_of file ≡ 0 },
 }
 
 /// The file of a journal that is shown. It is read 16 sectors at once, and never written.
-pub type ShownImage = Buffered<UnwrittenFile>;
+pub type ShownImage<F> = Buffered<UnwrittenFile<F>>;
 
-impl UnwrittenFile {
+impl<F: ToldFile + Drop> UnwrittenFile<F> {
     ghost use Rattle.lift_program.specs.Unwritten.{unwritten_file_of, unwritten_state_of};
 
     /// A device over a file of which no call was a write. It makes no call of it.
-    pub fn over(file: FileDisk) -> UnwrittenFile
-        requires { (file_state_of file).writes ≡ 0 }
+    pub fn over(file: SectorFile<F>) -> UnwrittenFile<F>
+        requires { writes_of file ≡ 0 }
         ensures file { unwritten_file_of result ≡ file }
-        ensures failures { (unwritten_state_of result).failures ≡ (file_state_of file).failures }
+        ensures failures { (unwritten_state_of F.holds result).failures
+            ≡ (sector_file_state_of F.holds file).failures }
     {
         UnwrittenFile {
             file,
@@ -32,18 +34,18 @@ impl UnwrittenFile {
     }
 }
 
-impl Disk for UnwrittenFile {
-    ghost use Rattle.lift_program.specs.Unwritten.{unwritten_state_of};
+impl<F: ToldFile + Drop> Disk for UnwrittenFile<F> {
+    ghost use Rattle.lift_program.specs.Unwritten.{unwritten_file_of, unwritten_state_of};
 
-    ghost state = { λ d. unwritten_state_of d };
+    ghost state = { λ d. unwritten_state_of F.holds d };
 
-    ghost whole = { λ d no. absurd no };
+    ghost whole = { λ d honest. F.whole (file_below (unwritten_file_of d)) honest.0 ∙ honest.1 };
 
-    ghost counts_now = { λ d no. absurd no };
+    ghost counts_now = { λ d honest. F.counts_now (file_below (unwritten_file_of d)) honest.0 };
 
-    ghost only_now = { λ d no. absurd no };
+    ghost only_now = { λ d honest. F.only_now (file_below (unwritten_file_of d)) honest.0 };
 
-    ghost may_lose = { λ d no. absurd no };
+    ghost may_lose = { λ d honest. F.may_lose (file_below (unwritten_file_of d)) honest.0 };
 
     fn sectors(&self) -> u32 {
         self.file.sectors()
@@ -53,8 +55,9 @@ impl Disk for UnwrittenFile {
         self.file.read(sector, buffer)
     }
 
-    fn write(&mut self, _sector: u32, _bytes: &[u8; 512]) -> Result<(), DiskFault> {
+    fn write(&mut self, sector: u32, _bytes: &[u8; 512]) -> Result<(), DiskFault> {
         self.refused = ProofCount::next(&self.refused);
+        self.file.announce(sector);
         Err(DiskFault)
     }
 
@@ -63,18 +66,20 @@ impl Disk for UnwrittenFile {
     }
 }
 
-impl RunDisk for UnwrittenFile {
-    ghost use Rattle.lift_disk.specs.Files.{AsksForRun, HasGiven, file_calls_of};
+impl<F: ToldFile + Drop> RunDisk for UnwrittenFile<F> {
+    ghost use Rattle.lift_disk.specs.Files.{AsksForRun, HasGiven, calls_below};
     ghost use Rattle.lift_program.specs.Unwritten.{unwritten_file_of};
 
-    ghost has_given = { λ d. HasGiven (file_calls_of (unwritten_file_of d)) };
+    ghost has_given = { λ d. HasGiven (calls_below (unwritten_file_of d)) };
 
     // the file was asked for so many sectors and no more
     ghost read_run_gives = { λ old sector count run result new.
-        AsksForRun (file_calls_of (unwritten_file_of old)) sector count run result
-        (file_calls_of (unwritten_file_of new)) };
+        AsksForRun (calls_below (unwritten_file_of old)) sector count run result
+        (calls_below (unwritten_file_of new)) };
 
-    fn announce(&mut self, _sector: u32) {}
+    fn announce(&mut self, sector: u32) {
+        self.file.announce(sector);
+    }
 
     fn read_run(&mut self, sector: u32, count: usize, buffer: &mut Ahead) -> Result<(), DiskFault> {
         self.file.read_run(sector, count, buffer)

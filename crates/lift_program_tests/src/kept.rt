@@ -3,11 +3,11 @@
 use crate::streams::{Failing, Run};
 use lift_base::{Body, Dir, Floor, Letter, Number, Party, Reply, Terminal};
 use lift_building::Building;
-use lift_disk::FileDisk;
+use lift_disk::{FileDisk, SystemFile};
 use lift_keeper::Keeper;
 use lift_policy::Etd;
 use std::alloc::Global;
-use std::fs;
+use std::fs::{self, File};
 use std::test::Fail;
 
 /// The demo building: ten floors, two cars for eight persons, kiosks at floors 0 and 5.
@@ -39,7 +39,7 @@ fn floor(number: u8) -> Floor {
 /// the batch is safe.
 fn are_kept(
     alloc: Global,
-    image: FileDisk,
+    image: FileDisk<SystemFile<File>>,
     commands: &[(Terminal, u32, Body)],
 ) -> Result<bool, Fail> {
     let building = Building::read(alloc, DEMO).ok().ok_or("refused")?;

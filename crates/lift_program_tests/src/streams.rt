@@ -1,6 +1,7 @@
 //! Streams that fail under a command.
 
 use lift_base::text::Watched;
+use lift_disk::ToldFiles;
 use lift_program::start;
 use std::alloc::Global;
 use std::fs::{File, Files};
@@ -44,6 +45,7 @@ impl Run {
     pub(crate) fn of<F, R: Read + Drop>(rt: &F, words: &[&str], reader: R) -> Run
     where
         F: Files<File = File>
+            + ToldFiles
             + Alloc<A = Global>
             + Threads
             + Wait

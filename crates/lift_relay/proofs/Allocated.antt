@@ -1,9 +1,13 @@
 -- What a turn of the allocator leaves.
-use Rattle.std.proofs.Common.{◌≡◌, ◌≢◌, ℕ, ◌<◌, ◌≤◌, ◌+◌, List, [], ◌∷◌, ◌++◌, length, refl, sym, ap, ◌∙◌, subst, append-nil, append_assoc, length-append, arith, inl, inr}
+use Rattle.std.proofs.Common.{◌≡◌, ◌≢◌, ℕ, true, Option, Some, None, ◌<◌, ◌≤◌, ◌+◌, List, [], ◌∷◌, ◌++◌, length, refl, sym, ap, ◌∙◌, subst, append-nil, append_assoc, length-append, arith, inl, inr}
 use Rattle.atomic_table.specs.Seated.{TableId}
 use Rattle.lift_base.specs.declared.history.Entry.{Entry}
 use Rattle.lift_building.specs.Plan.{Plan}
-use Rattle.lift_register.specs.Register.{RegisterState, register_of}
+use Rattle.lift_register.specs.Register.{RegisterState}
+use Rattle.lift_stops.specs.Schedule.{ScheduleState}
+use Rattle.lift_decider.specs.Decider.{state_of}
+use Rattle.lift_policy.specs.View.{positions_of}
+use Rattle.std.specs.Prelude.{Option}
 use Rattle.lift_desk.specs.Seats.{ClerkPlace, IsClerkOf}
 use Rattle.lift_policy.specs.Eligible.{Choice}
 use Rattle.lift_policy.specs.Step.{State}
@@ -14,11 +18,12 @@ use Rattle.lift_policy.specs.declared.command.Command.{Command}
 use Rattle.lift_clerk.specs.Visits.{commands_of, served}
 use Rattle.std.proofs.lemmas.List.{length-map}
 use Rattle.lift_parts.specs.declared.taken.Taken.{Taken}
-use Rattle.lift_parts.specs.Batch.{BatchState, after, turns_behind, turns_of, turns_after, commands_in, replies_in, noted_in}
-use Rattle.lift_parts.specs.Line.{SendState, Begins, IsNext, SendsOne, WasFull}
+use Rattle.lift_parts.specs.Batch.{BatchState, turns_behind, turns_of, turns_after, commands_in, replies_in, noted_in}
+use Rattle.lift_parts.specs.Line.{SendState, Tries, tried, Begins, IsNext, SendsOne, WasFull, IsRefused}
 use Rattle.lift_parts.specs.Scan.{ScansAhead, TakesEach, turns_in}
+use Rattle.lift_relay.specs.Scanner.{ScannerState, Makes, MakesIt, HasScanned}
 use Rattle.lift_relay.proofs.Queues.{full_by}
-use Rattle.lift_parts.specs.Allocator.{AllocatorState, DecidesAlong, GoesOnBehind, IsAllocator, IsScanTurn, IsAllocation}
+use Rattle.lift_parts.specs.Allocator.{AllocatorState, DecidesAlong, GoesOnBehind, IsAllocator, IsScanTurn, IsAllocation, tries_behind}
 
 -- one batch more
 pub along_more : (plan : Plan) (choice : Choice) (start mid decided : State) (batches : List BatchState) (batch : BatchState) → DecidesAlong plan choice start batches mid
@@ -28,48 +33,48 @@ along_more plan choice start mid decided [] batch along run entries =
     (decided, subst (λ (s : State). Run plan choice s (commands_in batch.commands) (replies_in batch.commands) decided) along run, entries, refl)
 along_more plan choice start mid decided (b ∷ batches) batch along run entries = (along.0, along.1, along.2, along_more plan choice (settled along.0) mid decided batches batch along.3 run entries)
 
--- the batch that a scan makes
-pub record Makes {P : Type 0} (choice : Choice) (a : AllocatorState P) (seat : List ClerkPlace) (decided : State) (batch : BatchState) : Type 0 where
-  pub seated : IsClerkOf a.desk seat
-  pub run : Run a.plan choice a.state (commands_in batch.commands) (replies_in batch.commands) decided
-  pub entries : batch.entries ≡ decided.batch
-  pub next : IsNext a.plan a.desk a.state.register (turns_of a.seat) batch
-  pub turns : turns_of seat ≡ turns_behind batch
-  pub shows : decided.register ≡ register_of a.state.register decided.batch
-  pub uses : turns_in a.seat + 1 ≤ turns_in seat
+-- what decisions read, of the calls and the cars
+pub based : (state : State) (register : RegisterState) (schedules : List (Option ScheduleState)) → register ≡ state.register → positions_of schedules ≡ state.positions → state.batch ≡ []
+    → state_of register schedules [] ≡ state
+based state register schedules same placed sealed = λ i. record { register = same i; positions = placed i; batch = sym sealed i }
 
-pub makes : {P : Type 0} (choice : Choice) (a : AllocatorState P) (seat : List ClerkPlace) (decided : State) (taken : List Taken) (entries : List Entry) (plan : Plan) (before : RegisterState) (seats : List ClerkPlace) (batch : BatchState)
-    → batch ≡ record { commands = taken; entries = entries; building = plan; before = before; desk = a.desk; turns = turns_of seats } → IsClerkOf a.desk seat
-    → Run a.plan choice a.state (commands_in taken) (replies_in taken) decided → entries ≡ decided.batch → plan ≡ a.plan → before ≡ a.state.register
-    → decided.register ≡ register_of a.state.register decided.batch → turns_in a.seat + 1 ≤ turns_in seat
+-- an allocator of both its halves
+abbrev pub allocator_of : {P : Type 0} → ScannerState P → SendState → List BatchState → AllocatorState P
+allocator_of s end hand = record { desk = s.desk; seat = s.seat; plan = s.plan; state = s.state; start = s.start; policy = s.policy; end = end; hand = hand }
+
+-- the half that takes and decides
+abbrev pub half_of : {P : Type 0} → AllocatorState P → ScannerState P
+half_of a = record { desk = a.desk; seat = a.seat; plan = a.plan; state = a.state; start = a.start; policy = a.policy }
+
+pub makes : {P : Type 0} (choice : Choice) (a : ScannerState P) (seat : List ClerkPlace) (decided : State) (taken : List Taken) (entries : List Entry) (plan : Plan) (before after : State) (seats : List ClerkPlace) (batch : BatchState)
+    → batch ≡ record { commands = taken; entries = entries; building = plan; before = before; after = after; desk = a.desk; turns = turns_of seats } → IsClerkOf a.desk seat
+    → Run a.plan choice a.state (commands_in taken) (replies_in taken) decided → entries ≡ decided.batch → plan ≡ a.plan → before ≡ a.state
+    → after ≡ settled decided → turns_in a.seat + 1 ≤ turns_in seat
     → seats ≡ a.seat → turns_after (turns_of a.seat) taken ≡ turns_of seat → Makes choice a seat decided batch
-makes choice a seat decided taken entries plan before seats batch is seated run same building on shows uses of_seat turns = record {
+makes choice a seat decided taken entries plan before after seats batch is seated run same building on leads uses of_seat turns = record {
   uses = uses;
   seated = seated;
   run = subst (λ (l : List Taken). Run a.plan choice a.state (commands_in l) (replies_in l) decided) (sym (ap (λ (b : BatchState). b.commands) is)) run;
   entries = ap (λ (b : BatchState). b.entries) is ∙ same;
-  next = record { of_building = ap (λ (b : BatchState). b.building) is ∙ building; at_desk = ap (λ (b : BatchState). b.desk) is; on_register = ap (λ (b : BatchState). b.before) is ∙ on; on_turns = ap (λ (b : BatchState). b.turns) is ∙ ap turns_of of_seat };
+  next = record { of_building = ap (λ (b : BatchState). b.building) is ∙ building; at_desk = ap (λ (b : BatchState). b.desk) is; on_state = ap (λ (b : BatchState). b.before) is ∙ on; on_turns = ap (λ (b : BatchState). b.turns) is ∙ ap turns_of of_seat };
+  leads = ap (λ (b : BatchState). b.after) is ∙ leads;
   turns = sym turns ∙ ap (λ l. turns_after (turns_of l) taken) (sym of_seat) ∙ ap turns_behind (sym is);
-  shows = shows;
 }
 
-leads : {P : Type 0} (choice : Choice) (a : AllocatorState P) (seat : List ClerkPlace) (decided : State) (batch : BatchState) → Makes choice a seat decided batch → decided.register ≡ after batch
-leads choice a seat decided batch m = m.shows ∙ ap (λ (p : RegisterState × List Entry). register_of p.0 p.1) (λ i. (sym m.next.on_register i, sym m.entries i))
-
--- with no batch in hand the register shown and the turns are those behind all that was sent
-level : (plan : Plan) (desk : List TableId) (sent : RegisterState) (turns : List ℕ) (hand : List BatchState) (shown : RegisterState) (used : List ℕ) → hand ≡ [] → GoesOnBehind plan desk sent turns hand shown used
+-- with no batch in hand what is shown and the turns are those behind all that was sent
+pub level : (plan : Plan) (desk : List TableId) (sent : State) (turns : List ℕ) (hand : List BatchState) (shown : State) (used : List ℕ) → hand ≡ [] → GoesOnBehind plan desk sent turns hand shown used
     → (shown ≡ sent) × (used ≡ turns)
 level plan desk sent turns [] shown used none goes = goes
 level plan desk sent turns (b ∷ []) shown used none goes = absurd (cc)
 level plan desk sent turns (b ∷ c ∷ bs) shown used none goes = absurd (cc)
 
-pub behind_none : (plan : Plan) (desk : List TableId) (sent : RegisterState) (turns : List ℕ) (hand : List BatchState) (shown : RegisterState) (used : List ℕ) → hand ≡ [] → shown ≡ sent → used ≡ turns
+pub behind_none : (plan : Plan) (desk : List TableId) (sent : State) (turns : List ℕ) (hand : List BatchState) (shown : State) (used : List ℕ) → hand ≡ [] → shown ≡ sent → used ≡ turns
     → GoesOnBehind plan desk sent turns hand shown used
 behind_none plan desk sent turns hand shown used none same still = subst (λ (l : List BatchState). GoesOnBehind plan desk sent turns l shown used) (sym none) (same, still)
 
 -- the new batch is sent
 pub sent_one : {P : Type 0} (choice : Choice) (a : AllocatorState P) (seat : List ClerkPlace) (decided state : State) (plan : Plan) (batch : BatchState) (end : SendState)
-    → IsAllocator choice a → a.hand ≡ [] → Makes choice a seat decided batch → plan ≡ a.plan → state ≡ settled decided → SendsOne a.end batch end
+    → IsAllocator choice a → a.hand ≡ [] → Makes choice (half_of a) seat decided batch → plan ≡ a.plan → state ≡ settled decided → SendsOne a.end batch end
     → IsAllocator choice (record { desk = a.desk; seat = seat; plan = plan; state = state; start = a.start; policy = a.policy; end = end; hand = a.hand })
 sent_one choice a seat decided state plan batch end is none made of_plan settles sent =
     let along = along_more a.plan choice a.start a.state decided (a.end.sent ++ a.hand) batch is.decides made.run made.entries in
@@ -82,19 +87,19 @@ sent_one choice a seat decided state plan batch end is none made of_plan settles
       all_sealed = ap (λ (s : State). s.batch) settles;
       decides = subst (λ (p : Plan × List BatchState × State). DecidesAlong p.0 choice a.start p.1 p.2) (λ i. (sym of_plan i, same i, sym settles i)) along;
       few = let used = made.uses in let was = is.few in omega (arith, ap length sent.sends, length-append a.end.sent (batch ∷ []));
-      goes_on = behind_none plan a.desk end.register end.turns a.hand state.register (turns_of seat) none (ap (λ (s : State). s.register) settles ∙ leads choice a seat decided batch made ∙ sym sent.register) (made.turns ∙ sym sent.turns);
+      goes_on = behind_none plan a.desk end.state end.turns a.hand state (turns_of seat) none (settles ∙ sym made.leads ∙ sym sent.state) (made.turns ∙ sym sent.turns);
     }
 
 -- the line has no room for it
 pub held_one : {P : Type 0} (choice : Choice) (a : AllocatorState P) (seat : List ClerkPlace) (decided state : State) (plan : Plan) (batch back : BatchState) (end : SendState)
-    → IsAllocator choice a → a.hand ≡ [] → Makes choice a seat decided batch → plan ≡ a.plan → state ≡ settled decided → end ≡ a.end → back ≡ batch
+    → IsAllocator choice a → a.hand ≡ [] → Makes choice (half_of a) seat decided batch → plan ≡ a.plan → state ≡ settled decided → end ≡ record a.end { tries = tried a.end.tries true } → back ≡ batch
     → IsAllocator choice (record { desk = a.desk; seat = seat; plan = plan; state = state; start = a.start; policy = a.policy; end = end; hand = back ∷ [] })
 held_one choice a seat decided state plan batch back end is none made of_plan settles same_end is_back =
     let along = along_more a.plan choice a.start a.state decided (a.end.sent ++ a.hand) batch is.decides made.run made.entries in
     let same : (a.end.sent ++ a.hand) ++ batch ∷ [] ≡ end.sent ++ back ∷ [] = ap (λ l. (a.end.sent ++ l) ++ batch ∷ []) none ∙ ap (λ l. l ++ batch ∷ []) (append-nil a.end.sent)
     ∙ ap (λ (p : SendState × BatchState). p.0.sent ++ p.1 ∷ []) (λ i. (sym same_end i, sym is_back i)) in
-    let even = level a.plan a.desk a.end.register a.end.turns a.hand a.state.register (turns_of a.seat) none is.goes_on in
-    let shown : a.state.register ≡ end.register = even.0 ∙ ap (λ (e : SendState). e.register) (sym same_end) in
+    let even = level a.plan a.desk a.end.state a.end.turns a.hand a.state (turns_of a.seat) none is.goes_on in
+    let shown : a.state ≡ end.state = even.0 ∙ ap (λ (e : SendState). e.state) (sym same_end) in
     let used : turns_of a.seat ≡ end.turns = even.1 ∙ ap (λ (e : SendState). e.turns) (sym same_end) in
     record {
       seated = made.seated;
@@ -104,8 +109,8 @@ held_one choice a seat decided state plan batch back end is none made of_plan se
       decides = subst (λ (p : Plan × List BatchState × State). DecidesAlong p.0 choice a.start p.1 p.2) (λ i. (sym of_plan i, same i, sym settles i)) along;
       few = let used = made.uses in let was = is.few in omega (arith, ap (λ (e : SendState). length e.sent) same_end, ap length none);
       goes_on = (
-        subst (λ (p : Plan × RegisterState × List ℕ × BatchState). IsNext p.0 a.desk p.1 p.2 p.3) (λ i. (sym of_plan i, shown i, used i, sym is_back i)) made.next,
-        ap (λ (s : State). s.register) settles ∙ leads choice a seat decided batch made ∙ ap after (sym is_back),
+        subst (λ (p : Plan × State × List ℕ × BatchState). IsNext p.0 a.desk p.1 p.2 p.3) (λ i. (sym of_plan i, shown i, used i, sym is_back i)) made.next,
+        settles ∙ sym made.leads ∙ ap (λ (b : BatchState). b.after) (sym is_back),
         made.turns ∙ ap turns_behind (sym is_back),
       );
     }
@@ -117,6 +122,7 @@ pub record Between {P : Type 0} (old a : AllocatorState P) : Type 0 where
   pub line : a.end.line ≡ old.end.line
   pub same : a ≡ record old { end = a.end; hand = [] }
   pub later : Begins old.end.gone a.end.gone
+  pub tries : a.end.tries ≡ tries_behind old.hand old.end.tries
 
 then_later : (first mid last : List BatchState) → Begins first mid → Begins mid last → Begins first last
 then_later first mid last a b = (a.0 ++ b.0, b.1 ∙ ap (λ l. l ++ b.0) a.1 ∙ append_assoc first a.0 b.0)
@@ -128,6 +134,12 @@ some_command : (taken : List Taken) (commands : List Command) → commands_in ta
 some_command [] commands is some = absurd (some (sym is))
 some_command (t ∷ taken) commands is some = omega arith
 
+-- what was full at a refused try reads so behind it
+pub refused_full : (old new : SendState) → IsRefused old new → WasFull new
+refused_full old new refused =
+    let full = refused.was_full in
+    subst WasFull (sym refused.tries) (record { items = full.items; four = full.four; received = full.received; all = full.all; later = full.later })
+
 pub scan_turn : {P : Type 0} (choice : Choice) (old a new : AllocatorState P) (counts : Counts) (taken : List Taken) (decided : State) (batch : BatchState) → Between old a
     → (scans : ScansAhead choice a.plan a.seat new.seat a.state decided taken (length a.desk))
     → batch.commands ≡ taken → batch.entries ≡ decided.batch
@@ -137,7 +149,7 @@ pub scan_turn : {P : Type 0} (choice : Choice) (old a new : AllocatorState P) (c
     → (length taken ≡ 0 → (new.end.sent ++ new.hand ≡ a.end.sent) × (new.hand ≡ []))
     → (0 < length taken → new.end.sent ++ new.hand ≡ a.end.sent ++ batch ∷ [])
     → Begins a.end.sent new.end.sent
-    → (new.hand ≢ [] → WasFull new.end)
+    → (new.hand ≢ [] → WasFull new.end × (new.end.tries ≡ tried a.end.tries true))
     → Begins a.end.gone new.end.gone
     → IsScanTurn choice old new counts
 scan_turn {P} choice old a new counts taken decided batch between scans commands entries settles place many accepted nothing some sent full later =
@@ -158,7 +170,8 @@ scan_turn {P} choice old a new counts taken decided batch between scans commands
       nothing = λ none. let n = nothing (no_command taken (commands_of 0 visits) scans.commands none) in (n.0 ∙ between.sent, n.1);
       some = λ any. some (some_command taken (commands_of 0 visits) scans.commands any) ∙ ap (λ l. l ++ batch ∷ []) between.sent;
       sent = subst (λ (l : List BatchState). Begins l new.end.sent) between.sent sent;
-      full = full;
+      full = λ held. (full held).0;
+      refused = λ held. (full held).1 ∙ ap (λ (t : Tries). tried t true) between.tries;
       same_place = (
         place.0 ∙ ap (λ (s : AllocatorState P). s.desk) same,
         place.1 ∙ ap (λ (s : AllocatorState P). s.plan) same,
@@ -170,6 +183,89 @@ scan_turn {P} choice old a new counts taken decided batch between scans commands
       accepted = accepted;
       later = then_later old.end.gone a.end.gone new.end.gone between.later later;
     }
+
+-- ---- behind a scan, its batch is sent or held, if it made one
+no_items : (taken : List Taken) → length taken ≡ 0 → taken ≡ []
+no_items [] is = refl
+no_items (t ∷ taken) is = absurd (omega arith)
+
+module _ {P : Type 0} (chooses : P → Choice) (s n : ScannerState P) (end : SendState) (hand : List BatchState) (counts : Counts) (is : IsAllocator (chooses s.policy) (allocator_of s end hand)) (none : hand ≡ []) where
+  pub scanned_sent : (batch : BatchState) (sent : SendState) → HasScanned (chooses s.policy) s n counts (Some batch) → SendsOne end batch sent → IsAllocator (chooses n.policy) (allocator_of n sent hand)
+  scanned_sent batch sent scan sends =
+      subst (λ (v : ScannerState P). IsAllocator (chooses v.policy) (allocator_of v sent hand)) (sym scan.same)
+      (sent_one (chooses s.policy) (allocator_of s end hand) n.seat scan.decided n.state s.plan batch sent is none scan.makes.2 refl scan.after sends)
+
+  pub scanned_held : (batch back : BatchState) (sent : SendState) → HasScanned (chooses s.policy) s n counts (Some batch) → back ≡ batch → IsRefused end sent → IsAllocator (chooses n.policy) (allocator_of n sent (back ∷ []))
+  scanned_held batch back sent scan same refused =
+      subst (λ (v : ScannerState P). IsAllocator (chooses v.policy) (allocator_of v sent (back ∷ []))) (sym scan.same)
+      (held_one (chooses s.policy) (allocator_of s end hand) n.seat scan.decided n.state s.plan batch back sent is none scan.makes.2 refl scan.after refused.tries same)
+
+  module _ (scan : HasScanned (chooses s.policy) s n counts None) where
+    nothing_taken : scan.taken ≡ []
+    nothing_taken = no_items scan.taken scan.makes
+
+    stays : n.state ≡ s.state
+    stays =
+        let run : scan.decided ≡ s.state = subst (λ (l : List Taken). Run s.plan (chooses s.policy) s.state (commands_in l) (replies_in l) scan.decided) nothing_taken scan.scans.run in
+        scan.after ∙ ap settled run ∙ ap (λ (b : List Entry). record s.state { batch = b }) (sym is.all_sealed)
+
+    same_turns : turns_of n.seat ≡ turns_of s.seat
+    same_turns = sym scan.turns ∙ ap (turns_after (turns_of s.seat)) nothing_taken
+
+    pub scanned_none : IsAllocator (chooses n.policy) (allocator_of n end hand)
+    scanned_none =
+        subst (λ (v : ScannerState P). IsAllocator (chooses v.policy) (allocator_of v end hand)) (sym scan.same)
+        (record {
+          seated = scan.seated;
+          of_building = is.of_building;
+          at_desk = is.at_desk;
+          all_sealed = ap (λ (x : State). x.batch) stays ∙ is.all_sealed;
+          decides = subst (λ (x : State). DecidesAlong s.plan (chooses s.policy) s.start (end.sent ++ hand) x) (sym stays) is.decides;
+          goes_on = subst (λ (p : State × List ℕ). GoesOnBehind s.plan s.desk end.state end.turns hand p.0 p.1) (λ i. (sym stays i, sym same_turns i)) is.goes_on;
+          few = let used = scan.uses in let was = is.few in omega arith;
+        })
+
+-- the turn of it
+module _ {P : Type 0} (choice : Choice) (old : AllocatorState P) (s n : ScannerState P) (end : SendState) (hand : List BatchState) (counts : Counts) (between : Between old (allocator_of s end hand)) where
+  turn_by : (made : Option BatchState) (scan : HasScanned choice s n counts made) (batch : BatchState) (last : SendState) (held : List BatchState) → batch.commands ≡ scan.taken → batch.entries ≡ scan.decided.batch → last.line ≡ end.line
+      → (length scan.taken ≡ 0 → (last.sent ++ held ≡ end.sent) × (held ≡ []))
+      → (0 < length scan.taken → last.sent ++ held ≡ end.sent ++ batch ∷ [])
+      → Begins end.sent last.sent → (held ≢ [] → WasFull last × (last.tries ≡ tried end.tries true)) → Begins end.gone last.gone
+      → IsScanTurn choice old (allocator_of n last held) counts
+  turn_by made scan batch last held commands entries line nothing some sent full later =
+      scan_turn choice old (allocator_of s end hand) (allocator_of n last held) counts scan.taken scan.decided batch between scan.scans commands entries scan.after
+      (ap (λ (v : ScannerState P). v.desk) scan.same, ap (λ (v : ScannerState P). v.plan) scan.same, ap (λ (v : ScannerState P). v.policy) scan.same, ap (λ (v : ScannerState P). v.start) scan.same, line)
+      scan.counted.0 scan.counted.1 nothing some sent full later
+
+  pub sent_turn : (batch : BatchState) (last : SendState) → HasScanned choice s n counts (Some batch) → SendsOne end batch last → IsScanTurn choice old (allocator_of n last hand) counts
+  sent_turn batch last scan one =
+      let some = scan.makes.0 in
+      turn_by (Some batch) scan batch last hand scan.makes.1 scan.makes.2.entries one.same.0
+      (λ nothing. absurd (omega arith))
+      (λ any. ap (λ l. last.sent ++ l) between.none ∙ append-nil last.sent ∙ one.sends)
+      (batch ∷ [], one.sends)
+      (λ held. absurd (held between.none)) one.later
+
+  pub held_turn : (batch back : BatchState) (last : SendState) → HasScanned choice s n counts (Some batch) → back ≡ batch → IsRefused end last → IsScanTurn choice old (allocator_of n last (back ∷ [])) counts
+  held_turn batch back last scan same refused =
+      let some = scan.makes.0 in
+      turn_by (Some batch) scan batch last (back ∷ []) scan.makes.1 scan.makes.2.entries (ap (λ (e : SendState). e.line) refused.tries)
+      (λ nothing. absurd (omega arith))
+      (λ any. ap (λ (p : SendState × BatchState). p.0.sent ++ p.1 ∷ []) (λ i. (refused.tries i, same i)))
+      (subst (λ (e : SendState). Begins end.sent e.sent) (sym refused.tries) ([], sym (append-nil end.sent)))
+      (λ held. (refused_full end last refused, ap (λ (e : SendState). e.tries) refused.tries))
+      (subst (λ (e : SendState). Begins end.gone e.gone) (sym refused.tries) ([], sym (append-nil end.gone)))
+
+  pub none_turn : HasScanned choice s n counts None → IsScanTurn choice old (allocator_of n end hand) counts
+  none_turn scan =
+      let none = scan.makes in
+      let batch : BatchState = record { commands = scan.taken; entries = scan.decided.batch; building = s.plan; before = s.state; after = n.state; desk = s.desk; turns = turns_of s.seat } in
+      turn_by None scan batch end hand refl refl refl
+      (λ nothing. (ap (λ l. end.sent ++ l) between.none ∙ append-nil end.sent, between.none))
+      (λ any. absurd (omega arith))
+      ([], sym (append-nil end.sent))
+      (λ held. absurd (held between.none))
+      ([], sym (append-nil end.gone))
 
 -- ---- what a turn leaves
 pub looks : {P : Type 0} (choice : Choice) (old new : AllocatorState P) (counts : Counts) → IsAllocation choice old new counts → length old.end.sent < length old.end.gone + 4 → IsScanTurn choice old new counts

@@ -1,8 +1,8 @@
 -- An allocator may go to another thread, where its policy may.
-use denote.Builtin.{unit}
+use denote.Builtin.{unit, Array}
 use denote.RattleType.{RattleType}
 use denote.Ref.{NamedLft}
-use denote.Struct.Field.{row_field, shr_ref_field, u64-field}
+use denote.Struct.Field.{row_field, shr_ref_field, u64-field, bool-field}
 use denote.Param.{number}
 use denote.Param.Send.{IsSend, IsSync, sendable, view_send, shr_send}
 use denote.Param.SendFields.{declared_send, variants_send, as_row_send}
@@ -24,6 +24,7 @@ use Rattle.crossbeam_queue.proofs.array_queue.Slotted.TheSendSync as queues
 use Rattle.lift_base.specs.contracts.history.Entry as Entry
 use Rattle.lift_building.specs.contracts.building.Building as Building
 use Rattle.lift_register.specs.contracts.registers.Register as Register
+use Rattle.lift_stops.specs.contracts.schedule.Schedule as Schedule
 use Rattle.lift_desk.specs.contracts.desk.Desk as Desk
 use Rattle.lift_desk.specs.contracts.desk.TakeSeat as TakeSeat
 use Rattle.lift_desk.proofs.desk.Desk.TheSendSync as desk_is
@@ -33,6 +34,8 @@ use Rattle.lift_decider.proofs.decider.Decider.TheSendSync as decider_is
 use Rattle.lift_policy.specs.declared.policy.Policy.{Ghosts}
 use Rattle.lift_parts.proofs.taken.Taken.TheSendSync as taken_is
 use Rattle.lift_parts.specs.contracts.taken.Taken as Taken
+use Rattle.lift_relay.specs.contracts.basis.Basis as Basis
+use Rattle.lift_relay.specs.contracts.basis.Basis.TheInside as basis_inside
 use Rattle.lift_relay.specs.contracts.batch.Batch as Batch
 use Rattle.lift_relay.specs.contracts.batch.Batch.TheInside as batch_inside
 use Rattle.lift_relay.specs.contracts.line.EndView as EndView
@@ -40,6 +43,10 @@ use Rattle.lift_relay.specs.contracts.line.InOrder as InOrder
 use Rattle.lift_relay.specs.contracts.line.InOrderProtocolBatchEndView.TheImpl as order
 use Rattle.lift_relay.specs.contracts.line.SendEnd as SendEnd
 use Rattle.lift_relay.specs.contracts.line.SendEnd.TheInside as end_inside
+use Rattle.lift_relay.specs.contracts.side.Side as Side
+use Rattle.lift_relay.specs.contracts.side.Side.TheInside as side_inside
+use Rattle.lift_relay.specs.contracts.deciding.Scanner as Scanner
+use Rattle.lift_relay.specs.contracts.deciding.Scanner.TheInside as scanner_inside
 use Rattle.lift_relay.specs.contracts.allocator.Allocator as Allocator
 use Rattle.lift_relay.specs.contracts.allocator.Allocator.TheInside as allocator_inside
 use Rattle.lift_relay.specs.contracts.pair.Allocating as Allocating
@@ -50,12 +57,18 @@ unit_send = search sendable depth 6
 entry_send : IsSend Entry.the_row
 entry_send = search (sendable, crosses) depth 20
 
+basis_send : IsSend Basis.the_row
+basis_send = view_send _ _ _ _ _ (declared_send basis_inside.the_type (snapshot_send Register.the_row, (snapshot_send (Array (Option.the_row Schedule.the_row) tt 16), tt)))
+
 pub batch_send : IsSend Batch.the_row
 batch_send = view_send _ _ _ _ _ (declared_send batch_inside.the_type (
   as_row_send (ArrayVec.the_field Taken.the_row (number 63) unit) (arrays.the_send Taken.the_row (number 63) unit taken_is.the_send unit_send),
   (
     as_row_send (ArrayVec.the_field Entry.the_row (number 63) unit) (arrays.the_send Entry.the_row (number 63) unit entry_send unit_send),
-    (snapshot_send Building.the_row, (snapshot_send Register.the_row, (snapshot_send Desk.the_row, (snapshot_send TakeSeat.the_row, tt)))),
+    (
+      snapshot_send Building.the_row,
+      (as_row_send Basis.the_field basis_send, (as_row_send Basis.the_field basis_send, (snapshot_send Desk.the_row, (snapshot_send TakeSeat.the_row, tt)))),
+    ),
   ),
 ))
 
@@ -81,19 +94,25 @@ line_send = Arc-send queue queue_send queue_sync
 pass_send : IsSend (Seat.the_row (Option.the_row Batch.the_row) doing)
 pass_send = passes.the_send (Option.the_row Batch.the_row) doing (option_send Batch.the_row batch_send)
 
-pub end_send : IsSend SendEnd.the_row
-end_send = view_send _ _ _ _ _ (declared_send end_inside.the_type (line_send, (pass_send, (as_row_send u64-field (search sendable depth 6), tt))))
+side_send : IsSend Side.the_row
+side_send = view_send _ _ _ _ _ (declared_send side_inside.the_type (line_send, (pass_send, (as_row_send bool-field (search sendable depth 6), (as_row_send bool-field (search sendable depth 6), tt)))))
 
-pub allocator_send : (d b : NamedLft) (P : RattleType) (h : Ghosts P.Denot) → IsSend P → IsSend (Allocator.the_row d b P h)
-allocator_send d b P h s = view_send _ _ _ _ _ (declared_send (allocator_inside.the_type d b P h) (
+pub end_send : IsSend SendEnd.the_row
+end_send = view_send _ _ _ _ _ (declared_send end_inside.the_type (as_row_send Side.the_field side_send, (as_row_send u64-field (search sendable depth 6), tt)))
+
+scanner_send : (d b : NamedLft) (P : RattleType) (h : Ghosts P.Denot) → IsSend P → IsSend (Scanner.the_row d b P h)
+scanner_send d b P h s = view_send _ _ _ _ _ (declared_send (scanner_inside.the_type d b P h) (
   as_row_send (shr_ref_field d Desk.the_row tt) (shr_send d.mir d.lft Desk.the_row desk_is.the_sync),
   (
     as_row_send TakeSeat.the_field seat_is.the_send,
-    (
-      as_row_send (Decider.the_field b) (decider_is.the_send b),
-      (as_row_send (row_field P) s, (as_row_send SendEnd.the_field end_send, (option_send Batch.the_row batch_send, (snapshot_send (Decider.the_row b), tt)))),
-    ),
+    (as_row_send (Decider.the_field b) (decider_is.the_send b), (as_row_send (row_field P) s, (snapshot_send (Decider.the_row b), tt))),
   ),
+))
+
+pub allocator_send : (d b : NamedLft) (P : RattleType) (h : Ghosts P.Denot) → IsSend P → IsSend (Allocator.the_row d b P h)
+allocator_send d b P h s = view_send _ _ _ _ _ (declared_send (allocator_inside.the_type d b P h) (
+  as_row_send (Scanner.the_field d b P h) (scanner_send d b P h s),
+  (as_row_send SendEnd.the_field end_send, (option_send Batch.the_row batch_send, tt)),
 ))
 
 pub allocating_send : (d b : NamedLft) (P : RattleType) (h : Ghosts P.Denot) → IsSend P → IsSend (Allocating.the_row d b P h)

@@ -1,36 +1,29 @@
--- The two ends of a line, once their passes were joined and parted again.
+-- The two ends of a line, once their sides met.
 use Rattle.std.proofs.Common.{◌≡◌, List, ap, ◌∙◌}
 use Rattle.atomic_table.specs.Seated.{TableId}
-use Rattle.crossbeam_queue.specs.Passes.{view}
 use Rattle.lift_building.specs.Plan.{Plan}
 use Rattle.lift_relay.specs.declared.line.EndView.{EndView}
-use Rattle.lift_relay.specs.declared.line.SendEnd.TheInside.{Inside}
-use Rattle.lift_relay.specs.declared.line.ReceiveEnd.TheInside.{Inside as ReceiveInside}
-use Rattle.lift_parts.specs.Line.{SendState, ReceiveState}
-use Rattle.lift_relay.specs.SendInside.{seen}
-use Rattle.lift_relay.specs.ReceiveInside.{seen as received_seen}
-use Rattle.lift_relay.specs.Rule.{sending, receiving, joined, told_both}
+use Rattle.lift_parts.specs.Batch.{BatchState}
+use Rattle.lift_parts.specs.Line.{ReceiveState, Tries}
+use Rattle.lift_relay.specs.Side.{SideState}
+use Rattle.lift_relay.specs.ReceiveInside.{receiver_of}
+use Rattle.lift_relay.specs.Rule.{receiving, joined}
 
-abbrev sender_of : TableId → EndView → SendState
-sender_of line v = record { line = line; sent = v.sent; gone = v.gone; building = v.building; desk = v.desk; register = v.ahead; turns = v.turns_ahead }
+abbrev receives_at : TableId → Plan → List TableId → EndView → Tries → ReceiveState
+receives_at line building desk v tries = record {
+  line = line;
+  received = v.received;
+  known = v.known;
+  building = building;
+  desk = desk;
+  state = v.behind;
+  turns = v.turns_behind;
+  tries = tries;
+}
 
-abbrev receiver_of : TableId → Plan → List TableId → EndView → ReceiveState
-receiver_of line building desk v = record { line = line; received = v.received; known = v.known; building = building; desk = desk; register = v.behind; turns = v.turns_behind }
-
-pub sender_same : (old new : Inside) (w : EndView) → new.pass.table_id ≡ old.pass.table_id → view new.pass ≡ sending (joined (view old.pass) w) → seen new ≡ seen old
-sender_same old new w line is = ap (λ (p : TableId × EndView). sender_of p.0 p.1) (λ i. (line i, is i))
-
-pub sender_told : (old new : Inside) (w : EndView) → new.pass.table_id ≡ old.pass.table_id → view new.pass ≡ sending (told_both (view old.pass) w) → seen new ≡ record (seen old) { gone = w.received }
-sender_told old new w line is = ap (λ (p : TableId × EndView). sender_of p.0 p.1) (λ i. (line i, is i))
-
-pub receiver_same : (old new : ReceiveInside) (v : EndView) → new.pass.table_id ≡ old.pass.table_id → v.building ≡ (view old.pass).building → v.desk ≡ (view old.pass).desk
-    → view new.pass ≡ receiving (joined v (view old.pass)) → received_seen new ≡ received_seen old
-receiver_same old new v line building desk is =
-    ap (λ (p : TableId × EndView). receiver_of p.0 p.1.building p.1.desk p.1) (λ i. (line i, is i))
-    ∙ ap (λ (p : Plan × List TableId). receiver_of old.pass.table_id p.0 p.1 (view old.pass)) (λ i. (building i, desk i))
-
-pub receiver_told : (old new : ReceiveInside) (v : EndView) → new.pass.table_id ≡ old.pass.table_id → v.building ≡ (view old.pass).building → v.desk ≡ (view old.pass).desk
-    → view new.pass ≡ receiving (told_both v (view old.pass)) → received_seen new ≡ record (received_seen old) { known = v.sent }
-receiver_told old new v line building desk is =
-    ap (λ (p : TableId × EndView). receiver_of p.0 p.1.building p.1.desk p.1) (λ i. (line i, is i))
-    ∙ ap (λ (p : Plan × List TableId). receiver_of old.pass.table_id p.0 p.1 (record (view old.pass) { known = v.sent })) (λ i. (building i, desk i))
+-- what the end that receives shows once its side met the other, which may have told it what was sent
+pub receiver_met : (old new mine : SideState) (gone known : List BatchState) → new.line ≡ old.line → mine.knows.building ≡ old.knows.building → mine.knows.desk ≡ old.knows.desk
+    → new.knows ≡ record (receiving (joined mine.knows old.knows)) { gone = gone; known = known } → new.tries ≡ old.tries → receiver_of new ≡ record (receiver_of old) { known = known }
+receiver_met old new mine gone known line building desk is tries =
+    ap (λ (p : TableId × EndView × Tries). receives_at p.0 p.1.building p.1.desk p.1 p.2) (λ i. (line i, is i, tries i))
+    ∙ ap (λ (p : Plan × List TableId). receives_at old.line p.0 p.1 (record old.knows { known = known }) old.tries) (λ i. (building i, desk i))

@@ -8,6 +8,5 @@ pub mod Allocated
 pub mod Flushed
 pub mod Turned
 pub mod Ran
-pub mod Pasts
 pub mod Crosses
 pub mod Draining

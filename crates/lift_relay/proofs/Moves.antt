@@ -6,8 +6,8 @@ use Rattle.crossbeam_queue.specs.Fifo.{Pushes, Pops, Forks, Merges, Learns}
 use Rattle.crossbeam_queue.proofs.Lists.{at_set, at_snoc}
 use Rattle.atomic_table.specs.Seated.{TableId}
 use Rattle.lift_building.specs.Plan.{Plan}
-use Rattle.lift_register.specs.Register.{RegisterState}
-use Rattle.lift_parts.specs.Batch.{BatchState, after, turns_behind}
+use Rattle.lift_policy.specs.Step.{State}
+use Rattle.lift_parts.specs.Batch.{BatchState, turns_behind}
 use Rattle.lift_relay.specs.declared.line.EndView.{EndView}
 use Rattle.lift_parts.specs.Line.{Begins, IsNext}
 use Rattle.lift_relay.specs.Rule.{opening, opening_view, begun_with, sending, receiving, most_batches, joined, told_both, spent_pass, Lists, Fits, IsInOrder, IsKept, Named, Begun, Sent, Received, SentAllBut, ReceivedBefore, Waits}
@@ -16,10 +16,10 @@ use Rattle.lift_parts.specs.Line.{GoesOn}
 off : {A : Type 0} → false ≡ true → A
 off e = absurd (true≢false (sym e))
 
-goes_on_more : (building : Plan) (desk : List TableId) (first mid : RegisterState) (turns used : List ℕ) (batches : List BatchState) (batch : BatchState) → GoesOn building desk first turns batches mid used
-    → IsNext building desk mid used batch → GoesOn building desk first turns (batches ++ batch ∷ []) (after batch) (turns_behind batch)
-goes_on_more building desk first mid turns used [] batch so next = (subst (λ (p : RegisterState × List ℕ). IsNext building desk p.0 p.1 batch) (λ i. (sym so.0 i, sym so.1 i)) next, (refl, refl))
-goes_on_more building desk first mid turns used (b ∷ batches) batch so next = (so.0, goes_on_more building desk (after b) mid (turns_behind b) used batches batch so.1 next)
+goes_on_more : (building : Plan) (desk : List TableId) (first mid : State) (turns used : List ℕ) (batches : List BatchState) (batch : BatchState) → GoesOn building desk first turns batches mid used
+    → IsNext building desk mid used batch → GoesOn building desk first turns (batches ++ batch ∷ []) batch.after (turns_behind batch)
+goes_on_more building desk first mid turns used [] batch so next = (subst (λ (p : State × List ℕ). IsNext building desk p.0 p.1 batch) (λ i. (sym so.0 i, sym so.1 i)) next, (refl, refl))
+goes_on_more building desk first mid turns used (b ∷ batches) batch so next = (so.0, goes_on_more building desk b.after mid (turns_behind b) used batches batch so.1 next)
 
 fit_set : (l : Lists) (views : List EndView) (id : ℕ) (w : EndView) → Fits l id w
     → ((j : ℕ) (u : EndView) → j ≢ id → get_elem? views j ≡ some u → Fits l j u) → (j : ℕ) (u : EndView) → get_elem? (set views id w) j ≡ some u → Fits l j u
@@ -112,13 +112,13 @@ sends_on : (n id : ℕ) (v : EndView) (batch : BatchState) → n ≡ 4 → v.sen
     → IsInOrder items views → get_elem? views id ≡ some v → (w : EndView) × IsInOrder (items ++ batch ∷ []) (set views id w) × Sent v batch w
 sends_on n id v batch four may room next items views few h at =
     let l = h.lists in
-    let w : EndView = record v { sent = v.sent ++ batch ∷ []; gone = l.received; ahead = after batch; turns_ahead = turns_behind batch } in
+    let w : EndView = record v { sent = v.sent ++ batch ∷ []; gone = l.received; ahead = batch.after; turns_ahead = turns_behind batch } in
     let mine = h.fits id v at in
     let a = mine.sends may in
     let sent = l.sent ++ batch ∷ [] in
-    let more : Lists = record l { sent = sent; ahead = after batch; turns_ahead = turns_behind batch } in
+    let more : Lists = record l { sent = sent; ahead = batch.after; turns_ahead = turns_behind batch } in
     let order = ap (λ x. x ++ batch ∷ []) h.in_order ∙ append_assoc l.received items (batch ∷ []) in
-    let here : IsNext l.building l.desk l.ahead l.turns_ahead batch = record { of_building = next.of_building ∙ a.3; at_desk = next.at_desk ∙ a.4; on_register = next.on_register ∙ a.5; on_turns = next.on_turns ∙ a.6 } in
+    let here : IsNext l.building l.desk l.ahead l.turns_ahead batch = record { of_building = next.of_building ∙ a.3; at_desk = next.at_desk ∙ a.4; on_state = next.on_state ∙ a.5; on_turns = next.on_turns ∙ a.6 } in
     let kept : Fits more id w = record {
       begun = mine.begun;
       sends = λ _. (a.0, ap (λ x. x ++ batch ∷ []) a.1, ([], sym (append-nil l.received)), a.3, a.4, refl, refl);
@@ -162,11 +162,11 @@ receives_on : (id : ℕ) (v : EndView) → v.receives ≡ true → (batch : Batc
     → (w : EndView) × IsInOrder items (set views id w) × Received v batch w
 receives_on id v may batch items views h at =
     let l = h.lists in
-    let w : EndView = record v { received = v.received ++ batch ∷ []; known = l.sent; behind = after batch; turns_behind = turns_behind batch } in
+    let w : EndView = record v { received = v.received ++ batch ∷ []; known = l.sent; behind = batch.after; turns_behind = turns_behind batch } in
     let mine = h.fits id v at in
     let a = mine.receives may in
     let received = l.received ++ batch ∷ [] in
-    let fewer : Lists = record l { received = received; behind = after batch; turns_behind = turns_behind batch } in
+    let fewer : Lists = record l { received = received; behind = batch.after; turns_behind = turns_behind batch } in
     let order = h.in_order ∙ sym (append_assoc l.received (batch ∷ []) items) in
     let first = h.goes_on.0 in
     let kept : Fits fewer id w = record {
@@ -195,7 +195,7 @@ receives_on id v may batch items views h at =
         received = refl;
         building = refl;
         desk = refl;
-        next = record { of_building = first.of_building ∙ sym a.3; at_desk = first.at_desk ∙ sym a.4; on_register = first.on_register ∙ sym a.5; on_turns = first.on_turns ∙ sym a.6 };
+        next = record { of_building = first.of_building ∙ sym a.3; at_desk = first.at_desk ∙ sym a.4; on_state = first.on_state ∙ sym a.5; on_turns = first.on_turns ∙ sym a.6 };
         behind = refl;
         turns = refl;
         known = (items, order ∙ ap (λ x. (x ++ batch ∷ []) ++ items) (sym a.1));
@@ -327,10 +327,10 @@ both_learn id v begun may takes items views h at =
     let mine = o.fits id v at in
     let a = mine.sends may in
     let b = mine.receives takes in
-    let goes = subst (λ (p : Plan × List TableId × RegisterState × List ℕ). GoesOn p.0 p.1 p.2 p.3 items l.ahead l.turns_ahead) (λ i. (sym a.3 i, sym a.4 i, sym b.5 i, sym b.6 i)) o.goes_on in
+    let goes = subst (λ (p : Plan × List TableId × State × List ℕ). GoesOn p.0 p.1 p.2 p.3 items l.ahead l.turns_ahead) (λ i. (sym a.3 i, sym a.4 i, sym b.5 i, sym b.6 i)) o.goes_on in
     record {
       all = a.1 ∙ o.in_order ∙ ap (λ x. x ++ items) (sym b.1);
-      goes_on = subst (λ (p : RegisterState × List ℕ). GoesOn v.building v.desk v.behind v.turns_behind items p.0 p.1) (λ i. (sym a.5 i, sym a.6 i)) goes;
+      goes_on = subst (λ (p : State × List ℕ). GoesOn v.building v.desk v.behind v.turns_behind items p.0 p.1) (λ i. (sym a.5 i, sym a.6 i)) goes;
       four = o.four;
     })
     h

@@ -1,7 +1,7 @@
 -- What the line holds, by its two ends.
-use Rattle.std.proofs.Common.{◌≡◌, ℕ, ◌+◌, ◌≤◌, List, [], ◌∷◌, ◌++◌, length, drop, refl, sym, ap, ◌∙◌, append-nil, length-append, arith}
+use Rattle.std.proofs.Common.{◌≡◌, ℕ, ◌+◌, ◌≤◌, List, [], ◌∷◌, ◌++◌, length, drop, refl, sym, ap, ◌∙◌, append-nil, length-append, arith, subst}
 use Rattle.lift_parts.specs.Batch.{BatchState}
-use Rattle.lift_parts.specs.Line.{SendState, ReceiveState, ReceivesOne, WasFull, WasEmpty}
+use Rattle.lift_parts.specs.Line.{SendState, ReceiveState, ReceivesOne, WasFull, WasEmpty, GoesOn}
 use Rattle.lift_parts.specs.Queued.{Queued}
 use Rattle.lift_parts.specs.Flusher.{entries_of, entries_between}
 
@@ -15,6 +15,10 @@ none_waits s r q same = no_more r.received q.items (sym same ∙ ap length q.in_
 
 pub all_received : (s : SendState) (r : ReceiveState) → Queued s r → length s.sent ≡ length r.received → s.sent ≡ r.received
 all_received s r q same = q.in_order ∙ ap (λ l. r.received ++ l) (none_waits s r q same) ∙ append-nil r.received
+
+-- the two ends are at one state then
+pub same_state : (s : SendState) (r : ReceiveState) → Queued s r → length s.sent ≡ length r.received → r.state ≡ s.state
+same_state s r q same = (subst (λ (items : List BatchState). GoesOn s.building s.desk r.state r.turns items s.state s.turns) (none_waits s r q same) q.goes_on).0
 
 drop_all : (xs : List BatchState) → drop (length xs) xs ≡ []
 drop_all [] = refl

@@ -4,15 +4,17 @@ use Rattle.std.proofs.lemmas.List.{append-nil}
 use Rattle.lift_base.specs.declared.history.Entry.{Entry}
 use Rattle.lift_world.specs.declared.event.Taken.{Taken as Held}
 use Rattle.lift_disk.specs.Disk.{DiskState}
+use Rattle.lift_register.specs.Register.{RegisterState}
 use Rattle.lift_policy.specs.Eligible.{Choice}
 use Rattle.lift_keeper.specs.declared.fault.KeeperFault.{KeeperFault}
 use Rattle.lift_relay.specs.declared.pair.RunFault.{RunFault}
 use Rattle.lift_relay.specs.declared.pair.RunFault.TheVariants.{Keeper, Spawn}
 use Rattle.lift_parts.specs.Allocator.{AllocatorState}
 use Rattle.lift_parts.specs.Flusher.{FlusherState}
-use Rattle.lift_parts.specs.Turns.{AllocatorTurns, FlusherTurns, IsSameAllocator, IsSameFlusher}
+use Rattle.lift_parts.specs.Turns.{AllocatorTurns, FlusherTurns, NoFlush, IsSameAllocator, IsSameFlusher}
 use Rattle.lift_relay.specs.Pair.{fault_of, HaveRun, IsRun}
-use Rattle.lift_parts.specs.Runs.{HasPast, Advances, RunsAreHistories}
+use Rattle.lift_clerk.specs.History.{History}
+use Rattle.lift_parts.specs.History.{GoesOnTo, TurnsGoOn, group_behind}
 use Rattle.lift_parts.specs.lemmas.Paired.{turns_joined, flushes_joined, same_allocator, same_flusher, faults_broken}
 
 abbrev fault_in : Option RunFault → Option KeeperFault
@@ -66,25 +68,12 @@ module _ {D P : Type 0} (choice : Choice) (state : D → DiskState) (a b : Alloc
   }
   flusher_of (inr run) = same_flusher state f g None run.first run.flusher
 
--- What a run adds to what has happened, where as much was received as was sent: nothing, if no thread could be made.
-pub advances_of : {D P : Type 0} (chooses : P → Choice) (state : D → DiskState) (a b : AllocatorState P) (f g : FlusherState D) (fault : Option RunFault) (safe : List Entry) (given : List Held)
-    → RunsAreHistories D P chooses state → IsRun (chooses a.policy) state a b f g fault → ((fault ≡ Some (Spawn tt) → ⊥) → b.end.sent ≡ g.end.received) → HasPast chooses a f safe given
-    → Advances chooses b f g safe given
-advances_of {D} {P} chooses state a b f g fault safe given law (inl refused) same start = record {
-  batches = [];
-  more = [];
-  told = [];
-  adds = record {
-    received = ap (λ (x : FlusherState D). x.end.received) refused.1.1 ∙ sym (append-nil f.end.received);
-    begins = ([], refl);
-    commands = refl;
-    whole = λ e. (refl, refl);
-  };
-  past = subst (λ (x : AllocatorState P × FlusherState D × List Entry × List Held). HasPast chooses x.0 x.1 x.2 x.3)
-      (λ i. (sym refused.1.0 i, sym refused.1.1 i, sym (append-nil safe) i, sym (append-nil given) i)) start;
-}
-advances_of chooses state a b f g fault safe given law (inr run) same start =
-    law a b f g run.first safe given start run.allocator run.flusher run.nothing_in_hand (same (λ spawn. not_spawn run.first (subst is_spawn (sym spawn ∙ run.is_first) tt)))
+-- What a run adds to what has happened: nothing, if no thread could be made.
+pub goes_on : {D P : Type 0} (choice : Choice) (state : D → DiskState) (a b : AllocatorState P) (f g : FlusherState D) (fault : Option RunFault) → TurnsGoOn D state
+    → IsRun choice state a b f g fault → (base : RegisterState) (safe : List Entry) (given : List Held) → History base (group_behind f) safe given → GoesOnTo f g base safe given
+goes_on {D} choice state a b f g fault law (inl refused) base safe given h =
+    subst (λ (x : FlusherState D). GoesOnTo f x base safe given) (sym refused.1.1) (law f f None None NoFlush base safe given h)
+goes_on choice state a b f g fault law (inr run) base safe given h = law f g None run.first run.flusher base safe given h
 
 -- a drain behind the turns of both parts
 pub have_run : {D P : Type 0} (chooses : P → Choice) (state : D → DiskState) (a b c : AllocatorState P) (f g h : FlusherState D) (first last : Option KeeperFault) (fault : Option RunFault)

@@ -1,24 +1,27 @@
 -- A flusher's turn, of what it received, its commit and its answers.
 use Rattle.std.proofs.Common.{◌≡◌, ◌⊎◌, inl, inr, ⊎_elim, ℕ, ◌+◌, Bool, true, false, List, [], ◌∷◌, ◌++◌, drop, length, refl, sym, ap, ◌∙◌, subst, arith}
-use Rattle.std.specs.Prelude.{Result, Ok, Err, IfOk}
+use Rattle.std.specs.Prelude.{Result, Ok, Err, IfOk, OnOk}
 use Rattle.std.proofs.Math.Seq.{drop-append_seam, drop-length}
 use Rattle.lift_base.specs.declared.history.Entry.{Entry}
 use Rattle.lift_disk.specs.Disk.{DiskState}
 use Rattle.lift_register.specs.Register.{register_of}
+use Rattle.lift_policy.specs.Step.{State}
 use Rattle.lift_journal.specs.declared.fault.JournalFault.TheVariants.{Disk, Broken}
 use Rattle.lift_keeper.specs.declared.fault.KeeperFault.{KeeperFault}
 use Rattle.lift_keeper.specs.declared.fault.KeeperFault.TheVariants.{Journal}
 use Rattle.lift_keeper.specs.Commits.{Commits, CommitsTo}
 use Rattle.lift_keeper.specs.Writer.{WriterView}
-use Rattle.lift_keeper.specs.lemmas.Committed.{under_ok, under_err, nothing_refused, nothing_safe}
+use Rattle.lift_keeper.specs.lemmas.Committed.{nothing_refused, nothing_safe, some_failed, whole_before}
 use Rattle.lift_parts.specs.declared.counts.FlushCounts.{FlushCounts}
-use Rattle.lift_parts.specs.Batch.{BatchState}
-use Rattle.lift_parts.specs.Line.{ReceiveState, ReceivesOne, WasEmpty}
+use Rattle.lift_building.specs.Plan.{Plan}
+use Rattle.lift_parts.specs.Batch.{BatchState, IsDecided}
+use Rattle.lift_parts.specs.Line.{ReceiveState, ReceivesOne, FindsNone, Tries, tried}
 use Rattle.lift_parts.specs.Flusher.{FlusherState, IsFlusher, IsEmptyTurn, IsBatchTurn, entries_of, entries_between}
 use Rattle.lift_parts.specs.Turns.{IsFlush}
+use Rattle.lift_relay.specs.Settler.{SettlerState, Settles}
 
-none_between : (old new : ReceiveState) → new ≡ old → 0 ≡ entries_between old new
-none_between old new same = sym (ap (λ (r : ReceiveState). entries_of (drop (length old.received) r.received)) same ∙ ap entries_of (drop-length old.received))
+none_between : (old new : ReceiveState) (tries : Tries) → new ≡ record old { tries = tries } → 0 ≡ entries_between old new
+none_between old new tries same = sym (ap (λ (r : ReceiveState). entries_of (drop (length old.received) r.received)) same ∙ ap entries_of (drop-length old.received))
 
 one_between : (old new : ReceiveState) (batch : BatchState) → new.received ≡ old.received ++ batch ∷ [] → entries_between old new ≡ length batch.entries
 one_between old new batch receives =
@@ -28,24 +31,28 @@ one_between old new batch receives =
 
 module _ {D : Type 0} (state : D → DiskState) (f g : FlusherState D) (is_flusher : IsFlusher f) (desk : g.desk ≡ f.desk) where
   -- that received nothing
-  module _ (was_empty : WasEmpty f.end) (seat : g.seat ≡ f.seat) (end : g.end ≡ f.end) where
-    same_flusher : g.writer ≡ f.writer → g ≡ f
+  module _ (finds : FindsNone f.end g.end) (seat : g.seat ≡ f.seat) where
+    end : g.end ≡ record f.end { tries = tried f.end.tries true }
+    end = finds.tries
+
+    same_flusher : g.writer ≡ f.writer → g ≡ record f { end = record f.end { tries = tried f.end.tries true } }
     same_flusher writer = λ i. record { desk = desk i; seat = seat i; writer = writer i; end = end i }
 
     pub idle : (result : Result FlushCounts KeeperFault) → Commits {D = D} {T = FlushCounts} state f.writer [] g.writer result → IfOk result (λ counts. counts ≡ record { batches = 0; answers = 0 }) → IsFlush state f g result
     idle (Ok counts) c zero =
         let nothing = nothing_safe state f.writer g.writer counts c in
         record {
+          before = is_flusher;
           turns = inl (record {
-            was_empty = was_empty;
+            was_empty = finds.was_empty;
             same = same_flusher nothing.1;
             whole = λ _. ap (λ (n : FlushCounts). Ok n) zero;
             broken = λ broken. absurd (let whole = nothing.0 in cc);
           });
           commits = record {
             batch = [];
-            counted = sym (none_between f.end g.end end);
-            leads = λ whole. ap (λ (r : ReceiveState). r.register) end ∙ sym (is_flusher.safe whole) ∙ sym (ap (λ (w : WriterView D). w.register) nothing.1) ∙ c.register;
+            counted = sym (none_between f.end g.end (tried f.end.tries true) end);
+            leads = λ whole. ap (λ (r : ReceiveState). r.state.register) end ∙ sym (is_flusher.safe whole) ∙ sym (ap (λ (w : WriterView D). w.register) nothing.1) ∙ c.register;
             is = c;
           };
           same = (desk, ap (λ (r : ReceiveState). r.line) end);
@@ -53,15 +60,16 @@ module _ {D : Type 0} (state : D → DiskState) (f g : FlusherState D) (is_flush
     idle (Err fault) c zero =
         let nothing = nothing_refused state f.writer g.writer fault c in
         record {
+          before = is_flusher;
           turns = inl (record {
-            was_empty = was_empty;
+            was_empty = finds.was_empty;
             same = same_flusher nothing.1;
             whole = λ whole. absurd (let broken = nothing.0 in cc);
             broken = λ _. ap (λ (x : KeeperFault). Err x) nothing.2;
           });
           commits = record {
             batch = [];
-            counted = sym (none_between f.end g.end end);
+            counted = sym (none_between f.end g.end (tried f.end.tries true) end);
             leads = λ whole. absurd (let broken = nothing.0 in cc);
             is = c;
           };
@@ -71,12 +79,38 @@ module _ {D : Type 0} (state : D → DiskState) (f g : FlusherState D) (is_flush
   -- that received a batch
   pub flushed : (batch : BatchState) (answer : Result FlushCounts KeeperFault) → ReceivesOne f.end batch g.end → Commits state f.writer batch.entries g.writer answer → IsBatchTurn f g batch answer → IsFlush state f g answer
   flushed batch answer receives c turn = record {
+    before = is_flusher;
     turns = inr (batch, turn);
     commits = record {
       batch = batch.entries;
       counted = one_between f.end g.end batch receives.receives;
-      leads = λ whole. receives.register ∙ ap (λ r. register_of r batch.entries) (receives.next.on_register ∙ sym (is_flusher.safe whole));
+      leads = λ whole. ap (λ (s : State). s.register) receives.state ∙ turn.decided.shows ∙ ap (λ r. register_of r batch.entries) (ap (λ (s : State). s.register) receives.next.on_state ∙ sym (is_flusher.safe whole));
       is = c;
     };
     same = (desk, receives.same.0);
   }
+
+-- the half of a flusher that settles batches
+abbrev pub half_of : {D : Type 0} → FlusherState D → SettlerState D
+half_of f = record { desk = f.desk; seat = f.seat; writer = f.writer }
+
+-- what is safe behind a batch, where nothing has failed
+pub leads_to : {D : Type 0} (state : D → DiskState) (old new : WriterView D) (batch : BatchState) (answer : Result FlushCounts KeeperFault) → IsDecided batch
+    → (old.is_broken ≡ false → (batch.building ≡ old.plan) × (batch.before.register ≡ old.register)) → Commits state old batch.entries new answer → new.is_broken ≡ false → new.register ≡ batch.after.register
+leads_to state old new batch (Ok counts) is next c whole =
+    let was = whole_before state old batch.entries new (Ok counts) c (λ is. cc) in c.register ∙ ap (λ r. register_of r batch.entries) (sym (next was).1) ∙ sym is.shows
+leads_to state old new batch (Err fault) is next c whole = absurd (let broken = c.breaks in cc)
+
+-- a batch that was received and settled
+pub settled_turn : {D : Type 0} (state : D → DiskState) (f g : FlusherState D) (batch : BatchState) (answer : Result FlushCounts KeeperFault) → ReceivesOne f.end batch g.end → Settles state (half_of f) batch (half_of g) answer
+    → IsBatchTurn f g batch answer
+settled_turn state f g batch answer receives s = record {
+  receives = receives;
+  answered = s.answered;
+  counts = s.counts;
+  whole = λ counts is. (subst (λ (r : Result FlushCounts KeeperFault). OnOk r ((g.writer.is_broken ≡ false) × (g.writer.doubt ≡ []))) is s.commits.stays).0;
+  fails = λ is. (s.commits.doubts is, some_failed state f.writer batch.entries g.writer answer s.commits is);
+  decided = s.decided;
+  at_desk = s.at_desk;
+  apart = s.apart;
+}

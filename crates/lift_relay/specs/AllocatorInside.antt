@@ -5,12 +5,12 @@ use Rattle.lift_relay.specs.declared.allocator.Allocator.TheInside.{Inside}
 
 abbrev pub seen : {P : Type 0} → Inside P → AllocatorState P
 seen a = record {
-  desk = a.desk.now;
-  seat = a.seat;
-  plan = a.decider.plan;
-  state = a.decider.state;
-  start = a.start.value.state;
-  policy = a.policy;
+  desk = a.scanner.desk;
+  seat = a.scanner.seat;
+  plan = a.scanner.plan;
+  state = a.scanner.state;
+  start = a.scanner.start;
+  policy = a.scanner.policy;
   end = a.end;
   hand = option_to_list a.hand;
 }

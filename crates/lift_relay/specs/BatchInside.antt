@@ -3,25 +3,26 @@ use Rattle.std.specs.Prelude.{List}
 use Rattle.atomic_table.specs.Seated.{TableId}
 use Rattle.lift_base.specs.declared.history.Entry.{Entry}
 use Rattle.lift_building.specs.Plan.{Plan}
-use Rattle.lift_register.specs.Register.{RegisterState}
 use Rattle.lift_desk.specs.Seats.{ClerkPlace}
+use Rattle.lift_policy.specs.Step.{State}
 use Rattle.lift_parts.specs.declared.taken.Taken.{Taken}
 use Rattle.lift_parts.specs.Batch.{BatchState, turns_of}
 use Rattle.lift_relay.specs.declared.batch.Batch.TheInside.{Inside}
 
--- these commands and entries, decided in this building and on this register, of what these seats of
--- this desk took next
-abbrev pub batch_of : List Taken → List Entry → Plan → RegisterState → List TableId
+-- these commands and entries, decided in this building from one state to another, of what these
+-- seats of this desk took next
+abbrev pub batch_of : List Taken → List Entry → Plan → State → State → List TableId
     → List ClerkPlace → BatchState
-batch_of commands entries building before desk seats = record {
+batch_of commands entries building before after desk seats = record {
   commands = commands;
   entries = entries;
   building = building;
   before = before;
+  after = after;
   desk = desk;
   turns = turns_of seats;
 }
 
 abbrev pub seen : Inside → BatchState
 seen b =
-    batch_of b.commands.items b.entries.items b.building.value b.before.value b.desk.value b.seats.value
+    batch_of b.commands.items b.entries.items b.building.value b.before b.after b.desk.value b.seats.value

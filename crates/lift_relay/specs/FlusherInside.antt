@@ -2,5 +2,10 @@
 use Rattle.lift_parts.specs.Flusher.{FlusherState}
 use Rattle.lift_relay.specs.declared.flusher.Flusher.TheInside.{Inside}
 
-abbrev pub seen : {D : Type 0} → Inside D → FlusherState D
-seen f = record { desk = f.desk.now; seat = f.seat; writer = f.writer; end = f.end }
+abbrev pub seen : {D K : Type 0} → Inside D K → FlusherState D
+seen f = record {
+  desk = f.settler.desk;
+  seat = f.settler.seat;
+  writer = f.settler.writer;
+  end = f.end;
+}

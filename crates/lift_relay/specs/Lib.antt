@@ -1,8 +1,14 @@
 pub mod Rule
+pub mod Side
+pub mod SideInside
 pub mod SendInside
 pub mod ReceiveInside
+pub mod BasisInside
 pub mod BatchInside
+pub mod Scanner
+pub mod ScannerInside
 pub mod AllocatorInside
+pub mod Settler
+pub mod SettlerInside
 pub mod FlusherInside
 pub mod Pair
-pub mod Joined

@@ -1,24 +1,25 @@
 use Rattle.std.specs.Prelude.{◌≡◌, ◌≤◌, true, length}
-use Rattle.std.specs.Arc.{arc_value}
-use Rattle.crossbeam_queue.specs.Passes.{view, IsPassOf, ruled_capacity}
 use Rattle.lift_relay.specs.declared.line.ReceiveEnd.TheInside.{Inside}
 use Rattle.lift_parts.specs.Line.{ReceiveState}
+use Rattle.lift_relay.specs.Side.{SideState}
 
-abbrev pub seen : Inside → ReceiveState
-seen s = record {
-  line = s.pass.table_id;
-  received = (view s.pass).received;
-  known = (view s.pass).known;
-  building = (view s.pass).building;
-  desk = (view s.pass).desk;
-  register = (view s.pass).behind;
-  turns = (view s.pass).turns_behind;
+abbrev pub receiver_of : SideState → ReceiveState
+receiver_of s = record {
+  line = s.line;
+  received = s.knows.received;
+  known = s.knows.known;
+  building = s.knows.building;
+  desk = s.knows.desk;
+  state = s.knows.behind;
+  turns = s.knows.turns_behind;
+  tries = s.tries;
 }
 
+abbrev pub seen : Inside → ReceiveState
+seen s = receiver_of s.side
+
 pub record IsReceiveEnd (s : Inside) : Type 0 where
-  pub of_line : IsPassOf (arc_value s.line) s.pass
-  pub capacity : ruled_capacity (arc_value s.line) ≡ 4
-  pub begun : (view s.pass).begun ≡ true
-  pub receives : (view s.pass).receives ≡ true
-  pub few : length (view s.pass).received ≤ 66060225
-  pub count : s.count ≡ length (view s.pass).received
+  pub begun : s.side.knows.begun ≡ true
+  pub receives : s.side.knows.receives ≡ true
+  pub few : length s.side.knows.received ≤ 66060225
+  pub count : s.count ≡ length s.side.knows.received

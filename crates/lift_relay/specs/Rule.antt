@@ -5,13 +5,17 @@ use mathlib.Core.Option.{some}
 use lib.ListN.{get_elem?}
 use Rattle.atomic_table.specs.Seated.{TableId}
 use Rattle.lift_building.specs.Plan.{Plan}
-use Rattle.lift_register.specs.Register.{RegisterState, empty}
-use Rattle.lift_parts.specs.Batch.{BatchState, after, turns_behind}
+use Rattle.lift_register.specs.Register.{empty}
+use Rattle.lift_policy.specs.Step.{State}
+use Rattle.lift_parts.specs.Batch.{BatchState, turns_behind}
 use Rattle.lift_relay.specs.declared.line.EndView.{EndView}
 use Rattle.lift_parts.specs.Line.{Begins, IsNext, GoesOn}
 
 abbrev pub no_building : Plan
 no_building = record { floors = 0; door_ms = 0; kiosks = []; flights = []; cars = [] }
+
+abbrev pub no_state : State
+no_state = record { register = empty; positions = []; batch = [] }
 
 -- a pass of a line that hasn't begun, which has pushed these
 abbrev pub opening : List BatchState → EndView
@@ -25,8 +29,8 @@ opening pushed = record {
   known = [];
   building = no_building;
   desk = [];
-  ahead = empty;
-  behind = empty;
+  ahead = no_state;
+  behind = no_state;
   turns_ahead = [];
   turns_behind = [];
 }
@@ -95,8 +99,8 @@ pub record Lists : Type 0 where
   pub received : List BatchState
   pub building : Plan
   pub desk : List TableId
-  pub ahead : RegisterState
-  pub behind : RegisterState
+  pub ahead : State
+  pub behind : State
   pub turns_ahead : List ℕ
   pub turns_behind : List ℕ
 
@@ -137,7 +141,7 @@ pub record Sent (v : EndView) (batch : BatchState) (w : EndView) : Type 0 where
   pub sent : w.sent ≡ v.sent ++ batch ∷ []
   pub building : w.building ≡ v.building
   pub desk : w.desk ≡ v.desk
-  pub ahead : w.ahead ≡ after batch
+  pub ahead : w.ahead ≡ batch.after
   pub turns : w.turns_ahead ≡ turns_behind batch
   pub items : List BatchState
   pub few : length items < 4
@@ -152,7 +156,7 @@ pub record Received (v : EndView) (batch : BatchState) (w : EndView) : Type 0 wh
   pub building : w.building ≡ v.building
   pub desk : w.desk ≡ v.desk
   pub next : IsNext v.building v.desk v.behind v.turns_behind batch
-  pub behind : w.behind ≡ after batch
+  pub behind : w.behind ≡ batch.after
   pub turns : w.turns_behind ≡ turns_behind batch
   pub known : Begins w.received w.known
   pub few : length w.received ≤ most_batches

@@ -2,38 +2,34 @@
 
 ghost use Rattle.std.specs.Prelude.{◌≡◌, ◌≢◌, ◌↔◌, ◌<◌, ◌≤◌, ◌+◌, [], ◌∷◌, ◌++◌, length, true};
 ghost use Rattle.std.specs.Prelude.{false};
-ghost use Rattle.lift_parts.specs.Line.{Begins, WasFull};
 ghost use Rattle.lift_desk.specs.Seats.{IsClerkOf};
 ghost use Rattle.lift_parts.specs.Batch.{turns_of};
-ghost use Rattle.lift_parts.specs.Allocator.{IsAllocation, IsScanTurn, DecidesAlong};
+ghost use Rattle.lift_parts.specs.Line.{Begins};
+ghost use Rattle.lift_parts.specs.Allocator.{IsAllocation, IsScanTurn, IsFullTurn, DecidesAlong};
+ghost use Rattle.lift_parts.specs.Allocator.{tries_behind};
 ghost use Rattle.lift_parts.specs.Turns.{IsSameAllocator};
 ghost use Rattle.lift_parts.specs.Queued.{Queued};
 
 use crate::batch::Batch;
+use crate::deciding::Scanner;
 use crate::line::{ReceiveEnd, SendEnd};
-use crate::scan::scan;
 use lift_clerk::Counts;
 use lift_decider::Decider;
 use lift_desk::{Desk, TakeSeat};
 use lift_policy::Policy;
 use lift_register::Register;
 use std::marker::Model;
-use std::snapshot::Snapshot;
 use std::sync::Wait;
 
-/// Takes what terminals ask, decides it, and sends it on in batches, ahead of the answers.
+/// Takes what terminals ask, decides it, and sends it on in batches, ahead of the answers. What waits
+/// has the end and a batch; what takes and decides is its scanner's.
 /// Contracts see its desk's tables, its seats there, what it decides on, its end of the line, and a
 /// batch that the line had no room for.
 #[derive(Drop)]
 pub struct Allocator<'d, 'b, P: Policy + Drop> {
-    desk: &'d Desk,
-    seat: TakeSeat,
-    decider: Decider<'b>,
-    policy: P,
+    scanner: Scanner<'d, 'b, P>,
     end: SendEnd,
     hand: Option<Batch>,
-    /// The decider when the clerk was split.
-    start: Snapshot<Decider<'b>>,
 }
 
 impl<'d, 'b, P: Policy + Drop> Model for Allocator<'d, 'b, P> {
@@ -45,7 +41,7 @@ impl<'d, 'b, P: Policy + Drop> Model for Allocator<'d, 'b, P> {
 
     ghost view = { seen };
 
-    ghost invariant = { λ a. IsAllocator (P.chooses a.policy) (seen a) };
+    ghost invariant = { λ a. IsAllocator (P.chooses a.scanner.policy) (seen a) };
 }
 
 impl<'d, 'b, P: Policy + Drop> Allocator<'d, 'b, P> {
@@ -62,7 +58,7 @@ impl<'d, 'b, P: Policy + Drop> Allocator<'d, 'b, P> {
         requires at_desk { end.desk ≡ desk.now }
         requires all_sealed { decider.state.batch ≡ [] }
         requires first { end.sent ≡ [] }
-        requires on { decider.state.register ≡ end.register }
+        requires on { decider.state ≡ end.state }
         requires turns { turns_of seat ≡ end.turns }
         ensures { result ≡ record {
           desk = desk.now;
@@ -75,15 +71,10 @@ impl<'d, 'b, P: Policy + Drop> Allocator<'d, 'b, P> {
           hand = [];
         } }
     {
-        let start = Snapshot::of(&decider);
         Allocator {
-            desk,
-            seat,
-            decider,
-            policy,
+            scanner: Scanner::new(desk, seat, decider, policy),
             end,
             hand: None,
-            start,
         }
     }
 
@@ -109,10 +100,10 @@ impl<'d, 'b, P: Policy + Drop> Allocator<'d, 'b, P> {
         ensures decides { DecidesAlong self.now.plan (P.chooses self.now.policy) self.now.start
             (self.now.end.sent ++ self.now.hand) self.now.state }
         ensures sealed { self.now.state.batch ≡ [] }
-        // With no batch in hand it is that behind all that was sent.
-        ensures behind { self.now.hand ≡ [] → result.now ≡ self.now.end.register }
+        // With no batch in hand decisions read what is behind all that was sent.
+        ensures behind { self.now.hand ≡ [] → self.now.state ≡ self.now.end.state }
     {
-        self.decider.register()
+        self.scanner.register()
     }
 
     /// It and the other end of its line, once they were compared. Both are as they were.
@@ -152,10 +143,10 @@ impl<'d, 'b, P: Policy + Drop> Allocator<'d, 'b, P> {
         ensures seated { IsClerkOf self.entry.desk result.1 }
         ensures all_sealed { result.2.state.batch ≡ [] }
     {
-        (self.desk, self.seat, self.decider, self.policy)
+        self.scanner.into_parts()
     }
 
-    /// Sends the batch that is in hand, if there is one. Whether none is left.
+    /// Tries once to send the batch that is in hand, if there is one. Whether none is left.
     pub(crate) fn send_hand<R: Wait>(&mut self, rt: &R) -> bool
         ensures sent { result ≡ true
             → (self.new.hand ≡ []) × (self.new.end.sent ≡ self.old.end.sent ++ self.old.hand) }
@@ -163,10 +154,12 @@ impl<'d, 'b, P: Policy + Drop> Allocator<'d, 'b, P> {
             → self.new ≡ record self.old { end = self.new.end; hand = [] } }
         ensures line { self.new.end.line ≡ self.old.end.line }
         ensures later { Begins self.old.end.gone self.new.end.gone }
+        ensures tries { result ≡ true
+            → self.new.end.tries ≡ tries_behind self.old.hand self.old.end.tries }
         ensures full { result ≡ false
-            → (self.new ≡ self.old) × (self.old.hand ≢ []) × WasFull self.old.end }
+            → IsFullTurn self.old self.new (record { taken = 0; accepted = 0 }) }
     {
-        let _terminals = self.desk.len();
+        let _terminals = self.scanner.terminals();
         match self.hand.take() {
             Some(batch) => match self.end.send(rt, batch) {
                 Ok(()) => true,
@@ -206,28 +199,15 @@ impl<'d, 'b, P: Policy + Drop> Allocator<'d, 'b, P> {
                 accepted: 0,
             };
         }
-        let before = Snapshot::of(self.decider.register());
-        let seats = Snapshot::of(&self.seat);
-        let commands = scan(self.desk, &mut self.seat, &mut self.decider, &self.policy);
-        let entries = self.decider.seal();
-        let counts = Counts {
-            taken: commands.len(),
-            accepted: entries.len(),
+        let (counts, batch) = self.scanner.scan();
+        let _terminals = self.scanner.terminals();
+        let batch = match batch {
+            Some(batch) => batch,
+            None => return counts,
         };
-        let batch = Batch::new(
-            commands,
-            entries,
-            self.decider.building(),
-            before,
-            self.desk,
-            seats,
-        );
-        let _terminals = self.desk.len();
-        if counts.taken > 0 {
-            match self.end.send(rt, batch) {
-                Ok(()) => {}
-                Err(batch) => self.hand = Some(batch),
-            }
+        match self.end.send(rt, batch) {
+            Ok(()) => {}
+            Err(batch) => self.hand = Some(batch),
         }
         counts
     }

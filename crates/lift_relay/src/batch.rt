@@ -1,26 +1,28 @@
 //! A sealed batch: the commands of one scan with their replies, and the entries that they add.
 ghost use Rattle.std.specs.Prelude.{◌≡◌, length};
 ghost use Rattle.lift_register.specs.Fits.{FitFrom};
+ghost use Rattle.lift_clerk.specs.Answered.{AreApart};
 ghost use Rattle.lift_parts.specs.Batch.{AreBelow, AreNoted, IsDecided, commands_in, turns_of};
 
+use crate::basis::Basis;
 use arrayvec::ArrayVec;
 use lift_base::Entry;
 use lift_building::Building;
 use lift_desk::{Desk, TakeSeat};
 use lift_parts::Taken;
-use lift_register::Register;
 use std::marker::Model;
 use std::snapshot::Snapshot;
 
-/// What one scan took and decided. Contracts also see in which building and on which register it
-/// was decided, at which desk it was taken, and the turn of the last ask that was taken before, of
-/// each terminal.
+/// What one scan took and decided. Contracts also see in which building it was decided, what
+/// decisions read before it and behind it, at which desk it was taken, and the turn of the last ask
+/// that was taken before, of each terminal.
 #[derive(Drop)]
 pub struct Batch {
     commands: ArrayVec<Taken, 63>,
     entries: ArrayVec<Entry, 63>,
     building: Snapshot<Building>,
-    before: Snapshot<Register>,
+    before: Basis,
+    after: Basis,
     desk: Snapshot<Desk>,
     seats: Snapshot<TakeSeat>,
 }
@@ -40,29 +42,32 @@ impl Model for Batch {
 impl Batch {
     ghost use Rattle.lift_relay.specs.BatchInside.{batch_of};
 
-    /// A batch that was decided in this building and on this register, of commands that these seats
-    /// of this desk took next.
+    /// A batch that was decided in this building from one state to another, of commands that these
+    /// seats of this desk took next.
     pub(crate) fn new(
         commands: ArrayVec<Taken, 63>,
         entries: ArrayVec<Entry, 63>,
         building: &Building,
-        before: Snapshot<Register>,
+        before: Basis,
+        after: Basis,
         desk: &Desk,
         seats: Snapshot<TakeSeat>,
     ) -> Self
-        requires fits { FitFrom building.now before.value entries.items }
+        requires fits { FitFrom building.now before.register entries.items }
         requires at_desk { AreBelow (length desk.now) (commands_in commands.items) }
+        requires apart { AreApart (commands_in commands.items) }
         requires noted { AreNoted desk.now (turns_of seats.value) commands.items }
         requires decided { IsDecided
-            (batch_of commands.items entries.items building.now before.value desk.now seats.value) }
+            (batch_of commands.items entries.items building.now before after desk.now seats.value) }
         ensures { result
-            ≡ batch_of commands.items entries.items building.now before.value desk.now seats.value }
+            ≡ batch_of commands.items entries.items building.now before after desk.now seats.value }
     {
         Batch {
             commands,
             entries,
             building: Snapshot::of(building),
             before,
+            after,
             desk: Snapshot::of(desk),
             seats,
         }
@@ -72,8 +77,10 @@ impl Batch {
     /// those of the same run.
     pub fn entries(&self) -> &ArrayVec<Entry, 63>
         ensures value { result.now.items ≡ self.now.entries }
-        ensures fits { FitFrom self.now.building self.now.before self.now.entries }
+        ensures fits { FitFrom self.now.building self.now.before.register self.now.entries }
         ensures decided { IsDecided self.now }
+        ensures at_desk { AreBelow (length self.now.desk) (commands_in self.now.commands) }
+        ensures apart { AreApart (commands_in self.now.commands) }
     {
         &self.entries
     }

@@ -1,43 +1,48 @@
 //! The part that makes batches safe and answers.
 
-ghost use Rattle.std.specs.Prelude.{◌≡◌, ℕ, List, [], ◌<◌, ◌⊎◌, ◌↔◌, length, true, false, IfOk};
-ghost use Rattle.lift_desk.specs.Seats.{IsClerkOf, IsNoteOf, OwesNothing, Says, view_at};
-ghost use Rattle.lift_keeper.specs.Commits.{Commits};
-ghost use Rattle.lift_clerk.specs.Visits.{Visit};
-ghost use Rattle.lift_parts.specs.Batch.{BatchState, turns_behind, turns_with};
+ghost use Rattle.std.specs.Prelude.{◌≡◌, ◌<◌, ◌⊎◌, ◌↔◌, List, [], length, true, false};
+ghost use Rattle.lift_register.specs.Register.{RegisterState};
+ghost use Rattle.lift_desk.specs.Rule.{IsInOrder};
+ghost use Rattle.lift_desk.specs.Seats.{IsClerkOf, IsSeatOf, OwesNothing, seat_with, clerk_with};
+ghost use Rattle.lift_desk.specs.Seats.{view_at};
+ghost use Rattle.lift_desk.specs.Steps.{with_told_answers, with_told_asks, lists_of};
+ghost use Rattle.lift_parts.specs.Batch.{BatchState};
 ghost use Rattle.lift_parts.specs.Queued.{Queued};
 ghost use Rattle.lift_parts.specs.Parts.{AreOfOne};
-ghost use Rattle.lift_parts.specs.Flusher.{IsFlusher, AnswersOne, Answered, IsSettled};
-ghost use Rattle.lift_parts.specs.Flusher.{IsBatchTurn};
+ghost use Rattle.lift_parts.specs.Flusher.{IsFlusher, IsSettled, IsBatchTurn};
 ghost use Rattle.lift_parts.specs.Turns.{IsFlush};
+ghost use Rattle.lift_base.specs.declared.history.Entry.{Entry};
+ghost use Rattle.lift_world.specs.declared.event.Taken.{Taken as Held};
+ghost use Rattle.lift_clerk.specs.History.{History};
+ghost use Rattle.lift_parts.specs.History.{FlushStands, group_behind};
 
 use crate::allocator::Allocator;
-use crate::batch::Batch;
+use crate::held::HeldClerk;
 use crate::line::ReceiveEnd;
 use crate::places::with_both;
-use arrayvec::ArrayVec;
-use lift_base::{Reply, Terminal};
-use lift_desk::{ClerkSeat, Desk};
+use crate::relay::Key;
+use crate::settling::Settler;
+use lift_decider::Decider;
+use lift_desk::{ClerkSeat, Desk, Seat, TakeSeat};
 use lift_disk::Disk;
 use lift_keeper::{KeeperFault, Writer};
-use lift_parts::{FlushCounts, Taken};
+use lift_parts::{FlushCounts, flushes_are_steps};
 use lift_policy::Policy;
 use lift_register::Register;
 use std::marker::Model;
-use std::mem;
 use std::sync::Wait;
 
 /// Makes batches safe in the order in which they were sent, and answers them. Contracts see its
-/// desk's tables, its seats there, its writer and its end of the line.
+/// desk's tables, its seats there, its writer and its end of the line. What waits has the end alone;
+/// the seats and the writer are its settler's. Only who has a `K` gets back the clerk that it is joined
+/// to.
 #[derive(Drop)]
-pub struct Flusher<'d, 'b, D: Disk> {
-    desk: &'d Desk,
-    seat: ClerkSeat,
-    writer: Writer<'b, D>,
+pub struct Flusher<'d, 'b, D: Disk, K = Key> {
+    settler: Settler<'d, 'b, D, K>,
     end: ReceiveEnd,
 }
 
-impl<'d, 'b, D: Disk> Model for Flusher<'d, 'b, D> {
+impl<'d, 'b, D: Disk, K> Model for Flusher<'d, 'b, D, K> {
     ghost use Rattle.lift_parts.specs.Flusher.{FlusherState, IsFlusher};
 
     ghost Value = { FlusherState D };
@@ -49,78 +54,7 @@ impl<'d, 'b, D: Disk> Model for Flusher<'d, 'b, D> {
     ghost invariant = { λ f. IsFlusher (seen f) };
 }
 
-/// Looks once at the terminal of a command, which the look gives, as its note says; and answers it:
-/// with its reply where it is safe, else Unknown.
-fn answer(desk: &Desk, seat: &mut ClerkSeat, taken: Taken, is_safe: bool)
-    requires seated { IsClerkOf desk.now seat.old }
-    requires terminal { taken.command.terminal < length desk.now }
-    requires noted { IsNoteOf desk.now taken.command.terminal taken.note }
-    requires says { Says (view_at seat.old taken.command.terminal) taken.note.word
-        (record { number = taken.command.number; body = taken.command.body }) }
-    ensures answers { (visit : Visit) × AnswersOne is_safe seat.old taken visit seat.new }
-    ensures settled { (turns : List ℕ) → IsSettled seat.old turns
-        → taken.command.terminal < length turns → IsSettled seat.new (turns_with turns taken) }
-    ensures seated { IsClerkOf desk.now seat.new }
-{
-    let Taken {
-        command,
-        reply,
-        note,
-    } = taken;
-    let _found = desk.look_for(seat, command.terminal, note);
-    let reply = if is_safe { reply } else { Reply::Unknown };
-    desk.answer(seat, command.terminal, reply);
-}
-
-/// Looks once at the terminal of each command of a batch, and answers it: with its reply where the
-/// batch is safe, else Unknown. How many commands there were.
-fn answer_all(desk: &Desk, seat: &mut ClerkSeat, batch: Batch, is_safe: bool) -> usize
-    requires seated { IsClerkOf desk.now seat.old }
-    requires at_desk { batch.desk ≡ desk.now }
-    requires settled { IsSettled seat.old batch.turns }
-    ensures answered { Answered is_safe seat.old batch.commands seat.new }
-    ensures settled { IsSettled seat.new (turns_behind batch) }
-    ensures count { result ≡ length batch.commands }
-    ensures seated { IsClerkOf desk.now seat.new }
-{
-    let mut commands = batch.into_commands();
-    let count = commands.len();
-    for place in 0..count {
-        let taken = mem::take(&mut commands[place]);
-        answer(desk, seat, taken, is_safe);
-    }
-    count
-}
-
-/// Whether an ask that these seats took is unanswered, at some terminal.
-fn owes(desk: &Desk, seat: &ClerkSeat) -> bool
-    requires { IsClerkOf desk.now seat.now }
-    ensures { (result ≡ false) ↔ OwesNothing seat.now }
-{
-    for t in 0..desk.len() {
-        let terminal = Terminal::new(t as u8).unwrap();
-        if seat.owes(terminal) {
-            return true;
-        }
-    }
-    false
-}
-
-/// The commit of a turn that received no batch.
-fn commit_nothing<D: Disk>(writer: &mut Writer<'_, D>) -> Result<FlushCounts, KeeperFault>
-    ensures commits { Commits D.state writer.old [] writer.new result }
-    ensures counts { IfOk result (λ counts. counts ≡ record { batches = 0; answers = 0 }) }
-{
-    match writer.commit(&ArrayVec::new()) {
-        Ok(()) => Ok(FlushCounts {
-            batches: 0,
-            answers: 0,
-        }),
-        Err(fault) => Err(fault),
-    }
-}
-
-impl<'d, 'b, D: Disk> Flusher<'d, 'b, D> {
+impl<'d, 'b, D: Disk, K> Flusher<'d, 'b, D, K> {
     /// The part that makes safe of a clerk that was just split, at the end of a line.
     pub(crate) fn new(
         desk: &'d Desk,
@@ -131,7 +65,7 @@ impl<'d, 'b, D: Disk> Flusher<'d, 'b, D> {
         requires seated { IsClerkOf desk.now seat }
         requires of_building { end.building ≡ writer.plan }
         requires at_desk { end.desk ≡ desk.now }
-        requires safe { writer.is_broken ≡ false → writer.register ≡ end.register }
+        requires safe { writer.is_broken ≡ false → writer.register ≡ end.state.register }
         requires settled { IsSettled seat end.turns }
         ensures value { result ≡ record {
           desk = desk.now;
@@ -142,9 +76,7 @@ impl<'d, 'b, D: Disk> Flusher<'d, 'b, D> {
         ensures flusher { IsFlusher result }
     {
         Flusher {
-            desk,
-            seat,
-            writer,
+            settler: Settler::new(desk, seat, writer),
             end,
         }
     }
@@ -162,7 +94,7 @@ impl<'d, 'b, D: Disk> Flusher<'d, 'b, D> {
         ensures value { (result ≡ false) ↔ OwesNothing self.now.seat }
         ensures none { result ≡ false }
     {
-        owes(self.desk, &self.seat)
+        self.settler.owes()
     }
 
     /// Whether what is safe is this register, or a call of the device has failed since it was last
@@ -172,9 +104,9 @@ impl<'d, 'b, D: Disk> Flusher<'d, 'b, D> {
             ↔ ((self.now.writer.is_broken ≡ true) ⊎ (register.now ≡ self.now.writer.register)) }
         // Where nothing has failed, what is safe is what was received.
         ensures safe { self.now.writer.is_broken ≡ false
-            → self.now.writer.register ≡ self.now.end.register }
+            → self.now.writer.register ≡ self.now.end.state.register }
     {
-        self.writer.is_broken() || register.is_same(self.writer.register())
+        self.settler.may_join(register)
     }
 
     /// Compares it with the other part, at the other end of its line. Both stay as they are.
@@ -199,13 +131,46 @@ impl<'d, 'b, D: Disk> Flusher<'d, 'b, D> {
         with_both(allocator, &mut self.end, Allocator::told)
     }
 
-    /// What it is made of, without its end of the line.
-    pub(crate) fn into_parts(self) -> (ClerkSeat, Writer<'b, D>)
-        ensures seat { result.0 ≡ self.entry.seat }
-        ensures writer { result.1 ≡ self.entry.writer }
-        ensures seated { IsClerkOf self.entry.desk result.0 }
+    /// Tells it what a terminal has asked so far, and the terminal what was answered there so far. By
+    /// the desk's rule what its seats took begins what the terminal asked, and what that heard begins
+    /// what was answered there. It stores nothing.
+    pub fn tell_terminal(&mut self, seat: &mut Seat)
+        requires { IsSeatOf self.old.desk seat.old }
+        ensures seat { seat.new ≡ seat_with seat.old
+            (with_told_answers seat.old.view (view_at self.old.seat seat.old.terminal).answered) }
+        ensures told { self.new ≡ record self.old {
+          seat = clerk_with self.old.seat seat.old.terminal
+              (with_told_asks (view_at self.old.seat seat.old.terminal) seat.old.view.asked);
+        } }
+        // What the two have stored fits together.
+        ensures in_order { IsInOrder
+            (lists_of seat.old.view (view_at self.old.seat seat.old.terminal)) }
+        ensures seat_stays { IsSeatOf self.new.desk seat.new }
     {
-        (self.seat, self.writer)
+        self.settler.tell_terminal(seat)
+    }
+
+    /// The clerk of this part and of what the other one is made of, held for the same key.
+    pub(crate) fn join<P: Policy + Drop>(
+        self,
+        ahead: TakeSeat,
+        decider: Decider<'b>,
+        policy: P,
+    ) -> HeldClerk<'d, 'b, D, P, K>
+        requires seated { IsClerkOf self.desk ahead }
+        requires answered { OwesNothing self.seat }
+        requires plan { decider.plan ≡ self.writer.plan }
+        requires sealed { decider.state.batch ≡ [] }
+        requires equal { (self.writer.is_broken ≡ true)
+            ⊎ (decider.state.register ≡ self.writer.register) }
+        ensures { result ≡ record {
+          desk = self.entry.desk;
+          seat = self.entry.seat;
+          keeper = record { state = decider.entry.state; writer = self.entry.writer };
+          policy = policy;
+        } }
+    {
+        self.settler.join(ahead, decider, policy)
     }
 
     /// One turn: receives one batch, makes it safe, then looks once more at each of its commands'
@@ -219,24 +184,19 @@ impl<'d, 'b, D: Disk> Flusher<'d, 'b, D> {
         // A batch that it was told of, it receives.
         ensures finds { length self.old.end.received < length self.old.end.known
             → (batch : BatchState) × IsBatchTurn self.old self.new batch result }
+        // Whatever has happened, its group's history goes on: what was received is safe, and its
+        // commands have their replies, or are answered Unknown behind a fault. Each image that a
+        // crash at any moment of the turn may leave shows all that was given before.
+        ensures history { (base : RegisterState) (safe : List Entry) (given : List Held)
+            → History base (group_behind self.old) safe given
+            → FlushStands self.old self.new base safe given
+            (D.state self.old.writer.device) (D.state self.new.writer.device) }
     {
+        flushes_are_steps::<D>();
         let batch = match self.end.receive(rt) {
             Some(batch) => batch,
-            None => return commit_nothing(&mut self.writer),
+            None => return self.settler.rest(),
         };
-        let committed = self.writer.commit(batch.entries());
-        match committed {
-            Ok(()) => {
-                let answers = answer_all(self.desk, &mut self.seat, batch, true);
-                Ok(FlushCounts {
-                    batches: 1,
-                    answers,
-                })
-            }
-            Err(fault) => {
-                answer_all(self.desk, &mut self.seat, batch, false);
-                Err(fault)
-            }
-        }
+        self.settler.settle(batch)
     }
 }

@@ -3,21 +3,30 @@
 #![tactic(auto)]
 
 mod allocator;
+mod basis;
 mod batch;
+mod deciding;
 mod flusher;
+mod held;
 mod line;
 mod pair;
 mod places;
 mod refused;
 mod relay;
 mod scan;
+mod settling;
+mod side;
 mod tie;
 
 pub use allocator::Allocator;
+pub use basis::Basis;
 pub use batch::Batch;
+pub use deciding::Scanner;
 pub use flusher::Flusher;
+pub use held::{HeldClerk, HeldKeeper, rejoin_held, split_held};
 pub use lift_parts::{FlushCounts, Taken};
 pub use pair::{Gate, RunFault, run};
 pub use refused::NoThread;
-pub use relay::{rejoin, split, tell};
+pub use relay::{Key, rejoin, split, tell};
+pub use settling::Settler;
 pub use tie::turn_flusher_once;

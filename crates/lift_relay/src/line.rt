@@ -1,24 +1,25 @@
 //! A queue of four batches with one end that sends and one that receives.
 ghost use Rattle.std.specs.Prelude.{◌≡◌, ◌<◌, ◌^◌, [], length, MatchResult, MatchOption, IfOk};
-ghost use Rattle.lift_parts.specs.Line.{SendsOne, ReceivesOne, IsNext, IsLine, WasFull, WasEmpty};
+ghost use Rattle.lift_parts.specs.Line.{SendsOne, ReceivesOne, IsNext, IsLine, IsRefused};
+ghost use Rattle.lift_parts.specs.Line.{FindsNone};
 ghost use Rattle.lift_parts.specs.Queued.{Queued};
 
+use crate::basis::Basis;
 use crate::batch::Batch;
+use crate::side::Side;
 use crossbeam_queue::protocol::{Join, Lesson, Outcome, Protocol, Split};
-use crossbeam_queue::{Pass, RuledArrayQueue};
 use lift_base::Memory;
 use lift_building::Building;
 use lift_desk::Desk;
-use lift_register::Register;
-use std::alloc::{AllocError, Global};
+use std::alloc::Global;
 use std::collections::LinkedList;
 use std::marker::Model;
-use std::sync::{Arc, Wait};
+use std::sync::Wait;
 
 /// What an end knows: whether it sends or receives, what went through it, and from where the
 /// batches go on. No value of it is made.
 pub struct EndView {
-    /// The line has begun: it was told its building, its desk and its first register.
+    /// The line has begun: it was told its building, its desk and its first state.
     pub begun: bool,
     pub sends: bool,
     pub receives: bool,
@@ -30,9 +31,9 @@ pub struct EndView {
     pub known: LinkedList<Batch>,
     pub building: Building,
     pub desk: Desk,
-    /// The register behind all that was sent, and behind all that was received.
-    pub ahead: Register,
-    pub behind: Register,
+    /// What decisions read behind all that was sent, and behind all that was received.
+    pub ahead: Basis,
+    pub behind: Basis,
     /// The turns of the terminals behind all that was sent, and behind all that was received.
     pub turns_ahead: LinkedList<u64>,
     pub turns_behind: LinkedList<u64>,
@@ -50,7 +51,7 @@ impl Protocol<Batch, EndView> for InOrder {
 }
 
 // The first pass sends, and the new one receives.
-struct Ends;
+pub struct Ends;
 
 impl Split<EndView> for Ends {
     ghost use Rattle.lift_relay.specs.Rule.{sending, receiving};
@@ -83,7 +84,7 @@ impl Join<EndView> for Tells {
 }
 
 // What the queue holds, of a pass that both sends and receives.
-struct Holds;
+pub struct Holds;
 
 impl Lesson<Batch, EndView> for Holds {
     ghost use Rattle.lift_relay.specs.Rule.{Waits};
@@ -91,8 +92,8 @@ impl Lesson<Batch, EndView> for Holds {
     ghost fact = { Waits };
 }
 
-// A batch without commands names the building, the desk and the first register.
-struct Names;
+// A batch without commands names the building, the desk and the first state.
+pub struct Names;
 
 impl Outcome<Batch, EndView> for Names {
     ghost use Rattle.lift_relay.specs.Rule.{Named};
@@ -101,7 +102,7 @@ impl Outcome<Batch, EndView> for Names {
 }
 
 // The line has begun there.
-struct Begins;
+pub struct Begins;
 
 impl Outcome<Batch, EndView> for Begins {
     ghost use Rattle.lift_relay.specs.Rule.{Begun};
@@ -139,13 +140,10 @@ impl Lesson<Batch, EndView> for Receives {
     ghost fact = { ReceivedBefore };
 }
 
-type Line = RuledArrayQueue<Batch, EndView, InOrder>;
-
 /// The allocator's end. Contracts see which line it is of, what was sent, and where that leads.
 #[derive(Drop)]
 pub struct SendEnd {
-    line: Arc<Line>,
-    pass: Pass<Batch, EndView>,
+    side: Side,
     count: u64,
 }
 
@@ -164,8 +162,7 @@ impl Model for SendEnd {
 /// The flusher's end. Contracts see which line it is of, what was received, and where that leads.
 #[derive(Drop)]
 pub struct ReceiveEnd {
-    line: Arc<Line>,
-    pass: Pass<Batch, EndView>,
+    side: Side,
     count: u64,
 }
 
@@ -181,52 +178,36 @@ impl Model for ReceiveEnd {
     ghost invariant = { IsReceiveEnd };
 }
 
-/// A line of four batches, which goes on from the register and the turns, for the building and the
+/// A line of four batches, which goes on from the state and the turns, for the building and the
 /// desk, that this batch names. The batch itself isn't sent. An error comes only where a growth was
 /// refused.
 pub fn new_line(alloc: Global, first: Batch) -> Result<(SendEnd, ReceiveEnd), Memory>
     ensures { IfOk result (λ ends. IsLine first ends.0 ends.1) }
 {
-    let (queue, mut pass) = Line::ruled(alloc, 4)?;
-    match queue.try_push_as::<Names>(&mut pass, first) {
-        Ok(()) => {}
-        Err(_) => return Err(Memory),
-    }
-    match queue.try_pop_as::<Begins>(&mut pass) {
-        Some(_) => {}
-        None => return Err(Memory),
-    }
-    let other = queue.another::<Ends>(&mut pass);
-    let line = match Arc::new(alloc, queue) {
-        Ok(line) => line,
-        Err(refused) => return Err(AllocError::from(refused).into()),
-    };
-    let theirs = Arc::try_clone(&line)?;
+    let (sender, receiver) = Side::both(alloc, first)?;
     Ok((
         SendEnd {
-            line,
-            pass,
+            side: sender,
             count: 0,
         },
         ReceiveEnd {
-            line: theirs,
-            pass: other,
+            side: receiver,
             count: 0,
         },
     ))
 }
 
 impl SendEnd {
-    /// Sends a batch that goes on from what was sent. It comes back only if the line was full at
-    /// one moment of the call.
+    /// Tries once to send a batch that goes on from what was sent. It comes back only if the line
+    /// was full at that try.
     pub fn send<R: Wait>(&mut self, rt: &R, batch: Batch) -> Result<(), Batch>
         requires few { length self.old.sent < 66060225 }
-        requires next { IsNext self.old.building self.old.desk self.old.register self.old.turns
+        requires next { IsNext self.old.building self.old.desk self.old.state self.old.turns
             batch }
         ensures { MatchResult result (λ _. SendsOne self.old batch self.new) (λ back.
-            (back ≡ batch) × (self.new ≡ self.old) × WasFull self.old) }
+            (back ≡ batch) × IsRefused self.old self.new) }
     {
-        self.line.push_as::<Sends, R>(rt, &mut self.pass, batch)?;
+        self.side.push::<Sends, R>(rt, batch)?;
         self.count += 1;
         Ok(())
     }
@@ -247,11 +228,9 @@ impl SendEnd {
         ensures receiver { result ≡ receiver }
         ensures queued { Queued self.new result }
     {
-        let ReceiveEnd { line, pass, count } = receiver;
-        self.line.absorb::<Together>(&mut self.pass, pass);
-        self.line.learn_as::<Holds>(&mut self.pass);
-        let pass = self.line.another::<Ends>(&mut self.pass);
-        ReceiveEnd { line, pass, count }
+        let ReceiveEnd { side, count } = receiver;
+        let met = self.side.meet::<Together>(side);
+        ReceiveEnd { side: met, count }
     }
 
     /// Tells each end of its line where the other stands.
@@ -263,22 +242,23 @@ impl SendEnd {
         ensures receiver { result ≡ record receiver { known = self.old.sent } }
         ensures queued { Queued self.new result }
     {
-        let ReceiveEnd { line, pass, count } = receiver;
-        self.line.absorb::<Tells>(&mut self.pass, pass);
-        self.line.learn_as::<Holds>(&mut self.pass);
-        let pass = self.line.another::<Ends>(&mut self.pass);
-        ReceiveEnd { line, pass, count }
+        let ReceiveEnd {
+            side: theirs,
+            count,
+        } = receiver;
+        let told = self.side.meet::<Tells>(theirs);
+        ReceiveEnd { side: told, count }
     }
 }
 
 impl ReceiveEnd {
-    /// Receives a batch, which goes on from what was received. There is none only if the line was
-    /// empty at one moment of the call.
+    /// Tries once to receive a batch, which goes on from what was received. There is none only if
+    /// the line was empty at that try.
     pub fn receive<R: Wait>(&mut self, rt: &R) -> Option<Batch>
-        ensures { MatchOption result ((self.new ≡ self.old) × WasEmpty self.old) (λ batch.
+        ensures { MatchOption result (FindsNone self.old self.new) (λ batch.
             ReceivesOne self.old batch self.new) }
     {
-        let batch = self.line.pop_as::<Receives, R>(rt, &mut self.pass)?;
+        let batch = self.side.pop::<Receives, R>(rt)?;
         self.count += 1;
         Some(batch)
     }

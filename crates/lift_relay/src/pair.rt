@@ -2,6 +2,7 @@
 
 ghost use Rattle.std.specs.Prelude.{◌≡◌, ◌≢◌, List, [], length, true, false, Some, None, Result};
 ghost use Rattle.lift_base.specs.declared.history.Entry.{Entry};
+ghost use Rattle.lift_register.specs.Register.{RegisterState};
 ghost use Rattle.lift_keeper.specs.declared.fault.KeeperFault.{KeeperFault};
 ghost use Rattle.lift_world.specs.declared.event.Taken.{Taken};
 ghost use Rattle.lift_parts.specs.declared.counts.FlushCounts.{FlushCounts};
@@ -12,7 +13,8 @@ ghost use Rattle.lift_parts.specs.Turns.{first_of};
 ghost use Rattle.lift_relay.specs.Pair.{ComesFrom};
 ghost use Rattle.lift_relay.specs.Pair.{HaveTurned, IfDone, IfRan, IsRun, HaveRun};
 ghost use Rattle.lift_parts.specs.Turns.{IsSameAllocator, IsSameFlusher};
-ghost use Rattle.lift_parts.specs.Runs.{HasPast, Advances};
+ghost use Rattle.lift_clerk.specs.History.{History};
+ghost use Rattle.lift_parts.specs.History.{GoesOnTo, group_behind};
 
 use crate::allocator::Allocator;
 use crate::flusher::Flusher;
@@ -20,7 +22,7 @@ use crate::places::with_both;
 use crate::refused::{NoThread, spawn};
 use lift_disk::Disk;
 use lift_keeper::KeeperFault;
-use lift_parts::runs_are_histories;
+use lift_parts::flushes_are_steps;
 use lift_policy::Policy;
 use std::snapshot::Snapshot;
 use std::sync::Wait;
@@ -105,9 +107,9 @@ fn allocate<R: Wait, G: Gate, P: Policy + Drop>(
 }
 
 /// Tells the gate what a turn of the flusher did, before which so many batches had been received.
-fn tell_of_flusher<R: Wait, G: Gate, D: Disk>(
+fn tell_of_flusher<R: Wait, G: Gate, D: Disk, K>(
     rt: &R,
-    flusher: &Flusher<'_, '_, D>,
+    flusher: &Flusher<'_, '_, D, K>,
     received_before: u64,
     gate: &G,
 ) {
@@ -120,9 +122,9 @@ fn tell_of_flusher<R: Wait, G: Gate, D: Disk>(
 }
 
 /// One turn. Keeps the first fault of all.
-fn flush_once<R: Wait, D: Disk>(
+fn flush_once<R: Wait, D: Disk, K>(
     rt: &R,
-    flusher: &mut Flusher<'_, '_, D>,
+    flusher: &mut Flusher<'_, '_, D, K>,
     first: &mut Option<KeeperFault>,
 )
     ensures { (answer : Result FlushCounts KeeperFault)
@@ -136,9 +138,9 @@ fn flush_once<R: Wait, D: Disk>(
 }
 
 /// Turns while the gate goes on. The first fault, if there was one.
-fn flush<R: Wait, G: Gate, D: Disk>(
+fn flush<R: Wait, G: Gate, D: Disk, K>(
     rt: &R,
-    flusher: &mut Flusher<'_, '_, D>,
+    flusher: &mut Flusher<'_, '_, D, K>,
     gate: &G,
 ) -> Option<KeeperFault>
     ensures turns { FlusherTurns D.state flusher.old None flusher.new result }
@@ -158,10 +160,10 @@ fn flush<R: Wait, G: Gate, D: Disk>(
 
 /// Sends the batch in hand and receives all that was sent, by turns of the flusher. The first fault
 /// of all turns, of which one may be there already.
-fn drain<R: Wait, D: Disk, P: Policy + Drop>(
+fn drain<R: Wait, D: Disk, P: Policy + Drop, K>(
     rt: &R,
     allocator: &mut Allocator<'_, '_, P>,
-    flusher: &mut Flusher<'_, '_, D>,
+    flusher: &mut Flusher<'_, '_, D, K>,
     mut first: Option<KeeperFault>,
 ) -> Option<KeeperFault>
     ensures allocator { AllocatorTurns
@@ -226,17 +228,18 @@ enum Turned {
 
 /// Both parts after their turns on two threads. Where no thread could be made, they are as they
 /// were.
-fn turn_both<'d, 'b, R, G, D, P>(
+fn turn_both<'d, 'b, R, G, D, P, K>(
     rt: &R,
     allocator: Allocator<'d, 'b, P>,
-    mut flusher: Flusher<'d, 'b, D>,
+    mut flusher: Flusher<'d, 'b, D, K>,
     gate: &G,
-) -> (Allocator<'d, 'b, P>, Flusher<'d, 'b, D>, Turned)
+) -> (Allocator<'d, 'b, P>, Flusher<'d, 'b, D, K>, Turned)
 where
     R: Threads + Wait + Sync,
     G: Gate + Sync,
     D: Disk + Drop,
     P: Policy + Drop + Send,
+    K: Drop,
     ensures turned { HaveTurned (P.chooses allocator.entry.policy) D.state allocator.entry result.0
         flusher.entry result.1 result.2 }
     ensures closed { IfDone (G.closed gate.now) result.2 }
@@ -246,7 +249,7 @@ where
     thread::scope(
         thread::scope_env(),
         rt,
-        move |scope| -> (Allocator<P>, Flusher<D>, Turned)
+        move |scope| -> (Allocator<P>, Flusher<D, K>, Turned)
             ensures turned { HaveTurned (P.chooses allocator.entry.policy) D.state
                 allocator.entry result.0 flusher.entry result.1 result.2 }
             ensures closed { IfDone (G.closed gate.entry.now) result.2 }
@@ -282,17 +285,22 @@ where
 }
 
 /// As `run`, on parts by value.
-fn run_owned<'d, 'b, R, G, D, P>(
+fn run_owned<'d, 'b, R, G, D, P, K>(
     rt: &R,
     allocator: Allocator<'d, 'b, P>,
-    flusher: Flusher<'d, 'b, D>,
+    flusher: Flusher<'d, 'b, D, K>,
     gate: &G,
-) -> (Allocator<'d, 'b, P>, Flusher<'d, 'b, D>, Option<RunFault>)
+) -> (
+    Allocator<'d, 'b, P>,
+    Flusher<'d, 'b, D, K>,
+    Option<RunFault>,
+)
 where
     R: Threads + Wait + Sync,
     G: Gate + Sync,
     D: Disk + Drop,
     P: Policy + Drop + Send,
+    K: Drop,
     ensures ran { IsRun (P.chooses allocator.entry.policy) D.state allocator.entry result.0
         flusher.entry result.1 result.2 }
     ensures closed { result.2 ≢ Some (RunFault.Spawn tt) → G.closed gate.now }
@@ -315,12 +323,15 @@ where
 /// there. Once both have stopped, what is in hand is sent, and all that was sent is received and
 /// made safe.
 ///
+/// It is generic in the key of its parts. So it can have the flusher's seats answer by turns alone,
+/// each of which ends, or waits for a batch, with nothing answered that isn't safe.
+///
 /// A device fault doesn't end it: the flusher's first is the answer, and what it received from then
 /// on was answered Unknown. `Spawn` where the thread couldn't be started; then it returns at once.
-pub fn run<'d, 'b, R, G, D, P>(
+pub fn run<'d, 'b, R, G, D, P, K>(
     rt: &R,
     allocator: &mut Allocator<'d, 'b, P>,
-    flusher: &mut Flusher<'d, 'b, D>,
+    flusher: &mut Flusher<'d, 'b, D, K>,
     gate: &G,
 ) -> Option<RunFault>
 where
@@ -328,6 +339,7 @@ where
     G: Gate + Sync,
     D: Disk + Drop,
     P: Policy + Drop + Send,
+    K: Drop,
     requires of_one { AreOfOne allocator.old flusher.old }
     ensures refused { result ≡ Some (RunFault.Spawn tt)
         → (allocator.new ≡ allocator.old) × (flusher.new ≡ flusher.old) }
@@ -346,19 +358,19 @@ where
     ensures queued { Queued allocator.new.end flusher.new.end }
     ensures received { result ≢ Some (RunFault.Spawn tt)
         → allocator.new.end.sent ≡ flusher.new.end.received }
-    // Whatever has happened to both parts before, the history goes on by just the batches that the
-    // run received.
-    ensures history { (safe : List Entry) (given : List Taken)
-        → HasPast P.chooses allocator.old flusher.old safe given
-        → Advances P.chooses allocator.new flusher.old flusher.new safe given }
+    // Whatever has happened before, the group's history goes on by just the batches that the run
+    // received.
+    ensures history { (base : RegisterState) (safe : List Entry) (given : List Taken)
+        → History base (group_behind flusher.old) safe given
+        → GoesOnTo flusher.old flusher.new base safe given }
 {
-    runs_are_histories::<D, P>();
+    flushes_are_steps::<D>();
     let fault = with_both(
         allocator,
         flusher,
-        |allocator: Allocator<P>, flusher: Flusher<D>| -> (
+        |allocator: Allocator<P>, flusher: Flusher<D, K>| -> (
             Allocator<P>,
-            Flusher<D>,
+            Flusher<D, K>,
             Option<RunFault>,
         )
             ensures ran { IsRun (P.chooses allocator.entry.policy) D.state allocator.entry result.0

@@ -1,32 +1,33 @@
 //! A clerk in two parts, and the parts together again.
 
-ghost use Rattle.std.specs.Prelude.{◌≡◌, ◌≢◌, ◌⊎◌, List, [], length, Option, None, IfOk, IfErr};
+ghost use Rattle.std.specs.Prelude.{◌≡◌, ◌≢◌, ◌⊎◌, List, [], length, IfOk, IfErr};
 ghost use Rattle.std.specs.Prelude.{OnErr};
 ghost use Rattle.lift_base.specs.declared.history.Entry.{Entry};
-ghost use Rattle.lift_keeper.specs.declared.fault.KeeperFault.{KeeperFault};
+ghost use Rattle.lift_register.specs.Register.{RegisterState};
 ghost use Rattle.lift_world.specs.declared.event.Taken.{Taken};
 ghost use Rattle.lift_clerk.specs.History.{History};
-ghost use Rattle.lift_parts.specs.Allocator.{AllocatorState};
-ghost use Rattle.lift_parts.specs.Flusher.{FlusherState, IsFlusher};
-ghost use Rattle.lift_parts.specs.Turns.{AllocatorTurns, FlusherTurns};
+ghost use Rattle.lift_parts.specs.Flusher.{IsFlusher};
 ghost use Rattle.lift_parts.specs.Queued.{Queued};
 ghost use Rattle.lift_parts.specs.Parts.{AreParts, AreOfOne, IsRejoined, CannotJoin};
-ghost use Rattle.lift_parts.specs.Runs.{HasPast};
-ghost use Rattle.lift_relay.specs.Joined.{ClerkAdvances};
+ghost use Rattle.lift_clerk.specs.Steps.{group_of};
+ghost use Rattle.lift_parts.specs.History.{group_behind};
 
 use crate::allocator::Allocator;
-use crate::batch::Batch;
 use crate::flusher::Flusher;
-use crate::line::new_line;
-use arrayvec::ArrayVec;
+use crate::held::{part, rejoin_held};
 use lift_base::Memory;
 use lift_clerk::Clerk;
 use lift_disk::Disk;
-use lift_keeper::Keeper;
-use lift_parts::runs_are_histories;
 use lift_policy::Policy;
 use std::alloc::Global;
-use std::snapshot::Snapshot;
+
+/// What gives back a clerk that is held for it. Only `rejoin` makes one: so who turns the parts,
+/// and is generic in their key, can reach neither the seats that answer nor the writer but by the
+/// turns of the flusher, and of the clerk of both.
+#[derive(Drop)]
+pub struct Key {
+    made: (),
+}
 
 /// A clerk's work in two parts, with a line of four batches between them. A broken clerk may be
 /// split; its batch in doubt stays so. Where memory was wanting the clerk comes back as it was.
@@ -38,41 +39,20 @@ pub fn split<'d, 'b, D: Disk, P: Policy + Drop>(
     ensures of_one { IfOk result (λ parts. AreOfOne parts.0 parts.1) }
     ensures refused { IfErr result (λ back. back.0 ≡ clerk.entry) }
     ensures flusher { IfOk result (λ parts. IsFlusher parts.1) }
-    // What has happened to the clerk has happened to its parts.
-    ensures history { IfOk result (λ parts. (safe : List Entry) (given : List Taken)
-        → History P.chooses clerk.entry safe given → HasPast P.chooses parts.0 parts.1 safe given) }
+    // What has happened to the clerk's group goes on behind the flusher.
+    ensures history { IfOk result (λ parts. (base : RegisterState) (safe : List Entry)
+        (given : List Taken) → History base (group_of clerk.entry) safe given
+        → History base (group_behind parts.1) safe given) }
 {
-    runs_are_histories::<D, P>();
-    let desk = clerk.desk();
-    let (seat, keeper, policy) = clerk.into_parts();
-    let (ahead, seat) = desk.split(seat);
-    let first = Batch::new(
-        ArrayVec::new(),
-        ArrayVec::new(),
-        keeper.building(),
-        Snapshot::of(keeper.register()),
-        desk,
-        Snapshot::of(&ahead),
-    );
-    let (send, receive) = match new_line(alloc, first) {
-        Ok(ends) => ends,
-        Err(memory) => {
-            let seat = desk.join(ahead, seat);
-            return Err((Clerk::new(desk, seat, keeper, policy), memory));
-        }
-    };
-    let (decider, writer) = keeper.part();
-    let allocator = Allocator::new(desk, ahead, decider, policy, send);
-    let flusher = Flusher::new(desk, seat, writer, receive);
-    Ok((allocator, flusher))
+    part(alloc, clerk)
 }
 
 /// Tells each of two parts that come of one `split` how much was sent and how much was received.
 /// Behind it the allocator's next turn sends where fewer than four batches wait, and the flusher's
 /// receives where one does. It changes nothing else.
-pub fn tell<'d, 'b, D: Disk, P: Policy + Drop>(
+pub fn tell<'d, 'b, D: Disk, P: Policy + Drop, K>(
     allocator: &mut Allocator<'d, 'b, P>,
-    flusher: &mut Flusher<'d, 'b, D>,
+    flusher: &mut Flusher<'d, 'b, D, K>,
 )
     requires of_one { AreOfOne allocator.old flusher.old }
     ensures allocator { allocator.new ≡ record allocator.old { end = record allocator.old.end { gone = flusher.old.end.received } } }
@@ -82,9 +62,7 @@ pub fn tell<'d, 'b, D: Disk, P: Policy + Drop>(
     ensures queued { Queued allocator.new.end flusher.new.end }
     ensures of_one { AreOfOne allocator.new flusher.new }
     // Nothing happens by it.
-    ensures history { (safe : List Entry) (given : List Taken)
-        → HasPast P.chooses allocator.old flusher.old safe given
-        → HasPast P.chooses allocator.new flusher.new safe given }
+    ensures history { group_behind flusher.new ≡ group_behind flusher.old }
 {
     flusher.tell(allocator);
 }
@@ -94,8 +72,8 @@ pub fn tell<'d, 'b, D: Disk, P: Policy + Drop>(
 /// look gave is unanswered, and where their registers differ though nothing has failed; the last
 /// two never happen between turns. Over a writer that a fault has broken the clerk is broken.
 pub fn rejoin<'d, 'b, D: Disk, P: Policy + Drop>(
-    mut allocator: Allocator<'d, 'b, P>,
-    mut flusher: Flusher<'d, 'b, D>,
+    allocator: Allocator<'d, 'b, P>,
+    flusher: Flusher<'d, 'b, D>,
 ) -> Result<Clerk<'d, 'b, D, P>, (Allocator<'d, 'b, P>, Flusher<'d, 'b, D>)>
     requires of_one { AreOfOne allocator flusher }
     ensures joined { IfOk result (λ clerk. IsRejoined allocator.entry flusher.entry clerk) }
@@ -108,31 +86,13 @@ pub fn rejoin<'d, 'b, D: Disk, P: Policy + Drop>(
         ⊎ (allocator.entry.hand ≢ [])) }
     // What was received, and then what the line holds, is what was sent.
     ensures queued { Queued allocator.entry.end flusher.entry.end }
-    // What has happened to the parts has happened to the clerk.
-    ensures history { IfOk result (λ clerk. (safe : List Entry) (given : List Taken)
-        → HasPast P.chooses allocator.entry flusher.entry safe given
-        → History P.chooses clerk safe given) }
-    // So it goes on with what the parts' turns added, by hand or in a run, since something had
-    // happened to both.
-    ensures turned { IfOk result (λ clerk.
-        (a : AllocatorState P) (f : FlusherState D) (last : Option KeeperFault) (safe : List Entry)
-        (given : List Taken) → HasPast P.chooses a f safe given
-        → AllocatorTurns (P.chooses a.policy) a allocator.entry
-        → FlusherTurns D.state f None flusher.entry last
-        → ClerkAdvances P.chooses clerk f flusher.entry safe given) }
+    // What has happened behind the flusher has happened to the clerk's group.
+    ensures history { IfOk result (λ clerk. (base : RegisterState) (safe : List Entry)
+        (given : List Taken) → History base (group_behind flusher.entry) safe given
+        → History base (group_of clerk) safe given) }
 {
-    runs_are_histories::<D, P>();
-    flusher.compare(&mut allocator);
-    if allocator.sent() != flusher.received()
-        || allocator.has_batch_in_hand()
-        || flusher.owes()
-        || !flusher.may_join(allocator.register())
-    {
-        return Err((allocator, flusher));
+    match rejoin_held(allocator, flusher) {
+        Ok(clerk) => Ok(clerk.release(Key { made: () })),
+        Err(parts) => Err(parts),
     }
-    let (desk, ahead, decider, policy) = allocator.into_parts();
-    let (seat, writer) = flusher.into_parts();
-    let seat = desk.join(ahead, seat);
-    let keeper = Keeper::whole(decider, writer);
-    Ok(Clerk::new(desk, seat, keeper, policy))
 }

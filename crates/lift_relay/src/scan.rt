@@ -8,6 +8,7 @@ ghost use Rattle.lift_policy.specs.Run.{Run};
 ghost use Rattle.lift_clerk.specs.Visits.{command_at};
 ghost use Rattle.lift_register.specs.Prelude.{register_of, FitFrom};
 ghost use Rattle.lift_parts.specs.Batch.{AreBelow, AreNoted, commands_in, replies_in, turns_of};
+ghost use Rattle.lift_clerk.specs.Answered.{AreApart};
 ghost use Rattle.lift_parts.specs.Batch.{turns_after};
 ghost use Rattle.lift_parts.specs.Scan.{ScansAhead, turns_in};
 
@@ -98,6 +99,7 @@ pub fn scan<P: Policy>(
     // Each command takes a turn of its terminal.
     ensures uses { turns_in seat.old + length result.items ≤ turns_in seat.new }
     ensures below { AreBelow (length desk.now) (commands_in result.items) }
+    ensures apart { AreApart (commands_in result.items) }
     // Each has a note of its ask, which is later than all that was taken there before.
     ensures noted { AreNoted desk.now (turns_of seat.old) result.items }
     ensures turns { turns_after (turns_of seat.old) result.items ≡ turns_of seat.new }

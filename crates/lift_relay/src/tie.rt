@@ -1,22 +1,29 @@
 //! A flusher's turn as the machine of events takes it.
 
-ghost use Rattle.std.specs.Prelude.{◌≡◌, ◌⊎◌, Ok, Err, IfOk};
+ghost use Rattle.std.specs.Prelude.{◌≡◌, ◌⊎◌, List, Ok, Err, IfOk};
+ghost use Rattle.lift_base.specs.declared.history.Entry.{Entry};
+ghost use Rattle.lift_world.specs.declared.event.Taken.{Taken};
+ghost use Rattle.lift_world.specs.World.{World};
+ghost use Rattle.lift_clerk.specs.Group.{Terminals, TakesAsks};
+ghost use Rattle.lift_clerk.specs.Past.{IsPastOf};
 ghost use Rattle.lift_parts.specs.Batch.{BatchState};
 ghost use Rattle.lift_parts.specs.Flusher.{IsEmptyTurn};
 ghost use Rattle.lift_parts.specs.Tie.{Flushes, FlushFails, FlushesBroken};
 ghost use Rattle.lift_parts.specs.Turns.{IsFlush};
+ghost use Rattle.lift_parts.specs.History.{group_behind};
+ghost use Rattle.lift_parts.specs.Past.{FlushLeadsOn};
 
 use crate::flusher::Flusher;
 use lift_disk::Disk;
 use lift_journal::JournalFault;
 use lift_keeper::KeeperFault;
-use lift_parts::FlushCounts;
+use lift_parts::{FlushCounts, flushes_are_steps};
 use std::sync::Wait;
 
 /// One turn of the flusher, with what it gives for the machine's turns.
-pub fn turn_flusher_once<R: Wait, D: Disk>(
+pub fn turn_flusher_once<R: Wait, D: Disk, K>(
     rt: &R,
-    flusher: &mut Flusher<'_, '_, D>,
+    flusher: &mut Flusher<'_, '_, D, K>,
 ) -> Result<FlushCounts, KeeperFault>
     // The turn of which a run tells.
     ensures turns { IsFlush D.state flusher.old flusher.new result }
@@ -27,6 +34,12 @@ pub fn turn_flusher_once<R: Wait, D: Disk>(
     ensures rests { result ≡ Err (KeeperFault.Journal JournalFault.Broken)
         → IsEmptyTurn flusher.old flusher.new (Err (KeeperFault.Journal JournalFault.Broken))
         ⊎ ((batch : BatchState) × FlushesBroken flusher.old flusher.new batch) }
+    // It is a step of its group's past, in each world that this may be in.
+    ensures past { (w : World) (terminals : Terminals) (safe : List Entry) (given : List Taken)
+        → IsPastOf w (group_behind flusher.old) terminals safe given
+        → TakesAsks (group_behind flusher.new) terminals
+        → FlushLeadsOn flusher.old flusher.new result w terminals safe given }
 {
+    flushes_are_steps::<D>();
     flusher.turn(rt)
 }

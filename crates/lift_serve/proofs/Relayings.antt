@@ -1,21 +1,39 @@
 -- What a run of both parts leaves for the clerk of them.
-use Rattle.std.proofs.Common.{◌≡◌, ◌≢◌, ◌||◌, Option, Some, None, [], refl, sym, ap, subst, ◌∙◌}
-use Rattle.std.specs.Prelude.{is_err}
+use Rattle.std.proofs.Common.{◌≡◌, ◌≢◌, ℕ, ◌⊎◌, inl, inr, ◌||◌, true, List, [], ◌++◌, Option, Some, None, refl, sym, ap, subst, ◌∙◌}
+use Rattle.std.specs.Prelude.{is_err, Result, Ok, Err, IfSome, IsSome}
+use Rattle.std.proofs.Math.Logic.{∥∥₁_map}
+use Rattle.lift_base.specs.declared.history.Entry.{Entry}
 use Rattle.lift_disk.specs.Disk.{DiskState}
+use Rattle.lift_register.specs.Register.{RegisterState}
 use Rattle.lift_policy.specs.Eligible.{Choice}
+use Rattle.lift_desk.specs.Seats.{clerk_of}
+use Rattle.lift_journal.specs.declared.fault.JournalFault.TheVariants.{Disk, Broken}
 use Rattle.lift_keeper.specs.declared.fault.KeeperFault.{KeeperFault}
+use Rattle.lift_keeper.specs.declared.fault.KeeperFault.TheVariants.{Journal}
 use Rattle.lift_keeper.specs.Writer.{WriterView}
+use Rattle.lift_world.specs.declared.event.Taken.{Taken}
+use Rattle.lift_clerk.specs.declared.counts.Counts.{Counts}
 use Rattle.lift_clerk.specs.Clerk.{ClerkState}
+use Rattle.lift_clerk.specs.History.{History}
+use Rattle.lift_clerk.specs.Once.{TurnsOnce, TurnAdds, Safe, InDoubt, Unknown}
+use Rattle.lift_clerk.specs.Steps.{group_of}
 use Rattle.lift_relay.specs.declared.pair.RunFault.{RunFault}
 use Rattle.lift_relay.specs.declared.pair.RunFault.TheVariants.{Keeper, Spawn}
 use Rattle.lift_parts.specs.Allocator.{AllocatorState}
-use Rattle.lift_parts.specs.Flusher.{FlusherState}
+use Rattle.lift_relay.specs.Pair.{HaveRun}
+use Rattle.lift_parts.specs.Flusher.{FlusherState, IsFlusher}
+use Rattle.lift_parts.specs.Keeping.{HaveKept, TurnsKeep}
+use Rattle.lift_parts.specs.History.{JoinedGoOn, group_behind}
 use Rattle.lift_parts.specs.Parts.{AreParts, AreOfOne}
+use Rattle.lift_parts.specs.Turns.{AllocatorTurns, NoMore, FlusherTurns, NoFlush, OneFlush, first_of}
+use Rattle.lift_parts.specs.lemmas.Paired.{same_allocator, turns_joined, flushes_joined}
 use Rattle.lift_serve.specs.declared.serving.ServeFault.{ServeFault}
 use Rattle.lift_serve.specs.declared.serving.ServeFault.TheVariants.{Network, Thread, Memory}
 use Rattle.lift_serve.specs.declared.lacks.Lack.{Lack}
 use Rattle.lift_serve.specs.declared.lacks.Lack.TheVariants.{Thread as NoThread, Memory as NoMemory}
-use Rattle.lift_serve.specs.Relaying.{HaveRunOn, IsLastTurn, Relayed, first_told, has_failed, told, undone}
+use Rattle.std.specs.declared.net.tcp.TcpListener.{TcpListener as Listener}
+use Rattle.lift_serve.specs.Open.{AreEndedAt, EndedState, IsEndAt, ended_in, given_up_for}
+use Rattle.lift_serve.specs.Relaying.{ComeOf, HaveRunOn, IsLastTurn, KeptRelay, Relayed, first_told, has_failed, told, undone}
 
 abbrev is_spawn : Option RunFault → Type 0
 is_spawn None = ⊥
@@ -45,27 +63,70 @@ module _ {D P : Type 0} (choice : Choice) (state : D → DiskState) (before : Cl
       ∙ sym (ap (λ (x : FlusherState D). x.end.received) (run.refused refl).1 ∙ parts.nothing_sent.2)
 
   -- a flusher that failed is broken, and so is its clerk, whose turn fails
-  breaks : (fault : Option RunFault) (after : ClerkState D P) → HaveRunOn choice state a b f g fault → (last : IsLastTurn choice b g after)
-      → after.keeper.writer.is_broken ≡ (has_failed fault || is_err last.result)
-  breaks None after run last = last.turn.broken
-  breaks (Some (Spawn no_thread)) after run last = last.turn.broken
-  breaks (Some (Keeper of)) after run last =
-      last.turn.broken ∙ last.turn.stays_broken (ap (λ (w : WriterView D). w.is_broken) last.rejoined.writer ∙ run.broken of refl)
+  ends_broken : (old : ClerkState D P) (after : ClerkState D P) (of : Choice) (result : Result Counts KeeperFault) → TurnsOnce state of old after result → after.keeper.writer.is_broken ≡ is_err result
+  ends_broken old after of (Ok counts) once = once.commits.is.stays.0
+  ends_broken old after of (Err fault) once = once.commits.is.breaks
 
-  pub relayed : (fault : Option RunFault) (after : ClerkState D P) → AreParts before a f → HaveRunOn choice state a b f g fault → IsLastTurn choice b g after
-      → Relayed choice state before after fault
-  relayed fault after parts run last = record {
-    allocator = a;
-    flusher = f;
-    parts = parts;
-    allocator' = b;
-    flusher' = g;
-    ran = run;
-    last = last;
-    broken = breaks fault after run last;
-    desk = last.turn.desk ∙ last.rejoined.desk ∙ run.same.desk ∙ parts.desks.0;
-    policy = last.turn.policy ∙ last.rejoined.policy ∙ run.same.policy ∙ parts.policy;
-  }
+  stays_broken : (old : ClerkState D P) (after : ClerkState D P) (of : Choice) (result : Result Counts KeeperFault) → TurnsOnce state of old after result → old.keeper.writer.is_broken ≡ true → is_err result ≡ true
+  stays_broken old after of (Ok counts) once broken = absurd (let other = once.commits.is.broken.1 broken in cc)
+  stays_broken old after of (Err fault) once broken = refl
+
+  breaks : (chooses : P → Choice) (fault : Option RunFault) (after : ClerkState D P) → HaveRunOn choice state a b f g fault → (last : IsLastTurn chooses state b g after)
+      → after.keeper.writer.is_broken ≡ (has_failed fault || is_err last.result)
+  breaks chooses None after run last = ends_broken last.joined after (chooses last.joined.policy) last.result last.turn
+  breaks chooses (Some (Spawn no_thread)) after run last = ends_broken last.joined after (chooses last.joined.policy) last.result last.turn
+  breaks chooses (Some (Keeper of)) after run last =
+      ends_broken last.joined after (chooses last.joined.policy) last.result last.turn
+      ∙ stays_broken last.joined after (chooses last.joined.policy) last.result last.turn
+      (ap (λ (w : WriterView D). w.is_broken) last.rejoined.writer ∙ run.broken of refl)
+
+-- what a turn adds, whatever it answers
+record Added {D P : Type 0} (choice : Choice) (before after : ClerkState D P) (result : Result Counts KeeperFault) : Type 0 where
+  batch : List Entry
+  more : List Entry
+  told : List Taken
+  adds : TurnAdds choice before after result batch more told
+
+module _ {D P : Type 0} (state : D → DiskState) (choice : Choice) (before after : ClerkState D P) where
+  abbrev failing : KeeperFault → Result Counts KeeperFault
+  failing fault = Err fault
+
+  by_fault : (fault : KeeperFault) → (fault ≡ Journal Disk) ⊎ (fault ≡ Journal Broken) → TurnsOnce state choice before after (failing fault) → Added choice before after (failing fault)
+  by_fault fault (inl is) once =
+      subst (λ (f : KeeperFault). Added choice before after (failing f)) (sym is) (record { batch = _; more = _; told = _; adds = InDoubt (once.fails (ap failing is)) })
+  by_fault fault (inr is) once =
+      subst (λ (f : KeeperFault). Added choice before after (failing f)) (sym is) (record { batch = _; more = _; told = _; adds = Unknown (once.rests (ap failing is)) })
+
+  added : (result : Result Counts KeeperFault) → TurnsOnce state choice before after result → Added choice before after result
+  added (Ok counts) once = record { batch = _; more = _; told = _; adds = Safe once.turns }
+  added (Err fault) once = by_fault fault once.commits.is.causes once
+
+-- What was answered before is kept by the turns that both parts had, if they had any.
+module _ {D P : Type 0} (chooses : P → Choice) (state : D → DiskState) (law : TurnsKeep D state) (joins : JoinedGoOn D P) (before : ClerkState D P) (a b : AllocatorState P) (f g : FlusherState D)
+    (base : RegisterState) (safe : List Entry) (given : List Taken) (history : History base (group_behind f) safe given) where
+  kept_run : (fault : Option RunFault) → HaveRun (chooses a.policy) state a b f g fault → HaveKept state base f g safe given
+  kept_run fault run = law f g None run.first base safe given history run.flusher
+
+  kept_on : (fault : Option RunFault) → HaveRunOn (chooses a.policy) state a b f g fault → HaveKept state base f g safe given
+  kept_on None run = kept_run None (run.ran no_fault)
+  kept_on (Some (Keeper of)) run = kept_run (Some (Keeper of)) (run.ran (not_spawn of))
+  kept_on (Some (Spawn no_thread)) run = subst (λ (x : FlusherState D). HaveKept state base f x safe given) (sym (run.refused refl).1) (law f f None None base safe given history NoFlush)
+
+  kept_relay : (fault : Option RunFault) (after : ClerkState D P) → HaveRunOn (chooses a.policy) state a b f g fault → (last : IsLastTurn chooses state b g after)
+      → KeptRelay chooses state b f g after last base safe given
+  kept_relay fault after run last =
+      let k = kept_on fault run in
+      let r = last.rejoined in
+      let x : Added (chooses last.joined.policy) last.joined after last.result = added state (chooses last.joined.policy) last.joined after last.result last.turn in
+      record {
+        turns = k;
+        batch = x.batch;
+        more = x.more;
+        told = x.told;
+        adds = x.adds;
+        advances = last.advances x.batch x.more x.told x.adds base k.now_safe k.now_given
+            (joins last.joined g base k.now_safe k.now_given (r.desk ∙ sym run.of_one.desk) r.seat r.writer (r.state ∙ r.same_state) k.history);
+      }
 
 -- the parts of a clerk are of one
 pub of_one : {D P : Type 0} (before : ClerkState D P) (a : AllocatorState P) (f : FlusherState D) → AreParts before a f → AreOfOne a f
@@ -76,12 +137,22 @@ of_one {D} before a f parts = record {
 }
 
 -- the choice is that of the clerk's policy, which stays
-pub relayed_on : {D P : Type 0} (chooses : P → Choice) (state : D → DiskState) (before after : ClerkState D P) (a b : AllocatorState P) (f g : FlusherState D)
-    (fault : Option RunFault) → AreParts before a f → HaveRunOn (chooses a.policy) state a b f g fault → IsLastTurn (chooses b.policy) b g after
-    → Relayed (chooses before.policy) state before after fault
-relayed_on {D} {P} chooses state before after a b f g fault parts run last =
-    subst (λ (p : P). Relayed (chooses p) state before after fault) parts.policy
-    (relayed (chooses a.policy) state before a b f g fault after parts run (subst (λ (p : P). IsLastTurn (chooses p) b g after) run.same.policy last))
+pub relayed_on : {D P : Type 0} (chooses : P → Choice) (state : D → DiskState) → TurnsKeep D state → JoinedGoOn D P → (before after : ClerkState D P) (a b : AllocatorState P) (f g : FlusherState D)
+    (fault : Option RunFault) → AreParts before a f
+    → ((base : RegisterState) (safe : List Entry) (given : List Taken) → History base (group_of before) safe given → History base (group_behind f) safe given) → HaveRunOn (chooses a.policy) state a b f g fault → IsLastTurn chooses state b g after → Relayed chooses state before after fault
+relayed_on {D} {P} chooses state law joins before after a b f g fault parts split run last = record {
+  allocator = a;
+  flusher = f;
+  parts = parts;
+  allocator' = b;
+  flusher' = g;
+  ran = subst (λ (p : P). HaveRunOn (chooses p) state a b f g fault) parts.policy run;
+  last = last;
+  broken = breaks (chooses a.policy) state before a b f g chooses fault after run last;
+  desk = last.turn.kept.0 ∙ last.rejoined.desk ∙ run.same.desk ∙ parts.desks.0;
+  policy = last.turn.kept.1 ∙ last.rejoined.policy ∙ run.same.policy ∙ parts.policy;
+  keeps = λ base safe given history. kept_relay chooses state law joins before a b f g base safe given (split base safe given history) fault after run last;
+}
 
 -- parts that no thread could be made for are as they were
 pub not_run : {D P : Type 0} (choice : Choice) (state : D → DiskState) (a : AllocatorState P) (f : FlusherState D) → AreOfOne a f → HaveRunOn choice state a a f f (Some (Spawn tt))
@@ -94,11 +165,56 @@ not_run choice state a f of_one = record {
   of_one = of_one;
 }
 
+-- ---- turns of both parts, from a clerk that was split
+pub come_first : {D P : Type 0} (chooses : P → Choice) (state : D → DiskState) (clerk : ClerkState D P) (a : AllocatorState P) (f : FlusherState D) → clerk.seat ≡ clerk_of clerk.desk → AreParts clerk a f → IsFlusher f
+    → ∥ ComeOf chooses state clerk a f ∥₁
+come_first chooses state clerk a f unused parts first =
+    ∣ record { unused = unused; allocator = a; flusher = f; parts = parts; first = first; turned = NoMore; fault = None; flushed = NoFlush } ∣₁
+
+-- whichever fault there was before
+record FlushedBehind {D : Type 0} (state : D → DiskState) (f g : FlusherState D) (before : Option KeeperFault) : Type 0 where
+  last : Option KeeperFault
+  turns : FlusherTurns state f before g last
+
+flushed_behind : {D : Type 0} (state : D → DiskState) (f g : FlusherState D) (first last before : Option KeeperFault) → FlusherTurns state f first g last → FlushedBehind state f g before
+flushed_behind state f g first last before NoFlush = record { last = before; turns = NoFlush }
+flushed_behind state f h first last before (OneFlush {g = g} {first = mid} {answer = answer} more flush is) =
+    let k = flushed_behind state f g first mid before more in
+    record { last = first_of k.last answer; turns = OneFlush k.turns flush refl }
+
+come_run : {D P : Type 0} (chooses : P → Choice) (state : D → DiskState) (clerk : ClerkState D P) (a b : AllocatorState P) (f g : FlusherState D) (fault : Option RunFault) → ComeOf chooses state clerk a f
+    → HaveRun (chooses a.policy) state a b f g fault → ComeOf chooses state clerk b g
+come_run {D} {P} chooses state clerk a b f g fault come run =
+    let k = flushed_behind state f g None run.first come.fault run.flusher in
+    let same : a.policy ≡ come.allocator.policy = (same_allocator (chooses come.allocator.policy) come.allocator a come.turned).policy in
+    record {
+      unused = come.unused;
+      allocator = come.allocator;
+      flusher = come.flusher;
+      parts = come.parts;
+      first = come.first;
+      turned = turns_joined (chooses come.allocator.policy) come.allocator a b come.turned (subst (λ (p : P). AllocatorTurns (chooses p) a b) same run.allocator);
+      fault = k.last;
+      flushed = flushes_joined state come.flusher f g None come.fault k.last come.flushed k.turns;
+    }
+
+come_by : {D P : Type 0} (chooses : P → Choice) (state : D → DiskState) (clerk : ClerkState D P) (a b : AllocatorState P) (f g : FlusherState D) (fault : Option RunFault)
+    → (fault ≡ Some (Spawn tt) → (b ≡ a) × (g ≡ f)) → (fault ≢ Some (Spawn tt) → HaveRun (chooses a.policy) state a b f g fault) → ComeOf chooses state clerk a f → ComeOf chooses state clerk b g
+come_by chooses state clerk a b f g None refused ran come = come_run chooses state clerk a b f g None come (ran no_fault)
+come_by chooses state clerk a b f g (Some (Keeper of)) refused ran come = come_run chooses state clerk a b f g (Some (Keeper of)) come (ran (not_spawn of))
+come_by {D} {P} chooses state clerk a b f g (Some (Spawn no_thread)) refused ran come =
+    let same = refused refl in
+    subst (λ (p : AllocatorState P × FlusherState D). ComeOf chooses state clerk p.0 p.1) (λ i. (sym same.0 i, sym same.1 i)) come
+
+pub come_on : {D P : Type 0} (chooses : P → Choice) (state : D → DiskState) (clerk : ClerkState D P) (a b : AllocatorState P) (f g : FlusherState D) (fault : Option RunFault) → ∥ ComeOf chooses state clerk a f ∥₁
+    → (fault ≡ Some (Spawn tt) → (b ≡ a) × (g ≡ f)) → (fault ≢ Some (Spawn tt) → HaveRun (chooses a.policy) state a b f g fault) → ∥ ComeOf chooses state clerk b g ∥₁
+come_on chooses state clerk a b f g fault come refused ran = ∥∥₁_map come (come_by chooses state clerk a b f g fault refused ran)
+
 -- that no thread could be made for the serving itself is told, whatever else there was
-pub tells_spawn : (fault : Option RunFault) (own : Option ServeFault) (rest : Option Lack) (is_told : Option ServeFault) → own ≡ told (undone fault)
-    → is_told ≡ first_told own (told rest) → fault ≡ Some (Spawn tt) → is_told ≡ Some Thread
+pub tells_spawn : (fault : Option RunFault) (own rest : Option Lack) (is_told : Option ServeFault) → own ≡ undone fault
+    → is_told ≡ told (first_told own rest) → fault ≡ Some (Spawn tt) → is_told ≡ Some Thread
 tells_spawn fault own rest is_told is says spawn =
-    says ∙ ap (λ (o : Option ServeFault). first_told o (told rest)) (is ∙ ap (λ (f : Option RunFault). told (undone f)) spawn)
+    says ∙ ap (λ (o : Option Lack). told (first_told o rest)) (is ∙ ap undone spawn)
 
 abbrev is_network : Option ServeFault → Type 0
 is_network None = ⊥
@@ -111,13 +227,26 @@ told_no_network None is = subst is_network (sym is) tt
 told_no_network (Some NoThread) is = subst is_network (sym is) tt
 told_no_network (Some NoMemory) is = subst is_network (sym is) tt
 
-first_no_network : (own rest : Option Lack) → first_told (told own) (told rest) ≢ Some Network
-first_no_network None rest is = told_no_network rest is
-first_no_network (Some NoThread) rest is = subst is_network (sym is) tt
-first_no_network (Some NoMemory) rest is = subst is_network (sym is) tt
-
 -- what was wanting is never told as the socket's fault
-pub tells_no_network : (fault : Option RunFault) (own : Option ServeFault) (rest : Option Lack) (is_told : Option ServeFault) → own ≡ told (undone fault)
-    → is_told ≡ first_told own (told rest) → is_told ≢ Some Network
-tells_no_network fault own rest is_told of says is =
-    first_no_network (undone fault) rest (ap (λ (o : Option ServeFault). first_told o (told rest)) (sym of) ∙ sym says ∙ is)
+pub tells_no_network : (lack : Option Lack) (is_told : Option ServeFault) → is_told ≡ told lack → is_told ≢ Some Network
+tells_no_network lack is_told says is = told_no_network lack (sym says ∙ is)
+
+abbrev is_told_of : Option ServeFault → Type 0
+is_told_of None = ⊥
+is_told_of (Some fault) = Unit {0}
+
+told_of_it : (lack : Lack) → told (Some lack) ≢ None
+told_of_it NoThread is = subst is_told_of is tt
+told_of_it NoMemory is = subst is_told_of is tt
+
+-- that connections have ended is told where so many have,
+pub ended_so : (over : Result EndedState Lack) (ended : Option EndedState) (listener : Listener) (sessions : ℕ) → IsEndAt listener sessions over → ended ≡ ended_in over → IfSome ended (AreEndedAt listener sessions)
+ended_so (Ok over) ended listener sessions at_end is = subst (λ (e : Option EndedState). IfSome e (AreEndedAt listener sessions)) (sym is) at_end
+ended_so (Err lack) ended listener sessions at_end is = subst (λ (e : Option EndedState). IfSome e (AreEndedAt listener sessions)) (sym is) tt
+
+-- and where nothing is told as the fault
+pub all_ended : (own rest : Option Lack) (over : Result EndedState Lack) (fault : Option ServeFault) (ended : Option EndedState) → fault ≡ told (first_told own (first_told (given_up_for over) rest)) → ended ≡ ended_in over
+    → fault ≡ None → IsSome ended
+all_ended (Some lack) rest over fault ended says is none = absurd (told_of_it lack (sym says ∙ none))
+all_ended None rest (Err lack) fault ended says is none = absurd (told_of_it lack (sym says ∙ none))
+all_ended None rest (Ok over) fault ended says is none = subst (λ (e : Option EndedState). IsSome e) (sym is) refl

@@ -4,5 +4,7 @@ pub mod HeldInside
 pub mod Lobby
 pub mod Open
 pub mod Relaying
+pub mod Keeping
 pub mod Rung
 pub mod Visits
+pub mod lemmas

@@ -1,21 +1,27 @@
 -- What becomes of a clerk whose work two threads do.
-use Rattle.std.specs.Prelude.{ℕ, ◌≡◌, ◌≢◌, ◌⊎◌, ◌+◌, Bool, true, false, ◌||◌, is_err, Option, Some}
-use Rattle.std.specs.Prelude.{None, Result, Err, IfOk, length}
+use Rattle.std.specs.Prelude.{◌≡◌, ◌≢◌, ◌⊎◌, ◌+◌, Bool, true, false, ◌||◌, is_err, List, Option}
+use Rattle.std.specs.Prelude.{Some, None, Result, length}
+use Rattle.lift_base.specs.declared.history.Entry.{Entry}
 use Rattle.lift_disk.specs.Disk.{DiskState}
+use Rattle.lift_register.specs.Register.{RegisterState}
 use Rattle.lift_policy.specs.Eligible.{Choice}
-use Rattle.lift_journal.specs.declared.fault.JournalFault.TheVariants.{Disk}
+use Rattle.lift_desk.specs.Seats.{clerk_of}
 use Rattle.lift_keeper.specs.Keeper.{KeeperView}
 use Rattle.lift_keeper.specs.declared.fault.KeeperFault.{KeeperFault}
-use Rattle.lift_keeper.specs.declared.fault.KeeperFault.TheVariants.{Journal}
+use Rattle.lift_world.specs.declared.event.Taken.{Taken}
 use Rattle.lift_clerk.specs.declared.counts.Counts.{Counts}
 use Rattle.lift_clerk.specs.Clerk.{ClerkState}
-use Rattle.lift_clerk.specs.Turn.{IsTurn, IsFailedTurn, IsBrokenTurn}
+use Rattle.lift_clerk.specs.History.{History}
+use Rattle.lift_clerk.specs.Keeping.{AdvancesFrom}
+use Rattle.lift_clerk.specs.Once.{TurnsOnce, TurnAdds, TurnAdvances}
+use Rattle.lift_clerk.specs.Steps.{group_of}
 use Rattle.lift_relay.specs.declared.pair.RunFault.{RunFault}
 use Rattle.lift_relay.specs.declared.pair.RunFault.TheVariants.{Keeper, Spawn}
 use Rattle.lift_parts.specs.Allocator.{AllocatorState}
-use Rattle.lift_parts.specs.Flusher.{FlusherState}
+use Rattle.lift_parts.specs.Flusher.{FlusherState, IsFlusher}
 use Rattle.lift_relay.specs.Pair.{HaveRun}
-use Rattle.lift_parts.specs.Turns.{IsSameAllocator}
+use Rattle.lift_parts.specs.Turns.{AllocatorTurns, FlusherTurns, IsSameAllocator}
+use Rattle.lift_parts.specs.Keeping.{HaveKept}
 use Rattle.lift_parts.specs.Parts.{AreOfOne, AreParts, IsRejoined}
 use Rattle.lift_serve.specs.declared.serving.ServeFault.{ServeFault}
 use Rattle.lift_serve.specs.declared.serving.ServeFault.TheVariants.{Network, Thread, Memory}
@@ -23,17 +29,18 @@ use Rattle.lift_serve.specs.declared.lacks.Lack.{Lack}
 use Rattle.lift_serve.specs.declared.lacks.Lack.TheVariants.{Thread as NoThread}
 use Rattle.lift_serve.specs.declared.lacks.Lack.TheVariants.{Memory as NoMemory}
 
--- What a turn of the clerk did, by its result. Behind one that failed the keeper is broken, behind
--- another it is whole.
-pub record TurnsTo {D P : Type 0} (choice : Choice) (before after : ClerkState D P)
-    (result : Result Counts KeeperFault) : Type 0 where
-  pub turns : IfOk result (IsTurn choice before after)
-  pub fails : result ≡ Err (Journal Disk) → IsFailedTurn choice before after
-  pub rests : before.keeper.writer.is_broken ≡ true → IsBrokenTurn before after
-  pub stays_broken : before.keeper.writer.is_broken ≡ true → is_err result ≡ true
-  pub broken : after.keeper.writer.is_broken ≡ is_err result
-  pub desk : after.desk ≡ before.desk
-  pub policy : after.policy ≡ before.policy
+-- Turns of both parts, and nothing else, have led here from a clerk that was split. It began at a
+-- new desk, where it had taken and answered nothing.
+pub record ComeOf {D P : Type 0} (chooses : P → Choice) (state : D → DiskState)
+    (clerk : ClerkState D P) (b : AllocatorState P) (g : FlusherState D) : Type 0 where
+  pub unused : clerk.seat ≡ clerk_of clerk.desk
+  pub allocator : AllocatorState P
+  pub flusher : FlusherState D
+  pub parts : AreParts clerk allocator flusher
+  pub first : IsFlusher flusher
+  pub turned : AllocatorTurns (chooses allocator.policy) allocator b
+  pub fault : Option KeeperFault
+  pub flushed : FlusherTurns state flusher None g fault
 
 -- Both parts ran, and all that was sent is received and answered; or no thread could be made, and
 -- they are as they were.
@@ -47,13 +54,30 @@ pub record HaveRunOn {D P : Type 0} (choice : Choice) (state : D
   pub same : IsSameAllocator a b
   pub of_one : AreOfOne b g
 
--- the clerk of both parts, behind one turn more
-pub record IsLastTurn {D P : Type 0} (choice : Choice) (a : AllocatorState P) (f : FlusherState D)
+-- The clerk of both parts, behind one turn more, by which its group's history goes on and all that
+-- was answered is kept.
+pub record IsLastTurn {D P : Type 0} (chooses : P → Choice) (state : D
+    → DiskState) (a : AllocatorState P) (f : FlusherState D)
     (after : ClerkState D P) : Type 0 where
   pub joined : ClerkState D P
   pub rejoined : IsRejoined a f joined
   pub result : Result Counts KeeperFault
-  pub turn : TurnsTo choice joined after result
+  pub turn : TurnsOnce state (chooses joined.policy) joined after result
+  pub advances : TurnAdvances state (chooses joined.policy) joined after result
+
+-- What was safe and had been answered was kept by the flusher's turns, of which each kept all that
+-- those before it left, and then by the last one of the clerk of both parts.
+pub record KeptRelay {D P : Type 0} (chooses : P → Choice) (state : D → DiskState)
+    (a : AllocatorState P) (f g : FlusherState D) (after : ClerkState D P)
+    (last : IsLastTurn chooses state a g after) (base : RegisterState) (safe : List Entry)
+    (given : List Taken) : Type 0 where
+  pub turns : HaveKept state base f g safe given
+  pub batch : List Entry
+  pub more : List Entry
+  pub told : List Taken
+  pub adds : TurnAdds (chooses last.joined.policy) last.joined after last.result batch more told
+  pub advances : AdvancesFrom base (group_of last.joined) turns.now_safe turns.now_given
+      (group_of after) batch more told (state last.joined.keeper.writer.device) (state after.keeper.writer.device)
 
 -- whether a turn of the flusher failed
 abbrev pub has_failed : Option RunFault → Bool
@@ -80,39 +104,45 @@ told (Some NoMemory) = Some Memory
 
 -- The clerk was split, its parts ran, each on a thread of its own, or came to this fault, and the
 -- clerk of both turned once more. The keeper is broken at the end exactly where a turn of the
--- flusher failed or this last one. Desk and policy stay.
-pub record Relayed {D P : Type 0} (choice : Choice) (state : D
+-- flusher failed or this last one. Desk and policy stay. Whatever was safe and answered before is
+-- kept, and what was answered meanwhile: at each moment of each turn a crash leaves an image that
+-- does.
+pub record Relayed {D P : Type 0} (chooses : P → Choice) (state : D
     → DiskState) (before after : ClerkState D P) (fault : Option RunFault) : Type 0 where
   pub allocator : AllocatorState P
   pub flusher : FlusherState D
   pub parts : AreParts before allocator flusher
   pub allocator' : AllocatorState P
   pub flusher' : FlusherState D
-  pub ran : HaveRunOn choice state allocator allocator' flusher flusher' fault
-  pub last : IsLastTurn choice allocator' flusher' after
+  pub ran : HaveRunOn (chooses before.policy) state allocator allocator' flusher flusher' fault
+  pub last : IsLastTurn chooses state allocator' flusher' after
   pub broken : after.keeper.writer.is_broken ≡ (has_failed fault || is_err last.result)
   pub desk : after.desk ≡ before.desk
   pub policy : after.policy ≡ before.policy
+  pub keeps : (base : RegisterState) (safe : List Entry) (given : List Taken)
+      → History base (group_of before) safe given
+      → KeptRelay chooses state allocator' flusher flusher' after last base safe given
 
 -- The keeper came to this by the turns of the two parts of a clerk with this policy, and by the
--- clerk's last one.
-pub record IsRelayedKeeper {D P : Type 0} (choice : Choice) (state : D
+-- clerk's last one. The clerk began at a new desk: it had taken and answered nothing there.
+pub record IsRelayedKeeper {D P : Type 0} (chooses : P → Choice) (state : D
     → DiskState) (policy : P) (keeper keeper' : KeeperView D) : Type 0 where
   pub before : ClerkState D P
   pub after : ClerkState D P
   pub fault : Option RunFault
   pub begins : before.keeper ≡ keeper
+  pub unused : before.seat ≡ clerk_of before.desk
   pub policy_is : before.policy ≡ policy
-  pub relayed : Relayed choice state before after fault
+  pub relayed : Relayed chooses state before after fault
   pub ends : after.keeper ≡ keeper'
 
 -- The keeper was relayed to this at a desk with a seat for each terminal that its building may
 -- have, 16 cars and its kiosks. Where no thread could be made for the accepting or for the parts,
 -- that is told, whatever else there was; and behind the beginning the socket is no fault.
-pub record IsServedKeeper {D P : Type 0} (choice : Choice) (state : D
+pub record IsServedKeeper {D P : Type 0} (chooses : P → Choice) (state : D
     → DiskState) (policy : P) (keeper keeper' : KeeperView D)
     (fault : Option ServeFault) : Type 0 where
-  pub relayed : IsRelayedKeeper choice state policy keeper keeper'
+  pub relayed : IsRelayedKeeper chooses state policy keeper keeper'
   pub seats : length relayed.before.desk ≡ 16 + length keeper.writer.plan.kiosks
   pub tells : relayed.fault ≡ Some (Spawn tt) → fault ≡ Some Thread
   pub begun : fault ≢ Some Network
@@ -125,7 +155,7 @@ pub record IsUnserved {D : Type 0} (keeper keeper' : KeeperView D)
   pub tells : (fault ≡ Some Network) ⊎ (fault ≡ Some Memory)
 
 -- what a serving comes to
-abbrev pub ComesTo : {D P : Type 0} → Choice → (D → DiskState) → (policy : P)
+abbrev pub ComesTo : {D P : Type 0} → (P → Choice) → (D → DiskState) → (policy : P)
     → (keeper keeper' : KeeperView D) → (fault : Option ServeFault) → Type 0
-ComesTo choice state policy keeper keeper' fault =
-    IsServedKeeper choice state policy keeper keeper' fault ⊎ IsUnserved keeper keeper' fault
+ComesTo chooses state policy keeper keeper' fault =
+    IsServedKeeper chooses state policy keeper keeper' fault ⊎ IsUnserved keeper keeper' fault

@@ -1,13 +1,15 @@
-//! The connections that are open, and how many have ended.
+//! The connections that are open, and how many have ended. How many are to end is not known here:
+//! who asks says it, so that what a lock holds can't be of another number.
 
-ghost use Rattle.std.specs.Prelude.{◌≡◌, ◌≢◌, ℕ, ◌+◌, ◌%◌, ◌^◌, ◌∷◌, ◌++◌, [], pred, Ok, true, is_err};
-ghost use Rattle.std.specs.Prelude.{IfOk, IfErr, IsSome, IsTrue, ◌↔◌, not, ◌==◌, filter};
+ghost use Rattle.std.specs.Prelude.{◌≡◌, ◌≤◌, ℕ, ◌+◌, ◌%◌, ◌^◌, ◌∷◌, ◌++◌, [], Ok, Some, true, is_err};
+ghost use Rattle.std.specs.Prelude.{IfOk, IfErr, IfSome, IsSome, IsTrue, ◌↔◌, not, ◌==◌, filter};
+ghost use Rattle.lift_serve.specs.Open.{AreOver, IsEndAt, one_more};
 
 use crate::attending::Attended;
-use crate::lacks::{Lack, Lacking, Noted, push};
+use crate::lacks::{Lack, Lacked, Lacking, Noted, push};
 use std::alloc::Global;
 use std::marker::Model;
-use std::net::{Shutdown, TcpStream};
+use std::net::{Shutdown, TcpListener, TcpStream};
 use std::snapshot::Snapshot;
 use std::sync::Arc;
 
@@ -56,21 +58,35 @@ pub(crate) struct Left {
     number: u64,
 }
 
-/// That all connections have ended that were to end. Only `Connections` makes one, where none is
-/// left.
+/// That so many connections at this socket have ended. Only `Connections` makes one, which has
+/// counted them.
 #[derive(Drop)]
-pub(crate) struct Over {
+pub struct Ended {
     connections: Snapshot<Connections>,
-    ghost none_left: { connections.value.left ≡ 0 },
+    listener: Snapshot<TcpListener>,
+    sessions: u32,
+    ghost counted: { sessions ≤ connections.value.ended },
 }
 
-/// The connections that are open, and how many may still end before all of them are closed.
-/// Contracts see the numbers of those that are open, the next number, and how many are left.
+impl Model for Ended {
+    ghost use Rattle.lift_serve.specs.Open.{EndedState};
+
+    ghost Value = { EndedState };
+
+    ghost view = { λ e. record { listener = e.listener.value; sessions = e.sessions } };
+}
+
+/// That no more connections are accepted: all have ended that were to end, or all were given up.
+pub(crate) type Over = Result<Ended, Lacked>;
+
+/// The connections that are open, and how many have ended. Contracts see the numbers of those that
+/// are open, the next number, how many have ended, and what was wanting where all were given up.
 #[derive(Drop)]
 pub struct Connections {
     open: Vec<Open>,
     next: u64,
-    left: u32,
+    ended: u32,
+    given_up: Option<Lacked>,
     /// A view of the listening socket.
     listening: TcpStream,
 }
@@ -84,37 +100,48 @@ impl Model for Connections {
     ghost view = { λ c. record {
       numbers = map (λ o. o.number) c.open.items;
       next = c.next;
-      left = c.left;
+      ended = c.ended;
+      given_up = c.given_up;
     } };
 }
 
 impl Connections {
-    /// So many connections are to end.
-    pub fn new(alloc: Global, listening: TcpStream, sessions: u32) -> Self
-        ensures { result ≡ record { numbers = []; next = 0; left = sessions } }
+    /// None is open, and none has ended.
+    pub fn new(alloc: Global, listening: TcpStream) -> Self
+        ensures { result ≡ record { numbers = []; next = 0; ended = 0; given_up = None } }
     {
         Connections {
             open: Vec::new(alloc),
             next: 0,
-            left: sessions,
+            ended: 0,
+            given_up: None,
             listening,
         }
     }
 
-    /// Whether all have ended that were to end.
-    pub(crate) fn is_over(&self) -> Option<Over>
-        ensures { IsSome result ↔ (self.now.left ≡ 0) }
+    /// Whether so many have ended at this socket, or all were given up.
+    pub(crate) fn is_over(&self, listener: &TcpListener, sessions: u32) -> Option<Over>
+        ensures over { IsSome result ↔ AreOver sessions self.now }
+        ensures ended { IfSome result (IsEndAt listener.now sessions) }
     {
-        let is_over = self.left == 0;
-        if is_over { Some(self.over()) } else { None }
+        if self.ended >= sessions {
+            return Some(Ok(self.all_ended(listener, sessions)));
+        }
+        match self.given_up {
+            Some(lacked) => Some(Err(lacked)),
+            None => None,
+        }
     }
 
-    /// None is left.
-    fn over(&self) -> Over
-        requires { self.now.left ≡ 0 }
+    /// So many have ended.
+    fn all_ended(&self, listener: &TcpListener, sessions: u32) -> Ended
+        requires { sessions ≤ self.now.ended }
+        ensures { result ≡ record { listener = listener.now; sessions = sessions } }
     {
-        Over {
+        Ended {
             connections: Snapshot::of(self),
+            listener: Snapshot::of(listener),
+            sessions,
         }
     }
 
@@ -125,23 +152,29 @@ impl Connections {
         self.open.is_empty()
     }
 
-    /// A connection is open from now on, by the number of the ticket. Nobody is let in where all
-    /// have ended that were to end.
-    pub(crate) fn enter(&mut self, stream: Arc<TcpStream>) -> Result<Result<Ticket, Over>, Lacking>
-        ensures over { self.old.left ≡ 0 → IfOk result (λ entered. is_err entered ≡ true) }
-        ensures lacks { IfErr result (λ _. self.old.left ≢ 0) }
+    /// A connection is open from now on, by the number of the ticket. Nobody is let in where so many
+    /// have ended, or all were given up.
+    pub(crate) fn enter(
+        &mut self,
+        listener: &TcpListener,
+        sessions: u32,
+        stream: Arc<TcpStream>,
+    ) -> Result<Result<Ticket, Over>, Lacking>
+        ensures over { AreOver sessions self.old → IfOk result (λ entered. is_err entered ≡ true) }
+        ensures lacks { IfErr result (λ _. ¬ AreOver sessions self.old) }
         ensures let_in { (number : ℕ) → result ≡ Ok (Ok number) → (number ≡ self.old.next)
             × (self.new ≡ record self.old {
               numbers = self.old.numbers ++ number ∷ [];
               next = (self.old.next + 1) % 2 ^ 64;
             }) }
-        ensures left_out { IfOk result (λ entered. IfErr entered (λ _.
-            (self.old.left ≡ 0) × (self.new ≡ self.old))) }
+        ensures left_out { IfOk result (λ entered. IfErr entered (λ over.
+            AreOver sessions self.old × (self.new ≡ self.old))) }
+        ensures ended { IfOk result (λ entered. IfErr entered (IsEndAt listener.now sessions)) }
         ensures unchanged { IfErr result (λ _. self.new ≡ self.old) }
         ensures lack { IfErr result (λ lacking. lacking.what ≡ Lack.Memory) }
     {
-        if self.left == 0 {
-            return Ok(Err(self.over()));
+        if let Some(over) = self.is_over(listener, sessions) {
+            return Ok(Err(over));
         }
         let number = self.next;
         push(&mut self.open, Open { number, stream })?;
@@ -149,51 +182,49 @@ impl Connections {
         Ok(Ok(Ticket { number }))
     }
 
-    /// The connection of this number has ended, and so.
-    pub(crate) fn leave(&mut self, number: u64, ending: Ending<'_>) -> Left
+    /// The connection of this number has ended, and so, where so many are to end.
+    pub(crate) fn leave(&mut self, sessions: u32, number: u64, ending: Ending<'_>) -> Left
         ensures left { self.new ≡ record self.old {
           numbers = filter (λ n.
               not (n == number)) self.old.numbers;
-          left = pred self.old.left;
+          ended = one_more sessions self.old.ended;
         } }
         ensures number { result.number ≡ number }
     {
         let _used = ending;
         self.open.retain(|open| open.number != number);
-        self.ended();
+        self.ended(sessions);
         Left { number }
     }
 
     /// A connection that was not let in has ended, for which something was wanting.
-    pub(crate) fn refuse(&mut self, noted: Noted)
-        ensures { self.new ≡ record self.old { left = pred self.old.left } }
+    pub(crate) fn refuse(&mut self, sessions: u32, noted: Noted)
+        ensures { self.new ≡ record self.old { ended = one_more sessions self.old.ended } }
     {
         let _used = noted;
-        self.ended();
+        self.ended(sessions);
     }
 
     /// One connection more has ended. Behind the last one that is to end no more are accepted, and
     /// nothing more is read from the others.
-    fn ended(&mut self)
-        ensures { self.new ≡ record self.old { left = pred self.old.left } }
+    fn ended(&mut self, sessions: u32)
+        ensures { self.new ≡ record self.old { ended = one_more sessions self.old.ended } }
     {
-        if self.left == 0 {
+        if self.ended >= sessions {
             return;
         }
-        self.left -= 1;
-        if self.left == 0 {
+        self.ended += 1;
+        if self.ended == sessions {
             self.turn_away();
         }
     }
 
-    /// No more are to end: as behind the last one that was to.
-    pub fn give_up(&mut self)
-        ensures { self.new ≡ record self.old { left = 0 } }
+    /// No more are to end, for what was wanting: as behind the last one that was to.
+    pub fn give_up(&mut self, lacked: Lacked)
+        ensures { self.new ≡ record self.old { given_up = Some lacked } }
     {
-        if self.left > 0 {
-            self.left = 0;
-            self.turn_away();
-        }
+        self.given_up = Some(lacked);
+        self.turn_away();
     }
 
     /// No more are accepted, and nothing more is read from those that are open.

@@ -1,26 +1,33 @@
 //! What is wanting in a serving: it is known only from the call that was refused it.
 
-ghost use Rattle.std.specs.Prelude.{◌≡◌, ◌≤◌, ◌++◌, ◌∷◌, [], None, Some, OnOk, OnErr};
-ghost use Rattle.std.specs.Prelude.{IfOk, IfErr, length};
-ghost use Rattle.lift_desk.specs.Seats.{AreSeatsOf, IsClerkOf, OwesNothing, seats_from};
+ghost use Rattle.std.specs.Prelude.{◌≡◌, ◌≢◌, ◌≤◌, ◌++◌, ◌∷◌, [], None, Some, OnOk, OnErr};
+ghost use Rattle.std.specs.Prelude.{IfOk, IfErr, List, Result, length};
+ghost use Rattle.lift_desk.specs.Seats.{AreSeatsOf, IsClerkOf, OwesNothing, clerk_of, seats_from};
+ghost use Rattle.lift_base.specs.declared.history.Entry.{Entry};
+ghost use Rattle.lift_register.specs.Register.{RegisterState};
+ghost use Rattle.lift_world.specs.declared.event.Taken.{Taken};
+ghost use Rattle.lift_clerk.specs.History.{History};
+ghost use Rattle.lift_clerk.specs.Steps.{group_of};
+ghost use Rattle.lift_parts.specs.Flusher.{IsFlusher};
+ghost use Rattle.lift_parts.specs.History.{group_behind};
 ghost use Rattle.lift_parts.specs.Parts.{AreParts};
+ghost use Rattle.lift_serve.specs.Open.{EndedState, IsEndAt, ended_in, given_up_for};
 ghost use Rattle.lift_serve.specs.Relaying.{HaveRunOn, first_told, told, undone};
 
 use crate::connections::{Left, Over};
 use crate::relaying::Parts;
 use crate::serving::{ServeFault, Served, unserved};
-use lift_clerk::Clerk;
 use lift_desk::{Desk, DeskParts};
 use lift_disk::Disk;
-use lift_keeper::Keeper;
 use lift_policy::Policy;
-use lift_relay::{Allocator, Flusher, Gate, RunFault, run, split};
+use lift_relay::{Allocator, Flusher, Gate, HeldClerk, HeldKeeper, RunFault, run, split_held};
 use std::alloc::Global;
 use std::io::{BufReader, Read};
 use std::marker::Model;
 use std::net::TcpListener;
+use std::snapshot::Snapshot;
 use std::sync::{Arc, Wait};
-use std::thread::{Scope, Threads};
+use std::thread::{Promise, PromisedHandle, Scope, Threads};
 
 /// What is wanting.
 #[derive(Clone, Copy)]
@@ -96,38 +103,80 @@ impl Lacking {
         }
     }
 
+    /// What is wanting.
+    pub(crate) fn lacked(&self) -> Lacked
+        ensures { result ≡ self.now.what }
+    {
+        Lacked { what: self.what }
+    }
+
     /// Nobody is served, for this: the keeper as it is.
-    pub(crate) fn unserved<'b, D: Disk + Drop>(self, keeper: Keeper<'b, D>) -> Served<'b, D>
+    pub(crate) fn unserved<'b, D: Disk + Drop, K: Drop>(
+        self,
+        keeper: HeldKeeper<'b, D, K>,
+    ) -> Served<'b, D, K>
         ensures keeper { result.keeper ≡ keeper.entry }
         ensures fault { result.fault ≡ told (Some self.what) }
+        ensures undone { result.fault ≢ None }
+        ensures ended { result.ended ≡ None }
     {
         unserved(keeper, self.told())
     }
 
     /// Both parts as they were, where no thread could be made before their run, of which this tells.
     #[tactic(auto, using(crate::proofs::Relayings::not_run))]
-    pub(crate) fn unrun<'d, 'b, D: Disk + Drop, P: Policy + Drop>(
+    pub(crate) fn unrun<'d, 'b, D: Disk + Drop, P: Policy + Drop, K: Drop>(
         self,
-        parts: Parts<'d, 'b, D, P>,
-    ) -> Parts<'d, 'b, D, P>
+        parts: Parts<'d, 'b, D, P, K>,
+    ) -> Parts<'d, 'b, D, P, K>
         requires thread { self.what ≡ Lack.Thread }
         ensures unrun { HaveRunOn (P.chooses parts.entry.allocator.policy) D.state
             parts.entry.allocator result.allocator parts.entry.flusher result.flusher
             (Some (RunFault.Spawn tt)) }
-        ensures told { result.refusal ≡ told (undone (Some (RunFault.Spawn tt))) }
+        ensures told { result.refusal ≡ undone (Some (RunFault.Spawn tt)) }
     {
+        let Lacking { what } = self;
+        let lacked = Lacked { what };
         let Parts {
             allocator,
             flusher,
+            clerk,
             fault: _,
             refusal: _,
         } = parts;
         Parts {
             allocator,
             flusher,
+            clerk,
             fault: None,
-            refusal: Some(self.told()),
+            refusal: Some(lacked),
         }
+    }
+}
+
+/// That something was wanting, as it is told. Only the calls below that were refused it make one.
+#[derive(Clone, Copy)]
+pub struct Lacked {
+    what: Lack,
+}
+
+impl Model for Lacked {
+    ghost use Rattle.lift_serve.specs.declared.lacks.Lack.{Lack};
+
+    ghost Value = { Lack };
+
+    ghost view = { λ l. l.what };
+
+    ghost inverse = { λ w. record { what = w } };
+}
+
+/// What was wanting, if anything was.
+fn what_of(lacked: Option<Lacked>) -> Option<Lack>
+    ensures { result ≡ lacked }
+{
+    match lacked {
+        Some(lacked) => Some(lacked.what),
+        None => None,
     }
 }
 
@@ -180,32 +229,42 @@ impl Lacks {
         Noted { what }
     }
 
-    /// What came of a serving with this keeper. Told is what was refused to it itself, and else the
-    /// first of the rest.
-    pub(crate) fn behind<'b, D: Disk + Drop>(
+    /// What came of a serving with this keeper, whose accepting was over so. Told is what was refused
+    /// to it itself, and else why all were given up, and else the first of the rest. Where nothing
+    /// was wanting, all have ended that were to end.
+    pub(crate) fn behind<'b, D: Disk + Drop, K: Drop>(
         self,
-        own: Option<Refusal>,
-        keeper: Keeper<'b, D>,
-    ) -> Served<'b, D>
+        own: Option<Lacked>,
+        over: Over,
+        keeper: HeldKeeper<'b, D, K>,
+    ) -> Served<'b, D, K>
         ensures keeper { result.keeper ≡ keeper.entry }
-        ensures fault { result.fault ≡ first_told own (told self) }
+        ensures fault { result.fault ≡ told (first_told own (first_told (given_up_for over) self)) }
+        ensures ended { result.ended ≡ ended_in over }
     {
         let Lacks { first } = self;
-        let fault = match own {
-            Some(refusal) => Some(refusal),
-            None => told_of(first),
+        let (ended, given_up) = match over {
+            Ok(ended) => (Some(ended), None),
+            Err(lacked) => (None, Some(lacked)),
         };
-        Served { keeper, fault }
+        let lack = first_of(what_of(own), first_of(what_of(given_up), first));
+        Served {
+            keeper,
+            fault: told_of(lack),
+            ended,
+        }
     }
 
     /// Nobody was served, for this, which is told whatever else there was: the keeper as it is.
-    pub(crate) fn unserved<'b, D: Disk + Drop>(
+    pub(crate) fn unserved<'b, D: Disk + Drop, K: Drop>(
         self,
         lacking: Lacking,
-        keeper: Keeper<'b, D>,
-    ) -> Served<'b, D>
+        keeper: HeldKeeper<'b, D, K>,
+    ) -> Served<'b, D, K>
         ensures keeper { result.keeper ≡ keeper.entry }
         ensures fault { result.fault ≡ told (Some lacking.what) }
+        ensures undone { result.fault ≢ None }
+        ensures ended { result.ended ≡ None }
     {
         let Lacks { first: _ } = self;
         lacking.unserved(keeper)
@@ -283,15 +342,48 @@ fn start<'s, E, T: Send + Drop + 's, F: FnOnce() -> T + Send + Drop + 's>(
     }
 }
 
+/// What a thread for the accepting promises: that it returns once so many connections have ended at
+/// this socket, or all were given up.
+#[derive(Drop)]
+pub(crate) struct EndAt {
+    listener: Snapshot<TcpListener>,
+    sessions: u32,
+}
+
+impl EndAt {
+    pub(crate) fn new(listener: &TcpListener, sessions: u32) -> Self
+        ensures listener { result.listener.value ≡ listener.now }
+        ensures sessions { result.sessions ≡ sessions }
+    {
+        EndAt {
+            listener: Snapshot::of(listener),
+            sessions,
+        }
+    }
+}
+
+impl Promise<Over> for EndAt {
+    ghost use Rattle.lift_serve.specs.Open.{IsEndAt};
+
+    ghost kept_by = { λ p over. IsEndAt p.listener.value p.sessions over };
+}
+
 /// A thread of a scope for the accepting, which returns once that is over.
 pub(crate) fn start_accepting<'s, E, F: FnOnce() -> Over + Send + Drop + 's>(
     scope: &Scope<'s, E>,
+    promise: EndAt,
     work: F,
-) -> Result<(), Lacking>
-    requires { F.pre work }
+) -> Result<PromisedHandle<Over, EndAt>, Lacking>
+    requires runs { F.pre work }
+    requires keeps { (over : Result EndedState Lack) → F.post work over
+        → IsEndAt promise.listener.value promise.sessions over }
+    ensures promised { IfOk result (λ child. child.promise ≡ promise) }
     ensures lack { IfErr result (λ lacking. lacking.what ≡ Lack.Thread) }
 {
-    start(scope, work)
+    let Ok(child) = scope.spawn_with(promise, work) else {
+        return Err(Lacking { what: Lack::Thread });
+    };
+    Ok(child)
 }
 
 /// A thread of a scope for a connection, which returns once that is counted as ended.
@@ -323,6 +415,7 @@ pub(crate) fn open_desk(alloc: Global, terminals: usize) -> Result<DeskParts, La
     ensures count { IfOk result (λ parts. length parts.desk ≡ terminals) }
     ensures seats { IfOk result (λ parts. parts.seats.items ≡ seats_from 0 parts.desk) }
     ensures seats_at { IfOk result (λ parts. AreSeatsOf parts.desk parts.seats.items) }
+    ensures clerk { IfOk result (λ parts. parts.clerk ≡ clerk_of parts.desk) }
     ensures clerk_at { IfOk result (λ parts. IsClerkOf parts.desk parts.clerk) }
     ensures owes { IfOk result (λ parts. OwesNothing parts.clerk) }
     ensures lack { IfErr result (λ lacking. lacking.what ≡ Lack.Memory) }
@@ -334,50 +427,58 @@ pub(crate) fn open_desk(alloc: Global, terminals: usize) -> Result<DeskParts, La
 }
 
 /// Both parts of a clerk, which comes back where memory was wanting for them.
-pub(crate) fn part<'d, 'b, D: Disk, P: Policy + Drop>(
+pub(crate) fn part<'d, 'b, D: Disk, P: Policy + Drop, K: Drop>(
     alloc: Global,
-    clerk: Clerk<'d, 'b, D, P>,
-) -> Result<(Allocator<'d, 'b, P>, Flusher<'d, 'b, D>), (Clerk<'d, 'b, D, P>, Lacking)>
+    clerk: HeldClerk<'d, 'b, D, P, K>,
+) -> Result<(Allocator<'d, 'b, P>, Flusher<'d, 'b, D, K>), (HeldClerk<'d, 'b, D, P, K>, Lacking)>
     ensures parts { IfOk result (λ parts. AreParts clerk.entry parts.0 parts.1) }
+    ensures flusher { IfOk result (λ parts. IsFlusher parts.1) }
+    // What has happened to the clerk's group goes on behind the flusher.
+    ensures history { IfOk result (λ parts. (base : RegisterState) (entries : List Entry)
+        (given : List Taken) → History base (group_of clerk.entry) entries given
+        → History base (group_behind parts.1) entries given) }
     ensures refused { IfErr result (λ back. back.0 ≡ clerk.entry) }
     ensures lack { IfErr result (λ back. back.1.what ≡ Lack.Memory) }
 {
-    match split(alloc, clerk) {
+    match split_held(alloc, clerk) {
         Ok(parts) => Ok(parts),
         Err((clerk, _)) => Err((clerk, Lacking { what: Lack::Memory })),
     }
 }
 
 /// What a run by itself is undone for.
-fn undone_by(fault: &Option<RunFault>) -> Option<Refusal>
-    ensures { result ≡ told (undone fault.now) }
+fn undone_by(fault: &Option<RunFault>) -> Option<Lacked>
+    ensures { result ≡ undone fault.now }
 {
-    told_of(match fault {
-        Some(RunFault::Spawn(_)) => Some(Lack::Thread),
+    match fault {
+        Some(RunFault::Spawn(_)) => Some(Lacked { what: Lack::Thread }),
         Some(RunFault::Keeper(_)) => None,
         None => None,
-    })
+    }
 }
 
 /// Both parts run while the gate goes on, the flusher on this thread, and are given back behind the
 /// last batch.
-pub fn run_parts<'d, 'b, R, G, D, P>(
+#[tactic(auto, using(crate::proofs::Relayings::come_on))]
+pub fn run_parts<'d, 'b, R, G, D, P, K>(
     rt: &R,
     gate: &G,
-    parts: Parts<'d, 'b, D, P>,
-) -> Parts<'d, 'b, D, P>
+    parts: Parts<'d, 'b, D, P, K>,
+) -> Parts<'d, 'b, D, P, K>
 where
     R: Threads + Wait + Sync,
     G: Gate + Sync,
     D: Disk + Drop,
     P: Policy + Drop + Send,
+    K: Drop,
     ensures ran { HaveRunOn (P.chooses parts.entry.allocator.policy) D.state parts.entry.allocator
         result.allocator parts.entry.flusher result.flusher result.fault }
-    ensures told { result.refusal ≡ told (undone result.fault) }
+    ensures told { result.refusal ≡ undone result.fault }
 {
     let Parts {
         mut allocator,
         mut flusher,
+        clerk,
         fault: _,
         refusal: _,
     } = parts;
@@ -386,6 +487,7 @@ where
     Parts {
         allocator,
         flusher,
+        clerk,
         fault,
         refusal,
     }

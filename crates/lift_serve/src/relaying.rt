@@ -1,52 +1,47 @@
 //! A clerk's work in two parts, until the parts are one clerk again.
 
 ghost use Rattle.std.specs.Prelude.{◌≡◌, []};
-ghost use Rattle.lift_parts.specs.Parts.{AreOfOne, IsRejoined};
-ghost use Rattle.lift_serve.specs.Relaying.{IsLastTurn, TurnsTo};
+ghost use Rattle.lift_parts.specs.Parts.{AreOfOne};
+ghost use Rattle.lift_serve.specs.Relaying.{ComeOf, IsLastTurn};
 
-use crate::lacks::Refusal;
-use lift_clerk::{Clerk, Counts};
+use crate::lacks::Lacked;
 use lift_disk::Disk;
-use lift_keeper::KeeperFault;
 use lift_policy::Policy;
-use lift_relay::{Allocator, Flusher, RunFault, rejoin};
+use lift_relay::{Allocator, Flusher, HeldClerk, RunFault, rejoin_held};
+use std::snapshot::Snapshot;
 
-/// Both parts of one clerk, and what came of their run, if they had one.
+/// Both parts of one clerk, which began at a new desk, and what came of their run, if they had one.
+/// Nothing has happened to them but turns of their own. So whoever has them, whatever it waits for,
+/// has a history of theirs, of which each turn kept all that was answered before it. Who is generic
+/// in their key can have them turn, and be joined to the clerk that is held for it, and no more.
 #[derive(Drop)]
-pub struct Parts<'d, 'b, D: Disk + Drop, P: Policy + Drop> {
+pub struct Parts<'d, 'b, D: Disk + Drop, P: Policy + Drop, K: Drop> {
     pub allocator: Allocator<'d, 'b, P>,
-    pub flusher: Flusher<'d, 'b, D>,
+    pub flusher: Flusher<'d, 'b, D, K>,
+    /// The clerk as it was when it was split.
+    pub clerk: Snapshot<HeldClerk<'d, 'b, D, P, K>>,
     /// What came of their run.
     pub fault: Option<RunFault>,
     /// What was refused to their run, or before it.
-    pub refusal: Option<Refusal>,
+    pub refusal: Option<Lacked>,
     ghost of_one: { AreOfOne allocator flusher },
-}
-
-/// One turn of the clerk.
-fn turn_once<D: Disk, P: Policy + Drop>(
-    clerk: &mut Clerk<'_, '_, D, P>,
-) -> Result<Counts, KeeperFault>
-    ensures { TurnsTo (P.chooses clerk.old.policy) clerk.old clerk.new result }
-{
-    clerk.turn()
+    ghost come_of: { ∥ ComeOf P.chooses D.state clerk.value allocator flusher ∥₁ },
 }
 
 /// The clerk of both parts, between which nothing is on its way, behind one turn more: it finds
 /// what was asked at last.
-pub fn turn_rejoined<'d, 'b, D: Disk, P: Policy + Drop>(
+pub fn turn_rejoined<'d, 'b, D: Disk, P: Policy + Drop, K: Drop>(
     allocator: Allocator<'d, 'b, P>,
-    flusher: Flusher<'d, 'b, D>,
-) -> Clerk<'d, 'b, D, P>
+    flusher: Flusher<'d, 'b, D, K>,
+) -> HeldClerk<'d, 'b, D, P, K>
     requires of_one { AreOfOne allocator flusher }
     requires none_in_hand { allocator.hand ≡ [] }
     requires all_received { allocator.end.sent ≡ flusher.end.received }
-    ensures { IsLastTurn (P.chooses allocator.entry.policy) allocator.entry flusher.entry result }
+    ensures { IsLastTurn P.chooses D.state allocator.entry flusher.entry result }
 {
-    match rejoin(allocator, flusher) {
+    match rejoin_held(allocator, flusher) {
         Ok(clerk) => {
-            let mut clerk = clerk;
-            let _outcome = turn_once(&mut clerk);
+            let (clerk, _outcome) = clerk.turn();
             clerk
         }
         Err(_) => unreachable!(),

@@ -10,7 +10,6 @@ use lift_building::Building;
 use lift_cost::NewCall;
 use lift_disk::{Disk, DiskFault, MemDisk};
 use lift_policy::{Eligible, Etd, Policy, View};
-use lift_serve::Served;
 use std::alloc::Global;
 use std::net::{Net, TcpListener, TcpStream};
 use std::process::Abort;
@@ -244,12 +243,7 @@ fn serve_callers<
     let calls = move || call(rt, alloc, port, shared, are_both);
     let ended = &shared.ended;
     match serve_beside(rt, alloc, &listener, sessions, keeper, policy, ended, calls) {
-        Some(
-            Served {
-                keeper,
-                fault: None,
-            },
-        ) if !keeper.is_broken() => Ok(keeper.register().open_count()),
+        Some(keeper) if !keeper.is_broken() => Ok(keeper.register().open_count()),
         _ => Err("a fault of serving".into()),
     }
 }

@@ -7,7 +7,6 @@ use crate::serving::serve_beside;
 use lift_disk::{FuseDisk, Outcome};
 use lift_keeper::Keeper;
 use lift_policy::{Etd, FewestOpen, Shipped, ShortestWait};
-use lift_serve::Served;
 use std::alloc::Global;
 use std::net::{Net, TcpListener, TcpStream};
 use std::process::Abort;
@@ -245,12 +244,7 @@ fn served<
     let (count, ended) = (&followed, &end);
     let calls = move || follow(rt, alloc, port, script, count, ended);
     match serve_beside(rt, alloc, &listener, sessions, keeper, policy, ended, calls) {
-        Some(
-            Served {
-                keeper,
-                fault: None,
-            },
-        ) => {
+        Some(keeper) => {
             if count.load(Ordering::SeqCst) == 1 {
                 Ok(keeper)
             } else {

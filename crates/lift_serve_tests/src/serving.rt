@@ -5,7 +5,7 @@ ghost use Rattle.std.specs.Thread.{IsSync};
 use lift_disk::Disk;
 use lift_keeper::Keeper;
 use lift_policy::Policy;
-use lift_serve::{Served, serve};
+use lift_serve::{HeldKeeper, serve};
 use std::alloc::Global;
 use std::net::TcpListener;
 use std::process::Abort;
@@ -29,8 +29,15 @@ fn watch<R: Clock + Abort>(rt: &R, ended: &AtomicU64) {
     panic!(rt; "serving has not ended");
 }
 
+/// What gives back the keeper of a test.
+#[derive(Drop)]
+struct Own {
+    made: (),
+}
+
 /// Serves on a socket until so many connections have ended, while a thread calls and another one
-/// watches. None where there was no thread for these.
+/// watches. The keeper behind it; none where there was no thread for these, or another fault than the
+/// device's, or where connections have not ended.
 pub(crate) fn serve_beside<'b, R, D, P, C>(
     rt: &R,
     alloc: Global,
@@ -40,7 +47,7 @@ pub(crate) fn serve_beside<'b, R, D, P, C>(
     policy: P,
     ended: &AtomicU64,
     calls: C,
-) -> Option<Served<'b, D>>
+) -> Option<Keeper<'b, D>>
 where
     R: Threads + Wait + Clock + Abort + Sync,
     D: Disk + Drop,
@@ -52,7 +59,7 @@ where
     thread::scope(
         thread::scope_env(),
         rt,
-        move |scope| -> Option<Served<D>>
+        move |scope| -> Option<Keeper<D>>
             requires sync { IsSync R.row }
             requires settled { keeper.state.batch ≡ [] }
             requires calls { C.pre calls }
@@ -64,9 +71,13 @@ where
                 ended.store(1, Ordering::SeqCst);
                 return None;
             }
-            let served = serve(rt, alloc, listener, sessions, keeper, policy);
+            let held = HeldKeeper::new(keeper);
+            let served = serve(rt, alloc, listener, sessions, held, policy);
             ended.store(1, Ordering::SeqCst);
-            Some(served)
+            if served.fault.is_some() || served.ended.is_none() {
+                return None;
+            }
+            Some(served.keeper.release(Own { made: () }))
         },
     )
 }

@@ -14,14 +14,14 @@ use Rattle.lift_base.specs.declared.command.Reason.{Reason}
 use Rattle.lift_base.specs.declared.command.Reply.{Reply}
 use Rattle.lift_base.specs.declared.command.Reply.TheVariants.{Stopped}
 use Rattle.lift_building.specs.Plan.{Plan, IsBuilding}
-use Rattle.lift_register.specs.Register.{RegisterState}
+use Rattle.lift_register.specs.Register.{RegisterState, register_of}
 use Rattle.lift_policy.specs.Terminals.{has_kiosk, has_car}
 use Rattle.lift_policy.specs.Step.{State, first_cause, is_new, stopping, next_from, accepting}
 use Rattle.lift_policy.specs.declared.command.Command.{Command}
 use Rattle.lift_world.specs.declared.decide.Decided.{Decided}
 use Rattle.lift_world.specs.Decided.{Decision, decided, decided_after}
 use Rattle.lift_world.specs.Carries.{Carries, state_with, joined}
-use Rattle.lift_world.specs.World.{World, register_after, state_of}
+use Rattle.lift_world.specs.World.{World, state_of}
 use Rattle.lift_world.specs.Next.{taking, deciding}
 use Rattle.lift_world.specs.Replays.{FitAfter, IsTight, MovesTo}
 use Rattle.lift_world.specs.lemmas.Decisions.{NoCause, no_cause, decides_well, DecidesWell}
@@ -60,7 +60,7 @@ joins_none register positions batch terminal number floor dir old =
     ∙ ap (λ (b : Bool). cond b (accepting (state_with register positions batch) (Stopping terminal number floor dir)) (state_with register positions batch)) (sym old)
 
 pub joins_one : (register after : RegisterState) (positions : List (Option Position)) (batch : List Entry) (terminal number floor car : ℕ) (dir : Dir) → is_new (state_with register positions batch) terminal number ≡ true → car ≡ terminal
-    → after ≡ Rattle.lift_register.specs.Register.register_of register (Stopping car number floor dir ∷ [])
+    → after ≡ register_of register (Stopping car number floor dir ∷ [])
     → state_with after positions (batch ++ Stopping car number floor dir ∷ []) ≡ joined (state_with register positions batch) terminal number floor dir
 joins_one register after positions batch terminal number floor car dir new own is =
     ap (λ (r : RegisterState). state_with r positions (batch ++ Stopping car number floor dir ∷ [])) is
@@ -77,7 +77,7 @@ no_move None old new is possible e same = (refl, same)
 no_move (Some w) old new is possible e same = absurd (false≢true (sym e ∙ possible refl))
 
 -- a take in the code
-module _ (w : World) (register : RegisterState) (command : Command) (letter : Option ℕ) (tight : IsTight w.building register w.accepted) (result : Option Decided)
+module _ (w : World) (register : RegisterState) (command : Command) (letter : Option ℕ) (tight : IsTight w.building w.base register w.accepted) (result : Option Decided)
     (after : RegisterState) (positions : List (Option Position))
     (h : (batch : List Entry) → Carries (decided w.building (state_with register w.positions batch) command.terminal command.number command.body letter) register w.positions batch result after positions) where
   carried : Carries (decided w.building (state_of w) command.terminal command.number command.body letter) register w.positions (drop w.sealed w.accepted) result after positions
@@ -106,7 +106,7 @@ module _ (w : World) (register : RegisterState) (command : Command) (letter : Op
 
   some_by : (o : Option Decision) (d : Decided) → decided w.building (state_of w) command.terminal command.number command.body letter ≡ o → Carries o register w.positions (drop w.sealed w.accepted) result after positions → result ≡ Some d → IsBuilding w.building
       → MovesTo (option_map (deciding w command) o) w true (record w { accepted = w.accepted ++ option_to_list d.entry; positions = positions; taken = w.taken ++ record { terminal = command.terminal; number = command.number; body = command.body; reply = d.reply } ∷ [] })
-      × FitAfter w.building [] (w.accepted ++ option_to_list d.entry) × (after ≡ register_after (w.accepted ++ option_to_list d.entry))
+      × FitAfter w.building w.base [] (w.accepted ++ option_to_list d.entry) × (after ≡ register_of w.base (w.accepted ++ option_to_list d.entry))
   some_by None d at k q sound = let e = k.0 in cc
   some_by (Some x) d at k q sound =
       let same : d ≡ record { reply = x.reply; entry = k.0 } = some_is d (record { reply = x.reply; entry = k.0 }) (sym q ∙ k.1) in
@@ -115,7 +115,7 @@ module _ (w : World) (register : RegisterState) (command : Command) (letter : Op
       let batch_is : x.next.batch ≡ drop w.sealed w.accepted ++ option_to_list d.entry = ap (λ (s : State). s.batch) k.2 ∙ ap (λ (e : Option Entry). drop w.sealed w.accepted ++ option_to_list e) (sym entry_is) in
       let register_is : x.next.register ≡ after = ap (λ (s : State). s.register) k.2 in
       let positions_is : x.next.positions ≡ positions = ap (λ (s : State). s.positions) k.2 in
-      let well : DecidesWell w.building w.accepted w.sealed command.terminal command.number command.body x = decides_well w.building sound w.accepted w.sealed w.positions command.terminal command.number command.body letter x at in
+      let well : DecidesWell w.building w.base w.accepted w.sealed command.terminal command.number command.body x = decides_well w.building sound w.base w.accepted w.sealed w.positions command.terminal command.number command.body letter x at in
       let added_is : well.added ≡ option_to_list d.entry = same_tail (drop w.sealed w.accepted) well.added (option_to_list d.entry) (sym well.batch ∙ batch_is) in (
         (
           refl,
@@ -123,11 +123,11 @@ module _ (w : World) (register : RegisterState) (command : Command) (letter : Op
               ∙ ap (λ (ps : List (Option Position)). record w { accepted = w.accepted ++ option_to_list d.entry; positions = ps; taken = w.taken ++ record { terminal = command.terminal; number = command.number; body = command.body; reply = x.reply } ∷ [] }) (sym positions_is)
               ∙ ap (λ (xs : List Entry). record w { accepted = xs; positions = x.next.positions; taken = w.taken ++ record { terminal = command.terminal; number = command.number; body = command.body; reply = x.reply } ∷ [] }) (sym (accepted_after w (option_to_list d.entry) x.next.batch batch_is)),
         ),
-        fit_more w.building [] w.accepted (option_to_list d.entry) tight.fits (subst (λ (xs : List Entry). FitAfter w.building w.accepted xs) added_is well.fits),
-        sym register_is ∙ well.register ∙ ap (λ (xs : List Entry). register_after (w.accepted ++ xs)) added_is,
+        fit_more w.building w.base [] w.accepted (option_to_list d.entry) tight.fits (subst (λ (xs : List Entry). FitAfter w.building w.base w.accepted xs) added_is well.fits),
+        sym register_is ∙ well.register ∙ ap (λ (xs : List Entry). register_of w.base (w.accepted ++ xs)) added_is,
       )
 
   pub taken_on : (d : Decided) → result ≡ Some d → IsBuilding w.building
       → MovesTo (taking w letter command) w true (record w { accepted = w.accepted ++ option_to_list d.entry; positions = positions; taken = w.taken ++ record { terminal = command.terminal; number = command.number; body = command.body; reply = d.reply } ∷ [] })
-      × FitAfter w.building [] (w.accepted ++ option_to_list d.entry) × (after ≡ register_after (w.accepted ++ option_to_list d.entry))
+      × FitAfter w.building w.base [] (w.accepted ++ option_to_list d.entry) × (after ≡ register_of w.base (w.accepted ++ option_to_list d.entry))
   taken_on d q sound = some_by (decided w.building (state_of w) command.terminal command.number command.body letter) d refl carried q sound

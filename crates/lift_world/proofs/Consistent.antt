@@ -8,7 +8,7 @@ use Rattle.std.proofs.lemmas.Bool.{false≢true, and_parts, ltb-true, ltb-false}
 use Rattle.std.proofs.lemmas.List.Elements.{Contains-append_left, All-nil, All-cons, All-head, All-tail, All-push, All-append, All-weaker, All-filter, All-map, All-contains}
 use Rattle.lift_base.specs.declared.history.Entry.{Entry}
 use Rattle.lift_building.specs.Plan.{Plan, IsBuilding}
-use Rattle.lift_register.specs.Register.{RegisterState, empty, cars, terminals}
+use Rattle.lift_register.specs.Register.{RegisterState, register_of}
 use Rattle.lift_register.specs.Fits.{FitFrom}
 use Rattle.lift_register.specs.lemmas.HistoryLemmas.{register_of-append}
 use Rattle.lift_policy.specs.declared.command.Command.{Command}
@@ -20,37 +20,38 @@ use Rattle.lift_world.specs.declared.event.Event.TheVariants.{Ask, Take, Seal, P
 use Rattle.lift_world.specs.declared.event.Phase.{Phase}
 use Rattle.lift_world.specs.declared.event.Phase.TheVariants.{Writing, Synced, GateWritten}
 use Rattle.lift_world.specs.Decided.{Decision, when, decided}
-use Rattle.lift_world.specs.World.{World, Batch, no_batch, start, register_after, outcome, batch_of, state_of, acknowledged, told_in, is_running, is_broken, is_off, asks, is_taken_of, may_keep, written, is_idle, is_synced, is_gate_written}
+use Rattle.lift_world.specs.World.{World, Batch, no_batch, start, outcome, batch_of, state_of, acknowledged, told_in, is_running, is_broken, is_off, asks, is_taken_of, may_keep, written, is_idle, is_synced, is_gate_written}
 use Rattle.lift_world.specs.Next.{run, next, unknown_to, deciding, taking, asking, sealing, pulled, in_phase, settling, failing, answering, hearing, cutting, reopened, may_ask, may_take, may_seal, may_pull, may_write, may_sync, may_fail, may_reopen, next_answer}
-use Rattle.lift_world.specs.Headline.{RecoversPrefix, RecoversAcknowledged, RecoversFitting}
+use Rattle.lift_world.specs.Headline.{RecoversAcknowledged, IsHeld, IsOfBuilding}
 use Rattle.lift_world.specs.Replays.{FitAfter}
 use Rattle.lift_world.specs.Lawful.{AcceptsFitting}
 use Rattle.lift_world.specs.lemmas.Phases.{not_idle, not_idle_synced, writing_busy}
 use Rattle.lift_world.specs.lemmas.Moves.{hold_when, hold_if, hold_then, hold_map}
-use Rattle.lift_world.specs.lemmas.Entries.{find_held}
-use Rattle.lift_world.specs.lemmas.Decisions.{IsAllotted, DecidesWell, decides_well, fits_allotted, told-unknown}
+use Rattle.lift_world.specs.lemmas.Entries.{find_held, held_more, over_nothing}
+use Rattle.lift_world.specs.lemmas.Decisions.{IsAllotted, DecidesWell, decides_well, fits_allotted, held_allotted, told-unknown}
 
--- what a reply tells of is among these entries
-abbrev pub Tells : Plan → List Entry → Taken → Type 0
-Tells building entries c = All (Contains entries) (told_in building c)
+-- what a reply tells of is held
+abbrev pub Tells : Plan → RegisterState → List Entry → Taken → Type 0
+Tells building base entries c = All (IsHeld base entries) (told_in building c)
 
 -- a sealed batch tells of entries accepted up to its end
-abbrev pub IsSealed : Plan → List Entry → Batch → Type 0
-IsSealed building accepted b = (b.upto ≤ length accepted) × All (Tells building (take b.upto accepted)) b.commands
+abbrev pub IsSealed : Plan → RegisterState → List Entry → Batch → Type 0
+IsSealed building base accepted b = (b.upto ≤ length accepted) × All (Tells building base (take b.upto accepted)) b.commands
 
-pub record Holds (building : Plan) (accepted : List Entry) (safe : ℕ) (shown : List Entry) (flight : Batch) (phase : Phase) (queue : List Batch) (taken due : List Taken) : Type 0 where
+pub record Holds (building : Plan) (base : RegisterState) (accepted : List Entry) (safe : ℕ) (shown : List Entry) (flight : Batch) (phase : Phase) (queue : List Batch) (taken due : List Taken) : Type 0 where
   pub sound : IsBuilding building
+  pub of_building : IsOfBuilding building base
   pub in_range : safe ≤ length accepted
-  pub fit : FitAfter building [] accepted
-  pub shown_safe : All (Contains (take safe accepted)) shown
-  pub due_safe : All (Tells building (take safe accepted)) due
-  pub flight_sealed : IsSealed building accepted flight
+  pub fit : FitAfter building base [] accepted
+  pub shown_safe : All (IsHeld base (take safe accepted)) shown
+  pub due_safe : All (Tells building base (take safe accepted)) due
+  pub flight_sealed : IsSealed building base accepted flight
   pub flight_ahead : is_idle phase ≡ false → safe ≤ flight.upto
-  pub queue_sealed : All (IsSealed building accepted) queue
-  pub taken_told : All (Tells building accepted) taken
+  pub queue_sealed : All (IsSealed building base accepted) queue
+  pub taken_told : All (Tells building base accepted) taken
 
 abbrev pub IsConsistent : World → Type 0
-IsConsistent w = Holds w.building w.accepted w.safe (acknowledged w) w.flight w.phase w.queue w.taken w.due
+IsConsistent w = Holds w.building w.base w.accepted w.safe (acknowledged w) w.flight w.phase w.queue w.taken w.due
 
 -- a longer front has what a shorter one has
 front_more : (xs : List Entry) (n m : ℕ) → n ≤ m → m ≤ length xs → (e : Entry) → Contains (take n xs) e → Contains (take m xs) e
@@ -59,45 +60,44 @@ front_more xs n m le in_range e h =
     subst (λ (ys : List Entry). Contains ys e) (take-append-drop n (take m xs))
     (Contains-append_left (take n (take m xs)) (drop n (take m xs)) e (subst (λ (ys : List Entry). Contains ys e) (sym whole) h))
 
-tells_more : (building : Plan) (xs ys : List Entry) → ((e : Entry) → Contains xs e → Contains ys e) → (c : Taken) → Tells building xs c → Tells building ys c
-tells_more building xs ys more c h = All-weaker (Contains xs) (Contains ys) more (told_in building c) h
+all_held_more : (base : RegisterState) (xs ys : List Entry) → ((e : Entry) → Contains xs e → Contains ys e) → (es : List Entry) → All (IsHeld base xs) es → All (IsHeld base ys) es
+all_held_more base xs ys more es h = All-weaker (IsHeld base xs) (IsHeld base ys) (held_more base xs ys more) es h
 
-all_tell_more : (building : Plan) (xs ys : List Entry) → ((e : Entry) → Contains xs e → Contains ys e) → (cs : List Taken) → All (Tells building xs) cs → All (Tells building ys) cs
-all_tell_more building xs ys more cs h = All-weaker (Tells building xs) (Tells building ys) (tells_more building xs ys more) cs h
+tells_more : (building : Plan) (base : RegisterState) (xs ys : List Entry) → ((e : Entry) → Contains xs e → Contains ys e) → (c : Taken) → Tells building base xs c → Tells building base ys c
+tells_more building base xs ys more c h = all_held_more base xs ys more (told_in building c) h
 
-unknown_tells : (building : Plan) (xs : List Entry) (cs : List Taken) → All (Tells building xs) (map unknown_to cs)
-unknown_tells building xs cs = All-map (Tells building xs) unknown_to cs (all_unknown cs)
+all_tell_more : (building : Plan) (base : RegisterState) (xs ys : List Entry) → ((e : Entry) → Contains xs e → Contains ys e) → (cs : List Taken) → All (Tells building base xs) cs → All (Tells building base ys) cs
+all_tell_more building base xs ys more cs h = All-weaker (Tells building base xs) (Tells building base ys) (tells_more building base xs ys more) cs h
+
+unknown_tells : (building : Plan) (base : RegisterState) (xs : List Entry) (cs : List Taken) → All (Tells building base xs) (map unknown_to cs)
+unknown_tells building base xs cs = All-map (Tells building base xs) unknown_to cs (all_unknown cs)
   where
-    all_unknown : (cs : List Taken) → All (λ (c : Taken). Tells building xs (unknown_to c)) cs
-    all_unknown cs = λ k d lt. subst (λ (es : List Entry). All (Contains xs) es) (sym (told-unknown building _ _ _)) (All-nil (Contains xs))
+    all_unknown : (cs : List Taken) → All (λ (c : Taken). Tells building base xs (unknown_to c)) cs
+    all_unknown cs = λ k d lt. subst (λ (es : List Entry). All (IsHeld base xs) es) (sym (told-unknown building _ _ _)) (All-nil (IsHeld base xs))
 
 -- entries that fit one after another
-pub fit_more : (building : Plan) (before xs ys : List Entry) → FitAfter building before xs → FitAfter building (before ++ xs) ys → FitAfter building before (xs ++ ys)
-fit_more building before [] ys h more = subst (λ (zs : List Entry). FitAfter building zs ys) (append-nil before) more
-fit_more building before (x ∷ xs) ys h more =
-    (h.0, fit_more building (before ++ x ∷ []) xs ys h.1 (subst (λ (zs : List Entry). FitAfter building zs ys) (sym (append_assoc before (x ∷ []) xs)) more))
+pub fit_more : (building : Plan) (base : RegisterState) (before xs ys : List Entry) → FitAfter building base before xs → FitAfter building base (before ++ xs) ys → FitAfter building base before (xs ++ ys)
+fit_more building base before [] ys h more = subst (λ (zs : List Entry). FitAfter building base zs ys) (append-nil before) more
+fit_more building base before (x ∷ xs) ys h more =
+    (h.0, fit_more building base (before ++ x ∷ []) xs ys h.1 (subst (λ (zs : List Entry). FitAfter building base zs ys) (sym (append_assoc before (x ∷ []) xs)) more))
 
-fit_front : (building : Plan) (before xs ys : List Entry) → FitAfter building before (xs ++ ys) → FitAfter building before xs
-fit_front building before [] ys h = tt
-fit_front building before (x ∷ xs) ys h = (h.0, fit_front building (before ++ x ∷ []) xs ys h.1)
+fit_front : (building : Plan) (base : RegisterState) (before xs ys : List Entry) → FitAfter building base before (xs ++ ys) → FitAfter building base before xs
+fit_front building base before [] ys h = tt
+fit_front building base before (x ∷ xs) ys h = (h.0, fit_front building base (before ++ x ∷ []) xs ys h.1)
 
 -- from one register to the next
-fit_steps : (building : Plan) (before entries : List Entry) → FitAfter building before entries → FitFrom building (register_after before) entries
-fit_steps building before [] h = tt
-fit_steps building before (x ∷ xs) h =
-    (h.0, subst (λ (r : RegisterState). FitFrom building r xs) (sym (register_of-append empty before (x ∷ []))) (fit_steps building (before ++ x ∷ []) xs h.1))
+fit_steps : (building : Plan) (base : RegisterState) (before entries : List Entry) → FitAfter building base before entries → FitFrom building (register_of base before) entries
+fit_steps building base before [] h = tt
+fit_steps building base before (x ∷ xs) h =
+    (h.0, subst (λ (r : RegisterState). FitFrom building r xs) (sym (register_of-append base before (x ∷ []))) (fit_steps building base (before ++ x ∷ []) xs h.1))
 
-pub nothing_taken : register_after [] ≡ empty
-unfolding cars terminals
-nothing_taken = refl
+pub fits_from : (building : Plan) (base : RegisterState) (entries : List Entry) → IsOfBuilding building base → FitAfter building base [] entries → FitFrom building base entries
+fits_from building base entries of h = subst (λ (r : RegisterState). FitFrom building r entries) (over_nothing building base of) (fit_steps building base [] entries h)
 
-pub fits_from : (building : Plan) (entries : List Entry) → FitAfter building [] entries → FitFrom building empty entries
-fits_from building entries h = subst (λ (r : RegisterState). FitFrom building r entries) nothing_taken (fit_steps building [] entries h)
-
-pub fit_allotted : (building : Plan) (before entries : List Entry) → IsBuilding building → FitAfter building before entries → All (IsAllotted building) entries
-fit_allotted building before [] sound h = All-nil (IsAllotted building)
-fit_allotted building before (e ∷ entries) sound h =
-    All-cons (IsAllotted building) e entries (fits_allotted building before e sound h.0) (fit_allotted building (before ++ e ∷ []) entries sound h.1)
+pub fit_allotted : (building : Plan) (base : RegisterState) (before entries : List Entry) → IsBuilding building → FitAfter building base before entries → All (IsAllotted building) entries
+fit_allotted building base before [] sound h = All-nil (IsAllotted building)
+fit_allotted building base before (e ∷ entries) sound h =
+    All-cons (IsAllotted building) e entries (fits_allotted building (register_of base before) e sound h.0) (fit_allotted building base (before ++ e ∷ []) entries sound h.1)
 
 -- the accepted list after a decision goes on from the one before
 pub accepted_after : (w : World) (added batch : List Entry) → batch ≡ drop w.sealed w.accepted ++ added → take w.sealed w.accepted ++ batch ≡ w.accepted ++ added
@@ -105,79 +105,84 @@ accepted_after w added batch e =
     ap (λ (xs : List Entry). take w.sealed w.accepted ++ xs) e ∙ sym (append_assoc (take w.sealed w.accepted) (drop w.sealed w.accepted) added)
     ∙ ap (λ (xs : List Entry). xs ++ added) (take-append-drop w.sealed w.accepted)
 
-sealed_still : (building : Plan) (old added : List Entry) (b : Batch) → IsSealed building old b → IsSealed building (old ++ added) b
-sealed_still building old added b h =
-    (let l = length-append old added in let a = h.0 in omega arith, subst (λ (xs : List Entry). All (Tells building xs) b.commands) (sym (take-append-le b.upto old added h.0)) h.1)
+sealed_still : (building : Plan) (base : RegisterState) (old added : List Entry) (b : Batch) → IsSealed building base old b → IsSealed building base (old ++ added) b
+sealed_still building base old added b h =
+    (let l = length-append old added in let a = h.0 in omega arith, subst (λ (xs : List Entry). All (Tells building base xs) b.commands) (sym (take-append-le b.upto old added h.0)) h.1)
 
 abbrev taken_more : World → Command → Decision → List Taken
 taken_more w command d = w.taken ++ record { terminal = command.terminal; number = command.number; body = command.body; reply = d.reply } ∷ []
 
-decided_keeps : (w : World) (command : Command) (d : Decision) → IsConsistent w → DecidesWell w.building w.accepted w.sealed command.terminal command.number command.body d → IsConsistent (deciding w command d)
+decided_keeps : (w : World) (command : Command) (d : Decision) → IsConsistent w → DecidesWell w.building w.base w.accepted w.sealed command.terminal command.number command.body d → IsConsistent (deciding w command d)
 decided_keeps w command d k well =
-    subst (λ (xs : List Entry). Holds w.building xs w.safe (acknowledged w) w.flight w.phase w.queue (taken_more w command d) w.due) (sym (accepted_after w well.added d.next.batch well.batch))
+    subst (λ (xs : List Entry). Holds w.building w.base xs w.safe (acknowledged w) w.flight w.phase w.queue (taken_more w command d) w.due) (sym (accepted_after w well.added d.next.batch well.batch))
     (record {
       sound = k.sound;
+      of_building = k.of_building;
       in_range = let a = k.in_range in let l = length-append w.accepted well.added in omega arith;
-      fit = fit_more w.building [] w.accepted well.added k.fit well.fits;
-      shown_safe = subst (λ (xs : List Entry). All (Contains xs) (acknowledged w)) (sym (take-append-le w.safe w.accepted well.added k.in_range)) k.shown_safe;
-      due_safe = subst (λ (xs : List Entry). All (Tells w.building xs) w.due) (sym (take-append-le w.safe w.accepted well.added k.in_range)) k.due_safe;
-      flight_sealed = sealed_still w.building w.accepted well.added w.flight k.flight_sealed;
+      fit = fit_more w.building w.base [] w.accepted well.added k.fit well.fits;
+      shown_safe = subst (λ (xs : List Entry). All (IsHeld w.base xs) (acknowledged w)) (sym (take-append-le w.safe w.accepted well.added k.in_range)) k.shown_safe;
+      due_safe = subst (λ (xs : List Entry). All (Tells w.building w.base xs) w.due) (sym (take-append-le w.safe w.accepted well.added k.in_range)) k.due_safe;
+      flight_sealed = sealed_still w.building w.base w.accepted well.added w.flight k.flight_sealed;
       flight_ahead = k.flight_ahead;
-      queue_sealed = All-weaker (IsSealed w.building w.accepted) (IsSealed w.building (w.accepted ++ well.added)) (sealed_still w.building w.accepted well.added) w.queue k.queue_sealed;
-      taken_told = All-push (Tells w.building (w.accepted ++ well.added)) w.taken _
-          (all_tell_more w.building w.accepted (w.accepted ++ well.added) (λ e h. Contains-append_left w.accepted well.added e h) w.taken k.taken_told)
-          (well.told (fit_allotted w.building [] w.accepted k.sound k.fit));
+      queue_sealed = All-weaker (IsSealed w.building w.base w.accepted) (IsSealed w.building w.base (w.accepted ++ well.added)) (sealed_still w.building w.base w.accepted well.added) w.queue k.queue_sealed;
+      taken_told = All-push (Tells w.building w.base (w.accepted ++ well.added)) w.taken _
+          (all_tell_more w.building w.base w.accepted (w.accepted ++ well.added) (λ e h. Contains-append_left w.accepted well.added e h) w.taken k.taken_told)
+          (well.told (held_allotted w.building w.base w.accepted k.sound k.of_building (fit_allotted w.building w.base [] w.accepted k.sound k.fit)));
     })
 
 sealing_keeps : (w : World) → IsConsistent w → IsConsistent (sealing w)
 sealing_keeps w k = record {
   sound = k.sound;
+  of_building = k.of_building;
   in_range = k.in_range;
   fit = k.fit;
   shown_safe = k.shown_safe;
   due_safe = k.due_safe;
   flight_sealed = k.flight_sealed;
   flight_ahead = k.flight_ahead;
-  queue_sealed = All-push (IsSealed w.building w.accepted) w.queue (record { commands = w.taken; upto = length w.accepted }) k.queue_sealed
-      (omega arith, subst (λ (xs : List Entry). All (Tells w.building xs) w.taken) (sym (take-length w.accepted)) k.taken_told);
-  taken_told = All-nil (Tells w.building w.accepted);
+  queue_sealed = All-push (IsSealed w.building w.base w.accepted) w.queue (record { commands = w.taken; upto = length w.accepted }) k.queue_sealed
+      (omega arith, subst (λ (xs : List Entry). All (Tells w.building w.base xs) w.taken) (sym (take-length w.accepted)) k.taken_told);
+  taken_told = All-nil (Tells w.building w.base w.accepted);
 }
 
-with_queue : (w : World) (batch : Batch) (rest : List Batch) → w.queue ≡ batch ∷ rest → IsConsistent w → IsSealed w.building w.accepted batch × All (IsSealed w.building w.accepted) rest
+with_queue : (w : World) (batch : Batch) (rest : List Batch) → w.queue ≡ batch ∷ rest → IsConsistent w → IsSealed w.building w.base w.accepted batch × All (IsSealed w.building w.base w.accepted) rest
 with_queue w batch rest e k =
-    let all = subst (λ (bs : List Batch). All (IsSealed w.building w.accepted) bs) e k.queue_sealed in
-    (All-head (IsSealed w.building w.accepted) batch rest all, All-tail (IsSealed w.building w.accepted) batch rest all)
+    let all = subst (λ (bs : List Batch). All (IsSealed w.building w.base w.accepted) bs) e k.queue_sealed in
+    (All-head (IsSealed w.building w.base w.accepted) batch rest all, All-tail (IsSealed w.building w.base w.accepted) batch rest all)
 
 pull_broken : (w : World) (batch : Batch) (rest : List Batch) → w.queue ≡ batch ∷ rest → IsConsistent w → IsConsistent (record w { queue = rest; due = w.due ++ map unknown_to batch.commands })
 pull_broken w batch rest e k = record {
   sound = k.sound;
+  of_building = k.of_building;
   in_range = k.in_range;
   fit = k.fit;
   shown_safe = k.shown_safe;
   flight_sealed = k.flight_sealed;
   flight_ahead = k.flight_ahead;
   taken_told = k.taken_told;
-  due_safe = All-append (Tells w.building (take w.safe w.accepted)) w.due (map unknown_to batch.commands) k.due_safe (unknown_tells w.building (take w.safe w.accepted) batch.commands);
+  due_safe = All-append (Tells w.building w.base (take w.safe w.accepted)) w.due (map unknown_to batch.commands) k.due_safe (unknown_tells w.building w.base (take w.safe w.accepted) batch.commands);
   queue_sealed = (with_queue w batch rest e k).1;
 }
 
 pull_due : (w : World) (batch : Batch) (rest : List Batch) → w.queue ≡ batch ∷ rest → batch.upto ≤ w.safe → IsConsistent w → IsConsistent (record w { queue = rest; due = w.due ++ batch.commands })
 pull_due w batch rest e le k = record {
   sound = k.sound;
+  of_building = k.of_building;
   in_range = k.in_range;
   fit = k.fit;
   shown_safe = k.shown_safe;
   flight_sealed = k.flight_sealed;
   flight_ahead = k.flight_ahead;
   taken_told = k.taken_told;
-  due_safe = All-append (Tells w.building (take w.safe w.accepted)) w.due batch.commands k.due_safe
-      (all_tell_more w.building (take batch.upto w.accepted) (take w.safe w.accepted) (front_more w.accepted batch.upto w.safe le k.in_range) batch.commands (with_queue w batch rest e k).0.1);
+  due_safe = All-append (Tells w.building w.base (take w.safe w.accepted)) w.due batch.commands k.due_safe
+      (all_tell_more w.building w.base (take batch.upto w.accepted) (take w.safe w.accepted) (front_more w.accepted batch.upto w.safe le k.in_range) batch.commands (with_queue w batch rest e k).0.1);
   queue_sealed = (with_queue w batch rest e k).1;
 }
 
 pull_flight : (w : World) (batch : Batch) (rest : List Batch) → w.queue ≡ batch ∷ rest → w.safe < batch.upto → IsConsistent w → IsConsistent (record w { queue = rest; flight = batch; phase = Writing 0 })
 pull_flight w batch rest e less k = record {
   sound = k.sound;
+  of_building = k.of_building;
   in_range = k.in_range;
   fit = k.fit;
   shown_safe = k.shown_safe;
@@ -206,6 +211,7 @@ pulled_keeps w (batch ∷ rest) e k = pulling_keeps w batch rest (is_broken w.po
 with_phase : (w : World) (phase : Phase) → (is_idle phase ≡ false → is_idle w.phase ≡ false) → IsConsistent w → IsConsistent (in_phase w phase)
 with_phase w phase busy k = record {
   sound = k.sound;
+  of_building = k.of_building;
   in_range = k.in_range;
   fit = k.fit;
   shown_safe = k.shown_safe;
@@ -216,20 +222,21 @@ with_phase w phase busy k = record {
   flight_ahead = λ h. k.flight_ahead (busy h);
 }
 
-no_batch_sealed : (building : Plan) (accepted : List Entry) → IsSealed building accepted no_batch
-no_batch_sealed building accepted = (omega arith, All-nil (Tells building (take 0 accepted)))
+no_batch_sealed : (building : Plan) (base : RegisterState) (accepted : List Entry) → IsSealed building base accepted no_batch
+no_batch_sealed building base accepted = (omega arith, All-nil (Tells building base (take 0 accepted)))
 
 settling_keeps : (w : World) → IsConsistent w → is_idle w.phase ≡ false → IsConsistent (settling w)
 settling_keeps w k busy =
     let more = front_more w.accepted w.safe w.flight.upto (k.flight_ahead busy) k.flight_sealed.0 in
     record {
       sound = k.sound;
+      of_building = k.of_building;
       in_range = k.flight_sealed.0;
       fit = k.fit;
-      shown_safe = All-weaker (Contains (take w.safe w.accepted)) (Contains (take w.flight.upto w.accepted)) more (acknowledged w) k.shown_safe;
-      due_safe = All-append (Tells w.building (take w.flight.upto w.accepted)) w.due w.flight.commands
-          (all_tell_more w.building (take w.safe w.accepted) (take w.flight.upto w.accepted) more w.due k.due_safe) k.flight_sealed.1;
-      flight_sealed = no_batch_sealed w.building w.accepted;
+      shown_safe = all_held_more w.base (take w.safe w.accepted) (take w.flight.upto w.accepted) more (acknowledged w) k.shown_safe;
+      due_safe = All-append (Tells w.building w.base (take w.flight.upto w.accepted)) w.due w.flight.commands
+          (all_tell_more w.building w.base (take w.safe w.accepted) (take w.flight.upto w.accepted) more w.due k.due_safe) k.flight_sealed.1;
+      flight_sealed = no_batch_sealed w.building w.base w.accepted;
       flight_ahead = λ h. absurd (false≢true (sym h));
       queue_sealed = k.queue_sealed;
       taken_told = k.taken_told;
@@ -238,11 +245,12 @@ settling_keeps w k busy =
 failing_keeps : (w : World) → IsConsistent w → IsConsistent (failing w)
 failing_keeps w k = record {
   sound = k.sound;
+  of_building = k.of_building;
   in_range = k.in_range;
   fit = k.fit;
   shown_safe = k.shown_safe;
-  due_safe = All-append (Tells w.building (take w.safe w.accepted)) w.due (map unknown_to w.flight.commands) k.due_safe (unknown_tells w.building (take w.safe w.accepted) w.flight.commands);
-  flight_sealed = (k.flight_sealed.0, All-nil (Tells w.building (take w.flight.upto w.accepted)));
+  due_safe = All-append (Tells w.building w.base (take w.safe w.accepted)) w.due (map unknown_to w.flight.commands) k.due_safe (unknown_tells w.building w.base (take w.safe w.accepted) w.flight.commands);
+  flight_sealed = (k.flight_sealed.0, All-nil (Tells w.building w.base (take w.flight.upto w.accepted)));
   flight_ahead = k.flight_ahead;
   queue_sealed = k.queue_sealed;
   taken_told = k.taken_told;
@@ -251,64 +259,67 @@ failing_keeps w k = record {
 answering_keeps : (w : World) (terminal : ℕ) (c : Taken) → IsConsistent w → find (is_taken_of terminal) w.due ≡ Some c → IsConsistent (answering w terminal c)
 answering_keeps w terminal c k at = record {
   sound = k.sound;
+  of_building = k.of_building;
   in_range = k.in_range;
   fit = k.fit;
   flight_sealed = k.flight_sealed;
   flight_ahead = k.flight_ahead;
   queue_sealed = k.queue_sealed;
   taken_told = k.taken_told;
-  shown_safe = subst (λ (xs : List Entry). All (Contains (take w.safe w.accepted)) xs) (sym (flat_map-append (told_in w.building) w.given (c ∷ [])))
-      (All-append (Contains (take w.safe w.accepted)) (acknowledged w) _ k.shown_safe
-      (subst (λ (xs : List Entry). All (Contains (take w.safe w.accepted)) xs) (sym (append-nil (told_in w.building c)))
-      (All-contains (Tells w.building (take w.safe w.accepted)) w.due c k.due_safe (find_held (is_taken_of terminal) w.due c at).0)));
-  due_safe = All-filter _ (Tells w.building (take w.safe w.accepted)) w.due k.due_safe;
+  shown_safe = subst (λ (xs : List Entry). All (IsHeld w.base (take w.safe w.accepted)) xs) (sym (flat_map-append (told_in w.building) w.given (c ∷ [])))
+      (All-append (IsHeld w.base (take w.safe w.accepted)) (acknowledged w) _ k.shown_safe
+      (subst (λ (xs : List Entry). All (IsHeld w.base (take w.safe w.accepted)) xs) (sym (append-nil (told_in w.building c)))
+      (All-contains (Tells w.building w.base (take w.safe w.accepted)) w.due c k.due_safe (find_held (is_taken_of terminal) w.due c at).0)));
+  due_safe = All-filter _ (Tells w.building w.base (take w.safe w.accepted)) w.due k.due_safe;
 }
 
 cutting_keeps : (w : World) (kept : Kept) → IsConsistent w → IsConsistent (cutting w kept)
 cutting_keeps w kept k = record {
   sound = k.sound;
+  of_building = k.of_building;
   in_range = k.in_range;
   fit = k.fit;
   shown_safe = k.shown_safe;
   flight_ahead = k.flight_ahead;
-  due_safe = All-nil (Tells w.building (take w.safe w.accepted));
-  flight_sealed = (k.flight_sealed.0, All-nil (Tells w.building (take w.flight.upto w.accepted)));
-  queue_sealed = All-nil (IsSealed w.building w.accepted);
-  taken_told = All-nil (Tells w.building w.accepted);
+  due_safe = All-nil (Tells w.building w.base (take w.safe w.accepted));
+  flight_sealed = (k.flight_sealed.0, All-nil (Tells w.building w.base (take w.flight.upto w.accepted)));
+  queue_sealed = All-nil (IsSealed w.building w.base w.accepted);
+  taken_told = All-nil (Tells w.building w.base w.accepted);
 }
 
 pub outcome_holds : (w : World) (kept : Kept) (e : Entry) → Contains (take w.safe w.accepted) e → Contains (outcome w kept) e
 outcome_holds w Safe e h = h
 outcome_holds w WithBatch e h = Contains-append_left (take w.safe w.accepted) (batch_of w) e h
 
-rest_of : World → Kept → List Entry
+pub rest_of : World → Kept → List Entry
 rest_of w Safe = drop w.safe w.accepted
 rest_of w WithBatch = drop (w.flight.upto - w.safe) (drop w.safe w.accepted)
 
-rest_is : (w : World) (kept : Kept) → outcome w kept ++ rest_of w kept ≡ w.accepted
+pub rest_is : (w : World) (kept : Kept) → outcome w kept ++ rest_of w kept ≡ w.accepted
 unfolding rest_of
 rest_is w Safe = take-append-drop w.safe w.accepted
 rest_is w WithBatch =
     append_assoc (take w.safe w.accepted) (batch_of w) (drop (w.flight.upto - w.safe) (drop w.safe w.accepted))
     ∙ ap (λ (xs : List Entry). take w.safe w.accepted ++ xs) (take-append-drop (w.flight.upto - w.safe) (drop w.safe w.accepted)) ∙ take-append-drop w.safe w.accepted
 
-pub outcome_fits : (w : World) (kept : Kept) → FitAfter w.building [] w.accepted → FitAfter w.building [] (outcome w kept)
-outcome_fits w kept h = fit_front w.building [] (outcome w kept) (rest_of w kept) (subst (λ (xs : List Entry). FitAfter w.building [] xs) (sym (rest_is w kept)) h)
+pub outcome_fits : (w : World) (kept : Kept) → FitAfter w.building w.base [] w.accepted → FitAfter w.building w.base [] (outcome w kept)
+outcome_fits w kept h = fit_front w.building w.base [] (outcome w kept) (rest_of w kept) (subst (λ (xs : List Entry). FitAfter w.building w.base [] xs) (sym (rest_is w kept)) h)
 
 reopened_keeps : (w : World) (kept : Kept) → IsConsistent w → IsConsistent (reopened w kept)
 reopened_keeps w kept k = record {
   sound = k.sound;
+  of_building = k.of_building;
   in_range = omega arith;
   fit = outcome_fits w kept k.fit;
-  shown_safe = subst (λ (xs : List Entry). All (Contains xs) (acknowledged w)) (sym (take-length (outcome w kept)))
-      (All-weaker (Contains (take w.safe w.accepted)) (Contains (outcome w kept)) (outcome_holds w kept) (acknowledged w) k.shown_safe);
-  due_safe = subst (λ (xs : List Entry). All (Tells w.building xs) (w.due ++ map unknown_to w.taken)) (sym (take-length (outcome w kept)))
-      (All-append (Tells w.building (outcome w kept)) w.due (map unknown_to w.taken)
-      (all_tell_more w.building (take w.safe w.accepted) (outcome w kept) (outcome_holds w kept) w.due k.due_safe) (unknown_tells w.building (outcome w kept) w.taken));
-  flight_sealed = no_batch_sealed w.building (outcome w kept);
+  shown_safe = subst (λ (xs : List Entry). All (IsHeld w.base xs) (acknowledged w)) (sym (take-length (outcome w kept)))
+      (all_held_more w.base (take w.safe w.accepted) (outcome w kept) (outcome_holds w kept) (acknowledged w) k.shown_safe);
+  due_safe = subst (λ (xs : List Entry). All (Tells w.building w.base xs) (w.due ++ map unknown_to w.taken)) (sym (take-length (outcome w kept)))
+      (All-append (Tells w.building w.base (outcome w kept)) w.due (map unknown_to w.taken)
+      (all_tell_more w.building w.base (take w.safe w.accepted) (outcome w kept) (outcome_holds w kept) w.due k.due_safe) (unknown_tells w.building w.base (outcome w kept) w.taken));
+  flight_sealed = no_batch_sealed w.building w.base (outcome w kept);
   flight_ahead = λ h. absurd (false≢true (sym h));
-  queue_sealed = All-nil (IsSealed w.building (outcome w kept));
-  taken_told = All-nil (Tells w.building (outcome w kept));
+  queue_sealed = All-nil (IsSealed w.building w.base (outcome w kept));
+  taken_told = All-nil (Tells w.building w.base (outcome w kept));
 }
 
 pub keeps : (w : World) (event : Event) → IsConsistent w → IsConsistent (unwrap_or (next w event) w)
@@ -316,7 +327,7 @@ keeps w (Ask terminal number body) k = hold_when IsConsistent w (asking w (recor
 keeps w (Take terminal letter) k = hold_if IsConsistent w (option_and_then (taking w letter) (find (asks terminal) (reverse w.asked))) (may_take w terminal) k (λ may.
     hold_then IsConsistent w (taking w letter) (find (asks terminal) (reverse w.asked)) k (λ command _.
     hold_map IsConsistent w (deciding w command) (decided w.building (state_of w) command.terminal command.number command.body letter) k
-    (λ d h. decided_keeps w command d k (decides_well w.building k.sound w.accepted w.sealed w.positions command.terminal command.number command.body letter d h))))
+    (λ d h. decided_keeps w command d k (decides_well w.building k.sound w.base w.accepted w.sealed w.positions command.terminal command.number command.body letter d h))))
 keeps w Seal k = hold_when IsConsistent w (sealing w) (may_seal w) k (λ _. sealing_keeps w k)
 keeps w Pull k = hold_if IsConsistent w (pulled w w.queue) (may_pull w) k (λ _. pulled_keeps w w.queue refl k)
 keeps w Fold k = hold_then IsConsistent w (λ n. when (is_running w.power && eqb n 0) w) (written w.phase) k (λ n _. hold_when IsConsistent w w (is_running w.power && eqb n 0) k (λ _. k))
@@ -331,31 +342,26 @@ keeps w Fault k = hold_when IsConsistent w (failing w) (may_fail w) k (λ _. fai
 keeps w (Cut kept) k = hold_when IsConsistent w (cutting w kept) (may_keep w kept) k (λ _. cutting_keeps w kept k)
 keeps w (Reopen kept) k = hold_when IsConsistent w (reopened w kept) (may_reopen w w.power kept) k (λ _. reopened_keeps w kept k)
 
-pub start_holds : (building : Plan) → IsBuilding building → IsConsistent (start building)
-start_holds building sound = record {
+pub start_holds : (building : Plan) (base : RegisterState) → IsBuilding building → IsOfBuilding building base → IsConsistent (start building base)
+start_holds building base sound of = record {
   sound = sound;
+  of_building = of;
   in_range = omega arith;
   fit = tt;
-  shown_safe = All-nil (Contains []);
-  due_safe = All-nil (Tells building []);
-  flight_sealed = no_batch_sealed building [];
+  shown_safe = All-nil (IsHeld base []);
+  due_safe = All-nil (Tells building base []);
+  flight_sealed = no_batch_sealed building base [];
   flight_ahead = λ h. absurd (false≢true (sym h));
-  queue_sealed = All-nil (IsSealed building []);
-  taken_told = All-nil (Tells building []);
+  queue_sealed = All-nil (IsSealed building base []);
+  taken_told = All-nil (Tells building base []);
 }
 
 pub run_keeps : (events : List Event) (w : World) → IsConsistent w → IsConsistent (run events w)
 run_keeps [] w k = k
 run_keeps (event ∷ events) w k = run_keeps events (unwrap_or (next w event) w) (keeps w event k)
 
-pub recovers_prefix : (w : World) → RecoversPrefix w
-recovers_prefix w kept may = (rest_of w kept, rest_is w kept)
-
 pub recovers_acknowledged : (w : World) → IsConsistent w → RecoversAcknowledged w
-recovers_acknowledged w k kept may = All-weaker (Contains (take w.safe w.accepted)) (Contains (outcome w kept)) (outcome_holds w kept) (acknowledged w) k.shown_safe
+recovers_acknowledged w k kept may = all_held_more w.base (take w.safe w.accepted) (outcome w kept) (outcome_holds w kept) (acknowledged w) k.shown_safe
 
 pub accepts_fitting : (w : World) → IsConsistent w → AcceptsFitting w
-accepts_fitting w k = fits_from w.building w.accepted k.fit
-
-pub recovers_fitting : (w : World) → IsConsistent w → RecoversFitting w
-recovers_fitting w k kept may = fits_from w.building (outcome w kept) (outcome_fits w kept k.fit)
+accepts_fitting w k = fits_from w.building w.base w.accepted k.of_building k.fit

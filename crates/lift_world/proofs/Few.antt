@@ -6,6 +6,7 @@ use Rattle.std.proofs.lemmas.Bool.{eqb-true, eq-eqb, cases_lt}
 use Rattle.std.proofs.lemmas.List.{length-append}
 use Rattle.std.proofs.lemmas.List.Elements.{All-nil, All-cons}
 use Rattle.lift_building.specs.Plan.{Plan}
+use Rattle.lift_register.specs.Register.{RegisterState}
 use Rattle.lift_policy.specs.declared.command.Command.{Command}
 use Rattle.lift_world.specs.declared.event.Taken.{Taken}
 use Rattle.lift_world.specs.declared.event.Event.{Event}
@@ -90,13 +91,13 @@ queue_few (b ∷ queue) few =
     let whole = length-append b.commands (in_queue queue) in
     All-cons (λ (x : Batch). length x.commands ≤ 63) b queue (omega arith) (queue_few queue (omega arith))
 
-pub holds_few : (building : Plan) (events : List Event) → AllByRecursion IsOfTerminal events → HoldsFew (run events (start building))
-holds_few building events all =
-    let w : World = run events (start building) in
+pub holds_few : (building : Plan) (base : RegisterState) (events : List Event) → AllByRecursion IsOfTerminal events → HoldsFew (run events (start building base))
+holds_few building base events all =
+    let w : World = run events (start building base) in
     let few : length (unanswered w) ≤ 63 =
-    pigeons 63 (unanswered w) (λ t. (all_ask_one_by_one building events t).one_on_its_way) (λ t above.
-    let k = (all_ask_one_by_one building events t).answered in
-    let none = run_beyond t events (start building) above all refl in
+    pigeons 63 (unanswered w) (λ t. (all_ask_one_by_one building base events t).one_on_its_way) (λ t above.
+    let k = (all_ask_one_by_one building base events t).answered in
+    let none = run_beyond t events (start building base) above all refl in
     omega arith) in
     let a = length-append w.due w.flight.commands in
     let b = length-append (w.due ++ w.flight.commands) (in_queue w.queue) in

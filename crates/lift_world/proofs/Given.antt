@@ -3,6 +3,7 @@ use Rattle.std.proofs.Common.{ℕ, ◌≡◌, ◌⊎◌, List, [], ◌∷◌, �
 use Rattle.std.specs.Prelude.{unwrap_or}
 use Rattle.std.proofs.lemmas.List.{append-nil, map-append}
 use Rattle.lift_building.specs.Plan.{Plan}
+use Rattle.lift_register.specs.Register.{RegisterState}
 use Rattle.lift_world.specs.declared.event.Answer.{Answer}
 use Rattle.lift_world.specs.declared.event.Taken.{Taken}
 use Rattle.lift_world.specs.declared.event.Event.{Event}
@@ -97,5 +98,5 @@ pub run_stores : (events : List Event) (w : World) → StoresGiven w → StoresG
 run_stores [] w k = k
 run_stores (event ∷ events) w k = run_stores events (unwrap_or (next w event) w) (stores w event k)
 
-pub start_stores : (building : Plan) → StoresGiven (start building)
-start_stores building = record { before = []; since = []; given = refl; answered = refl }
+pub start_stores : (building : Plan) (base : RegisterState) → StoresGiven (start building base)
+start_stores building base = record { before = []; since = []; given = refl; answered = refl }

@@ -30,6 +30,7 @@ use Rattle.lift_world.proofs.Scans.{taken_as}
 -- What terminals and the flusher do leaves what decisions read, and what was taken.
 pub record Untouched (w x : World) : Type 0 where
   pub same_building : x.building ≡ w.building
+  pub same_base : x.base ≡ w.base
   pub same_accepted : x.accepted ≡ w.accepted
   pub same_sealed : x.sealed ≡ w.sealed
   pub same_positions : x.positions ≡ w.positions
@@ -42,18 +43,18 @@ not_beside event other is e isnt = absurd (false≢true (sym isnt ∙ subst (λ 
 pub untouched : (w : World) (event : Event) (after : World) → IsTrue (is_beside event) → next w event ≡ Some after → Untouched w after
 untouched w event after is h =
     led (Untouched w) w event after (record {
-      stays = record { same_building = refl; same_accepted = refl; same_sealed = refl; same_positions = refl; same_taken = refl; stays_on = λ p. p };
-      asked = λ command on may e. record { same_building = refl; same_accepted = refl; same_sealed = refl; same_positions = refl; same_taken = refl; stays_on = λ p. p };
+      stays = record { same_building = refl; same_base = refl; same_accepted = refl; same_sealed = refl; same_positions = refl; same_taken = refl; stays_on = λ p. p };
+      asked = λ command on may e. record { same_building = refl; same_base = refl; same_accepted = refl; same_sealed = refl; same_positions = refl; same_taken = refl; stays_on = λ p. p };
       taken = λ terminal letter command d on may at made e. not_beside event (Take terminal letter) is e refl;
       sealed = λ on some e. not_beside event Seal is e refl;
-      fails = λ batch rest on at broken. record { same_building = refl; same_accepted = refl; same_sealed = refl; same_positions = refl; same_taken = refl; stays_on = λ p. p };
-      flies = λ batch rest on at idle more. record { same_building = refl; same_accepted = refl; same_sealed = refl; same_positions = refl; same_taken = refl; stays_on = λ p. p };
-      lands = λ batch rest on at idle none. record { same_building = refl; same_accepted = refl; same_sealed = refl; same_positions = refl; same_taken = refl; stays_on = λ p. p };
-      goes_on = λ phase on busy still. record { same_building = refl; same_accepted = refl; same_sealed = refl; same_positions = refl; same_taken = refl; stays_on = λ p. p };
-      settled = λ on gate. record { same_building = refl; same_accepted = refl; same_sealed = refl; same_positions = refl; same_taken = refl; stays_on = λ p. p };
-      answered = λ terminal c on at. record { same_building = refl; same_accepted = refl; same_sealed = refl; same_positions = refl; same_taken = refl; stays_on = λ p. p };
-      heard = λ a on. record { same_building = refl; same_accepted = refl; same_sealed = refl; same_positions = refl; same_taken = refl; stays_on = λ p. p };
-      failed = λ on e. record { same_building = refl; same_accepted = refl; same_sealed = refl; same_positions = refl; same_taken = refl; stays_on = λ p. refl };
+      fails = λ batch rest on at broken. record { same_building = refl; same_base = refl; same_accepted = refl; same_sealed = refl; same_positions = refl; same_taken = refl; stays_on = λ p. p };
+      flies = λ batch rest on at idle more. record { same_building = refl; same_base = refl; same_accepted = refl; same_sealed = refl; same_positions = refl; same_taken = refl; stays_on = λ p. p };
+      lands = λ batch rest on at idle none. record { same_building = refl; same_base = refl; same_accepted = refl; same_sealed = refl; same_positions = refl; same_taken = refl; stays_on = λ p. p };
+      goes_on = λ phase on busy still. record { same_building = refl; same_base = refl; same_accepted = refl; same_sealed = refl; same_positions = refl; same_taken = refl; stays_on = λ p. p };
+      settled = λ on gate. record { same_building = refl; same_base = refl; same_accepted = refl; same_sealed = refl; same_positions = refl; same_taken = refl; stays_on = λ p. p };
+      answered = λ terminal c on at. record { same_building = refl; same_base = refl; same_accepted = refl; same_sealed = refl; same_positions = refl; same_taken = refl; stays_on = λ p. p };
+      heard = λ a on. record { same_building = refl; same_base = refl; same_accepted = refl; same_sealed = refl; same_positions = refl; same_taken = refl; stays_on = λ p. p };
+      failed = λ on e. record { same_building = refl; same_base = refl; same_accepted = refl; same_sealed = refl; same_positions = refl; same_taken = refl; stays_on = λ p. refl };
       cut = λ kept e. not_beside event (Cut kept) is e refl;
       reopened = λ kept may e. not_beside event (Reopen kept) is e refl;
     }) h

@@ -14,7 +14,7 @@ use Rattle.lift_base.specs.declared.history.Content.TheVariants.{Letter}
 use Rattle.lift_base.specs.declared.command.Body.{Body}
 use Rattle.lift_base.specs.declared.command.Body.TheVariants.{Call, Stop, Place}
 use Rattle.lift_building.specs.Plan.{Plan, IsBuilding, serves_floor}
-use Rattle.lift_register.specs.Register.{kept_of}
+use Rattle.lift_register.specs.Register.{RegisterState, kept_of, register_of}
 use Rattle.lift_register.specs.Fits.{Fits}
 use Rattle.lift_register.specs.lemmas.Laws.{IsRecord-fitting}
 use Rattle.lift_policy.specs.declared.command.Command.{Command}
@@ -25,10 +25,10 @@ use Rattle.lift_world.specs.declared.event.Kept.{Kept}
 use Rattle.lift_world.specs.declared.event.Kept.TheVariants.{Safe, WithBatch}
 use Rattle.lift_world.specs.declared.event.Event.{Event}
 use Rattle.lift_world.specs.Decided.{Decision, decided}
-use Rattle.lift_world.specs.World.{World, start, state_of, register_after, outcome, asks}
+use Rattle.lift_world.specs.World.{World, start, state_of, outcome, asks}
 use Rattle.lift_world.specs.Next.{run, next}
 use Rattle.lift_world.specs.Tie.{naming}
-use Rattle.lift_world.specs.Lawful.{IsTypedEvent, RecoversRecords, AcceptsRecords}
+use Rattle.lift_world.specs.Lawful.{IsTypedEvent, AcceptsRecords}
 use Rattle.lift_world.specs.lemmas.Decisions.{true_of, fits_allotted, served_floor}
 use Rattle.lift_world.specs.lemmas.Entries.{find_held, reverse_held}
 use Rattle.lift_world.specs.lemmas.Leads.{leads}
@@ -47,17 +47,17 @@ command_typed terminal number t n k e f =
     record { terminal_range = subst (λ (x : ℕ). x ≤ 62) (sym e) k.terminal_range; number_range = subst (λ (x : ℕ). x ≤ 16777215) (sym f) k.number_range }
 
 -- an entry that keeps a typed command, and fits, is typed
-entry_typed : (building : Plan) (accepted : List Entry) (terminal number : ℕ) (body : Body) (e : Entry) → IsBuilding building → IsTypedCommand terminal number → IsTypedBody body
-    → terminal_of e ≡ terminal → number_of e ≡ number → is_same body (kept_of e).content ≡ true → Fits building (register_after accepted) e → IsTyped (EntryRecord e)
-entry_typed building accepted terminal number body (Allot k n from to car party) sound typed typed_body t m same fits =
-    let good = fits_allotted building accepted (Allot k n from to car party) sound fits in
+entry_typed : (building : Plan) (register : RegisterState) (terminal number : ℕ) (body : Body) (e : Entry) → IsBuilding building → IsTypedCommand terminal number → IsTypedBody body
+    → terminal_of e ≡ terminal → number_of e ≡ number → is_same body (kept_of e).content ≡ true → Fits building register e → IsTyped (EntryRecord e)
+entry_typed building register terminal number body (Allot k n from to car party) sound typed typed_body t m same fits =
+    let good = fits_allotted building register (Allot k n from to car party) sound fits in
     let a = good.from_below in
     let b = good.to_below in
     let c = good.car_below in (
       command_typed terminal number k n typed t m,
       record { from_range = omega arith; to_range = omega arith; car_range = omega arith; party_range = party_typed body from to car party typed_body same },
     )
-entry_typed building accepted terminal number body (Stopping car n floor dir) sound typed typed_body t m same fits =
+entry_typed building register terminal number body (Stopping car n floor dir) sound typed typed_body t m same fits =
     let few_cars = sound.limits.few_cars in
     let few_floors = sound.limits.few_floors in
     let by_car = fits.0.by_car in
@@ -82,8 +82,8 @@ joined_writable : (w : World) (command : Command) (next : State) (e : Entry) →
     → All IsWritable (take w.sealed w.accepted ++ next.batch)
 joined_writable w command next e k typed j =
     subst (λ (xs : List Entry). All IsWritable xs) (sym (ap (λ (xs : List Entry). take w.sealed w.accepted ++ xs) j.batch ∙ one_more w e))
-    (All-push IsWritable w.accepted e k.writable (IsRecord-fitting w.building (register_after w.accepted) e
-    (entry_typed w.building w.accepted command.terminal command.number command.body e k.sound typed.0 typed.1 j.of_terminal j.of_number j.says j.fits) j.fits))
+    (All-push IsWritable w.accepted e k.writable (IsRecord-fitting w.building (register_of w.base w.accepted) e
+    (entry_typed w.building (register_of w.base w.accepted) command.terminal command.number command.body e k.sound typed.0 typed.1 j.of_terminal j.of_number j.says j.fits) j.fits))
 
 decided_writable : (w : World) (command : Command) (letter : Option ℕ) (d : Decision) → Writes w → IsTypedAsk command
     → decided w.building (state_of w) command.terminal command.number command.body letter ≡ Some d → All IsWritable (take w.sealed w.accepted ++ d.next.batch)
@@ -127,9 +127,6 @@ run_writes : (events : List Event) (w : World) → AllByRecursion IsTypedEvent e
 run_writes [] w typed k = k
 run_writes (event ∷ events) w typed k = run_writes events (unwrap_or (next w event) w) typed.1 (writes w event typed.0 k)
 
-pub accepts_records : (building : Plan) (events : List Event) → IsBuilding building → AllByRecursion IsTypedEvent events → AcceptsRecords (run events (start building))
-accepts_records building events sound typed =
-    (run_writes events (start building) typed (record { sound = sound; typed = All-nil IsTypedAsk; writable = All-nil IsWritable })).writable
-
-pub recovers_records : (building : Plan) (events : List Event) → IsBuilding building → AllByRecursion IsTypedEvent events → RecoversRecords (run events (start building))
-recovers_records building events sound typed kept may = outcome_writable (run events (start building)) kept (accepts_records building events sound typed)
+pub accepts_records : (building : Plan) (base : RegisterState) (events : List Event) → IsBuilding building → AllByRecursion IsTypedEvent events → AcceptsRecords (run events (start building base))
+accepts_records building base events sound typed =
+    (run_writes events (start building base) typed (record { sound = sound; typed = All-nil IsTypedAsk; writable = All-nil IsWritable })).writable

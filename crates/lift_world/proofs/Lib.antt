@@ -28,3 +28,4 @@ pub mod Lawful
 pub mod Quiet
 pub mod Outcomes
 pub mod Short
+pub mod Growing

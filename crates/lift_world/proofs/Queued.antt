@@ -4,6 +4,7 @@ use Rattle.std.specs.Prelude.{unwrap_or}
 use Rattle.std.proofs.lemmas.Bool.{false≢true}
 use Rattle.std.proofs.lemmas.List.{length-append}
 use Rattle.lift_building.specs.Plan.{Plan}
+use Rattle.lift_register.specs.Register.{RegisterState}
 use Rattle.lift_world.specs.declared.event.Taken.{Taken}
 use Rattle.lift_world.specs.declared.event.Event.{Event}
 use Rattle.lift_world.specs.World.{World, Batch, start, is_off}
@@ -58,8 +59,8 @@ pub run_queues : (events : List Event) (w : World) → QueuesFew w → QueuesFew
 run_queues [] w k = k
 run_queues (event ∷ events) w k = run_queues events (unwrap_or (next w event) w) (queues w event k)
 
-pub start_queues : (building : Plan) → QueuesFew (start building)
-start_queues building = queues_none (start building) refl
+pub start_queues : (building : Plan) (base : RegisterState) → QueuesFew (start building base)
+start_queues building base = queues_none (start building base) refl
 
 -- while the power is on
 powered : (w x : World) → is_off w.power ≡ false → x.power ≡ w.power → HoldsNothingWhileOff x
@@ -87,5 +88,5 @@ pub run_holds : (events : List Event) (w : World) → HoldsNothingWhileOff w →
 run_holds [] w k = k
 run_holds (event ∷ events) w k = run_holds events (unwrap_or (next w event) w) (holds w event k)
 
-pub start_holds_nothing : (building : Plan) → HoldsNothingWhileOff (start building)
-start_holds_nothing building off = absurd (false≢true off)
+pub start_holds_nothing : (building : Plan) (base : RegisterState) → HoldsNothingWhileOff (start building base)
+start_holds_nothing building base off = absurd (false≢true off)

@@ -6,6 +6,7 @@ use Rattle.std.proofs.lemmas.Bool.{false≢true}
 use Rattle.std.proofs.lemmas.List.{append-nil}
 use Rattle.lift_base.specs.declared.history.Entry.{Entry}
 use Rattle.lift_building.specs.Plan.{Plan}
+use Rattle.lift_register.specs.Register.{RegisterState}
 use Rattle.lift_world.specs.declared.event.Kept.TheVariants.{Safe, WithBatch}
 use Rattle.lift_world.specs.declared.event.Taken.{Taken}
 use Rattle.lift_world.specs.declared.event.Phase.{Phase}
@@ -48,8 +49,8 @@ run_flies_nothing : (events : List Event) (w : World) → FliesNothingWhileIdle 
 run_flies_nothing [] w k = k
 run_flies_nothing (event ∷ events) w k = run_flies_nothing events (unwrap_or (next w event) w) (flies_nothing w event k)
 
-pub flies_nothing_while_idle : (building : Plan) (events : List Event) → FliesNothingWhileIdle (run events (start building))
-flies_nothing_while_idle building events = run_flies_nothing events (start building) (λ idle. refl)
+pub flies_nothing_while_idle : (building : Plan) (base : RegisterState) (events : List Event) → FliesNothingWhileIdle (run events (start building base))
+flies_nothing_while_idle building base events = run_flies_nothing events (start building base) (λ idle. refl)
 
 -- while the power is on all that is accepted is sealed, where nothing is taken
 abbrev pub SealsAllTaken : World → Type 0
@@ -110,6 +111,6 @@ module _ (w : World) (order : IsQueueInOrder w) (flies : FliesNothingWhileIdle w
       sym (when_some (may_reopen w w.power Safe) (reopened w Safe) after h).1 ∙ unplaces_alone ((reopens_while_quiet w).only_quiet Safe after on h)
   in_place WithBatch after _ h = let none = (reopens_while_quiet w).only_safe on in cc
 
-pub reopens_in_place : (building : Plan) (events : List Event) → ReopensInPlace (run events (start building))
-reopens_in_place building events kept after on h =
-    in_place (run events (start building)) (queue_in_order building events) (flies_nothing_while_idle building events) (run_seals_all events (start building) (λ still none. refl)) on kept after on h
+pub reopens_in_place : (building : Plan) (base : RegisterState) (events : List Event) → ReopensInPlace (run events (start building base))
+reopens_in_place building base events kept after on h =
+    in_place (run events (start building base)) (queue_in_order building base events) (flies_nothing_while_idle building base events) (run_seals_all events (start building base) (λ still none. refl)) on kept after on h

@@ -5,29 +5,30 @@ use Rattle.std.proofs.Math.Seq.{take-add}
 use Rattle.std.proofs.lemmas.List.Folds.{list_any-append}
 use Rattle.lift_base.specs.declared.history.Entry.{Entry}
 use Rattle.lift_building.specs.Plan.{Plan}
+use Rattle.lift_register.specs.Register.{RegisterState, register_of}
 use Rattle.lift_register.specs.Fits.{Fits}
 use Rattle.lift_world.specs.declared.event.Taken.{Taken}
-use Rattle.lift_world.specs.World.{World, Batch, register_after}
+use Rattle.lift_world.specs.World.{World, Batch}
 use Rattle.lift_world.specs.Next.{unanswered}
 use Rattle.lift_world.specs.Replays.{FitAfter}
 
 -- each entry fits the register of those before it
-fits_later : (building : Plan) (before entries : List Entry) (i : ℕ) (d : Entry) → i < length entries → FitAfter building before entries → Fits building (register_after (before ++ take i entries)) (get_or entries i d)
-fits_later building before [] i d below h = absurd (omega arith)
-fits_later building before (e ∷ entries) zero d below h = subst (λ (xs : List Entry). Fits building (register_after xs) e) (sym (Rattle.std.proofs.lemmas.List.append-nil before)) h.0
-fits_later building before (e ∷ entries) (suc i) d below h =
-    subst (λ (xs : List Entry). Fits building (register_after xs) (get_or entries i d)) (append_assoc before (e ∷ []) (take i entries))
-    (fits_later building (before ++ e ∷ []) entries i d (omega (arith, Rattle.std.proofs.lemmas.List.length_push entries e)) h.1)
+fits_later : (building : Plan) (base : RegisterState) (before entries : List Entry) (i : ℕ) (d : Entry) → i < length entries → FitAfter building base before entries → Fits building (register_of base (before ++ take i entries)) (get_or entries i d)
+fits_later building base before [] i d below h = absurd (omega arith)
+fits_later building base before (e ∷ entries) zero d below h = subst (λ (xs : List Entry). Fits building (register_of base xs) e) (sym (Rattle.std.proofs.lemmas.List.append-nil before)) h.0
+fits_later building base before (e ∷ entries) (suc i) d below h =
+    subst (λ (xs : List Entry). Fits building (register_of base xs) (get_or entries i d)) (append_assoc before (e ∷ []) (take i entries))
+    (fits_later building base (before ++ e ∷ []) entries i d (omega (arith, Rattle.std.proofs.lemmas.List.length_push entries e)) h.1)
 
-pub fits_at : (building : Plan) (entries : List Entry) (i : ℕ) (d : Entry) → i < length entries → FitAfter building [] entries → Fits building (register_after (take i entries)) (get_or entries i d)
-fits_at building entries i d below h = fits_later building [] entries i d below h
+pub fits_at : (building : Plan) (base : RegisterState) (entries : List Entry) (i : ℕ) (d : Entry) → i < length entries → FitAfter building base [] entries → Fits building (register_of base (take i entries)) (get_or entries i d)
+fits_at building base entries i d below h = fits_later building base [] entries i d below h
 
 -- a front fits too
-pub fits_front : (building : Plan) (before xs : List Entry) (n : ℕ) → FitAfter building before xs → FitAfter building before (take n xs)
-fits_front building before [] zero h = tt
-fits_front building before [] (suc n) h = tt
-fits_front building before (x ∷ xs) zero h = tt
-fits_front building before (x ∷ xs) (suc n) h = (h.0, fits_front building (before ++ x ∷ []) xs n h.1)
+pub fits_front : (building : Plan) (base : RegisterState) (before xs : List Entry) (n : ℕ) → FitAfter building base before xs → FitAfter building base before (take n xs)
+fits_front building base before [] zero h = tt
+fits_front building base before [] (suc n) h = tt
+fits_front building base before (x ∷ xs) zero h = tt
+fits_front building base before (x ∷ xs) (suc n) h = (h.0, fits_front building base (before ++ x ∷ []) xs n h.1)
 
 -- a search through all batches
 flat_any : (p : Taken → Bool) (queue : List Batch) → list_any p (flat_map (λ (b : Batch). b.commands) queue) ≡ list_any (λ (b : Batch). list_any p b.commands) queue

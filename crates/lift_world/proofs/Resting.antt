@@ -6,6 +6,7 @@ use Rattle.std.proofs.lemmas.List.{length-append, length-drop, take-append-le, d
 use Rattle.lift_base.specs.declared.history.Entry.{Entry}
 use Rattle.lift_base.specs.declared.command.Reply.{Reply}
 use Rattle.lift_building.specs.Plan.{Plan}
+use Rattle.lift_register.specs.Register.{RegisterState}
 use Rattle.lift_policy.specs.Eligible.{any_eligible}
 use Rattle.lift_policy.specs.Step.{State}
 use Rattle.lift_policy.specs.Run.{Run}
@@ -27,8 +28,8 @@ use Rattle.lift_world.specs.lemmas.Goes.{goes-append}
 use Rattle.lift_world.proofs.Turns.{at_rest, is_at_rest, SameLength, same_length, all_apart, answered_all, answers_of, answering_on, unknown_terminals, unknown_apart}
 
 -- where turns begin
-pub start_rests : (building : Plan) → IsAtRest (start building)
-start_rests building = record {
+pub start_rests : (building : Plan) (base : RegisterState) → IsAtRest (start building base)
+start_rests building base = record {
   running = refl;
   idle = refl;
   nothing_flies = refl;

@@ -74,7 +74,7 @@ runs_are_takes w [] (reply ∷ replies) state le found r = absurd r
 runs_are_takes w (c ∷ commands) [] state le found r = absurd r
 runs_are_takes w (c ∷ commands) (reply ∷ replies) state le found r =
     let d : Decision = record { reply = reply; next = r.0 } in
-    let goes : GoesOn (take w.sealed w.accepted) r.0 = steps_go_on w.building any_eligible (take w.sealed w.accepted) (state_of w) c.terminal c.number c.body reply r.0 (state_goes_on w) r.1 in
+    let goes : GoesOn w.base (take w.sealed w.accepted) r.0 = steps_go_on w.building any_eligible w.base (take w.sealed w.accepted) (state_of w) c.terminal c.number c.body reply r.0 (state_goes_on w) r.1 in
     let taken = steps_are_takes w c.terminal c reply r.0 found.0 r.1 in
     let rest = runs_are_takes (deciding w c d) commands replies state (front_long w.accepted r.0.batch w.sealed le) (all_found_still w c d commands found.1 found.2)
     (subst (λ (s : State). Run w.building any_eligible s commands replies state) (sym (state_after w c reply r.0 le goes)) r.2) in (

@@ -7,6 +7,7 @@ use Rattle.lift_base.specs.declared.history.Entry.{Entry}
 use Rattle.lift_base.specs.declared.travel.Position.{Position}
 use Rattle.lift_base.specs.declared.command.Reply.{Reply}
 use Rattle.lift_building.specs.Plan.{Plan}
+use Rattle.lift_register.specs.Register.{RegisterState}
 use Rattle.lift_policy.specs.Eligible.{any_eligible}
 use Rattle.lift_policy.specs.Step.{State, Step}
 use Rattle.lift_policy.specs.Run.{Run}
@@ -96,6 +97,7 @@ ordered_goes (e ∷ events) w after order h = let t = then_from (goes events) (n
 still_untouched : (w x y : World) → Untouched w x → Untouched x y → Untouched w y
 still_untouched w x y a b = record {
   same_building = b.same_building ∙ a.same_building;
+  same_base = b.same_base ∙ a.same_base;
   same_accepted = b.same_accepted ∙ a.same_accepted;
   same_sealed = b.same_sealed ∙ a.same_sealed;
   same_positions = b.same_positions ∙ a.same_positions;
@@ -104,7 +106,7 @@ still_untouched w x y a b = record {
 }
 
 never_touched : (w x : World) → w ≡ x → Untouched w x
-never_touched w x e = subst (Untouched w) e (record { same_building = refl; same_accepted = refl; same_sealed = refl; same_positions = refl; same_taken = refl; stays_on = λ on. on })
+never_touched w x e = subst (Untouched w) e (record { same_building = refl; same_base = refl; same_accepted = refl; same_sealed = refl; same_positions = refl; same_taken = refl; stays_on = λ on. on })
 
 untouched_goes : (events : List Event) (w after : World) → AreBeside events → goes events w ≡ Some after → Untouched w after
 untouched_goes [] w after are h = never_touched w after (some_is w after h)
@@ -113,8 +115,9 @@ untouched_goes (e ∷ events) w after are h =
 
 same_state : (w x : World) → Untouched w x → state_of x ≡ state_of w
 same_state w x u =
-    ap (λ (es : List Entry). state_at es x.sealed x.positions) u.same_accepted ∙ ap (λ (n : ℕ). state_at w.accepted n x.positions) u.same_sealed
-    ∙ ap (λ (ps : List (Option Position)). state_at w.accepted w.sealed ps) u.same_positions
+    ap (λ (r : RegisterState). state_at r x.accepted x.sealed x.positions) u.same_base
+    ∙ ap (λ (es : List Entry). state_at w.base es x.sealed x.positions) u.same_accepted ∙ ap (λ (n : ℕ). state_at w.base w.accepted n x.positions) u.same_sealed
+    ∙ ap (λ (ps : List (Option Position)). state_at w.base w.accepted w.sealed ps) u.same_positions
 
 -- the looks leave the others' events as they are
 ordered_looks : (looks : List Look) (w last : World) → Ordered w → LooksStand w looks last → Ordered last
@@ -153,8 +156,8 @@ scan_goes (look ∷ looks) w last (reply ∷ replies) state order s r =
     let step : Step there.building any_eligible (state_of there) c.terminal c.number c.body reply r.0 =
     subst (λ (p : Plan). Step p any_eligible (state_of there) c.terminal c.number c.body reply r.0) (sym u.same_building)
     (subst (λ (st : State). Step w.building any_eligible st c.terminal c.number c.body reply r.0) (sym (same_state w there u)) r.1) in
-    let on : GoesOn (take there.sealed there.accepted) r.0 =
-    steps_go_on there.building any_eligible (take there.sealed there.accepted) (state_of there) c.terminal c.number c.body reply r.0 (state_goes_on there) step in
+    let on : GoesOn there.base (take there.sealed there.accepted) r.0 =
+    steps_go_on there.building any_eligible there.base (take there.sealed there.accepted) (state_of there) c.terminal c.number c.body reply r.0 (state_goes_on there) step in
     let taken = steps_are_takes there c.terminal c reply r.0 s.3 step in
     let later : World = deciding there c d in
     let run : Run there.building any_eligible (state_of later) (commands_of looks) replies state =

@@ -3,6 +3,7 @@ use Rattle.std.proofs.Common.{◌+◌, Bool, true, false, not, ◌&&◌, cond, e
 use Rattle.std.specs.Prelude.{unwrap_or, option_and_then, option_map, find, reverse}
 use Rattle.std.proofs.lemmas.List.{length-append, length-take-le}
 use Rattle.lift_building.specs.Plan.{Plan}
+use Rattle.lift_register.specs.Register.{RegisterState}
 use Rattle.lift_policy.specs.declared.command.Command.{Command}
 use Rattle.lift_world.specs.declared.event.Event.{Event}
 use Rattle.lift_world.specs.declared.event.Event.TheVariants.{Ask, Take, Seal, Pull, Fold, Body as BodyWrite, FirstSync, Gate, SecondSync, Answer as Answering, Hear, Fault, Cut, Reopen}
@@ -54,5 +55,5 @@ pub run_seals : (events : List Event) (w : World) → SealsAccepted w → SealsA
 run_seals [] w k = k
 run_seals (event ∷ events) w k = run_seals events (unwrap_or (next w event) w) (seals w event k)
 
-pub start_seals : (building : Plan) → SealsAccepted (start building)
-start_seals building = omega arith
+pub start_seals : (building : Plan) (base : RegisterState) → SealsAccepted (start building base)
+start_seals building base = omega arith

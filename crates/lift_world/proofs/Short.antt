@@ -6,6 +6,7 @@ use Rattle.std.proofs.lemmas.Bool.{false≢true}
 use Rattle.std.proofs.lemmas.List.{length-append, length-take, length-drop, take-append-drop}
 use Rattle.std.proofs.lemmas.List.Elements.{All-head, All-tail}
 use Rattle.lift_building.specs.Plan.{Plan}
+use Rattle.lift_register.specs.Register.{RegisterState}
 use Rattle.lift_policy.specs.declared.command.Command.{Command}
 use Rattle.lift_policy.specs.lemmas.Joins.{Step-joins}
 use Rattle.lift_world.specs.declared.event.Taken.{Taken}
@@ -219,21 +220,21 @@ all_push P [] x all one = (one, tt)
 all_push P (y ∷ xs) x all one = (all.0, all_push P xs x all.1 one)
 
 -- event by event, since each step reads how many commands are on their way before it
-run_counts : (building : Plan) (before events : List Event) → AllByRecursion IsOfTerminal before → AllByRecursion IsOfTerminal events
-    → AreFew (run before (start building)) → AreFew (run events (run before (start building)))
-run_counts building before [] done to_come k = k
-run_counts building before (event ∷ events) done to_come k =
-    let w : World = run before (start building) in
-    let step : AreFew (unwrap_or (next w event) w) = counts w (holds_few building before done) (ordered_after building before) k event in
-    let same : run (before ++ event ∷ []) (start building) ≡ unwrap_or (next w event) w = runs_join (start building) before (event ∷ []) in
+run_counts : (building : Plan) (base : RegisterState) (before events : List Event) → AllByRecursion IsOfTerminal before → AllByRecursion IsOfTerminal events
+    → AreFew (run before (start building base)) → AreFew (run events (run before (start building base)))
+run_counts building base before [] done to_come k = k
+run_counts building base before (event ∷ events) done to_come k =
+    let w : World = run before (start building base) in
+    let step : AreFew (unwrap_or (next w event) w) = counts w (holds_few building base before done) (ordered_after building base before) k event in
+    let same : run (before ++ event ∷ []) (start building base) ≡ unwrap_or (next w event) w = runs_join (start building base) before (event ∷ []) in
     subst (λ (x : World). AreFew (run events x)) same
-    (run_counts building (before ++ event ∷ []) events (all_push IsOfTerminal before event done to_come.0) to_come.1 (subst (λ (x : World). AreFew x) (sym same) step))
+    (run_counts building base (before ++ event ∷ []) events (all_push IsOfTerminal before event done to_come.0) to_come.1 (subst (λ (x : World). AreFew x) (sym same) step))
 
-pub holds_few_entries : (building : Plan) (events : List Event) → AllByRecursion IsOfTerminal events → HoldsFewEntries (run events (start building))
-holds_few_entries building events all =
-    let w : World = run events (start building) in
-    let few = holds_few building events all in
-    let k : AreFew w = run_counts building [] events tt all (record {
+pub holds_few_entries : (building : Plan) (base : RegisterState) (events : List Event) → AllByRecursion IsOfTerminal events → HoldsFewEntries (run events (start building base))
+holds_few_entries building base events all =
+    let w : World = run events (start building base) in
+    let few = holds_few building base events all in
+    let k : AreFew w = run_counts building base [] events tt all (record {
       flying = omega arith;
       begins = 0;
       behind = omega arith;

@@ -1,11 +1,17 @@
 -- What holds at each point of every run.
 use Rattle.std.specs.Prelude.{ℕ, ◌≡◌, ◌≢◌, ◌<◌, ◌≤◌, ◌+◌, ◌⊎◌, true, false, List, [], ◌∷◌, ◌++◌}
-use Rattle.std.specs.Prelude.{length, map, filter, count_by, All, Contains, IsTrue, Some}
+use Rattle.std.specs.Prelude.{length, map, filter, count_by, All, Contains, IsTrue, Option, Some}
+use Rattle.std.specs.Option.{option_to_list}
+use Rattle.lift_base.specs.History.{terminal_of}
 use Rattle.lift_base.specs.declared.history.Entry.{Entry}
 use Rattle.lift_base.specs.declared.history.Entry.TheVariants.{Allot}
+use Rattle.lift_base.specs.declared.history.Last.{Last}
 use Rattle.lift_base.specs.declared.history.Row.{Row}
-use Rattle.lift_register.specs.Prelude.{empty, rows_of, waiting_row, FitFrom}
-use Rattle.lift_register.specs.Register.{Call, calls_in, status}
+use Rattle.lift_building.specs.Plan.{Plan}
+use Rattle.lift_register.specs.Prelude.{RegisterState, rows_of, last_of, kept_of, waiting_row}
+use Rattle.lift_register.specs.Prelude.{register_of}
+use Rattle.lift_register.specs.Fits.{IsPossibleLast}
+use Rattle.lift_register.specs.Register.{Call, calls_of, status}
 use Rattle.lift_register.specs.Status.{Done}
 use Rattle.lift_stops.specs.StopList.{StopsInOrder}
 use Rattle.lift_world.specs.declared.event.Kept.{Kept}
@@ -14,54 +20,92 @@ use Rattle.lift_world.specs.declared.event.Power.TheVariants.{Running}
 use Rattle.lift_world.specs.declared.event.Answer.{Answer}
 use Rattle.lift_world.specs.declared.event.Taken.{Taken}
 use Rattle.lift_world.specs.declared.event.Event.{Event}
-use Rattle.lift_world.specs.declared.event.Event.TheVariants.{Ask, Reopen}
-use Rattle.lift_world.specs.World.{World, Batch, no_batch, unplaced, register_after, outcome}
+use Rattle.lift_world.specs.declared.event.Event.TheVariants.{Ask, Take, Reopen}
+use Rattle.lift_world.specs.World.{World, Batch, no_batch, unplaced, outcome}
 use Rattle.lift_world.specs.World.{may_keep, acknowledged, is_off, asks, is_taken_of, is_answer_to}
 use Rattle.lift_world.specs.Next.{next, answer_of, unanswered}
+
+-- a register of the building, with places for 16 cars and 63 terminals: the building allows what
+-- each terminal said last
+pub record IsOfBuilding (building : Plan) (register : RegisterState) : Type 0 where
+  pub row_count : length register.rows ≡ 16
+  pub last_count : length register.lasts ≡ 63
+  pub lasts : (terminal : ℕ) (last : Last) → last_of register terminal ≡ Some last
+      → IsPossibleLast building terminal last.content
+
+-- the journal began with this entry as its terminal's last command
+abbrev pub WasLast : RegisterState → Entry → Type 0
+WasLast base entry = last_of base (terminal_of entry) ≡ Some (kept_of entry)
+
+-- this entry is held: it is one of these, or the journal began with it
+abbrev pub IsHeld : RegisterState → List Entry → Entry → Type 0
+IsHeld base entries entry = Contains entries entry ⊎ WasLast base entry
+
+-- the row is that of this call, whose passengers wait or are aboard
+abbrev pub IsRowOf : Row → (kiosk number from to car party : ℕ) → Type 0
+IsRowOf row kiosk number from to car party =
+    record row { aboard = false } ≡ waiting_row kiosk number from to car party
+
+-- the call is open as a row of that car, whose remaining stops stand in the car's list in order
+-- wherever the car is
+pub record IsOpenWith (base : RegisterState) (entries : List Entry)
+    (kiosk number from to car party : ℕ) : Type 0 where
+  pub row : Row
+  pub is : IsRowOf row kiosk number from to car party
+  pub is_open : Contains (rows_of (register_of base entries) car) row
+  pub in_order : StopsInOrder (rows_of (register_of base entries) car) row
+
+-- the call is done: it is one that the car had or was given, and counts as done
+pub record IsDone (base : RegisterState) (entries : List Entry)
+    (kiosk number from to car party : ℕ) : Type 0 where
+  pub call : Call
+  pub is : IsRowOf call.row kiosk number from to car party
+  pub is_counted : Contains (calls_of base entries car) call
+  pub is_done : status call ≡ Done
+
+-- the call was done before: the journal began with its letter, and without a row of it at that car
+pub record WasDone (base : RegisterState) (kiosk number from to car party : ℕ) : Type 0 where
+  pub was_last : WasLast base (Allot kiosk number from to car party)
+  pub no_row : (row : Row) → Contains (rows_of base car) row
+      → ¬ IsRowOf row kiosk number from to car party
+
+-- the letter that was shown for this call still names its car
+abbrev pub StillNames : RegisterState → List Entry → Entry → Type 0
+StillNames base entries (Allot kiosk number from to car party) =
+    IsOpenWith base entries kiosk number from to car party
+    ⊎ IsDone base entries kiosk number from to car party
+    ⊎ WasDone base kiosk number from to car party
+StillNames base entries other = Unit {0}
 
 abbrev pub IsPrefixOf : List Entry → List Entry → Type 0
 IsPrefixOf xs ys = (rest : List Entry) × (xs ++ rest ≡ ys)
 
--- the call is open as a row of that car, whose remaining stops stand in the car's list in order
--- wherever the car is
-pub record IsOpenWith (entries : List Entry) (kiosk number from to car party : ℕ) : Type 0 where
-  pub row : Row
-  pub is : record row { aboard = false } ≡ waiting_row kiosk number from to car party
-  pub is_open : Contains (rows_of (register_after entries) car) row
-  pub in_order : StopsInOrder (rows_of (register_after entries) car) row
+-- What was accepted stays in its order. Each recovery gives a prefix of it, and a reopening keeps
+-- the one that it recovers. A take adds at most one entry, and no other event changes it. The
+-- building and what the journal began with never change.
+pub record AcceptsInOrder (w : World) : Type 0 where
+  pub prefixes : (kept : Kept) → IsTrue (may_keep w kept) → IsPrefixOf (outcome w kept) w.accepted
+  pub reopenings : (kept : Kept) (after : World) → next w (Reopen kept) ≡ Some after
+      → after.accepted ≡ outcome w kept
+  pub takes : (terminal : ℕ) (letter : Option ℕ) (after : World)
+      → next w (Take terminal letter) ≡ Some after
+      → (entry : Option Entry) × (after.accepted ≡ w.accepted ++ option_to_list entry)
+  pub others : (event : Event) (after : World)
+      → ((terminal : ℕ) (letter : Option ℕ) → event ≢ Take terminal letter)
+      → ((kept : Kept) → event ≢ Reopen kept) → next w event ≡ Some after
+      → after.accepted ≡ w.accepted
+  pub same_journal : (event : Event) (after : World) → next w event ≡ Some after
+      → (after.building ≡ w.building) × (after.base ≡ w.base)
 
--- the call is counted as done
-pub record IsDone (entries : List Entry) (kiosk number from to car party : ℕ) : Type 0 where
-  pub call : Call
-  pub is : call.row ≡ waiting_row kiosk number from to car party
-  pub is_counted : Contains (calls_in entries) call
-  pub is_done : status call ≡ Done
-
--- the letter that was shown for this call still names its car
-abbrev pub StillNames : List Entry → Entry → Type 0
-StillNames entries (Allot kiosk number from to car party) =
-    IsOpenWith entries kiosk number from to car party
-    ⊎ IsDone entries kiosk number from to car party
-StillNames entries other = Unit {0}
-
--- each recovery gives a prefix of what was accepted
-abbrev pub RecoversPrefix : World → Type 0
-RecoversPrefix w = (kept : Kept) → IsTrue (may_keep w kept) → IsPrefixOf (outcome w kept) w.accepted
-
--- which has each acknowledged entry
+-- each recovery holds each acknowledged entry
 abbrev pub RecoversAcknowledged : World → Type 0
 RecoversAcknowledged w = (kept : Kept) → IsTrue (may_keep w kept)
-    → All (Contains (outcome w kept)) (acknowledged w)
+    → All (IsHeld w.base (outcome w kept)) (acknowledged w)
 
 -- and each letter that was shown
 abbrev pub RecoversLetters : World → Type 0
 RecoversLetters w = (kept : Kept) → IsTrue (may_keep w kept)
-    → All (StillNames (outcome w kept)) (acknowledged w)
-
--- each entry of which fits the register of those before it, so that no recovery refuses one
-abbrev pub RecoversFitting : World → Type 0
-RecoversFitting w = (kept : Kept) → IsTrue (may_keep w kept)
-    → FitFrom w.building empty (outcome w kept)
+    → All (StillNames w.base (outcome w kept)) (acknowledged w)
 
 -- what each terminal heard is, in order and each once, the first of what it was answered since the
 -- last power cut

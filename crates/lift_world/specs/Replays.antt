@@ -5,7 +5,7 @@ use Rattle.lift_base.specs.declared.memory.Memory.{Memory}
 use Rattle.lift_base.specs.declared.travel.Position.{Position}
 use Rattle.lift_base.specs.declared.history.Entry.{Entry}
 use Rattle.lift_building.specs.Plan.{Plan}
-use Rattle.lift_register.specs.Prelude.{RegisterState, Fits, IsBalanced}
+use Rattle.lift_register.specs.Prelude.{RegisterState, empty, register_of, Fits, IsBalanced}
 use Rattle.lift_policy.specs.declared.command.Command.{Command}
 use Rattle.lift_world.specs.declared.event.Phase.{Phase}
 use Rattle.lift_world.specs.declared.event.Power.{Power}
@@ -16,28 +16,31 @@ use Rattle.lift_world.specs.declared.event.Event.TheVariants.{Ask, Take, Seal, P
 use Rattle.lift_world.specs.declared.event.Event.TheVariants.{Body as BodyWrite, FirstSync, Gate}
 use Rattle.lift_world.specs.declared.event.Event.TheVariants.{SecondSync, Answer as Answering, Hear}
 use Rattle.lift_world.specs.declared.event.Event.TheVariants.{Fault, Cut, Reopen}
-use Rattle.lift_world.specs.World.{World, Batch, register_after}
+use Rattle.lift_world.specs.World.{World, Batch}
 use Rattle.lift_world.specs.Next.{next}
 
--- each of these entries fits the register of those before it
-abbrev pub FitAfter : Plan → List Entry → List Entry → Type 0
-FitAfter building before [] = Unit {0}
-FitAfter building before (entry ∷ entries) =
-    Fits building (register_after before) entry × FitAfter building (before ++ entry ∷ []) entries
+-- each of these entries fits the register of the base and of those before it
+abbrev pub FitAfter : Plan → RegisterState → List Entry → List Entry → Type 0
+FitAfter building base before [] = Unit {0}
+FitAfter building base before (entry ∷ entries) =
+    Fits building (register_of base before) entry
+    × FitAfter building base (before ++ entry ∷ []) entries
 
 -- the register is that of the accepted entries, which fit
-pub record IsTight (building : Plan) (register : RegisterState)
+pub record IsTight (building : Plan) (base register : RegisterState)
     (accepted : List Entry) : Type 0 where
-  pub fits : FitAfter building [] accepted
-  pub register_is : register ≡ register_after accepted
+  pub fits : FitAfter building base [] accepted
+  pub register_is : register ≡ register_of base accepted
   pub balanced : IsBalanced register
 
+-- over an empty journal
 abbrev pub view_of : Plan → List Entry → ℕ → ℕ → Batch → Phase → List Batch → Power
     → List (Option Position) → List Taken → List Taken → List Command → List Answer → List Answer
     → List Taken → World
 view_of building accepted safe sealed flight phase queue power positions taken due asked answered
     heard given = record {
       building = building;
+      base = empty;
       accepted = accepted;
       safe = safe;
       sealed = sealed;

@@ -5,6 +5,7 @@ use Rattle.std.specs.List.{AllByRecursion}
 use Rattle.lift_base.specs.declared.travel.Position.{Position}
 use Rattle.lift_base.specs.declared.command.Reply.{Reply}
 use Rattle.lift_building.specs.Plan.{Plan}
+use Rattle.lift_register.specs.Register.{RegisterState}
 use Rattle.lift_policy.specs.Eligible.{any_eligible}
 use Rattle.lift_policy.specs.Step.{State}
 use Rattle.lift_policy.specs.Run.{Run, unknowns}
@@ -75,10 +76,11 @@ pub record IsAtRest (w : World) : Type 0 where
   pub all_sealed : w.sealed ≡ length w.accepted
   pub all_safe : w.safe ≡ length w.accepted
 
--- a group over an empty journal: nothing was accepted, asked, answered or heard, no car has told its
--- position, and nothing was ever given
-pub record IsFresh (building : Plan) (w : World) : Type 0 where
+-- a group over a journal of this register: nothing was accepted, asked, answered or heard since, no
+-- car has told its position, and nothing was ever given
+pub record IsFresh (building : Plan) (base : RegisterState) (w : World) : Type 0 where
   pub same_building : w.building ≡ building
+  pub same_base : w.base ≡ base
   pub nothing_accepted : w.accepted ≡ []
   pub no_car_placed : AllByRecursion (λ (p : Option Position). p ≡ None) w.positions
   pub nothing_asked : w.asked ≡ []

@@ -10,7 +10,7 @@ use Rattle.lift_base.specs.declared.command.Body.TheVariants.{Call, Stop}
 use Rattle.lift_base.specs.declared.command.Reply.{Reply}
 use Rattle.lift_base.specs.declared.command.Reply.TheVariants.{Car, Stopped}
 use Rattle.lift_building.specs.Plan.{Plan}
-use Rattle.lift_register.specs.Register.{RegisterState, register_of, empty}
+use Rattle.lift_register.specs.Register.{RegisterState, register_of}
 use Rattle.lift_policy.specs.Terminals.{kiosk_floor}
 use Rattle.lift_policy.specs.Step.{State}
 use Rattle.lift_policy.specs.declared.command.Command.{Command}
@@ -30,7 +30,8 @@ pub record Batch : Type 0 where
 
 pub record World : Type 0 where
   pub building : Plan
-  pub accepted : List Entry  -- all entries accepted; a recovery sets it to what it recovered
+  pub base : RegisterState  -- what the journal held before the first of these entries
+  pub accepted : List Entry  -- all entries accepted since; a recovery sets it to what it recovered
   pub safe : ℕ  -- how many of them are safe
   pub sealed : ℕ  -- how many of them are in sealed batches
   pub flight : Batch  -- the batch in flight, or in doubt
@@ -52,10 +53,11 @@ no_batch = record { commands = []; upto = 0 }
 abbrev pub unplaced : List (Option Position)
 unplaced = replicate 16 None
 
--- a fresh group over an empty journal
-abbrev pub start : Plan → World
-start building = record {
+-- a fresh group over a journal of this register
+abbrev pub start : Plan → RegisterState → World
+start building base = record {
   building = building;
+  base = base;
   accepted = [];
   safe = 0;
   sealed = 0;
@@ -127,22 +129,18 @@ is_taken_of terminal taken = taken.terminal == terminal
 abbrev pub is_answer_to : ℕ → Answer → Bool
 is_answer_to terminal answer = answer.terminal == terminal
 
--- the register after these entries, which begin with the journal
-abbrev pub register_after : List Entry → RegisterState
-register_after entries = register_of empty entries
-
 -- what decisions read: the register of all that is accepted, also of what isn't safe yet, and the
 -- batch so far
-abbrev pub state_at : List Entry → ℕ → List (Option Position) → State
-state_at accepted sealed positions =
+abbrev pub state_at : RegisterState → List Entry → ℕ → List (Option Position) → State
+state_at base accepted sealed positions =
     record {
-      register = register_after accepted;
+      register = register_of base accepted;
       positions = positions;
       batch = drop sealed accepted;
     }
 
 abbrev pub state_of : World → State
-state_of w = state_at w.accepted w.sealed w.positions
+state_of w = state_at w.base w.accepted w.sealed w.positions
 
 -- the entries that are safe, and those of the batch in flight
 abbrev pub safe_list : World → List Entry

@@ -2,6 +2,7 @@
 ghost use Rattle.std.specs.Prelude.{ℕ, ◌≡◌, ◌≢◌, ◌<◌, ◌≤◌, ◌⊎◌, ◌↔◌, false, List, filter, Contains};
 ghost use Rattle.std.specs.Prelude.{IsTrue, ◌||◌, [], ◌∷◌, map, Some};
 ghost use Rattle.std.specs.List.{AllByRecursion};
+ghost use Rattle.lift_base.specs.History.{terminal_of};
 ghost use Rattle.lift_base.specs.declared.travel.Dir.{Dir};
 ghost use Rattle.lift_base.specs.declared.travel.Position.{Position};
 ghost use Rattle.lift_base.specs.declared.history.Entry.{Entry};
@@ -10,7 +11,8 @@ ghost use Rattle.lift_base.specs.declared.history.Row.{Row};
 ghost use Rattle.lift_base.specs.declared.command.Body.TheVariants.{Call as Calling};
 ghost use Rattle.lift_base.specs.declared.command.Body.TheVariants.{Stop as Stopping, Place};
 ghost use Rattle.lift_building.specs.Plan.{Plan, IsBuilding};
-ghost use Rattle.lift_register.specs.Register.{Call, rows_of, calls_in, waiting_row, status};
+ghost use Rattle.lift_register.specs.Register.{RegisterState, Call, rows_of, last_of, calls_of};
+ghost use Rattle.lift_register.specs.Register.{register_of, kept_of, waiting_row, status};
 ghost use Rattle.lift_register.specs.Status.{Done};
 ghost use Rattle.lift_stops.specs.StopList.{stop_list, is_halt_of, halts_of};
 ghost use Rattle.lift_policy.specs.Step.{State};
@@ -20,15 +22,13 @@ ghost use Rattle.lift_world.specs.declared.event.Event.TheVariants.{Ask, Cut, Re
 ghost use Rattle.lift_world.specs.declared.event.Event.TheVariants.{Body as BodyWrite, FirstSync};
 ghost use Rattle.lift_world.specs.declared.event.Event.TheVariants.{Gate, SecondSync, Answer, Fault};
 ghost use Rattle.lift_world.specs.declared.event.Phase.TheVariants.{Writing, GateWritten};
-ghost use Rattle.lift_world.specs.World.{World, start, register_after, outcome, may_keep};
-ghost use Rattle.lift_world.specs.World.{acknowledged};
+ghost use Rattle.lift_world.specs.World.{World, start};
 ghost use Rattle.lift_world.specs.Next.{run, next, goes};
-ghost use Rattle.lift_world.specs.Headline.{RecoversPrefix, RecoversAcknowledged, RecoversLetters};
-ghost use Rattle.lift_world.specs.Headline.{RecoversFitting, IsOfTerminal, HoldsFew, IsOpenWith};
-ghost use Rattle.lift_world.specs.Headline.{IsDone, StillNames};
+ghost use Rattle.lift_world.specs.Headline.{IsOfBuilding, AcceptsInOrder, RecoversAcknowledged};
+ghost use Rattle.lift_world.specs.Headline.{RecoversLetters, IsOfTerminal, HoldsFew, IsHeld};
+ghost use Rattle.lift_world.specs.Headline.{IsOpenWith, IsDone, WasDone, StillNames};
 ghost use Rattle.lift_world.specs.Short.{HoldsFewEntries};
-ghost use Rattle.lift_world.specs.Lawful.{IsTypedEvent, RecoversRecords, AcceptsFitting};
-ghost use Rattle.lift_world.specs.Lawful.{AcceptsRecords};
+ghost use Rattle.lift_world.specs.Lawful.{IsTypedEvent, AcceptsFitting, AcceptsRecords};
 ghost use Rattle.lift_world.specs.Laws.{IsOrderly, EventsArePossible, TurnsAreEvents, AllEndAtRest};
 ghost use Rattle.lift_world.specs.Laws.{RepliesAreSafe, OutcomesMove, RelaysAreEvents};
 ghost use Rattle.lift_world.specs.Laws.{PartsInterleave, PartsStay, TerminalsPassThrough};
@@ -46,12 +46,14 @@ use crate::event::Event;
 use lift_base::{Body, Number, Terminal};
 use lift_policy::Policy;
 
-/// What holds at each point of every run, whatever comes: each recovery that a power cut or a fault
-/// may lead to gives a prefix of what was accepted, has every acknowledged entry, still names the
-/// car of each letter that was shown, and is refused for no entry. The call of such a letter is
-/// open, and its remaining stops stand in order in its car's list wherever the car is, or it is
-/// done. All that was accepted fits, one entry after another, and is a record of the journal where
-/// asks are as their types hold them. What is acknowledged or shown is read from what was given,
+/// What holds at each point of every run, whatever comes, over whatever register of the building the
+/// journal began with: each recovery that a power cut or a fault may lead to gives a prefix of what
+/// was accepted, holds every acknowledged entry, and still names the car of each letter that was
+/// shown. The call of such a letter is open, and its remaining stops stand in order in its car's
+/// list wherever the car is, or it is done. What was accepted stays in its order: takes alone add to
+/// it, and a reopening alone replaces it, by the prefix that it recovers. All that was accepted fits,
+/// one entry after another, and is a record of the journal where asks are as their types hold them:
+/// so no recovery is refused for an entry. What is acknowledged or shown is read from what was given,
 /// and each stored answer is that of a command given. Each terminal asks one by one, and hears what
 /// it was answered, in order and each once. At most five batches are queued, and where asks are of
 /// the 63 terminals none of more than 63 commands, nor, while running, of more entries; between
@@ -59,39 +61,26 @@ use lift_policy::Policy;
 /// leaves no command on its way; and what is sealed is a front of what is accepted, which a scan's
 /// law asks for.
 pub fn every_run()
-    ensures prefix { (building : Plan) (events : List Event) → IsBuilding building
-        → RecoversPrefix (run events (start building)) }
-    ensures acknowledged { (building : Plan) (events : List Event) → IsBuilding building
-        → RecoversAcknowledged (run events (start building)) }
-    ensures letters { (building : Plan) (events : List Event) → IsBuilding building
-        → RecoversLetters (run events (start building)) }
-    ensures remaining { (building : Plan) (events : List Event) (kept : Kept)
-        (kiosk number from to car party : ℕ)
-        → let w = run events (start building) in let entries = outcome w kept in
-        let rows = rows_of (register_after entries) car in let waiting = waiting_row kiosk number from to car party in
-        IsBuilding building → IsTrue (may_keep w kept)
-        → Contains (acknowledged w) (Allot kiosk number from to car party)
-        → ((row : Row) × (record row { aboard = false } ≡ waiting) × Contains rows row
-        × ((position : Position)
-        → filter (is_halt_of position row) (stop_list rows position) ≡ halts_of position row))
-        ⊎ ((call : Call) × (call.row ≡ waiting) × Contains (calls_in entries) call
-        × (status call ≡ Done)) }
-    ensures fitting { (building : Plan) (events : List Event) → IsBuilding building
-        → RecoversFitting (run events (start building)) }
-    ensures lawful { (building : Plan) (events : List Event) → IsBuilding building
-        → AllByRecursion IsTypedEvent events
-        → RecoversRecords (run events (start building)) }
-    ensures accepted { (building : Plan) (events : List Event) → IsBuilding building
-        → AcceptsFitting (run events (start building)) }
-    ensures written { (building : Plan) (events : List Event) → IsBuilding building
-        → AllByRecursion IsTypedEvent events
-        → AcceptsRecords (run events (start building)) }
-    ensures orderly { (building : Plan) (events : List Event)
-        → IsOrderly (run events (start building)) }
-    ensures few { (building : Plan) (events : List Event) → AllByRecursion IsOfTerminal events
-        → HoldsFew (run events (start building)) }
-    ensures few_entries { (building : Plan) (events : List Event)
-        → AllByRecursion IsOfTerminal events → HoldsFewEntries (run events (start building)) }
+    ensures prefix { (building : Plan) (base : RegisterState) (events : List Event)
+        → AcceptsInOrder (run events (start building base)) }
+    ensures acknowledged { (building : Plan) (base : RegisterState) (events : List Event)
+        → IsBuilding building → IsOfBuilding building base
+        → RecoversAcknowledged (run events (start building base)) }
+    ensures letters { (building : Plan) (base : RegisterState) (events : List Event)
+        → IsBuilding building → IsOfBuilding building base
+        → RecoversLetters (run events (start building base)) }
+    ensures accepted { (building : Plan) (base : RegisterState) (events : List Event)
+        → IsBuilding building → IsOfBuilding building base
+        → AcceptsFitting (run events (start building base)) }
+    ensures written { (building : Plan) (base : RegisterState) (events : List Event)
+        → IsBuilding building → AllByRecursion IsTypedEvent events
+        → AcceptsRecords (run events (start building base)) }
+    ensures orderly { (building : Plan) (base : RegisterState) (events : List Event)
+        → IsOrderly (run events (start building base)) }
+    ensures few { (building : Plan) (base : RegisterState) (events : List Event)
+        → AllByRecursion IsOfTerminal events → HoldsFew (run events (start building base)) }
+    ensures few_entries { (building : Plan) (base : RegisterState) (events : List Event)
+        → AllByRecursion IsOfTerminal events → HoldsFewEntries (run events (start building base)) }
 {}
 
 /// Which events are possible, in whatever world, and what they leave: so the theorem speaks of
@@ -117,8 +106,9 @@ pub fn turns_are_events()
 /// any cut. A reopening while nothing failed begins and ends there too; one whose device call fails
 /// is broken at rest, and the next one leaves what it would have left.
 pub fn turns_end_at_rest()
-    ensures start { (building : Plan) → IsAtRest (start building) }
-    ensures fresh { (building : Plan) → IsFresh building (start building) }
+    ensures start { (building : Plan) (base : RegisterState) → IsAtRest (start building base) }
+    ensures fresh { (building : Plan) (base : RegisterState)
+        → IsFresh building base (start building base) }
     ensures ends { (w : World) → AllEndAtRest w }
 {}
 
@@ -184,27 +174,42 @@ pub fn policies_are_covered<P: Policy>()
     ensures runs { (policy : P) → RunsAreAny (P.chooses policy) }
 {}
 
-/// What definitions of these laws say, spelled out. A letter still names its car where the call is
-/// open there, with its remaining stops in order in the car's list wherever the car is, or is done.
-/// Asks alone are bound to ranges: those of their types, and the 63 terminals. All events go on but
-/// a cut and a reopening.
+/// What definitions of these laws say, spelled out. An entry is held where it is among the
+/// recovered ones, or the journal began with it as its terminal's last command. A letter still names
+/// its car where the call is open there, with its remaining stops in order in the car's list
+/// wherever the car is, or is done, or was done before. Asks alone are bound to ranges: those of
+/// their types, and the 63 terminals. All events go on but a cut and a reopening.
 pub fn definitions_are_exact()
-    ensures open_call { (entries : List Entry) (kiosk number from to car party : ℕ)
-        → let rows = rows_of (register_after entries) car in let waiting =
+    ensures held { (base : RegisterState) (entries : List Entry) (entry : Entry)
+        → IsHeld base entries entry ↔ (Contains entries entry
+        ⊎ (last_of base (terminal_of entry) ≡ Some (kept_of entry))) }
+    ensures open_call { (base : RegisterState) (entries : List Entry)
+        (kiosk number from to car party : ℕ)
+        → let rows = rows_of (register_of base entries) car in let waiting =
         waiting_row kiosk number from to car party in
-        IsOpenWith entries kiosk number from to car party
+        IsOpenWith base entries kiosk number from to car party
         ↔ ((row : Row) × (record row { aboard = false } ≡ waiting) × Contains rows row
         × ((position : Position)
         → filter (is_halt_of position row) (stop_list rows position) ≡ halts_of position row)) }
-    ensures done_call { (entries : List Entry) (kiosk number from to car party : ℕ)
-        → IsDone entries kiosk number from to car party
-        ↔ ((call : Call) × (call.row ≡ waiting_row kiosk number from to car party)
-        × Contains (calls_in entries) call
+    ensures done_call { (base : RegisterState) (entries : List Entry)
+        (kiosk number from to car party : ℕ)
+        → let waiting = waiting_row kiosk number from to car party in
+        IsDone base entries kiosk number from to car party
+        ↔ ((call : Call) × (record call.row { aboard = false } ≡ waiting)
+        × Contains (calls_of base entries car) call
         × (status call ≡ Done)) }
-    ensures letter { (entries : List Entry) (kiosk number from to car party : ℕ)
-        → StillNames entries (Allot kiosk number from to car party)
-        ↔ (IsOpenWith entries kiosk number from to car party
-        ⊎ IsDone entries kiosk number from to car party) }
+    ensures done_before { (base : RegisterState) (kiosk number from to car party : ℕ)
+        → let waiting = waiting_row kiosk number from to car party in
+        WasDone base kiosk number from to car party
+        ↔ ((last_of base kiosk ≡ Some (kept_of (Allot kiosk number from to car party)))
+        × ((row : Row) → Contains (rows_of base car) row
+        → ¬ (record row { aboard = false } ≡ waiting))) }
+    ensures letter { (base : RegisterState) (entries : List Entry)
+        (kiosk number from to car party : ℕ)
+        → StillNames base entries (Allot kiosk number from to car party)
+        ↔ (IsOpenWith base entries kiosk number from to car party
+        ⊎ IsDone base entries kiosk number from to car party
+        ⊎ WasDone base kiosk number from to car party) }
     ensures typed_call { (terminal number floor party : ℕ)
         → IsTypedEvent (Ask terminal number (Calling floor party))
         ↔ ((terminal ≤ 62) × (number ≤ 16777215) × (floor ≤ 63) × (1 ≤ party) × (party ≤ 15)) }

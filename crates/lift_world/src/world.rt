@@ -7,7 +7,8 @@ ghost use Rattle.std.specs.Prelude.{◌<◌, ◌||◌, vec_len, vec_capacity};
 ghost use Rattle.lift_base.specs.declared.history.Entry.{Entry as EntryValue};
 ghost use Rattle.lift_building.specs.Plan.{IsBuilding};
 ghost use Rattle.lift_register.specs.Balanced.{IsBalanced};
-ghost use Rattle.lift_world.specs.World.{unplaced, register_after, is_taken_of};
+ghost use Rattle.lift_register.specs.Register.{register_of, empty};
+ghost use Rattle.lift_world.specs.World.{unplaced, is_taken_of};
 ghost use Rattle.lift_world.specs.Next.{bodies};
 ghost use Rattle.lift_world.specs.Replays.{FitAfter};
 
@@ -81,6 +82,7 @@ pub struct World<'b> {
 
 impl<'b> Model for World<'b> {
     ghost use Rattle.lift_world.specs.World.{World};
+    ghost use Rattle.lift_register.specs.Register.{empty};
     ghost use Rattle.lift_world.specs.Replays.{IsTight, view_of};
 
     ghost Value = { World };
@@ -89,7 +91,7 @@ impl<'b> Model for World<'b> {
         w.queue.items w.power w.positions w.taken.items w.due.items w.asked.items w.answered.items
         w.heard.items w.given.items };
 
-    ghost invariant = { λ w. IsTight w.building.now w.register w.accepted.items };
+    ghost invariant = { λ w. IsTight w.building.now empty w.register w.accepted.items };
 }
 
 /// No car has told its position.
@@ -138,8 +140,8 @@ fn push_entry(accepted: &mut Vec<Entry>, entry: Option<Entry>)
 
 /// The register of entries that fit one after another.
 fn replay(building: &Building, half: u32, entries: &[Entry]) -> Register
-    requires { FitAfter building.now [] entries.now }
-    ensures value { result ≡ register_after entries.now }
+    requires { FitAfter building.now empty [] entries.now }
+    ensures value { result ≡ register_of empty entries.now }
     ensures balanced { IsBalanced result }
 {
     let mut register = Register::empty(building.shape(half));
@@ -155,6 +157,7 @@ impl<'b> World<'b> {
     ghost use Rattle.lift_base.specs.declared.history.Entry.{Entry as EntryValue};
     ghost use Rattle.std.specs.Prelude.{take, ◌||◌};
     ghost use Rattle.std.specs.List.{list_any};
+    ghost use Rattle.lift_register.specs.Register.{empty};
     ghost use Rattle.lift_world.specs.World.{start, may_keep, is_taken_of, outcome};
     ghost use Rattle.lift_world.specs.Next.{taking, unanswered, may_take, may_pull, is_quiet};
     ghost use Rattle.lift_world.specs.Next.{may_reopen, writes_of};
@@ -165,7 +168,7 @@ impl<'b> World<'b> {
     /// checkpoint makes room wherever a half has none, so no event depends on that number. It takes
     /// no memory yet, so it never answers `Memory`.
     pub fn new(alloc: Global, building: &'b Building, half: u32) -> Result<World<'b>, Memory>
-        ensures value { IfOk result (λ world. world ≡ start building.now) }
+        ensures value { IfOk result (λ world. world ≡ start building.now empty) }
         ensures made { IsOk result }
     {
         Ok(World {

@@ -1,4 +1,5 @@
 -- The worlds between calls, and what terminals do first.
+use Rattle.lift_clerk.specs.Answered.{AreApart}
 use Rattle.std.proofs.Common.{ℕ, ◌≡◌, ◌≤◌, Bool, true, false, List, [], ◌∷◌, ◌++◌, length, Option}
 use Rattle.std.proofs.Common.{Some, None, refl, sym, ap, subst, ◌∙◌, arith}
 use Rattle.std.specs.Prelude.{IsTrue, unwrap_or, option_and_then}
@@ -25,7 +26,6 @@ use Rattle.lift_world.specs.Policies.{RunsAreAny}
 use Rattle.lift_world.specs.Turns.{IsAtRest, IsBrokenAtRest, AreFound}
 use Rattle.lift_clerk.specs.Machine.{IsReached, LooksAgree}
 use Rattle.lift_clerk.specs.Laws.{Laws}
-use Rattle.lift_clerk.specs.lemmas.Served.{AreApart}
 use Rattle.lift_clerk.specs.lemmas.Standing.{fresh, Splits, fresh_answered, all_found}
 
 -- a list of possible events, and one behind it
@@ -101,7 +101,7 @@ pub record Asked (w : World) (cs : List Command) : Type 0 where
 
 module _ (laws : Laws) (w : World) (reached : IsReached w) where
   hears : HearsInOrder w
-  hears = subst (λ (v : World). HearsInOrder v) reached.1 (laws.hears w.building reached.0)
+  hears = subst (λ (v : World). HearsInOrder v) reached.1 (laws.hears w.building w.base reached.0)
 
   -- where all of them stand nothing is asked
   asks_none : (splits : (t : ℕ) → Splits w t) → IsResting w → (cs : List Command) → LooksAgree w cs
@@ -144,10 +144,10 @@ module _ (laws : Laws) (w : World) (reached : IsReached w) where
   ask splits k cs agree apart = by_fresh splits k cs agree apart (fresh w cs) refl
 
   pub reaches : (events : List Event) (end : World) → goes events w ≡ Some end
-      → end.building ≡ w.building → IsReached end
-  reaches events end e b = (
+      → end.building ≡ w.building → end.base ≡ w.base → IsReached end
+  reaches events end e b s = (
     reached.0 ++ events,
-    ap (λ x. run (reached.0 ++ events) (start x)) b ∙ laws.joined
-        (start w.building) reached.0 events ∙ ap (run events) reached.1 ∙ laws.possible w events end
+    ap (λ x. run (reached.0 ++ events) (start x end.base)) b ∙ ap (λ x. run (reached.0 ++ events) (start w.building x)) s ∙ laws.joined
+        (start w.building w.base) reached.0 events ∙ ap (run events) reached.1 ∙ laws.possible w events end
         e,
   )

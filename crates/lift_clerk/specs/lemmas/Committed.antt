@@ -1,28 +1,32 @@
 -- What a turn's commit gives of the moments within it, and of the machine's turns.
-use Rattle.std.proofs.Common.{◌≡◌, ℕ, false, sym, subst}
+use Rattle.std.proofs.Common.{◌≡◌, ◌⊎◌, ℕ, false, List, sym, subst, ◌∙◌}
 use Rattle.std.specs.Prelude.{Result, Ok, Err, IfOk}
-use Rattle.lift_disk.specs.Disk.{DiskState, LeavesOnly}
-use Rattle.lift_register.specs.Register.{RegisterState}
+use Rattle.lift_base.specs.declared.history.Entry.{Entry}
+use Rattle.lift_disk.specs.Disk.{DiskState, Image, LeavesOnly}
+use Rattle.lift_register.specs.Register.{RegisterState, register_of}
 use Rattle.lift_policy.specs.Eligible.{Choice}
 use Rattle.lift_journal.specs.declared.fault.JournalFault.TheVariants.{Disk}
 use Rattle.lift_keeper.specs.declared.fault.KeeperFault.{KeeperFault}
 use Rattle.lift_keeper.specs.declared.fault.KeeperFault.TheVariants.{Journal}
 use Rattle.lift_keeper.specs.Commits.{CommitsTo}
+use Rattle.lift_keeper.specs.Images.{IsImageOf, IsInDoubt}
 use Rattle.lift_keeper.specs.Writer.{WriterView}
 use Rattle.lift_keeper.specs.lemmas.Committed.{safe_register, whole_before}
 use Rattle.lift_clerk.specs.declared.counts.Counts.{Counts}
 use Rattle.lift_clerk.specs.Clerk.{ClerkState}
 use Rattle.lift_clerk.specs.Machine.{Turns, Fails}
-use Rattle.lift_clerk.specs.Turn.{IsTurn, IsFailedTurn, IsEither, entries_in}
+use Rattle.lift_clerk.specs.Turn.{IsTurn, IsFailedTurn, entries_in}
 
-pub either_moment : {D T : Type 0} (state : D → DiskState) (old : WriterView D) (count : ℕ)
+-- at each moment of one that begins whole, of any batch that leads to its register
+pub moment_of : {D T : Type 0} (state : D → DiskState) (old : WriterView D) (count : ℕ)
     (register : RegisterState) (new : WriterView D) (result : Result T KeeperFault)
     → CommitsTo state old count register new result → old.is_broken ≡ false
-    → LeavesOnly (state old.device) (state new.device) (IsEither old.plan old.register register)
-either_moment state old count register new result c whole =
-    subst (λ (r : RegisterState).
-    LeavesOnly (state old.device) (state new.device) (IsEither old.plan old.register r))
-    (sym (c.leads whole)) (c.is.any_moment whole)
+    → (batch : List Entry) → register ≡ register_of old.register batch
+    → LeavesOnly (state old.device) (state new.device) (IsInDoubt old.plan old.register batch)
+moment_of state old count register new result c whole batch same =
+    subst (λ (r : RegisterState). LeavesOnly (state old.device) (state new.device)
+    (λ (left : Image). IsImageOf old.plan old.register left ⊎ IsImageOf old.plan r left))
+    (sym (c.leads whole) ∙ same) (c.is.any_moment whole)
 
 -- what a turn's contract gives of the machine's turns
 module _ {D P : Type 0} (state : D → DiskState) (choice : Choice) (before after : ClerkState D P) where

@@ -1,26 +1,17 @@
 -- Lists of commands and answers.
-use Rattle.std.proofs.Common.{ℕ, ◌≡◌, ◌≢◌, Bool, cond, List, [], ◌∷◌, map, refl, ap, ◌∙◌}
+use Rattle.std.proofs.Common.{ℕ, ◌≡◌, Bool, cond, List, [], ◌∷◌, refl, ap, ◌∙◌}
 use Rattle.std.specs.Prelude.{filter}
-use Rattle.std.specs.List.{AllByRecursion}
 use Rattle.std.proofs.lemmas.Bool.{ne_eqb}
 use Rattle.lift_base.specs.declared.command.Reply.{Reply}
 use Rattle.lift_policy.specs.declared.command.Command.{Command}
-use Rattle.lift_world.specs.declared.event.Answer.{Answer}
 use Rattle.lift_world.specs.World.{asks, is_answer_to}
-use Rattle.lift_world.specs.Next.{answer_of}
-use Rattle.lift_world.specs.Turns.{with_replies}
+use Rattle.lift_clerk.specs.Answered.{AreOthers, answers_to}
 
 -- of other terminals' commands, and of the answers to them, there is none to a terminal
-abbrev pub AreOthers : ℕ → List Command → Type 0
-AreOthers terminal commands = AllByRecursion (λ (d : Command). d.terminal ≢ terminal) commands
-
 pub no_asks : (t : ℕ) (cs : List Command) → AreOthers t cs → filter (asks t) cs ≡ []
 no_asks t [] h = refl
 no_asks t (c ∷ cs) h = ap (λ (b : Bool). cond b (c ∷ filter (asks t) cs) (filter (asks t) cs))
     (ne_eqb c.terminal t h.0) ∙ no_asks t cs h.1
-
-abbrev pub answers_to : List Command → List Reply → List Answer
-answers_to cs rs = map answer_of (with_replies cs rs)
 
 pub no_answers : (t : ℕ) (cs : List Command) (rs : List Reply) → AreOthers t cs
     → filter (is_answer_to t) (answers_to cs rs) ≡ []

@@ -1,4 +1,5 @@
 -- Reopenings, openings, and what terminals do between calls.
+use Rattle.lift_clerk.specs.Answered.{answer_words}
 use Rattle.std.proofs.Common.{ℕ, suc, zero, ◌≡◌, ◌-◌, ◌⊎◌, inl, inr, Bool, true, false, List, []}
 use Rattle.std.proofs.Common.{◌∷◌, ◌++◌, take, drop, Some, refl, sym, ap, subst, ◌∙◌, arith}
 use Rattle.std.specs.Prelude.{IsTrue, filter, option_and_then, count_by}
@@ -21,14 +22,15 @@ use Rattle.lift_world.specs.declared.event.Kept.TheVariants.{Safe, WithBatch}
 use Rattle.lift_world.specs.declared.event.Power.TheVariants.{Broken}
 use Rattle.lift_world.specs.Decided.{when}
 use Rattle.lift_world.specs.World.{World, Batch, start, unplaced, safe_list, batch_of, outcome}
-use Rattle.lift_world.specs.World.{may_keep, register_after, asks, is_answer_to}
+use Rattle.lift_world.specs.World.{may_keep, asks, is_answer_to}
 use Rattle.lift_world.specs.Next.{next, goes, reopened, cutting}
 use Rattle.lift_world.specs.Turns.{IsAtRest, IsBrokenAtRest}
+use Rattle.lift_world.specs.Headline.{IsOfBuilding}
+use Rattle.lift_world.specs.lemmas.Entries.{over_nothing}
 use Rattle.lift_clerk.specs.Clerk.{ClerkState}
 use Rattle.lift_clerk.specs.Machine.{IsMachineOf, ShowsWords, ShowsWhole, ShowsBroken, Follows}
-use Rattle.lift_clerk.specs.Machine.{Reopens, ReopeningsAreReopenings, NothingIsNoEvent}
-use Rattle.lift_clerk.specs.Machine.{FailedReopeningsAreFaults, BeginsAtStart, BeginsAfterCut}
-use Rattle.lift_clerk.specs.Machine.{answer_words, kept_of}
+use Rattle.lift_clerk.specs.Machine.{IsReached, WaitsNowhere, Reopens, Stays, Begins, kept_of}
+use Rattle.lift_clerk.specs.Steps.{Rests}
 use Rattle.lift_clerk.specs.Laws.{Laws}
 use Rattle.lift_clerk.specs.lemmas.Asked.{reaches, not_both}
 use Rattle.lift_clerk.specs.lemmas.Turned.{register_with, safe_all, state_is}
@@ -64,18 +66,19 @@ nothing_kept safe batch (inr whole) e = ap (λ (xs : List Entry). safe ++ xs) e 
 
 module _ (registers : RegistersJoin) where
   -- nothing in doubt
-  pub with_nothing : (xs : List Entry) → register_of (register_after xs) [] ≡ register_after xs
-  with_nothing xs = registers empty xs [] ∙ ap register_after (append-nil xs)
+  pub with_nothing : (base : RegisterState) (xs : List Entry)
+      → register_of (register_of base xs) [] ≡ register_of base xs
+  with_nothing base xs = registers base xs [] ∙ ap (register_of base) (append-nil xs)
 
 -- an opening leaves the world of its register
 opened : {D P : Type 0} (end : World) (clerk : ClerkState D P) → IsAtRest end
-    → end.positions ≡ unplaced → register_after end.accepted ≡ clerk.keeper.writer.register
+    → end.positions ≡ unplaced → register_of end.base end.accepted ≡ clerk.keeper.writer.register
     → clerk.keeper.state ≡ starting clerk.keeper.writer.register → clerk.keeper.writer.doubt ≡ []
     → ShowsWhole end clerk.keeper
 opened end clerk k p r s d = record {
   at_rest = k;
   state = state_is end k (starting clerk.keeper.writer.register) r p refl ∙ sym s;
-  safe = ap register_after (safe_all end k) ∙ r;
+  safe = ap (register_of end.base) (safe_all end k) ∙ r;
   no_doubt = d;
 }
 
@@ -91,19 +94,20 @@ module _ {D P : Type 0} (laws : Laws) (w : World) (before after : ClerkState D P
 
   abbrev Keeps : OneOf → Type 0
   Keeps o = (kept : Kept) × IsTrue (may_keep w kept)
-      × (after.keeper.writer.register ≡ register_after (outcome w kept))
+      × (after.keeper.writer.register ≡ register_of w.base (outcome w kept))
       × Follows w (Reopen kept ∷ []) [] (safe o) after
 
   leads_to : (o : OneOf) (kept : Kept) (end : World) → next w (Reopen kept) ≡ Some end
-      → IsAtRest end → end.building ≡ w.building → end.asked ≡ w.asked → end.heard ≡ w.heard
+      → IsAtRest end → end.building ≡ w.building → end.base ≡ w.base → end.asked ≡ w.asked → end.heard ≡ w.heard
       → end.answered ≡ w.answered → end.given ≡ w.given
-      → end.positions ≡ unplaced → register_after end.accepted ≡ after.keeper.writer.register
+      → end.positions ≡ unplaced → register_of end.base end.accepted ≡ after.keeper.writer.register
       → end.accepted ≡ safe o → Follows w (Reopen kept ∷ []) [] (safe o) after
-  leads_to o kept end e k b a h s g p reg same_safe = record {
+  leads_to o kept end e k b base a h s g p reg same_safe = record {
     before = [];
     of_terminals = tt;
     end = end;
     possible = goes_once w end (Reopen kept) e;
+    same_base = base;
     given_is = g ∙ sym (append-nil w.given);
     safe_is = safe_all end k ∙ same_safe;
     waits = λ none t. ap (λ (xs : List Answer).
@@ -113,46 +117,46 @@ module _ {D P : Type 0} (laws : Laws) (w : World) (before after : ClerkState D P
     alone = λ none. (refl, a, h);
     shows = record {
       building = b ∙ m.building ∙ sym r.same_plan;
-      reached = reaches laws w m.reached (Reopen kept ∷ []) end (goes_once w end (Reopen kept) e) b;
+      reached = reaches laws w m.reached (Reopen kept ∷ []) end (goes_once w end (Reopen kept) e) b base;
       words = λ t. seated_words w end t before.seat after.seat r.same_seat a s (m.words t);
       whole = λ whole. opened end after k p reg r.state r.no_doubt;
       broken = λ broken. not_both after.keeper.writer.is_broken r.is_whole broken;
     };
   }
 
-  safe_again : before.keeper.writer.register ≡ register_after (safe_list w)
+  safe_again : before.keeper.writer.register ≡ register_of w.base (safe_list w)
       → before.keeper.writer.doubt ≡ [] → OneOf
-      → after.keeper.writer.register ≡ register_after (safe_list w)
+      → after.keeper.writer.register ≡ register_of w.base (safe_list w)
   safe_again s d (inl e) = e ∙ s
   safe_again s d (inr e) =
       e ∙ ap (register_of before.keeper.writer.register) d ∙ ap (λ (x : RegisterState).
-      register_of x []) s ∙ with_nothing laws.registers (safe_list w)
+      register_of x []) s ∙ with_nothing laws.registers w.base (safe_list w)
 
   while_whole : before.keeper.writer.is_broken ≡ false → Keeps r.one_of
   while_whole e =
       let wh : ShowsWhole w before.keeper = m.whole e in
-      let reg : after.keeper.writer.register ≡ register_after (safe_list w) =
+      let reg : after.keeper.writer.register ≡ register_of w.base (safe_list w) =
       safe_again (sym wh.safe) wh.no_doubt r.one_of in
       let end : World = record w { positions = unplaced } in (
         Safe,
         refl,
         reg,
         leads_to r.one_of Safe end ((laws.running_reopenings w).opens wh.at_rest)
-            ((laws.running_reopenings w).rests wh.at_rest) refl refl refl refl refl refl
-            (ap register_after (sym (safe_all w wh.at_rest)) ∙ sym reg)
+            ((laws.running_reopenings w).rests wh.at_rest) refl refl refl refl refl refl refl
+            (ap (register_of w.base) (sym (safe_all w wh.at_rest)) ∙ sym reg)
             (sym (safe_all w wh.at_rest) ∙ sym
             (nothing_kept (safe_list w) before.keeper.writer.doubt r.one_of wh.no_doubt)),
       )
 
   keeping : (o : OneOf) (kept : Kept) → IsBrokenAtRest w → IsTrue (may_keep w kept)
-      → after.keeper.writer.register ≡ register_after (outcome w kept) → outcome w kept ≡ safe o
+      → after.keeper.writer.register ≡ register_of w.base (outcome w kept) → outcome w kept ≡ safe o
       → Keeps o
   keeping o kept rest may reg same_safe =
       let t = laws.reopenings w kept rest may in (
         kept,
         may,
         reg,
-        leads_to o kept (reopened w kept) t.0 t.1 refl refl refl refl refl refl
+        leads_to o kept (reopened w kept) t.0 t.1 refl refl refl refl refl refl refl
             (sym reg) same_safe,
       )
 
@@ -169,7 +173,7 @@ module _ {D P : Type 0} (laws : Laws) (w : World) (before after : ClerkState D P
       (br.may_be_kept (λ none. let wrong : x ∷ xs ≡ [] = sym d ∙ none in cc))
       (e ∙ sym (register_with laws.registers w before.keeper.writer.doubt
       before.keeper.writer.register br.safe)
-      ∙ ap (λ (ys : List Entry). register_after (safe_list w ++ ys)) (sym br.doubt))
+      ∙ ap (λ (ys : List Entry). register_of w.base (safe_list w ++ ys)) (sym br.doubt))
       (ap (λ (ys : List Entry). safe_list w ++ ys) br.doubt)
 
   by_register : ShowsBroken w before.keeper → (o : OneOf) → Keeps o
@@ -180,35 +184,77 @@ module _ {D P : Type 0} (laws : Laws) (w : World) (before after : ClerkState D P
   by_state false e = while_whole e
   by_state true e = by_register (m.broken e) r.one_of
 
-pub reopenings_are_reopenings : {D P : Type 0} → Laws → ReopeningsAreReopenings D P
+-- A reopening is one of the machine, which keeps what the register tells that it kept.
+pub reopenings_are_reopenings : {D P : Type 0} → Laws → (w : World) (before after : ClerkState D P)
+    (r : Reopens before after) → IsMachineOf w before
+    → (kept : Kept) × IsTrue (may_keep w kept)
+    × (after.keeper.writer.register ≡ register_of w.base (outcome w kept))
+    × Follows w (Reopen kept ∷ []) [] (kept_of (safe_list w) before.keeper.writer.doubt r.one_of)
+    after
 reopenings_are_reopenings laws w before after r m =
     by_state laws w before after r m before.keeper.writer.is_broken refl
 
-pub nothing_is_no_event : {D P : Type 0} → NothingIsNoEvent D P
-nothing_is_no_event w before after s same m = record {
-  building = m.building ∙ sym s.same_plan;
+-- words that are the same show the same
+rested_words : (w : World) (t : ℕ) (old new : ClerkView) → new.taken ≡ old.taken
+    → new.answered ≡ old.answered → ShowsWords w t old → ShowsWords w t new
+rested_words w t old new a b k = record {
+  first = k.first;
+  waiting = k.waiting;
+  asked = k.asked;
+  taken = a ∙ k.taken;
+  answered = b ∙ k.answered;
+  even = k.even;
+}
+
+pub rests_are_no_events : {D P : Type 0} → (w : World) (before after : ClerkState D P)
+    → Rests before after → after.keeper.writer.is_broken ≡ before.keeper.writer.is_broken
+    → IsMachineOf w before → IsMachineOf w after
+rests_are_no_events w before after s same m = record {
+  building = m.building ∙ sym s.plan;
   reached = m.reached;
-  words = λ t. seated_words w w t before.seat after.seat s.same_seat refl refl (m.words t);
+  words = λ t.
+      rested_words w t (view_at before.seat t) (view_at after.seat t) (s.words t).0 (s.words t).1
+      (m.words t);
   whole = λ e. let k = m.whole (sym same ∙ e) in
       record {
         at_rest = k.at_rest;
-        state = k.state ∙ sym s.same_state;
-        safe = k.safe ∙ sym s.same_register;
-        no_doubt = s.same_doubt ∙ k.no_doubt;
+        state = k.state ∙ sym (s.state e);
+        safe = k.safe ∙ sym s.register;
+        no_doubt = s.doubt ∙ k.no_doubt;
       };
   broken = λ e.
       let k = m.broken (sym same ∙ e) in
       record {
         at_rest = k.at_rest;
-        safe = k.safe ∙ sym s.same_register;
-        doubt = k.doubt ∙ sym s.same_doubt;
+        safe = k.safe ∙ sym s.register;
+        doubt = k.doubt ∙ sym s.doubt;
         may_be_kept = λ some.
-            k.may_be_kept (λ none. some (s.same_doubt ∙ none));
+            k.may_be_kept (λ none. some (s.doubt ∙ none));
       };
 }
 
-pub failed_reopenings_are_faults : {D P : Type 0} → Laws → FailedReopeningsAreFaults D P
-failed_reopenings_are_faults laws w before after s was is m =
+abbrev pub rests_of : {D P : Type 0} → (before after : ClerkState D P) → Stays before after
+    → (after.keeper.writer.is_broken ≡ true)
+    ⊎ (after.keeper.writer.is_broken ≡ before.keeper.writer.is_broken)
+    → Rests before after
+rests_of before after s broken = record {
+  desk = s.desk;
+  words = λ t. (
+    ap (λ (seat : List ClerkPlace). (view_at seat t).taken) s.same_seat,
+    ap (λ (seat : List ClerkPlace). (view_at seat t).answered) s.same_seat,
+  );
+  state = λ whole. s.same_state;
+  register = s.same_register;
+  doubt = s.same_doubt;
+  plan = s.same_plan;
+  broken = broken;
+}
+
+pub faults_are_events : {D P : Type 0} → Laws → (w : World) (before after : ClerkState D P)
+    → Rests before after → before.keeper.writer.is_broken ≡ false
+    → after.keeper.writer.is_broken ≡ true → IsMachineOf w before
+    → Follows w (Fault ∷ []) [] (safe_list w) after
+faults_are_events laws w before after s was is m =
     let wh = m.whole was in
     let end : World = record w { power = Broken } in
     let fault = (laws.failed_reopenings w).fails wh.at_rest in
@@ -220,20 +266,22 @@ failed_reopenings_are_faults laws w before after s was is m =
       of_terminals = tt;
       end = end;
       possible = goes_once w end Fault fault;
+      same_base = refl;
       given_is = sym (append-nil w.given);
       safe_is = refl;
       waits = λ none. none;
       alone = λ none. (refl, refl, refl);
       shows = record {
-        building = m.building ∙ sym s.same_plan;
-        reached = reaches laws w m.reached (Fault ∷ []) end (goes_once w end Fault fault) refl;
-        words = λ t. seated_words w end t before.seat after.seat s.same_seat refl refl (m.words t);
+        building = m.building ∙ sym s.plan;
+        reached = reaches laws w m.reached (Fault ∷ []) end (goes_once w end Fault fault) refl refl;
+        words = λ t. rested_words end t (view_at before.seat t) (view_at after.seat t)
+            (s.words t).0 (s.words t).1 (same_words w end t (view_at before.seat t) refl refl (m.words t));
         whole = λ whole. not_both after.keeper.writer.is_broken whole is;
         broken = λ broken. record {
           at_rest = (laws.failed_reopenings w).rests wh.at_rest;
-          safe = wh.safe ∙ sym s.same_register;
-          doubt = nothing ∙ sym (s.same_doubt ∙ wh.no_doubt);
-          may_be_kept = λ some. absurd (some (s.same_doubt ∙ wh.no_doubt));
+          safe = wh.safe ∙ sym s.register;
+          doubt = nothing ∙ sym (s.doubt ∙ wh.no_doubt);
+          may_be_kept = λ some. absurd (some (s.doubt ∙ wh.no_doubt));
         };
       };
     }
@@ -259,18 +307,19 @@ new_words w clerk t e a b =
       even = ap (count_by (is_answer_to t)) (sym b);
     })
 
-nothing_yet : register_after [] ≡ empty
-unfolding Registers.cars Registers.terminals
-nothing_yet = refl
-
-pub begins_at_start : {D P : Type 0} → Laws → BeginsAtStart D P
-begins_at_start laws clerk k none = (
+-- Over an empty journal a clerk begins in the machine's start, where no ask waits.
+pub begins_at_start : {D P : Type 0} → Laws → (clerk : ClerkState D P) → Begins clerk
+    → IsOfBuilding clerk.keeper.writer.plan clerk.keeper.writer.register
+    → IsMachineOf (start clerk.keeper.writer.plan clerk.keeper.writer.register) clerk
+    × WaitsNowhere (start clerk.keeper.writer.plan clerk.keeper.writer.register)
+begins_at_start laws clerk k of = (
   record {
     building = refl;
     reached = ([], refl);
-    words = λ t. new_words (start clerk.keeper.writer.plan) clerk t k.seat refl refl;
-    whole = λ whole. opened (start clerk.keeper.writer.plan) clerk
-        (laws.starts clerk.keeper.writer.plan) refl (nothing_yet ∙ sym none) k.state k.no_doubt;
+    words = λ t. new_words (start clerk.keeper.writer.plan clerk.keeper.writer.register) clerk t k.seat refl refl;
+    whole = λ whole. opened (start clerk.keeper.writer.plan clerk.keeper.writer.register) clerk
+        (laws.starts clerk.keeper.writer.plan clerk.keeper.writer.register) refl
+        (over_nothing clerk.keeper.writer.plan clerk.keeper.writer.register of) k.state k.no_doubt;
     broken = λ broken. not_both clerk.keeper.writer.is_broken k.is_whole broken;
   },
   λ t. refl,
@@ -280,7 +329,13 @@ same_outcome : (w : World) (kept : Kept) → outcome (cutting w kept) kept ≡ o
 same_outcome w Safe = refl
 same_outcome w WithBatch = refl
 
-pub begins_after_cut : {D P : Type 0} → Laws → BeginsAfterCut D P
+-- After a crash it begins in the world that the machine's power cut and recovery leave.
+pub begins_after_cut : {D P : Type 0} → Laws → (w : World) (clerk : ClerkState D P) (kept : Kept)
+    → IsReached w → w.building ≡ clerk.keeper.writer.plan → IsTrue (may_keep w kept)
+    → Begins clerk → clerk.keeper.writer.register ≡ register_of w.base (outcome w kept)
+    → (after : World) × (goes (Cut kept ∷ Reopen kept ∷ []) w ≡ Some after)
+    × (after.given ≡ w.given) × (after.base ≡ w.base) × IsMachineOf after clerk
+    × (safe_list after ≡ outcome w kept) × WaitsNowhere after
 begins_after_cut laws w clerk kept reached building may k register =
     let off : World = cutting w kept in
     let cut : next w (Cut kept) ≡ Some off = ap (λ (b : Bool). when b off) may in
@@ -291,12 +346,13 @@ begins_after_cut laws w clerk kept reached building may k register =
       after,
       possible,
       refl,
+      refl,
       record {
         building = building;
-        reached = reaches laws w reached (Cut kept ∷ Reopen kept ∷ []) after possible refl;
+        reached = reaches laws w reached (Cut kept ∷ Reopen kept ∷ []) after possible refl refl;
         words = λ t. new_words after clerk t k.seat refl refl;
         whole = λ whole. opened after clerk (laws.cuts w kept off cut) refl
-            (ap register_after (same_outcome w kept) ∙ sym register) k.state k.no_doubt;
+            (ap (register_of w.base) (same_outcome w kept) ∙ sym register) k.state k.no_doubt;
         broken = λ broken. not_both clerk.keeper.writer.is_broken k.is_whole broken;
       },
       safe_all after (laws.cuts w kept off cut) ∙ same_outcome w kept,

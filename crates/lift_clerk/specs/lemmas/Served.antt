@@ -1,32 +1,26 @@
 -- What a turn changes in the words of one terminal.
+use Rattle.lift_clerk.specs.Answered.{AreOthers, AreApart, answers_to, ask_of, Grows, Answers}
 use Rattle.std.proofs.Common.{ℕ, zero, suc, ◌≡◌, ◌≢◌, ◌+◌, ◌≤◌, Bool, true, false, cond, List, []}
-use Rattle.std.proofs.Common.{◌∷◌, ◌++◌, length, map, Option, Some, None, refl, sym, ap, subst, ◌∙◌}
-use Rattle.std.proofs.Common.{arith}
-use Rattle.std.specs.Prelude.{filter}
+use Rattle.std.proofs.Common.{◌∷◌, ◌++◌, length, Option, Some, None, refl, sym, ap, subst, ◌∙◌}
+use Rattle.std.proofs.Common.{arith, map}
+use Rattle.std.specs.Prelude.{filter, All, IfSome}
 use Rattle.std.specs.List.{AllByRecursion}
 use Rattle.std.proofs.lemmas.Bool.{ne_eqb, eq-eqb}
 use Rattle.std.proofs.lemmas.List.{append-nil, length-append}
+use Rattle.std.proofs.lemmas.List.Elements.{All-append, All-cons, All-nil}
+use mathlib.Core.List.{map-append}
 use Rattle.lift_base.specs.declared.command.Reply.{Reply}
 use Rattle.lift_desk.specs.declared.view.ClerkView.{ClerkView}
 use Rattle.lift_desk.specs.declared.words.Ask.{Ask}
 use Rattle.lift_desk.specs.Words.{ask_word, reply_word}
-use Rattle.lift_desk.specs.Spelled.{ask_words}
+use Rattle.lift_desk.specs.Spelled.{IsAsk}
 use Rattle.lift_desk.specs.Steps.{is_new, with_taking, with_answer}
 use Rattle.lift_desk.specs.Seats.{ClerkPlace, view_at}
 use Rattle.lift_policy.specs.declared.command.Command.{Command}
 use Rattle.lift_world.specs.declared.event.Answer.{Answer}
 use Rattle.lift_world.specs.World.{asks, is_answer_to}
-use Rattle.lift_clerk.specs.Visits.{Visit, FindsAt, Finds, commands_of, command_at, served}
-use Rattle.lift_clerk.specs.Machine.{ask_of, answer_words}
-use Rattle.lift_clerk.specs.lemmas.Lists.{AreOthers, no_asks, no_answers, answers_to}
-
--- these asks are taken, and these answers to them stored
-pub record Grows (before after : ClerkView) (cs : List Command)
-    (answers : List Answer) : Type 0 where
-  pub taken : after.taken ≡ before.taken ++ ask_words (suc (length before.taken)) (map ask_of cs)
-  pub answered : after.answered
-      ≡ before.answered ++ answer_words (suc (length before.taken)) answers
-  pub same : length cs ≡ length answers
+use Rattle.lift_clerk.specs.Visits.{Visit, FindsAt, Finds, Serves, commands_of, command_at, served}
+use Rattle.lift_clerk.specs.lemmas.Lists.{no_asks, no_answers}
 
 grows_as : (before after : ClerkView) (cs ds : List Command) (xs ys : List Answer) → ds ≡ cs
     → ys ≡ xs → Grows before after cs xs → Grows before after ds ys
@@ -77,14 +71,15 @@ module _ (place : ClerkPlace) (word t first k : ℕ) where
   asking ask = record { terminal = first; number = ask.number; body = ask.body }
 
   one_more : (ask : Ask) (reply : Reply) → is_new place.view word ≡ true
+      → length place.view.answered ≡ length place.view.taken
       → word ≡ ask_word (suc (length place.view.taken)) ask.number ask.body
       → Grows place.view (with_answer looked (reply_word (length looked.taken) ask.number reply))
       (asking ask ∷ []) (record { terminal = first; number = ask.number; reply = reply } ∷ [])
-  one_more ask reply new is =
+  one_more ask reply new even is =
       let more : looked.taken ≡ place.view.taken ++ word ∷ [] =
       ap (λ (b : Bool). cond b (place.view.taken ++ word ∷ []) place.view.taken) new in
       let l = length-append place.view.taken (word ∷ []) in
-      let count : length looked.taken ≡ suc (length place.view.taken) =
+      let count : length looked.taken ≡ suc (length place.view.answered) =
       ap length more ∙ omega arith in
       record {
         taken = more ∙ ap (λ (x : ℕ). place.view.taken ++ x ∷ []) is;
@@ -160,7 +155,7 @@ view_behind place places word (Some ask) visits (reply ∷ replies) first zero t
     (asked_of t (c ∷ rest))
     (record { terminal = first; number = ask.number; reply = reply } ∷ [])
     (given_to t (c ∷ rest) (reply ∷ replies)) is.0 is.1
-    (one_more place word t first 0 ask reply at.reads.0 at.reads.1)
+    (one_more place word t first 0 ask reply at.reads.0 (at.even refl) at.reads.1)
 view_behind place places word (Some ask) visits (reply ∷ replies) first (suc k) t e at later count =
     let rest = commands_of (suc first) visits in
     let c : Command = record { terminal = first; number = ask.number; body = ask.body } in
@@ -184,10 +179,6 @@ view_after (place ∷ places) (visit ∷ visits) first finds replies k t e count
     (view_after places visits (suc first) finds.1) count
 
 -- no terminal is looked at twice
-abbrev pub AreApart : List Command → Type 0
-AreApart [] = Unit {0}
-AreApart (c ∷ cs) = AreOthers c.terminal cs × AreApart cs
-
 apart_first : (first : ℕ) (found : Option Ask) (rest : List Command) → AreOthers first rest
     → AreApart rest → AreApart (command_at first found ++ rest)
 apart_first first None rest others apart = apart
@@ -198,3 +189,32 @@ all_apart first [] = tt
 all_apart first (visit ∷ visits) =
     apart_first first visit.found (commands_of (suc first) visits)
     (behind first (suc first) visits (omega arith)) (all_apart (suc first) visits)
+
+-- a word can spell what was found
+spelled_one : (t : ℕ) (found : Option Ask) → IfSome found IsAsk
+    → All IsAsk (map ask_of (command_at t found))
+spelled_one t None h = All-nil IsAsk
+spelled_one t (Some ask) h = All-cons IsAsk ask [] h (All-nil IsAsk)
+
+spelled : (places : List ClerkPlace) (visits : List Visit) (first : ℕ) → Finds places visits
+    → All IsAsk (map ask_of (commands_of first visits))
+spelled places [] first finds = All-nil IsAsk
+spelled [] (visit ∷ visits) first finds = absurd finds
+spelled (place ∷ places) (visit ∷ visits) first finds =
+    let later : List Command = commands_of (suc first) visits in
+    subst (All IsAsk) (sym (map-append ask_of (command_at first visit.found) later))
+    (All-append IsAsk (map ask_of (command_at first visit.found)) (map ask_of later)
+    (spelled_one first visit.found finds.0.in_range) (spelled places visits (suc first) finds.1))
+
+-- what a scan takes and answers
+pub answers_of : (old new : List ClerkPlace) (visits : List Visit) (replies : List Reply)
+    → Serves old new visits replies → Answers old new (commands_of 0 visits) replies
+answers_of old new visits replies serves = record {
+  one_each = serves.one_reply_each;
+  apart = all_apart 0 visits;
+  in_range = spelled old visits 0 serves.finds;
+  grows = λ t. subst (λ (s : List ClerkPlace).
+      Grows (view_at old t) (view_at s t) (asked_of t (commands_of 0 visits))
+      (given_to t (commands_of 0 visits) replies)) (sym serves.stored)
+      (view_after old visits 0 serves.finds replies t t (omega arith) serves.one_reply_each);
+}

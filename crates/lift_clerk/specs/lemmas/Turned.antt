@@ -1,6 +1,6 @@
 -- What the worlds behind a turn show.
 use Rattle.std.proofs.Common.{ℕ, ◌≡◌, ◌≢◌, true, false, List, [], ◌∷◌, ◌++◌, length, take, drop}
-use Rattle.std.proofs.Common.{Option, Some, refl, sym, ap, subst, ◌∙◌, arith}
+use Rattle.std.proofs.Common.{Option, Some, refl, sym, ap, subst, ◌∙◌}
 use Rattle.std.specs.Prelude.{IsTrue}
 use Rattle.std.specs.List.{AllByRecursion}
 use Rattle.std.proofs.Math.Seq.{take-length, drop-length}
@@ -10,30 +10,34 @@ use Rattle.lift_base.specs.declared.history.Entry.{Entry}
 use Rattle.lift_base.specs.declared.travel.Position.{Position}
 use Rattle.lift_register.specs.Register.{RegisterState, register_of, empty}
 use Rattle.lift_register.specs.Joins.{RegistersJoin}
-use Rattle.lift_desk.specs.Seats.{ClerkPlace, view_at}
+use Rattle.lift_desk.specs.Seats.{view_at}
 use Rattle.lift_policy.specs.Eligible.{Choice, any_eligible}
 use Rattle.lift_policy.specs.Step.{State}
 use Rattle.lift_policy.specs.Run.{Run}
 use Rattle.lift_policy.specs.declared.command.Command.{Command}
 use Rattle.lift_world.specs.declared.event.Event.{Event}
 use Rattle.lift_world.specs.declared.event.Taken.{Taken}
-use Rattle.lift_world.specs.World.{World, state_of, state_at, safe_list, register_after}
+use Rattle.lift_world.specs.World.{World, state_of, state_at, safe_list}
 use Rattle.lift_world.specs.Next.{goes}
 use Rattle.lift_world.specs.Asking.{asked_on}
 use Rattle.lift_world.specs.Beside.{is_of_terminals}
 use Rattle.lift_world.specs.Policies.{RunsAreAny}
 use Rattle.lift_world.specs.Turns.{IsAtRest, with_replies, turned, turn_events}
 use Rattle.lift_clerk.specs.Clerk.{ClerkState}
-use Rattle.lift_clerk.specs.Visits.{Visit, Serves, commands_of, served}
+use Rattle.lift_clerk.specs.Visits.{commands_of}
+use Rattle.lift_clerk.specs.Answered.{Answers}
+use Rattle.lift_clerk.specs.Steps.{DecidesOn, MakesSafe}
+use Rattle.lift_clerk.specs.declared.counts.Counts.{Counts}
+use Rattle.lift_building.specs.Plan.{Plan}
 use Rattle.lift_clerk.specs.Machine.{IsMachineOf, ShowsWords, ShowsWhole, ShowsBroken, LooksAgree}
 use Rattle.lift_clerk.specs.Machine.{WaitsNowhere, waiting_in, Follows, events_of_turn}
-use Rattle.lift_clerk.specs.Machine.{TurnsAreTurns}
+use Rattle.lift_clerk.specs.Machine.{Turns, TurnsAreTurns}
 use Rattle.lift_clerk.specs.Laws.{Laws}
-use Rattle.lift_clerk.specs.lemmas.Served.{view_after, all_apart}
+use Rattle.lift_clerk.specs.lemmas.Served.{answers_of}
 use Rattle.lift_clerk.specs.lemmas.Standing.{fresh, fresh_none, Splits, Asks, waiting_is}
 use Rattle.lift_clerk.specs.lemmas.Standing.{asks_after}
 use Rattle.lift_clerk.specs.lemmas.Words.{Ends, splits_of, words_after}
-use Rattle.lift_clerk.specs.lemmas.Asked.{Asked, ask, reaches, rests, goes_behind, run_in, not_both}
+use Rattle.lift_clerk.specs.lemmas.Asked.{Asked, ask, reaches, rests, goes_behind, not_both}
 
 module _ {D P : Type 0} (laws : Laws) (w : World) (before after : ClerkState D P)
     (m : IsMachineOf w before) where
@@ -49,37 +53,28 @@ module _ {D P : Type 0} (laws : Laws) (w : World) (before after : ClerkState D P
     pub ends : Ends w commands rs end
     pub alone : fresh w commands ≡ [] → (first ≡ []) × (end.heard ≡ w.heard)
 
-  module _ (visits : List Visit) (rs : List Reply)
-      (serves : Serves before.seat after.seat visits rs)
-      (agree : LooksAgree w (commands_of 0 visits))
+  module _ (found : List Command) (rs : List Reply)
+      (answers : Answers before.seat after.seat found rs) (agree : LooksAgree w found)
       (same_plan : after.keeper.writer.plan ≡ before.keeper.writer.plan) where
-    abbrev found : List Command
-    found = commands_of 0 visits
-
     module _ (own : List Event) (end : World) (k : Leads own found rs end) (safe : List Entry)
         (same_safe : safe_list end ≡ safe) where
       abbrev more : (t : ℕ) → Asks w splits t found
-      more t = asks_after w splits t found agree (all_apart 0 visits)
+      more t = asks_after w splits t found agree answers.apart
 
-      abbrev stored : (t : ℕ) → ShowsWords end t (view_at (served before.seat visits rs) t)
-      stored t =
-          words_after w end t found rs k.ends (view_at before.seat t)
-          (view_at (served before.seat visits rs) t) (m.words t) (more t).waiting (more t).asked
-          (view_after before.seat visits 0 serves.finds rs t t (omega arith) serves.one_reply_each)
-
-      words : (t : ℕ) → ShowsWords end t (view_at after.seat t)
-      words t = subst (λ (s : List ClerkPlace). ShowsWords end t (view_at s t)) (sym serves.stored)
-          (stored t)
+      abbrev words : (t : ℕ) → ShowsWords end t (view_at after.seat t)
+      words t =
+          words_after w end t found rs k.ends (view_at before.seat t) (view_at after.seat t)
+          (m.words t) (more t).waiting (more t).asked (answers.grows t)
 
       waits : WaitsNowhere w → WaitsNowhere end
       waits none t =
-          waiting_is end t (splits_of end t (view_at (served before.seat visits rs) t) (stored t))
+          waiting_is end t (splits_of end t (view_at after.seat t) (words t))
           ∙ (more t).none (sym (waiting_is w t (splits t)) ∙ none t)
 
       alone : AllByRecursion (λ (c : Taken). waiting_in w c.terminal ≢ []) (with_replies found rs)
           → (k.first ≡ []) × (end.asked ≡ w.asked) × (end.heard ≡ w.heard)
       alone some =
-          let none : fresh w found ≡ [] = fresh_none w found rs serves.one_reply_each some in
+          let none : fresh w found ≡ [] = fresh_none w found rs answers.one_each some in
           let still = k.alone none in (
             still.0,
             k.ends.asked ∙ ap (λ (xs : List Command).
@@ -95,13 +90,14 @@ module _ {D P : Type 0} (laws : Laws) (w : World) (before after : ClerkState D P
         of_terminals = k.theirs;
         end = end;
         possible = k.possible;
+        same_base = k.ends.base;
         given_is = k.ends.given;
         safe_is = same_safe;
         waits = waits;
         alone = alone;
         shows = record {
           building = k.ends.building ∙ m.building ∙ sym same_plan;
-          reached = reaches laws w m.reached (k.first ++ own) end k.possible k.ends.building;
+          reached = reaches laws w m.reached (k.first ++ own) end k.possible k.ends.building k.ends.base;
           words = words;
           whole = whole;
           broken = broken;
@@ -111,24 +107,24 @@ module _ {D P : Type 0} (laws : Laws) (w : World) (before after : ClerkState D P
 -- the register of the accepted entries, and what decisions read, where all is safe
 module _ (registers : RegistersJoin) where
   pub register_with : (w : World) (batch : List Entry) (register : RegisterState)
-      → register_after (safe_list w) ≡ register
-      → register_after (safe_list w ++ batch) ≡ register_of register batch
+      → register_of w.base (safe_list w) ≡ register
+      → register_of w.base (safe_list w ++ batch) ≡ register_of register batch
   register_with w batch register e =
-      sym (registers empty (safe_list w) batch) ∙ ap (λ (r : RegisterState). register_of r batch) e
+      sym (registers w.base (safe_list w) batch) ∙ ap (λ (r : RegisterState). register_of r batch) e
 
 pub safe_all : (w : World) → IsAtRest w → safe_list w ≡ w.accepted
 safe_all w k = ap (λ (n : ℕ). take n w.accepted) k.all_safe ∙ take-length w.accepted
 
 pub state_is : (w : World) → IsAtRest w → (state : State)
-    → register_after w.accepted ≡ state.register → w.positions ≡ state.positions → [] ≡ state.batch
+    → register_of w.base w.accepted ≡ state.register → w.positions ≡ state.positions → [] ≡ state.batch
     → state_of w ≡ state
 state_is w k state r p b =
-    ap (λ (n : ℕ). state_at w.accepted n w.positions) k.all_sealed
+    ap (λ (n : ℕ). state_at w.base w.accepted n w.positions) k.all_sealed
     ∙ ap (λ (xs : List Entry).
-    record { register = register_after w.accepted; positions = w.positions; batch = xs })
+    record { register = register_of w.base w.accepted; positions = w.positions; batch = xs })
     (drop-length w.accepted ∙ b)
     ∙ ap (λ (ps : List (Option Position)).
-    record { register = register_after w.accepted; positions = ps; batch = state.batch }) p
+    record { register = register_of w.base w.accepted; positions = ps; batch = state.batch }) p
     ∙ ap (λ (x : RegisterState).
     record { register = x; positions = state.positions; batch = state.batch }) r
 
@@ -176,6 +172,7 @@ module _ (laws : Laws) (w : World) (rest : IsAtRest w) where
           possible = refl;
           ends = record {
             building = refl;
+            base = refl;
             asked = sym (append-nil w.asked);
             answered = sym (append-nil w.answered);
             given = sym (append-nil w.given);
@@ -200,7 +197,7 @@ module _ (laws : Laws) (w : World) (rest : IsAtRest w) where
           end = turned w1 (c ∷ cs) (reply ∷ rs) state;
           possible = goes_behind a.events (turn_events (c ∷ cs) t.0 folds (length state.batch)) w w1
               a.possible ∙ t.1 folds;
-          ends = record { building = refl; asked = refl; answered = refl; given = refl };
+          ends = record { building = refl; base = refl; asked = refl; answered = refl; given = refl };
           alone = a.alone;
           rest = laws.turns_rest w1 (c ∷ cs) (reply ∷ rs) state rest1;
           accepted = refl;
@@ -208,28 +205,64 @@ module _ (laws : Laws) (w : World) (rest : IsAtRest w) where
         },
       )
 
-pub turns_are_turns : {D P : Type 0} → Laws → (choice : Choice) → RunsAreAny choice
-    → TurnsAreTurns D P choice
-turns_are_turns laws choice any w before after counts t m agree =
-    let cs : List Command = commands_of 0 t.turn.visits in
-    let state : State = t.turn.decided in
-    let wh : ShowsWhole w before.keeper = m.whole t.was_whole in
+-- what a clerk's turn makes safe
+abbrev pub makes_safe : {D P : Type 0} → (choice : Choice) → RunsAreAny choice
+    → (before after : ClerkState D P) (counts : Counts) → Turns choice before after counts
+    → MakesSafe before after
+makes_safe choice any before after counts t = record {
+  commands = commands_of 0 t.turn.visits;
+  replies = t.turn.replies;
+  decided = t.turn.decided;
+  desk = t.turn.desk;
+  decides = record {
+    was_whole = t.was_whole;
+    run = any before.keeper.writer.plan before.keeper.state (commands_of 0 t.turn.visits)
+        t.turn.replies t.turn.decided t.turn.run;
+    shows = t.turn.safe;
+  };
+  answers = answers_of before.seat after.seat t.turn.visits t.turn.replies t.turn.serves;
+  state = t.turn.after;
+  safe = t.safe ∙ ap (λ (s : State). s.register) t.turn.after;
+  is_whole = t.is_whole;
+  no_doubt = t.no_doubt;
+  same_plan = t.same_plan;
+}
+
+-- what was decided on the keeper's state is decided on the machine's
+pub decided_in : {D P : Type 0} → (w : World) (clerk : ClerkState D P) → w.building ≡ clerk.keeper.writer.plan
+    → state_of w ≡ clerk.keeper.state → (cs : List Command) (rs : List Reply) (decided : State)
+    → DecidesOn clerk.keeper cs rs decided → Run w.building any_eligible (state_of w) cs rs decided
+decided_in w clerk b s cs rs decided d =
+    subst (λ (p : Plan). Run p any_eligible (state_of w) cs rs decided) (sym b)
+    (subst (λ (x : State). Run clerk.keeper.writer.plan any_eligible x cs rs decided) (sym s) d.run)
+
+-- A batch that is made safe is a turn of the machine.
+pub batches_are_turns : {D P : Type 0} → Laws → (w : World) (before after : ClerkState D P)
+    → (t : MakesSafe before after) → IsMachineOf w before → LooksAgree w t.commands
+    → (letters : List (Option ℕ))
+    × ((folds : ℕ) → Follows w
+    (events_of_turn t.commands letters folds (length t.decided.batch))
+    (with_replies t.commands t.replies) (safe_list w ++ t.decided.batch) after)
+batches_are_turns laws w before after t m agree =
+    let cs : List Command = t.commands in
+    let state : State = t.decided in
+    let wh : ShowsWhole w before.keeper = m.whole t.decides.was_whole in
     let a : Asked w cs = ask laws w m.reached (splits laws w before after m)
-    (rests w wh.at_rest) cs agree (all_apart 0 t.turn.visits) in
-    let run : Run w.building any_eligible (state_of w) cs t.turn.replies state =
-    run_in choice any w before.keeper.writer.plan before.keeper.state cs t.turn.replies state
-    m.building wh.state t.turn.run in
-    let e = ends_well laws w wh.at_rest cs t.turn.replies state a run in (
+    (rests w wh.at_rest) cs agree t.answers.apart in
+    let run : Run w.building any_eligible (state_of w) cs t.replies state =
+    decided_in w before m.building wh.state cs t.replies state t.decides in
+    let e = ends_well laws w wh.at_rest cs t.replies state a run in (
       e.0,
       λ folds.
-          let k : EndsWell w (events_of_turn cs e.0 folds (length state.batch)) cs t.turn.replies
+          let k : EndsWell w (events_of_turn cs e.0 folds (length state.batch)) cs t.replies
           state = e.1 folds in
           let safe : safe_list w ≡ w.accepted = safe_all w wh.at_rest in
-          let register : register_after k.end.accepted ≡ state.register =
-          ap register_after (k.accepted ∙ ap (λ (xs : List Entry). xs ++ state.batch) (sym safe)) ∙
+          let register : register_of k.end.base k.end.accepted ≡ state.register =
+          ap (λ (r : RegisterState). register_of r k.end.accepted) k.ends.base ∙
+          ap (register_of w.base) (k.accepted ∙ ap (λ (xs : List Entry). xs ++ state.batch) (sym safe)) ∙
           register_with laws.registers w state.batch before.keeper.writer.register wh.safe ∙ sym
-          t.turn.safe in
-          follows laws w before after m t.turn.visits t.turn.replies t.turn.serves agree t.same_plan
+          t.decides.shows in
+          follows laws w before after m cs t.replies t.answers agree t.same_plan
           (events_of_turn cs e.0 folds (length state.batch)) k.end
           (record {
             first = k.before;
@@ -244,10 +277,14 @@ turns_are_turns laws choice any w before after counts t m agree =
           (λ whole. record {
             at_rest = k.rest;
             state = state_is k.end k.rest (record state { batch = [] }) register k.positions refl ∙
-                sym t.turn.after;
-            safe = ap register_after (safe_all k.end k.rest) ∙ register ∙ ap (λ (s : State).
-                s.register) (sym t.turn.after) ∙ sym t.safe;
+                sym t.state;
+            safe = ap (register_of k.end.base) (safe_all k.end k.rest) ∙ register ∙ sym t.safe;
             no_doubt = t.no_doubt;
           })
           (λ broken. not_both after.keeper.writer.is_broken t.is_whole broken),
     )
+
+pub turns_are_turns : {D P : Type 0} → Laws → (choice : Choice) → RunsAreAny choice
+    → TurnsAreTurns D P choice
+turns_are_turns laws choice any w before after counts t m agree =
+    batches_are_turns laws w before after (makes_safe choice any before after counts t) m agree

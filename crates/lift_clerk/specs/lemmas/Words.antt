@@ -1,4 +1,5 @@
 -- What the clerk's words are after a turn.
+use Rattle.lift_clerk.specs.Answered.{Grows, answer_words, answers_to, ask_of}
 use Rattle.std.proofs.Common.{ℕ, suc, ◌≡◌, ◌+◌, List, [], ◌∷◌, ◌++◌, length, map, refl, sym, ap}
 use Rattle.std.proofs.Common.{◌∙◌, arith}
 use Rattle.std.specs.Prelude.{filter, count_by}
@@ -15,9 +16,7 @@ use Rattle.lift_policy.specs.declared.command.Command.{Command}
 use Rattle.lift_world.specs.declared.event.Answer.{Answer}
 use Rattle.lift_world.specs.World.{World, asks, is_answer_to}
 use Rattle.lift_world.specs.Turns.{with_replies}
-use Rattle.lift_clerk.specs.Machine.{ask_of, answer_words, ShowsWords}
-use Rattle.lift_clerk.specs.lemmas.Lists.{answers_to}
-use Rattle.lift_clerk.specs.lemmas.Served.{Grows}
+use Rattle.lift_clerk.specs.Machine.{ShowsWords}
 use Rattle.lift_clerk.specs.lemmas.Standing.{fresh, Splits}
 
 pub asks_both : (n : ℕ) (xs ys : List Ask)
@@ -39,9 +38,14 @@ answers_both n (x ∷ xs) ys =
     (answers_both (suc n) xs ys ∙ ap (λ (k : ℕ).
     answer_words (suc n) xs ++ answer_words k ys) (omega arith))
 
+pub answers_long : (n : ℕ) (xs : List Answer) → length (answer_words n xs) ≡ length xs
+answers_long n [] = refl
+answers_long n (x ∷ xs) = ap suc (answers_long (suc n) xs)
+
 -- what a turn leaves at the desk
 pub record Ends (w : World) (cs : List Command) (rs : List Reply) (end : World) : Type 0 where
   pub building : end.building ≡ w.building
+  pub base : end.base ≡ w.base
   pub asked : end.asked ≡ w.asked ++ fresh w cs
   pub answered : end.answered ≡ w.answered ++ answers_to cs rs
   pub given : end.given ≡ w.given ++ with_replies cs rs
@@ -76,6 +80,8 @@ module _ (w end : World) (t : ℕ) (cs : List Command) (rs : List Reply) (e : En
       let old : List Answer = filter (is_answer_to t) w.answered in
       let lf : length firsts ≡ length k.first = length-map k.first ask_of in
       let lt : length before.taken ≡ length firsts = ap length k.taken ∙ asks_count 1 firsts in
+      let la_old : length before.answered ≡ length old =
+      ap length k.answered ∙ answers_long 1 old in
       let lo : length old ≡ count_by (is_answer_to t) w.answered =
       length-filter (is_answer_to t) w.answered in
       let even = k.even in
@@ -97,7 +103,7 @@ module _ (w end : World) (t : ℕ) (cs : List Command) (rs : List Reply) (e : En
             ∙ sym (asks_both 1 firsts (map ask_of taken_here)) ∙ ap (ask_words 1)
             (sym (map-append ask_of k.first taken_here));
         answered = g.answered ∙ ap (λ (xs : List ℕ).
-            xs ++ answer_words (suc (length before.taken)) answers_here) k.answered
+            xs ++ answer_words (suc (length before.answered)) answers_here) k.answered
             ∙ ap (λ (n : ℕ). answer_words 1 old ++ answer_words n answers_here) (omega arith)
             ∙ sym (answers_both 1 old answers_here) ∙ ap (answer_words 1) (sym answered_here);
         even = omega arith;

@@ -20,7 +20,7 @@ Turn f g result = IsEmptyTurn f g result ⊎ ((batch : BatchState) × IsBatchTur
 module _ {D : Type 0} (f g : FlusherState D) (same_plan : g.writer.plan ≡ f.writer.plan) where
   ok_turn : (counts : FlushCounts) → Turn f g (Ok counts)
       → ((Ok counts ≡ Err (Journal Broken)) ↔ (f.writer.is_broken ≡ true))
-      → g.writer.register ≡ g.end.register
+      → g.writer.register ≡ g.end.state.register
       → (g.writer.is_broken ≡ false) → (g.writer.doubt ≡ [])
       → IsEmptyTurn f g (Ok counts) ⊎ ((batch : BatchState) × Flushes f g batch counts)
   ok_turn counts (inl e) broken register whole none = inl e
@@ -63,7 +63,7 @@ module _ {D : Type 0} (f g : FlusherState D) (same_plan : g.writer.plan ≡ f.wr
 
   pub flushes_of : (result : Result FlushCounts KeeperFault) → Turn f g result
       → ((result ≡ Err (Journal Broken)) ↔ (f.writer.is_broken ≡ true))
-      → OnOk result (g.writer.register ≡ g.end.register)
+      → OnOk result (g.writer.register ≡ g.end.state.register)
       → OnOk result ((g.writer.is_broken ≡ false) × (g.writer.doubt ≡ []))
       → IfOk result (λ counts. IsEmptyTurn f g (Ok counts)
       ⊎ ((batch : BatchState) × Flushes f g batch counts))

@@ -1,6 +1,6 @@
 //! A device on a file.
 use crate::disk::calls::{Call, all_come, holds};
-use lift_disk::{Disk, FileDisk, FileFault};
+use lift_disk::{Disk, FileDisk, FileFault, ToldFile, ToldFiles};
 use std::fs::{self, File, Files};
 use std::process::Abort;
 use std::test::Fail;
@@ -8,12 +8,27 @@ use std::test::Fail;
 const FOLDER: &str = "lift_disk_folder";
 
 /// The device on a file that is there.
-pub(crate) fn opened<R: Files<File = File> + Abort>(rt: &R, path: &str) -> FileDisk {
+pub(crate) fn opened<R: Files<File = File> + ToldFiles + Abort>(
+    rt: &R,
+    path: &str,
+) -> FileDisk<R::Told> {
     FileDisk::open(rt, path).ok().expect(rt, "the file")
 }
 
+/// The same beside whoever has its lock.
+pub(crate) fn looked_at<R: Files<File = File> + ToldFiles + Abort>(
+    rt: &R,
+    path: &str,
+) -> FileDisk<R::Told> {
+    FileDisk::open_to_read(rt, path).ok().expect(rt, "the file")
+}
+
 /// A device on a file that is made anew.
-pub(crate) fn created<R: Files<File = File> + Abort>(rt: &R, path: &str, sectors: u32) -> FileDisk {
+pub(crate) fn created<R: Files<File = File> + ToldFiles + Abort>(
+    rt: &R,
+    path: &str,
+    sectors: u32,
+) -> FileDisk<R::Told> {
     FileDisk::create(rt, path, sectors)
         .ok()
         .expect(rt, "a file")
@@ -33,13 +48,16 @@ fn has_kept<D: Disk>(disk: &mut D) -> bool {
 }
 
 /// Whether a device on a file that is made anew keeps what is written.
-fn is_kept<R: Files<File = File> + Abort>(rt: &R, path: &str) -> Result<bool, Fail> {
+fn is_kept<R: Files<File = File> + ToldFiles + Abort>(rt: &R, path: &str) -> Result<bool, Fail> {
     fs::write(rt, path, b"something else".as_slice())?;
     Ok(keeps(&mut created(rt, path, 4)))
 }
 
 /// Whether the next that opens the file has that; cut short by another, it fails and ends.
-fn is_read_again<R: Files<File = File> + Abort>(rt: &R, path: &str) -> Result<bool, Fail> {
+fn is_read_again<R: Files<File = File> + ToldFiles + Abort>(
+    rt: &R,
+    path: &str,
+) -> Result<bool, Fail> {
     let mut disk = opened(rt, path);
     let is_there = has_kept(&mut disk);
     fs::write(rt, path, [1u8; 512].as_slice())?;
@@ -58,18 +76,18 @@ fn a_file_keeps_its_sectors(rt: HostRuntime) -> Result<(), Fail> {
 }
 
 /// How many sectors a device has, where there is one.
-fn sectors_of(device: Result<FileDisk, FileFault>) -> Option<u32> {
+fn sectors_of<F: ToldFile + Drop>(device: Result<FileDisk<F>, FileFault>) -> Option<u32> {
     match device {
         Ok(disk) => Some(disk.sectors()),
         Err(_) => None,
     }
 }
 
-fn is_no_file(device: Result<FileDisk, FileFault>) -> bool {
+fn is_no_file<F: ToldFile + Drop>(device: Result<FileDisk<F>, FileFault>) -> bool {
     matches!(device, Err(FileFault::NotAFile))
 }
 
-fn is_refused_by_system(device: Result<FileDisk, FileFault>) -> bool {
+fn is_refused_by_system<F: ToldFile + Drop>(device: Result<FileDisk<F>, FileFault>) -> bool {
     matches!(device, Err(FileFault::System(_)))
 }
 
@@ -84,6 +102,26 @@ fn whole_sectors_count(rt: HostRuntime) -> Result<(), Fail> {
     }
     fs::remove_file(&rt, path)?;
     assert!(rt; is_refused_by_system(FileDisk::open(&rt, path)));
+    Ok(())
+}
+
+/// Whether a file is neither opened nor made anew while another has its lock, and is as it was.
+fn is_had_once<R: Files<File = File> + ToldFiles + Abort>(rt: &R, path: &str) -> bool {
+    let mut first = created(rt, path, 4);
+    let is_kept = keeps(&mut first);
+    is_refused_by_system(FileDisk::open(rt, path))
+        && is_refused_by_system(FileDisk::create(rt, path, 8))
+        && is_kept
+        && has_kept(&mut looked_at(rt, path))
+}
+
+/// A file has one device that writes it at a time, and any number that read it.
+#[test]
+fn a_file_is_had_once(rt: HostRuntime) -> Result<(), Fail> {
+    let path = "lift_disk_locked.image";
+    assert!(rt; is_had_once(&rt, path));
+    assert!(rt; sectors_of(FileDisk::open(&rt, path)) == Some(4));
+    fs::remove_file(&rt, path)?;
     Ok(())
 }
 

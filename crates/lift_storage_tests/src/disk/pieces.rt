@@ -1,7 +1,7 @@
 //! A device on a file that moves a piece at each call, fails where it was told to, and counts its
 //! calls.
 use crate::disk::calls::{Call, get, put};
-use lift_disk::{Buffered, Disk, SectorFile, TracedFile};
+use lift_disk::{Buffered, Disk, HostFile, SectorFile, SystemFile, TracedFile};
 use std::alloc::{AllocError, Global};
 use std::cell::Cell;
 use std::fs::{Metadata, OpenFile};
@@ -93,12 +93,22 @@ impl OpenFile for PieceFile<'_> {
     }
 }
 
+impl HostFile for PieceFile<'_> {
+    fn try_lock(&self) -> io::Result<()> {
+        Ok(())
+    }
+
+    fn drop_cached(&self) -> io::Result<()> {
+        Ok(())
+    }
+}
+
 /// 40 sectors of zeros on such a file.
 fn device(
     alloc: Global,
     piece: usize,
     calls: &Calls,
-) -> Result<SectorFile<PieceFile<'_>>, AllocError> {
+) -> Result<SectorFile<SystemFile<PieceFile<'_>>>, AllocError> {
     let mut bytes = Vec::new(alloc);
     for _ in 0..20_480 {
         bytes.push(Cell::new(0))?;
@@ -108,7 +118,7 @@ fn device(
         piece,
         calls,
     };
-    Ok(SectorFile::over(TracedFile::over(file), 40))
+    Ok(SectorFile::over(TracedFile::over(SystemFile::over(file)), 40))
 }
 
 /// A call of the device, and how many reads, writes and syncs of the file there are by then.

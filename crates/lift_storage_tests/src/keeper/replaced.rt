@@ -3,7 +3,7 @@ use crate::journal::listing::{add, make};
 use crate::keeper::journals::{allot, demo, floor, number};
 use lift_base::{Body, Dir, Letter, Record, Reply, Terminal};
 use lift_building::Building;
-use lift_disk::{Disk, FileDisk};
+use lift_disk::{Disk, FileDisk, ToldFiles};
 use lift_journal::{Journal, JournalFault};
 use lift_keeper::{Keeper, KeeperFault};
 use lift_policy::Etd;
@@ -14,12 +14,19 @@ use std::test::Fail;
 
 const IMAGE: &str = "lift_keeper_replaced.image";
 
+/// What takes its place is made here, and copied: a keeper has the lock of its own file.
+const OTHER: &str = "lift_keeper_other.image";
+
 /// The first batch of one record has its gate in sector 2 and its body in sector 3.
 const SECOND_GATE: u32 = 4;
 
-/// The file with an empty journal for a building.
-fn formatted<R: Files<File = File>>(rt: &R, building: &Building) -> Result<FileDisk, Fail> {
-    let mut disk = FileDisk::create(rt, IMAGE, 130).ok().ok_or("a file")?;
+/// A file with an empty journal for a building.
+fn formatted<R: Files<File = File> + ToldFiles>(
+    rt: &R,
+    path: &str,
+    building: &Building,
+) -> Result<FileDisk<R::Told>, Fail> {
+    let mut disk = FileDisk::create(rt, path, 130).ok().ok_or("a file")?;
     if make(&mut disk, building.shape(64)) == Some(Ok(())) {
         Ok(disk)
     } else {
@@ -39,8 +46,8 @@ fn stops<D: Disk>(keeper: &mut Keeper<D>, told: u32) -> bool {
 }
 
 /// Whether the gate in this sector of the file is open.
-fn is_open<R: Files<File = File>>(rt: &R, gate: u32) -> Result<bool, Fail> {
-    let mut disk = FileDisk::open(rt, IMAGE).ok().ok_or("the file")?;
+fn is_open<R: Files<File = File> + ToldFiles>(rt: &R, gate: u32) -> Result<bool, Fail> {
+    let mut disk = FileDisk::open_to_read(rt, IMAGE).ok().ok_or("the file")?;
     let mut sector = [0; 512];
     if gate >= disk.sectors() {
         return Ok(false);
@@ -49,16 +56,16 @@ fn is_open<R: Files<File = File>>(rt: &R, gate: u32) -> Result<bool, Fail> {
     Ok(sector[0] == 0xA5)
 }
 
-/// A journal of another building is in the file's place.
-fn replace_by_other<R: Files<File = File>>(rt: &R, alloc: Global) -> Result<(), Fail> {
+/// A journal of another building.
+fn make_other<R: Files<File = File> + ToldFiles>(rt: &R, alloc: Global) -> Result<(), Fail> {
     let one = demo(alloc, 1)?;
-    drop(formatted(rt, &one)?);
+    drop(formatted(rt, OTHER, &one)?);
     Ok(())
 }
 
-/// A journal whose first record doesn't fit is in its place.
-fn replace_by_misfit<R: Files<File = File>>(rt: &R, building: &Building) -> Result<(), Fail> {
-    let mut journal = Journal::open(formatted(rt, building)?)
+/// A journal whose first record doesn't fit.
+fn make_misfit<R: Files<File = File> + ToldFiles>(rt: &R, building: &Building) -> Result<(), Fail> {
+    let mut journal = Journal::open(formatted(rt, OTHER, building)?)
         .ok()
         .ok_or("a journal")?;
     let misfits: [Record; 33] = [allot(2, 3); 33];
@@ -70,11 +77,11 @@ fn replace_by_misfit<R: Files<File = File>>(rt: &R, building: &Building) -> Resu
 }
 
 /// A keeper of two cars, which has made a stop of car A safe.
-fn begun<'b, R: Files<File = File>>(
+fn begun<'b, R: Files<File = File> + ToldFiles>(
     rt: &R,
     building: &'b Building,
-) -> Result<Keeper<'b, FileDisk>, Fail> {
-    let mut keeper = Keeper::open(formatted(rt, building)?, building)
+) -> Result<Keeper<'b, FileDisk<R::Told>>, Fail> {
+    let mut keeper = Keeper::open(formatted(rt, IMAGE, building)?, building)
         .ok()
         .ok_or("refused")?;
     if stops(&mut keeper, 1) {
@@ -85,9 +92,9 @@ fn begun<'b, R: Files<File = File>>(
 }
 
 /// Whether a reopening is refused so, and the next batch goes behind the one that was written.
-fn goes_on<R: Files<File = File>>(
+fn goes_on<R: Files<File = File> + ToldFiles>(
     rt: &R,
-    keeper: &mut Keeper<FileDisk>,
+    keeper: &mut Keeper<FileDisk<R::Told>>,
     fault: KeeperFault,
 ) -> Result<bool, Fail> {
     let was_open = is_open(rt, SECOND_GATE)?;
@@ -109,14 +116,16 @@ fn a_refused_reopening_changes_nothing(rt: HostRuntime) -> Result<(), Fail> {
     for fault in rows {
         let mut keeper = begun(&rt, &two)?;
         match fault {
-            KeeperFault::OtherBuilding => replace_by_other(&rt, rt.alloc())?,
-            KeeperFault::BadEntry(_) => replace_by_misfit(&rt, &two)?,
+            KeeperFault::OtherBuilding => make_other(&rt, rt.alloc())?,
+            KeeperFault::BadEntry(_) => make_misfit(&rt, &two)?,
             KeeperFault::Journal(_) => {
-                drop(FileDisk::create(&rt, IMAGE, 130).ok().ok_or("a file")?);
+                drop(FileDisk::create(&rt, OTHER, 130).ok().ok_or("a file")?);
             }
         }
+        fs::copy(&rt, OTHER, IMAGE)?;
         assert!(rt; goes_on(&rt, &mut keeper, fault)?);
     }
     fs::remove_file(&rt, IMAGE)?;
+    fs::remove_file(&rt, OTHER)?;
     Ok(())
 }

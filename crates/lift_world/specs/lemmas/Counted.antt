@@ -8,6 +8,7 @@ use Rattle.std.proofs.lemmas.List.{length-append}
 use Rattle.std.proofs.lemmas.List.Concat.{flat_map-append}
 use Rattle.std.proofs.lemmas.List.Sums.{length-filter, sum_by-append, sum_by-cons}
 use Rattle.lift_building.specs.Plan.{Plan}
+use Rattle.lift_register.specs.Register.{RegisterState}
 use Rattle.lift_policy.specs.declared.command.Command.{Command}
 use Rattle.lift_world.specs.declared.event.Taken.{Taken}
 use Rattle.lift_world.specs.declared.event.Event.{Event}
@@ -265,17 +266,17 @@ heard_few w terminal k =
     ≡ length (filter (is_answer_to terminal) w.answered) = ap length rest.1 in
     omega arith
 
-pub all_ask_one_by_one : (building : Plan) (events : List Event)
-    → AllAskOneByOne (run events (start building))
-all_ask_one_by_one building events terminal =
-    let w : World = run events (start building) in
+pub all_ask_one_by_one : (building : Plan) (base : RegisterState) (events : List Event)
+    → AllAskOneByOne (run events (start building base))
+all_ask_one_by_one building base events terminal =
+    let w : World = run events (start building base) in
     let k : Balances w terminal =
-    run_balances terminal events (start building) (record {
+    run_balances terminal events (start building base) (record {
       answers = omega arith;
       hears = omega arith;
     }) in
     let parts = owed_parts terminal w.due w.flight.commands (in_queue w.queue) w.taken in
-    let few = heard_few w terminal (run_hears events (start building) (start_hears building)) in
+    let few = heard_few w terminal (run_hears events (start building base) (start_hears building base)) in
     let a = k.answers in
     let h = k.hears in
     record { answered = omega arith; one_on_its_way = omega arith; asked = h }

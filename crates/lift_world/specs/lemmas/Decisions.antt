@@ -31,8 +31,9 @@ use Rattle.lift_base.specs.declared.command.Reply.TheVariants.{Car, Stopped, Pla
 use Rattle.lift_base.specs.declared.command.Reply.TheVariants.{Unknown}
 use Rattle.lift_base.specs.Travel.{same_dir}
 use Rattle.lift_building.specs.Plan.{Plan, IsBuilding, CarPlan, car_at, places_of, serves_floor}
-use Rattle.lift_register.specs.Prelude.{empty, cars, rows_of, last_of, last_number, kept_of}
+use Rattle.lift_register.specs.Prelude.{RegisterState, cars, rows_of, last_of, last_number, kept_of}
 use Rattle.lift_register.specs.Prelude.{register_of, Fits, persons_of}
+use Rattle.lift_register.specs.Fits.{IsPossibleCall}
 use Rattle.lift_register.specs.lemmas.HistoryLemmas.{register_of-append}
 use Rattle.lift_cost.specs.declared.call.NewCall.{NewCall}
 use Rattle.lift_policy.specs.Terminals.{kiosk_floor, has_kiosk, has_car}
@@ -42,7 +43,8 @@ use Rattle.lift_policy.specs.Step.{State, has_cause, first_cause, is_new, is_sam
 use Rattle.lift_policy.specs.Step.{accepting, standing, next_from, cars_for, call_at, view_of}
 use Rattle.lift_world.specs.Decided.{Decision, when, letter_in, kept_letter, is_among, allotted}
 use Rattle.lift_world.specs.Decided.{repeated, proceeding, decided, decided_after}
-use Rattle.lift_world.specs.World.{told_by, state_at, register_after}
+use Rattle.lift_world.specs.World.{told_by, state_at}
+use Rattle.lift_world.specs.Headline.{IsHeld, WasLast, IsOfBuilding}
 use Rattle.lift_world.specs.Replays.{FitAfter}
 use Rattle.lift_world.specs.lemmas.Entries.{kept_entry}
 
@@ -136,12 +138,12 @@ kept_some None body h = cc
 kept_some (Some l) body h = (l, refl, h)
 
 -- the kept letter is that of an entry
-call_held : (building : Plan) (entries : List Entry) (terminal number to party car : ℕ) (l : Last)
-    (e : Entry) → Contains entries e → terminal_of e ≡ terminal → kept_of e ≡ l
+call_held : (building : Plan) (P : Entry → Type 0) (terminal number to party car : ℕ) (l : Last)
+    (e : Entry) → P e → terminal_of e ≡ terminal → kept_of e ≡ l
     → number ≡ l.number → is_same (Call to party) l.content ≡ true → letter_in l.content ≡ Some car
-    → IsAllotted building e → Contains entries
+    → IsAllotted building e → P
     (Allot terminal number (kiosk_floor building terminal) to car party)
-call_held building entries terminal number to party car l
+call_held building P terminal number to party car l
     (Allot k n f t c p) held at is num same letter good =
     let n_is : n ≡ l.number = ap (λ (x : Last). x.number) is in
     let both = and_parts (eqb t to) (eqb p party)
@@ -153,25 +155,25 @@ call_held building entries terminal number to party car l
     good.of_kiosk ∙ ap (λ x. kiosk_floor building x) at in
     let whole : Allot k n f t c p
     ≡ Allot terminal number (kiosk_floor building terminal) to car party = cc in
-    subst (λ x. Contains entries x) whole held
-call_held building entries terminal number to party car l
+    subst P whole held
+call_held building P terminal number to party car l
     (Stopping k n f d) held at is num same letter good =
     let none : None ≡ Some car = ap (λ (x : Last). letter_in x.content) is ∙ letter in cc
 
-stop_held : (entries : List Entry) (terminal number floor : ℕ) (dir : Dir) (l : Last) (e : Entry)
-    → Contains entries e → terminal_of e ≡ terminal → kept_of e ≡ l
+stop_held : (P : Entry → Type 0) (terminal number floor : ℕ) (dir : Dir) (l : Last) (e : Entry)
+    → P e → terminal_of e ≡ terminal → kept_of e ≡ l
     → number ≡ l.number → is_same (Stop floor dir) l.content ≡ true
-    → Contains entries (Stopping terminal number floor dir)
-stop_held entries terminal number floor dir l (Allot k n f t c p) held at is num same =
+    → P (Stopping terminal number floor dir)
+stop_held P terminal number floor dir l (Allot k n f t c p) held at is num same =
     absurd (false≢true (ap (λ (x : Last). is_same (Stop floor dir) x.content) is ∙ same))
-stop_held entries terminal number floor dir l (Stopping k n f d) held at is num same =
+stop_held P terminal number floor dir l (Stopping k n f d) held at is num same =
     let both = and_parts (eqb f floor) (same_dir d dir)
     (ap (λ (x : Last). is_same (Stop floor dir) x.content) is ∙ same) in
     let n_is : n ≡ l.number = ap (λ (x : Last). x.number) is in
     let f_is : f ≡ floor = eqb-true f floor both.0 in
     let d_is : d ≡ dir = same_dir-true d dir both.1 in
     let whole : Stopping k n f d ≡ Stopping terminal number floor dir = cc in
-    subst (λ x. Contains entries x) whole held
+    subst P whole held
 
 told-refused : (building : Plan) (terminal number : ℕ) (body : Body) (reason : Reason)
     → told_by building terminal number body (Refused reason) ≡ []
@@ -185,12 +187,11 @@ told-unknown building terminal number (Call to party) = refl
 told-unknown building terminal number (Stop floor dir) = refl
 told-unknown building terminal number (Place floor dir) = refl
 
-one_held : (entries : List Entry) (e : Entry) → Contains entries e → All (Contains entries) (e ∷ [])
-one_held entries e h = All-cons (Contains entries) e [] h (All-nil (Contains entries))
+one_held : (P : Entry → Type 0) (e : Entry) → P e → All P (e ∷ [])
+one_held P e h = All-cons P e [] h (All-nil P)
 
-none_held : (entries told : List Entry) → told ≡ [] → All (Contains entries) told
-none_held entries told h =
-    subst (λ (x : List Entry). All (Contains entries) x) (sym h) (All-nil (Contains entries))
+none_held : (P : Entry → Type 0) (told : List Entry) → told ≡ [] → All P told
+none_held P told h = subst (λ (x : List Entry). All P x) (sym h) (All-nil P)
 
 pub some_is : {X : Type 0} (x y : X) → Some x ≡ Some y → x ≡ y
 some_is x y h = cc
@@ -247,21 +248,21 @@ served_floor building car floor sound h =
 
 -- what a decision leaves: the register with what was added, which fits it, and which has what the
 -- reply tells of
-pub record DecidesWell (building : Plan) (accepted : List Entry) (sealed terminal number : ℕ)
-    (body : Body) (decision : Decision) : Type 0 where
+pub record DecidesWell (building : Plan) (base : RegisterState) (accepted : List Entry)
+    (sealed terminal number : ℕ) (body : Body) (decision : Decision) : Type 0 where
   pub added : List Entry
-  pub register : decision.next.register ≡ register_after (accepted ++ added)
+  pub register : decision.next.register ≡ register_of base (accepted ++ added)
   pub batch : decision.next.batch ≡ drop sealed accepted ++ added
   pub few : length added ≤ 1
-  pub fits : FitAfter building accepted added
-  pub told : All (IsAllotted building) accepted
-      → All (Contains (accepted ++ added)) (told_by building terminal number body decision.reply)
+  pub fits : FitAfter building base accepted added
+  pub told : ((e : Entry) → IsHeld base accepted e → IsAllotted building e)
+      → All (IsHeld base (accepted ++ added)) (told_by building terminal number body decision.reply)
 
--- each entry that fits is possible
-pub fits_allotted : (building : Plan) (before : List Entry) (e : Entry) → IsBuilding building
-    → Fits building (register_after before) e → IsAllotted building e
-fits_allotted building before (Allot kiosk number from to car party) sound fits =
-    let possible = fits.0 in
+-- a possible call is of its kiosk, between floors below 64
+call_allotted : (building : Plan) (kiosk number from to car party : ℕ) → IsBuilding building
+    → IsPossibleCall building kiosk from to car
+    → IsAllotted building (Allot kiosk number from to car party)
+call_allotted building kiosk number from to car party sound possible =
     let few = sound.limits.few_floors in
     let few_cars = sound.limits.few_cars in
     let from_in = served_floor building car from sound
@@ -276,7 +277,29 @@ fits_allotted building before (Allot kiosk number from to car party) sound fits 
       apart = possible.apart;
       car_below = omega arith;
     }
-fits_allotted building before (Stopping car number floor dir) sound fits = tt
+
+-- each entry that fits is possible
+pub fits_allotted : (building : Plan) (register : RegisterState) (e : Entry) → IsBuilding building
+    → Fits building register e → IsAllotted building e
+fits_allotted building register (Allot kiosk number from to car party) sound fits =
+    call_allotted building kiosk number from to car party sound fits.0
+fits_allotted building register (Stopping car number floor dir) sound fits = tt
+
+-- so is each one that the journal began with
+last_allotted : (building : Plan) (base : RegisterState) (e : Entry) → IsBuilding building
+    → IsOfBuilding building base → WasLast base e → IsAllotted building e
+last_allotted building base (Allot kiosk number from to car party) sound of was =
+    call_allotted building kiosk number from to car party sound
+    (of.lasts kiosk (kept_of (Allot kiosk number from to car party)) was)
+last_allotted building base (Stopping car number floor dir) sound of was = tt
+
+pub held_allotted : (building : Plan) (base : RegisterState) (entries : List Entry)
+    → IsBuilding building → IsOfBuilding building base → All (IsAllotted building) entries
+    → (e : Entry) → IsHeld base entries e → IsAllotted building e
+held_allotted building base entries sound of all e (inl among) =
+    All-contains (IsAllotted building) entries e all among
+held_allotted building base entries sound of all e (inr was) =
+    last_allotted building base e sound of was
 
 kiosk_below : (building : Plan) (terminal : ℕ) → IsBuilding building
     → has_kiosk building terminal ≡ true → terminal < 63
@@ -339,39 +362,39 @@ stop_fits building here terminal number floor dir clear new =
       eqb-true number (last_number here.register terminal + 1) new,
     )
 
-module _ (building : Plan) (sound : IsBuilding building) (accepted : List Entry) (sealed : ℕ)
+module _ (building : Plan) (sound : IsBuilding building) (base : RegisterState) (accepted : List Entry) (sealed : ℕ)
     (positions : List (Option Position)) (terminal number : ℕ) where
   abbrev here : State
-  here = state_at accepted sealed positions
+  here = state_at base accepted sealed positions
 
   -- a decision whose register and told entries are these
   grown : (body : Body) (entry : Entry) (d : Decision) → Fits building here.register entry
       → d.next.register ≡ register_of here.register (entry ∷ [])
       → d.next.batch ≡ here.batch ++ entry ∷ []
       → told_by building terminal number body d.reply ≡ entry ∷ []
-      → DecidesWell building accepted sealed terminal number body d
+      → DecidesWell building base accepted sealed terminal number body d
   grown body entry d fits register batch told = record {
     added = entry ∷ [];
-    register = register ∙ register_of-append empty accepted (entry ∷ []);
+    register = register ∙ register_of-append base accepted (entry ∷ []);
     batch = batch;
     few = omega arith;
     fits = (fits, tt);
-    told = λ all. subst (λ (x : List Entry). All (Contains (accepted ++ entry ∷ [])) x) (sym told)
-        (one_held (accepted ++ entry ∷ []) entry (Contains-push accepted entry));
+    told = λ all. subst (λ (x : List Entry). All (IsHeld base (accepted ++ entry ∷ [])) x) (sym told)
+        (one_held (IsHeld base (accepted ++ entry ∷ [])) entry (inl (Contains-push accepted entry)));
   }
 
   stays : (body : Body) (d : Decision) → d.next.register ≡ here.register → d.next.batch ≡ here.batch
-      → (All (IsAllotted building) accepted
-      → All (Contains accepted) (told_by building terminal number body d.reply))
-      → DecidesWell building accepted sealed terminal number body d
+      → (((e : Entry) → IsHeld base accepted e → IsAllotted building e)
+      → All (IsHeld base accepted) (told_by building terminal number body d.reply))
+      → DecidesWell building base accepted sealed terminal number body d
   stays body d register batch told = record {
     added = [];
-    register = register ∙ ap (λ (xs : List Entry). register_after xs) (sym (append-nil accepted));
+    register = register ∙ ap (λ (xs : List Entry). register_of base xs) (sym (append-nil accepted));
     batch = batch ∙ sym (append-nil (drop sealed accepted));
     few = omega arith;
     fits = tt;
     told = λ all. subst (λ (r : List Entry).
-        All (Contains r) (told_by building terminal number body d.reply))
+        All (IsHeld base r) (told_by building terminal number body d.reply))
         (sym (append-nil accepted)) (told all);
   }
 
@@ -382,9 +405,9 @@ module _ (building : Plan) (sound : IsBuilding building) (accepted : List Entry)
         reply = Car car;
         next = accepting here (Allot terminal number (kiosk_floor building terminal) to car party);
       }) ≡ Some d
-      → DecidesWell building accepted sealed terminal number (Call to party) d
+      → DecidesWell building base accepted sealed terminal number (Call to party) d
   new_call to party car d true clear new el h =
-      subst (DecidesWell building accepted sealed terminal number (Call to party)) (some_is _ d h)
+      subst (DecidesWell building base accepted sealed terminal number (Call to party)) (some_is _ d h)
       (grown (Call to party) (Allot terminal number (kiosk_floor building terminal) to car party)
       (record {
         reply = Car car;
@@ -395,7 +418,7 @@ module _ (building : Plan) (sound : IsBuilding building) (accepted : List Entry)
   letter_known : (to party : ℕ) (letter : Option ℕ) (d : Decision)
       → NoCause building here terminal number (Call to party) → is_new here terminal number ≡ true
       → option_and_then (allotted building here terminal number to party) letter ≡ Some d
-      → DecidesWell building accepted sealed terminal number (Call to party) d
+      → DecidesWell building base accepted sealed terminal number (Call to party) d
   letter_known to party None d clear new h = cc
   letter_known to party (Some car) d clear new h =
       new_call to party car d (is_among car (cars_for building here terminal to party)) clear new
@@ -405,13 +428,13 @@ module _ (building : Plan) (sound : IsBuilding building) (accepted : List Entry)
       → NoCause building here terminal number (Call to party) → is_new here terminal number ≡ false
       → last_of here.register terminal ≡ o
       → option_map (λ car. record { reply = Car car; next = here }) (kept_letter o) ≡ Some d
-      → DecidesWell building accepted sealed terminal number (Call to party) d
+      → DecidesWell building base accepted sealed terminal number (Call to party) d
   kept_call to party d None clear new at h = cc
   kept_call to party d (Some l) clear new at h = by_letter (letter_in l.content) refl h
     where
       by_letter : (o : Option ℕ) → letter_in l.content ≡ o
           → option_map (λ car. record { reply = Car car; next = here }) o ≡ Some d
-          → DecidesWell building accepted sealed terminal number (Call to party) d
+          → DecidesWell building base accepted sealed terminal number (Call to party) d
       by_letter None q h = cc
       by_letter (Some car) q h =
           let same_number = is_last number (last_number here.register terminal) clear.old clear.gap
@@ -424,22 +447,21 @@ module _ (building : Plan) (sound : IsBuilding building) (accepted : List Entry)
           let same : is_same (Call to party) l.content ≡ true =
           sym (ap (λ (x : Option Last).
           option_map_or (λ (y : Last). is_same (Call to party) y.content) x false) at) ∙ kept in
-          let k = kept_entry accepted terminal l
+          let k = kept_entry base accepted terminal l
           (kiosk_below building terminal sound
           (not-false (has_kiosk building terminal) clear.kind)) at in
-          subst (DecidesWell building accepted sealed terminal number (Call to party))
+          subst (DecidesWell building base accepted sealed terminal number (Call to party))
           (some_is _ d h)
           (stays (Call to party) (record { reply = Car car; next = here }) refl refl
-          (λ all. one_held accepted _
-          (call_held building accepted terminal number to party car l k.entry k.held k.terminal_is
-          k.kept_is (same_number.0 ∙ last_is) same q
-          (All-contains (IsAllotted building) accepted k.entry all k.held))))
+          (λ all. one_held (IsHeld base accepted) _
+          (call_held building (IsHeld base accepted) terminal number to party car l k.entry k.held
+          k.terminal_is k.kept_is (same_number.0 ∙ last_is) same q (all k.entry k.held))))
 
   call_well : (to party : ℕ) (letter : Option ℕ) (d : Decision) (b : Bool)
       → NoCause building here terminal number (Call to party) → is_new here terminal number ≡ b
       → cond b (option_and_then (allotted building here terminal number to party) letter)
       (cond (is_none letter) (repeated here terminal) None) ≡ Some d
-      → DecidesWell building accepted sealed terminal number (Call to party) d
+      → DecidesWell building base accepted sealed terminal number (Call to party) d
   call_well to party letter d true clear new h = letter_known to party letter d clear new h
   call_well to party None d false clear new h =
       kept_call to party d (last_of here.register terminal) clear new refl h
@@ -447,7 +469,7 @@ module _ (building : Plan) (sound : IsBuilding building) (accepted : List Entry)
 
   stop_at : (floor : ℕ) (dir : Dir) (b : Bool)
       → NoCause building here terminal number (Stop floor dir) → is_new here terminal number ≡ b
-      → DecidesWell building accepted sealed terminal number (Stop floor dir) (record {
+      → DecidesWell building base accepted sealed terminal number (Stop floor dir) (record {
         reply = Stopped (next_from
             (standing (cond b (accepting here (Stopping terminal number floor dir)) here) terminal
             floor dir) terminal floor dir);
@@ -464,47 +486,47 @@ module _ (building : Plan) (sound : IsBuilding building) (accepted : List Entry)
       kept_at number (last_number here.register terminal) _ clear.other same_number.0
       same_number.1 in
       let l = kept_some (last_of here.register terminal) (Stop floor dir) kept in
-      let k = kept_entry accepted terminal l.0
+      let k = kept_entry base accepted terminal l.0
       (car_below building terminal sound (not-false (has_car building terminal) clear.kind))
       l.1 in
       let last_is : last_number here.register terminal ≡ l.0.number =
       ap (λ (x : Option Last). option_map_or (λ (y : Last). y.number) x 0) l.1 in
-      one_held accepted _ (stop_held accepted terminal number floor dir l.0 k.entry k.held
-      k.terminal_is k.kept_is (same_number.0 ∙ last_is) l.2))
+      one_held (IsHeld base accepted) _ (stop_held (IsHeld base accepted) terminal number floor dir l.0
+      k.entry k.held k.terminal_is k.kept_is (same_number.0 ∙ last_is) l.2))
 
   proceeds_well : (body : Body) (letter : Option ℕ) (d : Decision)
       → NoCause building here terminal number body
       → proceeding building here terminal number body letter ≡ Some d
-      → DecidesWell building accepted sealed terminal number body d
+      → DecidesWell building base accepted sealed terminal number body d
   proceeds_well (Call to party) letter d clear h =
       call_well to party letter d (is_new here terminal number) clear refl h
   proceeds_well (Stop floor dir) None d clear h =
-      subst (DecidesWell building accepted sealed terminal number (Stop floor dir)) (some_is _ d h)
+      subst (DecidesWell building base accepted sealed terminal number (Stop floor dir)) (some_is _ d h)
       (stop_at floor dir (is_new here terminal number) clear refl)
   proceeds_well (Stop floor dir) (Some car) d clear h = cc
   proceeds_well (Place floor dir) None d clear h =
-      subst (DecidesWell building accepted sealed terminal number (Place floor dir)) (some_is _ d h)
+      subst (DecidesWell building base accepted sealed terminal number (Place floor dir)) (some_is _ d h)
       (stays (Place floor dir)
       (record {
         reply = Placed (next_from (standing here terminal floor dir) terminal floor dir);
         next = standing here terminal floor dir;
-      }) refl refl (λ all. All-nil (Contains accepted)))
+      }) refl refl (λ all. All-nil (IsHeld base accepted)))
   proceeds_well (Place floor dir) (Some car) d clear h = cc
 
   decides_after : (body : Body) (letter : Option ℕ) (d : Decision) (o : Option Reason)
       → first_cause building here terminal number body ≡ o
       → decided_after o building here terminal number body letter ≡ Some d
-      → DecidesWell building accepted sealed terminal number body d
+      → DecidesWell building base accepted sealed terminal number body d
   decides_after body letter d None q h =
       proceeds_well body letter d (no_cause building here terminal number body q) h
   decides_after body None d (Some reason) q h =
-      subst (DecidesWell building accepted sealed terminal number body) (some_is _ d h)
+      subst (DecidesWell building base accepted sealed terminal number body) (some_is _ d h)
       (stays body (record { reply = Refused reason; next = here }) refl refl (λ all.
-      none_held accepted _ (told-refused building terminal number body reason)))
+      none_held (IsHeld base accepted) _ (told-refused building terminal number body reason)))
   decides_after body (Some car) d (Some reason) q h = cc
 
   pub decides_well : (body : Body) (letter : Option ℕ) (d : Decision)
       → decided building here terminal number body letter ≡ Some d
-      → DecidesWell building accepted sealed terminal number body d
+      → DecidesWell building base accepted sealed terminal number body d
   decides_well body letter d h =
       decides_after body letter d (first_cause building here terminal number body) refl h

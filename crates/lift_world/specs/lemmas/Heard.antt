@@ -8,6 +8,7 @@ use Rattle.std.proofs.lemmas.List.Elements.{filter-append}
 use Rattle.std.proofs.lemmas.List.Sums.{length-filter}
 use Rattle.std.proofs.lemmas.List.{append-nil}
 use Rattle.lift_building.specs.Plan.{Plan}
+use Rattle.lift_register.specs.Register.{RegisterState}
 use Rattle.lift_world.specs.declared.event.Event.{Event}
 use Rattle.lift_world.specs.declared.event.Event.TheVariants.{Ask, Take, Seal, Pull, Fold}
 use Rattle.lift_world.specs.declared.event.Event.TheVariants.{Body as BodyWrite, FirstSync, Gate}
@@ -171,5 +172,5 @@ pub run_hears : (events : List Event) (w : World) → HearsInOrder w → HearsIn
 run_hears [] w k = k
 run_hears (event ∷ events) w k = run_hears events (unwrap_or (next w event) w) (hears w event k)
 
-pub start_hears : (building : Plan) → HearsInOrder (start building)
-start_hears building terminal = ([], refl)
+pub start_hears : (building : Plan) (base : RegisterState) → HearsInOrder (start building base)
+start_hears building base terminal = ([], refl)

@@ -6,6 +6,7 @@ use Rattle.std.specs.List.{AllByRecursion}
 use Rattle.std.proofs.lemmas.Bool.{eq-eqb, eqb-false, ltb-true, ltb-false, false≢true}
 use Rattle.std.proofs.lemmas.List.{length-append, length-take-le}
 use Rattle.lift_building.specs.Plan.{Plan}
+use Rattle.lift_register.specs.Register.{RegisterState}
 use Rattle.lift_world.specs.declared.event.Taken.{Taken}
 use Rattle.lift_world.specs.declared.event.Event.{Event}
 use Rattle.lift_world.specs.declared.event.Power.{Power}
@@ -238,9 +239,9 @@ are_apart (c ∷ cs) one = (
       one terminal in omega arith),
 )
 
-pub ordered_after : (building : Plan) (events : List Event) → Ordered (run events (start building))
-ordered_after building events =
-    run_ordered events (start building) (record {
+pub ordered_after : (building : Plan) (base : RegisterState) (events : List Event) → Ordered (run events (start building base))
+ordered_after building base events =
+    run_ordered events (start building base) (record {
       safe_first = omega arith;
       in_order = omega arith;
       ends = λ runs. refl;
@@ -248,11 +249,11 @@ ordered_after building events =
       accepted = omega arith;
     })
 
-pub queue_in_order : (building : Plan) (events : List Event)
-    → IsQueueInOrder (run events (start building))
-queue_in_order building events =
-    let w : World = run events (start building) in
-    let k = ordered_after building events in
+pub queue_in_order : (building : Plan) (base : RegisterState) (events : List Event)
+    → IsQueueInOrder (run events (start building base))
+queue_in_order building base events =
+    let w : World = run events (start building base) in
+    let k = ordered_after building base events in
     record {
       safe_first = k.safe_first;
       in_order = k.in_order;
@@ -260,5 +261,5 @@ queue_in_order building events =
       doubt = k.doubt;
       all_accepted = k.accepted;
       apart = are_apart (unanswered w) (λ terminal.
-          (all_ask_one_by_one building events terminal).one_on_its_way);
+          (all_ask_one_by_one building base events terminal).one_on_its_way);
     }

@@ -18,7 +18,7 @@ use Rattle.lift_base.specs.declared.command.Reason.{Reason}
 use Rattle.lift_base.specs.declared.command.Reply.{Reply}
 use Rattle.lift_base.specs.declared.command.Reply.TheVariants.{Car, Stopped, Placed, Refused}
 use Rattle.lift_building.specs.Plan.{Plan}
-use Rattle.lift_register.specs.Register.{last_of, last_number, register_of, empty}
+use Rattle.lift_register.specs.Register.{RegisterState, last_of, last_number, register_of}
 use Rattle.lift_register.specs.lemmas.HistoryLemmas.{register_of-append}
 use Rattle.lift_policy.specs.declared.command.Command.{Command}
 use Rattle.lift_policy.specs.Terminals.{kiosk_floor}
@@ -29,7 +29,7 @@ use Rattle.lift_policy.specs.Step.{cars_for}
 use Rattle.lift_world.specs.declared.event.Event.TheVariants.{Take}
 use Rattle.lift_world.specs.Decided.{Decision, when, letter_in, kept_letter, is_among, allotted}
 use Rattle.lift_world.specs.Decided.{repeated, proceeding, decided, decided_after}
-use Rattle.lift_world.specs.World.{World, state_of, register_after, asks}
+use Rattle.lift_world.specs.World.{World, state_of, asks}
 use Rattle.lift_world.specs.Next.{next, taking, deciding, may_take}
 use Rattle.lift_world.specs.Tie.{naming, TakesAreSteps, StepsAreTakes}
 use Rattle.lift_world.specs.lemmas.Decisions.{NoCause, no_cause, is_last, kept_at, some_is}
@@ -238,66 +238,66 @@ module _ (building : Plan) (state : State) (terminal number : ℕ) where
       back_after choice body reply next (first_cause building state terminal number body) h
 
 -- the register is that of these entries, and of the batch after them
-abbrev pub GoesOn : List Entry → State → Type 0
-GoesOn prefix s = s.register ≡ register_after (prefix ++ s.batch)
+abbrev pub GoesOn : RegisterState → List Entry → State → Type 0
+GoesOn base prefix s = s.register ≡ register_of base (prefix ++ s.batch)
 
-goes_on_one : (prefix : List Entry) (s : State) (e : Entry) → GoesOn prefix s
-    → GoesOn prefix (accepting s e)
-goes_on_one prefix s e k =
-    ap (λ r. register_of r (e ∷ [])) k ∙ register_of-append empty (prefix ++ s.batch) (e ∷ [])
-    ∙ ap (λ (xs : List Entry). register_after xs) (append_assoc prefix s.batch (e ∷ []))
+goes_on_one : (base : RegisterState) (prefix : List Entry) (s : State) (e : Entry) → GoesOn base prefix s
+    → GoesOn base prefix (accepting s e)
+goes_on_one base prefix s e k =
+    ap (λ r. register_of r (e ∷ [])) k ∙ register_of-append base (prefix ++ s.batch) (e ∷ [])
+    ∙ ap (λ (xs : List Entry). register_of base xs) (append_assoc prefix s.batch (e ∷ []))
 
-goes_on_same : (prefix : List Entry) (s next : State) → next ≡ s → GoesOn prefix s
-    → GoesOn prefix next
-goes_on_same prefix s next e k = subst (GoesOn prefix) (sym e) k
+goes_on_same : (base : RegisterState) (prefix : List Entry) (s next : State) → next ≡ s → GoesOn base prefix s
+    → GoesOn base prefix next
+goes_on_same base prefix s next e k = subst (GoesOn base prefix) (sym e) k
 
-goes_on_if : (prefix : List Entry) (s : State) (e : Entry) (b : Bool) → GoesOn prefix s
-    → GoesOn prefix (cond b (accepting s e) s)
-goes_on_if prefix s e true k = goes_on_one prefix s e k
-goes_on_if prefix s e false k = k
+goes_on_if : (base : RegisterState) (prefix : List Entry) (s : State) (e : Entry) (b : Bool) → GoesOn base prefix s
+    → GoesOn base prefix (cond b (accepting s e) s)
+goes_on_if base prefix s e true k = goes_on_one base prefix s e k
+goes_on_if base prefix s e false k = k
 
-call_goes_on : (building : Plan) (choice : Choice) (prefix : List Entry) (s : State)
-    (terminal number to party : ℕ) (reply : Reply) (next : State) (b : Bool) → GoesOn prefix s
+call_goes_on : (building : Plan) (choice : Choice) (base : RegisterState) (prefix : List Entry) (s : State)
+    (terminal number to party : ℕ) (reply : Reply) (next : State) (b : Bool) → GoesOn base prefix s
     → MatchBool b (Allots building choice s terminal number to party reply next)
-    (Repeats s terminal number to party reply next) → GoesOn prefix next
-call_goes_on building choice prefix s terminal number to party reply next true k g =
-    goes_on_same prefix (accepting s
+    (Repeats s terminal number to party reply next) → GoesOn base prefix next
+call_goes_on building choice base prefix s terminal number to party reply next true k g =
+    goes_on_same base prefix (accepting s
     (Allot terminal number (kiosk_floor building terminal) to g.0 party)) next g.4
-    (goes_on_one prefix s _ k)
-call_goes_on building choice prefix s terminal number to party reply next false k g =
-    goes_on_same prefix s next g.4 k
+    (goes_on_one base prefix s _ k)
+call_goes_on building choice base prefix s terminal number to party reply next false k g =
+    goes_on_same base prefix s next g.4 k
 
-proceeds_on : (building : Plan) (choice : Choice) (prefix : List Entry) (s : State)
-    (terminal number : ℕ) (body : Body) (reply : Reply) (next : State) → GoesOn prefix s
-    → Proceeds building choice s terminal number body reply next → GoesOn prefix next
-proceeds_on building choice prefix s terminal number (Call to party) reply next k h =
-    call_goes_on building choice prefix s terminal number to party reply next
+proceeds_on : (building : Plan) (choice : Choice) (base : RegisterState) (prefix : List Entry) (s : State)
+    (terminal number : ℕ) (body : Body) (reply : Reply) (next : State) → GoesOn base prefix s
+    → Proceeds building choice s terminal number body reply next → GoesOn base prefix next
+proceeds_on building choice base prefix s terminal number (Call to party) reply next k h =
+    call_goes_on building choice base prefix s terminal number to party reply next
     (is_new s terminal number) k h
-proceeds_on building choice prefix s terminal number (Stop floor dir) reply next k h =
-    goes_on_same prefix (stopping s terminal number floor dir) next h.0
-    (goes_on_if prefix s (Stopping terminal number floor dir) (is_new s terminal number) k)
-proceeds_on building choice prefix s terminal number (Place floor dir) reply next k h =
-    goes_on_same prefix (standing s terminal floor dir) next h.0 k
+proceeds_on building choice base prefix s terminal number (Stop floor dir) reply next k h =
+    goes_on_same base prefix (stopping s terminal number floor dir) next h.0
+    (goes_on_if base prefix s (Stopping terminal number floor dir) (is_new s terminal number) k)
+proceeds_on building choice base prefix s terminal number (Place floor dir) reply next k h =
+    goes_on_same base prefix (standing s terminal floor dir) next h.0 k
 
-step_on : (building : Plan) (choice : Choice) (prefix : List Entry) (s : State)
+step_on : (building : Plan) (choice : Choice) (base : RegisterState) (prefix : List Entry) (s : State)
     (terminal number : ℕ) (body : Body) (reply : Reply) (next : State) (o : Option Reason)
-    → GoesOn prefix s
+    → GoesOn base prefix s
     → MatchOption o (Proceeds building choice s terminal number body reply next) (λ reason.
-    (reply ≡ Refused reason) × (next ≡ s)) → GoesOn prefix next
-step_on building choice prefix s terminal number body reply next None k h =
-    proceeds_on building choice prefix s terminal number body reply next k h
-step_on building choice prefix s terminal number body reply next (Some reason) k h =
-    goes_on_same prefix s next h.1 k
+    (reply ≡ Refused reason) × (next ≡ s)) → GoesOn base prefix next
+step_on building choice base prefix s terminal number body reply next None k h =
+    proceeds_on building choice base prefix s terminal number body reply next k h
+step_on building choice base prefix s terminal number body reply next (Some reason) k h =
+    goes_on_same base prefix s next h.1 k
 
-pub state_goes_on : (w : World) → GoesOn (take w.sealed w.accepted) (state_of w)
+pub state_goes_on : (w : World) → GoesOn w.base (take w.sealed w.accepted) (state_of w)
 state_goes_on w = ap (λ (xs : List Entry).
-    register_after xs) (sym (take-append-drop w.sealed w.accepted))
+    register_of w.base xs) (sym (take-append-drop w.sealed w.accepted))
 
-pub steps_go_on : (building : Plan) (choice : Choice) (prefix : List Entry) (s : State)
-    (terminal number : ℕ) (body : Body) (reply : Reply) (next : State) → GoesOn prefix s
-    → Step building choice s terminal number body reply next → GoesOn prefix next
-steps_go_on building choice prefix s terminal number body reply next k h =
-    step_on building choice prefix s terminal number body reply next
+pub steps_go_on : (building : Plan) (choice : Choice) (base : RegisterState) (prefix : List Entry) (s : State)
+    (terminal number : ℕ) (body : Body) (reply : Reply) (next : State) → GoesOn base prefix s
+    → Step building choice s terminal number body reply next → GoesOn base prefix next
+steps_go_on building choice base prefix s terminal number body reply next k h =
+    step_on building choice base prefix s terminal number body reply next
     (first_cause building s terminal number body) k h
 
 -- what stands behind a front
@@ -310,7 +310,7 @@ after_front xs ys n le =
 
 -- the state of the world after a take is that of its decision
 pub state_after : (w : World) (command : Command) (reply : Reply) (s : State)
-    → w.sealed ≤ length w.accepted → GoesOn (take w.sealed w.accepted) s
+    → w.sealed ≤ length w.accepted → GoesOn w.base (take w.sealed w.accepted) s
     → state_of (deciding w command (record { reply = reply; next = s })) ≡ s
 state_after w command reply s le k =
     rw (after_front w.accepted s.batch w.sealed le)
@@ -359,7 +359,7 @@ takes_are_steps w terminal letter after h =
       decided = sym c.2;
       state_is = λ le. ap (λ (x : World). state_of x) (sym c.2)
           ∙ state_after w command c.0.reply c.0.next le
-          (steps_go_on w.building (naming letter) (take w.sealed w.accepted)
+          (steps_go_on w.building (naming letter) w.base (take w.sealed w.accepted)
           (state_of w) command.terminal command.number command.body c.0.reply c.0.next
           (state_goes_on w) step);
     }

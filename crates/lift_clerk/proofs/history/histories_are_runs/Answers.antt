@@ -1,14 +1,12 @@
-use Rattle.lift_clerk.proofs.Histories.{histories_are_runs, crashes_show_given, crashes_in_turns_show_given, crashes_in_failures_show_given}
+-- proofs/history/histories_are_runs/Answers.antt
+use Rattle.lift_clerk.proofs.Histories.{histories_are_runs, crashes_keep, moments_keep}
 use Rattle.lift_clerk.proofs.history.histories_are_runs.Goals as goal
 
 pub returns-clause-runs : goal.returns-clause-runs
-returns-clause-runs g c = histories_are_runs g.P.Policy.chooses c.call_laws.ensures
+returns-clause-runs g c = histories_are_runs c.laws.ensures
 
-pub returns-clause-between : goal.returns-clause-between
-returns-clause-between g c = crashes_show_given g.P.Policy.chooses c.call_laws.ensures
+pub returns-clause-kept : goal.returns-clause-kept
+returns-clause-kept g c = crashes_keep c.laws.ensures
 
-pub returns-clause-within : goal.returns-clause-within
-returns-clause-within g c = crashes_in_turns_show_given g.P.Policy.chooses c.call_laws.ensures
-
-pub returns-clause-within_failed : goal.returns-clause-within_failed
-returns-clause-within_failed g c = crashes_in_failures_show_given g.P.Policy.chooses c.call_laws.ensures
+pub returns-clause-moments : goal.returns-clause-moments
+returns-clause-moments g c = moments_keep g.D.Disk.state (crashes_keep c.laws.ensures)

@@ -17,6 +17,7 @@ module _ {D P T : Type 0} (state : D → DiskState) (before after : ClerkState D
       → ReopensOnce state before after result
   reopens (Ok done) r starts unmoved = record {
     opens = λ honest. record {
+      desk = kept.0;
       same_seat = kept.1;
       state = starts;
       one_of = r.one_of honest;
@@ -33,6 +34,7 @@ module _ {D P T : Type 0} (state : D → DiskState) (before after : ClerkState D
   reopens (Err fault) r starts unmoved = record {
     opens = tt;
     stays = record {
+      desk = kept.0;
       same_seat = kept.1;
       same_state = unmoved;
       same_register = r.unmoved.0;

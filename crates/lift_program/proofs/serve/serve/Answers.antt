@@ -1,53 +1,79 @@
-use Rattle.std.proofs.Common.{Bool, Err, ap, subst, ◌∙◌}
-use Rattle.lift_program.specs.Faults.{served_fault}
-use Rattle.lift_program.specs.Stages.{IsBuildingFault, IsKeeperFault}
-use Rattle.lift_program.proofs.Flushing.{network_no_output, other_than, output_no_network}
+use Rattle.std.proofs.Common.{Err, ap, sym, subst}
+use Rattle.lift_policy.specs.Choices.{IsShipped}
+use Rattle.lift_serve.specs.lemmas.Opened.{keeps_over}
+use Rattle.lift_program.specs.Stages.{IsBuildingFault}
+use Rattle.lift_program.proofs.Flushing.{network_no_output, output_no_network, unkept_no_network, unkept_no_output}
+use Rattle.lift_program.proofs.Served.{at_told, counted_of, so_many_of}
+use Rattle.lift_program.proofs.Stages.{keeper_undone, nothing_written, output_left, output_report, port_left}
 use Rattle.lift_program.proofs.serve.serve.Goals as goal
 
 pub returns-clause-served : goal.returns-clause-served
-returns-clause-served g c = record {
-  text = c.in_ok-building.ensures.found.text;
-  plan = c.in_ok-building.building;
-  described = c.in_ok-building.ensures.found.described;
-  opened = c.in_ok-keeper.ensures.opened.opened;
-  fresh = c.in_ok-keeper.ensures.opened.fresh;
-  keeper = c.in_ok-keeper.keeper;
-  recovers = c.in_ok-keeper.ensures.opened.recovers;
-  whole = c.in_ok-keeper.ensures.opened.whole;
-  own = c.in_ok-keeper.ensures.opened.own;
-  last = c.serve-served.result.keeper;
-  other = c.serve-served.result.fault;
-  comes = c.serve-served.ensures;
-  told = c.fault_of.ensures ∙ ap (λ (b : Bool). served_fault b c.serve-served.result.fault) c.is_broken.ensures.value;
-}
+returns-clause-served g c =
+    let has = c.in-Ok-keeper_in.ensures.opened in
+    let served = c.serve-served.result in
+    record {
+      text = c.in-Ok.ensures.found.text;
+      plan = c.in-Ok.building;
+      described = c.in-Ok.ensures.found.described;
+      opened = has.opened;
+      fresh = has.fresh;
+      keeper = c.in-Ok-keeper_in.keeper;
+      recovers = has.recovers;
+      whole = has.whole;
+      own = has.own;
+      last = served.keeper;
+      is_left = sym c.serving_of.ensures.left;
+      other = served.fault;
+      comes = c.serve-served.ensures.comes;
+      told = c.serving_of.ensures.fault;
+      so_many = so_many_of served.ended _ _ _ c.serving_of.ensures.ended c.serve-served.ensures.ended;
+      counted = counted_of served.keeper.writer.is_broken served.fault _ served.ended _ c.serving_of.ensures.fault c.serving_of.ensures.ended c.serve-served.ensures.counted;
+      keeps = λ honest base accepted given found.
+          keeps_over IsShipped _ c.in-Ok.building has.opened c.in-Ok-keeper_in.keeper has.recovers has.starts has.whole has.no_doubt has.own honest base accepted given found
+          c.args.policy served.keeper served.fault c.serve-served.ensures.comes;
+    }
 
 pub returns-clause-here : goal.returns-clause-here
-returns-clause-here g c = (c.in_ok-listener.listener, c.in_ok-listener.ensures.here)
+returns-clause-here g c =
+    (c.in-Ok-listen_here.listener, c.in-Ok-listen_here.ensures.here, at_told c.serve-served.result.ended _ c.in-Ok-listen_here.listener c.args.sessions c.serving_of.ensures.ended c.serve-served.ensures.ended)
 
-pub returns-in_err-building-clause-failed : goal.returns-in_err-building-clause-failed
-returns-in_err-building-clause-failed g c = other_than _ c.from_residual.result _ _ c.from_residual.ensures.1 (λ same. absurd (subst IsBuildingFault same c.in_err-building.ensures.fault))
+pub returns-in-Err-clause-failed : goal.returns-in-Err-clause-failed
+returns-in-Err-clause-failed g c = λ same. absurd (subst IsBuildingFault same c.in-Err.ensures.fault)
 
-pub returns-in_err-keeper-clause-failed : goal.returns-in_err-keeper-clause-failed
-returns-in_err-keeper-clause-failed g c =
-    other_than _ c.from_residual-in_err-keeper.result _ _ c.from_residual-in_err-keeper.ensures.1 (λ same. absurd (subst (IsKeeperFault c.in_ok-building.building) same c.in_err-keeper.ensures.fault))
+pub returns-in-Err-clause-refused : goal.returns-in-Err-clause-refused
+returns-in-Err-clause-refused g c = λ same. absurd (subst IsBuildingFault same c.in-Err.ensures.fault)
 
-pub returns-in_err-listener-clause-failed : goal.returns-in_err-listener-clause-failed
-returns-in_err-listener-clause-failed g c =
-    other_than _ c.from_residual-in_err-listener.result _ _ c.from_residual-in_err-listener.ensures.1 (λ same. absurd (network_no_output _ c.in_err-listener.ensures.fault same))
+pub returns-in-Err-keeper_in-clause-failed : goal.returns-in-Err-keeper_in-clause-failed
+returns-in-Err-keeper_in-clause-failed g c = λ same. absurd (unkept_no_output _ _ c.in-Ok.building _ c.in-Err-keeper_in.ensures.undone same)
 
-pub returns-in_err-say-clause-failed : goal.returns-in_err-say-clause-failed
-returns-in_err-say-clause-failed g c = other_than _ c.from_residual-in_err-say.result _ _ c.from_residual-in_err-say.ensures.1 (λ same. c.in_err-say.ensures.settled.failed (ap Err same))
+pub returns-in-Err-keeper_in-clause-refused : goal.returns-in-Err-keeper_in-clause-refused
+returns-in-Err-keeper_in-clause-refused g c = λ same. absurd (unkept_no_network _ _ c.in-Ok.building _ c.in-Err-keeper_in.ensures.undone same)
 
-pub returns-in_err-building-clause-refused : goal.returns-in_err-building-clause-refused
-returns-in_err-building-clause-refused g c = other_than _ c.from_residual.result _ _ c.from_residual.ensures.1 (λ same. absurd (subst IsBuildingFault same c.in_err-building.ensures.fault))
+pub returns-in-Err-keeper_in-clause-undone : goal.returns-in-Err-keeper_in-clause-undone
+returns-in-Err-keeper_in-clause-undone g c = keeper_undone _ _ c.in-Ok.building c.in-Err-keeper_in.undone c.in-Ok.ensures.found c.in-Err-keeper_in.ensures.undone
 
-pub returns-in_err-keeper-clause-refused : goal.returns-in_err-keeper-clause-refused
-returns-in_err-keeper-clause-refused g c =
-    other_than _ c.from_residual-in_err-keeper.result _ _ c.from_residual-in_err-keeper.ensures.1 (λ same. absurd (subst (IsKeeperFault c.in_ok-building.building) same c.in_err-keeper.ensures.fault))
+pub returns-in-Err-keeper_in-clause-report : goal.returns-in-Err-keeper_in-clause-report
+returns-in-Err-keeper_in-clause-report g c = nothing_written _ _
 
-pub returns-in_err-listener-clause-refused : goal.returns-in_err-listener-clause-refused
-returns-in_err-listener-clause-refused g c = λ same. c.in_err-listener.ensures.refused
+pub returns-in-Err-listen_here-clause-failed : goal.returns-in-Err-listen_here-clause-failed
+returns-in-Err-listen_here-clause-failed g c = λ same. absurd (network_no_output _ c.in-Err-listen_here.ensures.fault same)
 
-pub returns-in_err-say-clause-refused : goal.returns-in_err-say-clause-refused
-returns-in_err-say-clause-refused g c =
-    other_than _ c.from_residual-in_err-say.result _ _ c.from_residual-in_err-say.ensures.1 (λ same. absurd (output_no_network _ c.in_err-say.ensures.fault same))
+pub returns-in-Err-listen_here-clause-refused : goal.returns-in-Err-listen_here-clause-refused
+returns-in-Err-listen_here-clause-refused g c = λ same. c.in-Err-listen_here.ensures.refused
+
+pub returns-in-Err-listen_here-clause-undone : goal.returns-in-Err-listen_here-clause-undone
+returns-in-Err-listen_here-clause-undone g c =
+    port_left _ c.args.image.now c.in-Ok.building c.in-Ok-keeper_in.keeper _ c.in-Err-listen_here.fault c.in-Ok.ensures.found c.in-Ok-keeper_in.ensures.opened c.left_by.ensures c.in-Err-listen_here.ensures.fault
+
+pub returns-in-Err-say-clause-failed : goal.returns-in-Err-say-clause-failed
+returns-in-Err-say-clause-failed g c = λ same. c.in-Err-say.ensures.settled.failed (ap Err same)
+
+pub returns-in-Err-say-clause-refused : goal.returns-in-Err-say-clause-refused
+returns-in-Err-say-clause-refused g c = λ same. absurd (output_no_network _ c.in-Err-say.ensures.fault same)
+
+pub returns-in-Err-say-clause-report : goal.returns-in-Err-say-clause-report
+returns-in-Err-say-clause-report g c = output_report c.in-Err-say.fault _ _ c.in-Err-say.ensures.fault
+
+pub returns-in-Err-say-clause-undone : goal.returns-in-Err-say-clause-undone
+returns-in-Err-say-clause-undone g c =
+    output_left _ c.args.image.now c.in-Ok.building c.in-Ok-keeper_in.keeper _ c.in-Err-say.fault c.in-Ok.ensures.found c.in-Ok-keeper_in.ensures.opened c.left_by-in-Err-say.ensures c.in-Err-say.ensures.fault

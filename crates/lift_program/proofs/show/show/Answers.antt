@@ -1,59 +1,70 @@
-use Rattle.std.proofs.Common.{rules, subst, ap, ◌∙◌, Err}
+use Rattle.std.proofs.Common.{rules, arith, ◌≡◌, ◌+◌, sym, subst, ap, ◌∙◌, Err}
 use Rattle.std.specs.Prelude.{IfErr}
-use Rattle.lift_program.specs.Images.{shown_state_of}
+use Rattle.lift_disk.specs.Below.{below, buffered_state_of}
+use Rattle.lift_program.specs.Unwritten.{unwritten_state_of}
 use Rattle.lift_program.specs.Ends.{IsFileFault, IsReportOfFault, IsShowingFault}
-use Rattle.lift_program.specs.Showing.{ShowsFront}
+use Rattle.lift_disk.specs.Files.{sector_file_state_of}
+use Rattle.lift_program.specs.Images.{ImageFiles, image_files}
+use Rattle.lift_program.specs.Showing.{IsShown, ShowsFront}
 use Rattle.lift_program.specs.declared.fault.Role.TheVariants.{Output}
 use Rattle.lift_program.specs.Stages.{IsBuildingFault}
-use Rattle.lift_program.proofs.Flushing.{err_same, image_no_output, other_than}
-use Rattle.lift_program.proofs.Stages.{only_read, showing_part, showing_shows}
+use Rattle.lift_program.proofs.Flushing.{image_no_output}
+use Rattle.lift_program.proofs.Stages.{showing_left, showing_part}
 use Rattle.lift_program.proofs.Writing.{part_shown, shown_front}
 use Rattle.lift_program.proofs.show.show.Goals as goal
 
-pub returns-in-Ok-clause-shown : goal.returns-in-Ok-clause-shown
-returns-in-Ok-clause-shown g c = record {
-  text = c.in_ok-building.ensures.found.text;
-  plan = c.in_ok-building.building;
-  described = c.in_ok-building.ensures.found.described;
-  opened = c.in_ok-disk.disk;
-  fresh = c.in_ok-disk.ensures.opened;
-  shows = search rules;
-  only_read = only_read c.in_ok-disk.disk c.show_on-disk.result.0 c.in_ok-disk.ensures.opened (search rules);
-}
-
-pub returns-in-Err-clause-fault : goal.returns-in-Err-clause-fault
-returns-in-Err-clause-fault g c =
+pub returns-in-Ok-outcome-clause-shown : goal.returns-in-Ok-outcome-clause-shown
+returns-in-Ok-outcome-clause-shown g c =
+    let files : ImageFiles = image_files (g.F.ToldFiles.opens c.args.rt.now) g.F.Told.ToldFile.gives g.F.Told.ToldFile.holds (buffered_state_of (sector_file_state_of g.F.Told.ToldFile.holds)) (buffered_state_of (unwritten_state_of g.F.Told.ToldFile.holds)) in
     let before = g.W.Write.contents c.args.writer.now in
     let after = g.W.Write.contents c.show_on-disk.new.writer in
-    showing_shows c.in_ok-building.building c.in_ok-disk.disk c.show_on-disk.result.0 before after c.in-Err.fault c.in_ok-building.ensures.found
-    c.in_ok-disk.ensures.opened (subst (λ r. IfErr r IsShowingFault) c.in-Err.is c.show_on-disk.ensures.fault)
-    (λ refusal same. c.show_on-disk.ensures.refused refusal (c.in-Err.is ∙ ap Err same))
-    (subst (λ r. IfErr r (λ fault. IsFileFault Output fault → ShowsFront c.in_ok-building.building (shown_state_of c.in_ok-disk.disk) (shown_state_of c.show_on-disk.result.0) before after))
-    c.in-Err.is c.show_on-disk.ensures.front)
+    let shown : IsShown files c.args.image.now c.show_on-disk.result.0 before after = record {
+      text = c.in-Ok.ensures.found.text;
+      plan = c.in-Ok.building;
+      described = c.in-Ok.ensures.found.described;
+      opened = c.in-Ok-image_to_show.disk;
+      fresh = c.in-Ok-image_to_show.ensures.opened;
+      shows = search rules;
+      only_read = record {
+        unwritten = (below c.show_on-disk.result.0).unwritten;
+        unhurt = let same : (unwritten_state_of g.F.Told.ToldFile.holds (below c.show_on-disk.result.0)).failures ≡ (unwritten_state_of g.F.Told.ToldFile.holds (below c.in-Ok-image_to_show.disk)).failures = search rules in
+            omega (arith, same, c.in-Ok-image_to_show.ensures.opened.unhurt);
+      };
+    } in
+    subst (λ (d : files.Shown). IsShown files c.args.image.now d before after) (sym c.new.ensures) shown
 
-pub returns-in-Ok-clause-only : goal.returns-in-Ok-clause-only
-returns-in-Ok-clause-only g c =
+pub returns-in-Err-outcome-clause-undone : goal.returns-in-Err-outcome-clause-undone
+returns-in-Err-outcome-clause-undone g c =
     let before = g.W.Write.contents c.args.writer.now in
     let after = g.W.Write.contents c.show_on-disk.new.writer in
-    part_shown c.in_ok-building.building c.in_ok-building.ensures.found.text c.in_ok-disk.disk c.show_on-disk.result.0 before after c.in_ok-building.ensures.found.described
-    c.in_ok-disk.ensures.opened (shown_front c.in_ok-building.building c.in_ok-disk.disk c.show_on-disk.result.0 before after (search rules))
+    showing_left _ _ c.in-Ok.building c.in-Ok-image_to_show.disk c.show_on-disk.result.0 _ before after c.in-Err-outcome.fault c.new-in-Err-outcome.ensures c.in-Ok.ensures.found
+    c.in-Ok-image_to_show.ensures.opened (subst (λ r. IfErr r IsShowingFault) c.in-Err-outcome.is c.show_on-disk.ensures.fault)
+    (λ refusal same. c.show_on-disk.ensures.refused refusal (c.in-Err-outcome.is ∙ ap Err same))
+    (subst (λ r. IfErr r (λ fault. IsFileFault Output fault → ShowsFront c.in-Ok.building (buffered_state_of (unwritten_state_of g.F.Told.ToldFile.holds) c.in-Ok-image_to_show.disk) (buffered_state_of (unwritten_state_of g.F.Told.ToldFile.holds) c.show_on-disk.result.0) before after))
+    c.in-Err-outcome.is c.show_on-disk.ensures.front)
 
-pub returns-in-Err-clause-only : goal.returns-in-Err-clause-only
-returns-in-Err-clause-only g c =
+pub returns-in-Ok-outcome-clause-only : goal.returns-in-Ok-outcome-clause-only
+returns-in-Ok-outcome-clause-only g c =
     let before = g.W.Write.contents c.args.writer.now in
     let after = g.W.Write.contents c.show_on-disk.new.writer in
-    showing_part c.in_ok-building.building c.in_ok-building.ensures.found.text c.in_ok-disk.disk c.show_on-disk.result.0 before after c.in-Err.fault
-    c.in_ok-building.ensures.found.described c.in_ok-disk.ensures.opened (subst (λ r. IfErr r IsShowingFault) c.in-Err.is c.show_on-disk.ensures.fault)
-    (subst (λ r. IfErr r (λ fault. IsReportOfFault fault before after)) c.in-Err.is c.show_on-disk.ensures.unwritten)
-    (subst (λ r. IfErr r (λ fault. IsFileFault Output fault → ShowsFront c.in_ok-building.building (shown_state_of c.in_ok-disk.disk) (shown_state_of c.show_on-disk.result.0) before after))
-    c.in-Err.is c.show_on-disk.ensures.front)
+    part_shown _ c.args.image.now c.in-Ok.building c.in-Ok.ensures.found.text c.in-Ok-image_to_show.disk c.show_on-disk.result.0 before after c.in-Ok.ensures.found.described
+    c.in-Ok-image_to_show.ensures.opened (shown_front c.in-Ok.building (buffered_state_of (unwritten_state_of g.F.Told.ToldFile.holds) c.in-Ok-image_to_show.disk) (buffered_state_of (unwritten_state_of g.F.Told.ToldFile.holds) c.show_on-disk.result.0) before after (search rules))
 
-pub returns-in_err-building-clause-failed : goal.returns-in_err-building-clause-failed
-returns-in_err-building-clause-failed g c = other_than _ c.from_residual.result _ _ c.from_residual.ensures.1 (λ same. absurd (subst IsBuildingFault same c.in_err-building.ensures.fault))
-
-pub returns-in_err-disk-clause-failed : goal.returns-in_err-disk-clause-failed
-returns-in_err-disk-clause-failed g c =
-    other_than _ c.from_residual-in_err-disk.result _ _ c.from_residual-in_err-disk.ensures.1 (λ same. absurd (image_no_output c.in_ok-building.building _ c.in_err-disk.ensures.fault same))
+pub returns-in-Err-outcome-clause-only : goal.returns-in-Err-outcome-clause-only
+returns-in-Err-outcome-clause-only g c =
+    let before = g.W.Write.contents c.args.writer.now in
+    let after = g.W.Write.contents c.show_on-disk.new.writer in
+    showing_part _ c.args.image.now c.in-Ok.building c.in-Ok.ensures.found.text c.in-Ok-image_to_show.disk c.show_on-disk.result.0 before after c.in-Err-outcome.fault
+    c.in-Ok.ensures.found.described c.in-Ok-image_to_show.ensures.opened (subst (λ r. IfErr r IsShowingFault) c.in-Err-outcome.is c.show_on-disk.ensures.fault)
+    (subst (λ r. IfErr r (λ fault. IsReportOfFault fault before after)) c.in-Err-outcome.is c.show_on-disk.ensures.unwritten)
+    (subst (λ r. IfErr r (λ fault. IsFileFault Output fault → ShowsFront c.in-Ok.building (buffered_state_of (unwritten_state_of g.F.Told.ToldFile.holds) c.in-Ok-image_to_show.disk) (buffered_state_of (unwritten_state_of g.F.Told.ToldFile.holds) c.show_on-disk.result.0) before after))
+    c.in-Err-outcome.is c.show_on-disk.ensures.front)
 
 pub returns-in-Err-clause-failed : goal.returns-in-Err-clause-failed
-returns-in-Err-clause-failed g c = λ same. c.show_on-disk.ensures.failed (c.in-Err.is ∙ ap Err (err_same _ _ same))
+returns-in-Err-clause-failed g c = λ same. absurd (subst IsBuildingFault same c.in-Err.ensures.fault)
+
+pub returns-in-Err-image_to_show-clause-failed : goal.returns-in-Err-image_to_show-clause-failed
+returns-in-Err-image_to_show-clause-failed g c = λ same. absurd (image_no_output c.in-Ok.building _ c.in-Err-image_to_show.ensures.fault same)
+
+pub returns-in-Err-outcome-clause-failed : goal.returns-in-Err-outcome-clause-failed
+returns-in-Err-outcome-clause-failed g c = λ same. c.show_on-disk.ensures.failed (c.in-Err-outcome.is ∙ ap Err same)

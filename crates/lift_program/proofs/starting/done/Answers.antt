@@ -1,4 +1,4 @@
-use Rattle.std.proofs.Common.{ap, Err, subst, sym}
+use Rattle.std.proofs.Common.{ap, Err, refl}
 use Rattle.lift_program.specs.Ends.{WritesFor}
 use Rattle.lift_program.proofs.Stages.{replay_report}
 use Rattle.lift_program.proofs.Writing.{report_front}
@@ -12,4 +12,7 @@ returns-in-Ok-clause-only g c =
     let input = g.R.Read.remaining c.args.input.now.reader in
     let before = g.W.Write.contents c.args.writer.now in
     let after = g.W.Write.contents c.replay.new.writer in
-    subst (λ request. WritesFor input request before after) (sym c.in-Replay.is) (report_front input before after c.in-Ok.verdict c.in-Ok.ensures.report)
+    rw c.in-Replay.is (report_front input before after c.in-Ok.verdict c.in-Ok.ensures.report)
+
+pub returns-in-Ok-serve-clause-end : goal.returns-in-Ok-serve-clause-end
+returns-in-Ok-serve-clause-end g c = rw c.in-Serve.is ((refl, c.in-Ok-serve.ensures.served), c.in-Ok-serve.ensures.serving)

@@ -1,10 +1,15 @@
 use Rattle.std.proofs.Common.{◌≡◌, ap, map, subst}
 use Rattle.lift_base.specs.Input.{InputState}
+use Rattle.lift_disk.specs.Below.{buffered_state_of}
+use Rattle.lift_disk.specs.Files.{sector_file_state_of}
+use Rattle.lift_program.specs.Images.{image_files}
+use Rattle.lift_program.specs.Unwritten.{unwritten_state_of}
 use Rattle.lift_program.specs.Ends.{IsEndOf, IsReport}
 use Rattle.lift_program.proofs.starting.start.Goals as goal
 
 pub returns : goal.returns
 returns g c =
+    let files = image_files (g.F.ToldFiles.opens c.args.rt.now) g.F.Told.ToldFile.gives g.F.Told.ToldFile.holds (buffered_state_of (sector_file_state_of g.F.Told.ToldFile.holds)) (buffered_state_of (unwritten_state_of g.F.Told.ToldFile.holds)) in
     let words = map g.S.AsStr.text c.args.words.now in
     let before = g.W.Write.contents c.args.writer.now in
     let after = g.W.Write.contents c.carry_out-end.new.writer in
@@ -12,7 +17,7 @@ returns g c =
     record {
       status = record {
         end = c.carry_out-end.result;
-        is_end = subst (λ r. IsEndOf (g.R.Read.remaining r) words before after c.carry_out-end.result) same c.carry_out-end.ensures.end;
+        is_end = subst (λ r. IsEndOf files (g.R.Read.remaining r) words before after c.carry_out-end.result) same c.carry_out-end.ensures.end;
         reported = subst (λ r. IsReport (g.R.Read.remaining r) c.carry_out-end.result before after) same c.carry_out-end.ensures.report;
         is_status = c.status.ensures;
         told = c.carry_out-end.ensures.told;

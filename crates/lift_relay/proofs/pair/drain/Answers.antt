@@ -2,7 +2,7 @@ use Rattle.std.proofs.Common.{◌≡◌, true, inl, refl, sym, subst, rules}
 use Rattle.lift_parts.specs.Allocator.{AllocatorState}
 use Rattle.lift_parts.specs.Turns.{AllocatorTurns, NoMore, NoFlush, OneFlush, IsSending}
 use Rattle.lift_parts.specs.lemmas.Paired.{sending_more}
-use Rattle.lift_relay.proofs.Draining.{sent_on, sends_on}
+use Rattle.lift_relay.proofs.Draining.{sent_on, sends_on, waits_by}
 use Rattle.lift_relay.proofs.pair.drain.Goals.{in-None, in-Some+then-is_sent+then-sent-received}
 use Rattle.lift_relay.proofs.pair.drain.Goals as goal
 
@@ -15,9 +15,9 @@ loop-preserved g c =
     let e = c.send_hand-is_sent.ensures in
     record {
       allocator = sending_more (g.P.Policy.chooses c.args.allocator.now.policy) c.args.allocator.now c.loop.allocator c.send_hand-is_sent.new.self c.send_hand-is_sent.result
-          i.allocator e.sent e.same e.line (λ no. (e.full no).0);
+          i.allocator e.sent e.same e.line e.full;
       sends = sends_on c.args.allocator.now c.loop.allocator c.send_hand-is_sent.new.self c.send_hand-is_sent.result i.sends
-          (λ is. record { sent = (e.sent is).1; line = e.line; same = e.same is }) (λ no. (e.full no).0);
+          (λ is. record { sent = (e.sent is).1; line = e.line; same = e.same is }) (λ no. waits_by _ _ (e.full no));
       flusher = OneFlush i.flusher c.flush_once.ensures.1 c.flush_once.ensures.2;
     }
 
@@ -30,7 +30,7 @@ returns-clause-allocator g c =
       | in-None w ↦ subst to (sym w.allocator-is) i.allocator
       | in-Some+then-is_sent+then-sent-received w ↦ let s = w.send_hand-is_sent in
           subst to (sym w.allocator-is) (sending_more choice c.args.allocator.now c.loop.allocator s.new.self s.result
-          i.allocator s.ensures.sent s.ensures.same s.ensures.line (λ no. (s.ensures.full no).0))
+          i.allocator s.ensures.sent s.ensures.same s.ensures.line s.ensures.full)
     ]
 
 pub returns-clause-sends : goal.returns-clause-sends

@@ -1,10 +1,11 @@
-use Rattle.std.proofs.Common.{◌≡◌, ◌⊎◌}
+use Rattle.std.proofs.Common.{◌⊎◌}
 use Rattle.lift_parts.specs.Turns.{AllocatorTurns, FlusherTurns, IsSending}
+use Rattle.lift_relay.proofs.Draining.{Waits}
 use Rattle.lift_relay.proofs.pair.drain.Given as goal
 
 abbrev pub invariant-loop : goal.invariant-loop
 invariant-loop g l = record {
   allocator : AllocatorTurns (g.P.Policy.chooses l.fn.allocator.policy) l.fn.allocator l.allocator;
-  sends : (l.allocator ≡ l.fn.allocator) ⊎ IsSending l.fn.allocator l.allocator;
+  sends : Waits l.fn.allocator l.allocator ⊎ IsSending l.fn.allocator l.allocator;
   flusher : FlusherTurns g.D.Disk.state l.fn.flusher l.fn.first l.flusher l.first;
 }

@@ -6,8 +6,8 @@ use Rattle.lift_parts.specs.Turns.{IsSameAllocator, IsSameFlusher}
 use Rattle.lift_parts.specs.Parts.{AreOfOne}
 use Rattle.lift_relay.proofs.Queues.{all_received}
 use Rattle.lift_parts.specs.lemmas.Paired.{still_of_one}
-use Rattle.lift_parts.specs.Runs.{Advances}
-use Rattle.lift_relay.proofs.Ran.{refused_of, ran_of, broken_of, allocator_of, flusher_of, advances_of}
+use Rattle.lift_parts.specs.History.{GoesOnTo}
+use Rattle.lift_relay.proofs.Ran.{refused_of, ran_of, broken_of, allocator_of, flusher_of, goes_on}
 use Rattle.lift_relay.proofs.pair.run.Goals as goal
 
 pub compare-requires : goal.compare-requires
@@ -64,10 +64,7 @@ returns-clause-of_one g c =
     subst (λ (p : AllocatorState g.row.P.Denot × FlusherState g.row.D.Denot). AreOfOne p.0 p.1) (λ i. (sym c.compare.ensures.allocator i, sym c.compare.ensures.flusher i)) before
 
 pub returns-clause-history : goal.returns-clause-history
-returns-clause-history g c = λ safe given start.
+returns-clause-history g c = λ base safe given h.
     let ran = c.with_both-fault in
-    subst (λ (p : AllocatorState g.row.P.Denot × FlusherState g.row.D.Denot). Advances g.P.Policy.chooses p.0 c.args.flusher.now p.1 safe given)
-    (λ i. (sym c.compare.ensures.allocator i, sym c.compare.ensures.flusher i))
-    (advances_of g.P.Policy.chooses g.D.Disk.state c.args.allocator.now ran.new.a c.args.flusher.now ran.new.b ran.result safe given c.runs_are_histories.ensures.runs ran.ensures.0
-    (λ goes. subst (λ (p : AllocatorState g.row.P.Denot × FlusherState g.row.D.Denot). p.0.end.sent ≡ p.1.end.received)
-    (λ i. (c.compare.ensures.allocator i, c.compare.ensures.flusher i)) (returns-clause-received g c goes)) start)
+    subst (λ (x : FlusherState g.row.D.Denot). GoesOnTo c.args.flusher.now x base safe given) (sym c.compare.ensures.flusher)
+    (goes_on (g.P.Policy.chooses c.args.allocator.now.policy) g.D.Disk.state c.args.allocator.now ran.new.a c.args.flusher.now ran.new.b ran.result c.flushes_are_steps.ensures.turns ran.ensures.0 base safe given h)

@@ -15,6 +15,8 @@ use Rattle.lift_parts.specs.declared.taken.Taken.{Taken}
 use Rattle.lift_parts.specs.Scan.{ScansAhead, turns_in}
 use Rattle.lift_relay.proofs.Noted.{noted_more}
 use Rattle.lift_parts.specs.lemmas.Used.{uses}
+use Rattle.lift_clerk.specs.Answered.{AreApart}
+use Rattle.lift_clerk.specs.lemmas.Served.{all_apart}
 use Rattle.lift_relay.proofs.Scanned.{Looked, looked-at, scans-more, below, run-keeps}
 use Rattle.lift_relay.proofs.scan.scan.Goals as goal
 
@@ -74,6 +76,9 @@ returns-clause-shows g c =
     (run-keeps (g.P.Policy.chooses c.args.policy.now) c.decisions_keep.ensures.joins start.plan start.state c.loop-t.decider.state (commands_in c.loop-t.taken.items) (replies_in c.loop-t.taken.items)
     (nothing_more start.state.register c.register-shown.result.now shown.value shown.lawful) c.requires.settled scans.run).shows
     refl
+
+pub returns-clause-apart : goal.returns-clause-apart
+returns-clause-apart g c = subst AreApart (sym c.loop-t.invariant.scans.commands) (all_apart 0 c.loop-t.invariant.scans.visits)
 
 pub returns-clause-below : goal.returns-clause-below
 returns-clause-below g c =

@@ -8,7 +8,7 @@ returns-clause-flushes g c =
     let f = c.args.flusher.now in
     let after = c.turn.new.self in
     let e = c.turn.ensures.flushes in
-    flushes_of f after e.commits.is.same.0 c.turn.result e.turns e.commits.is.broken (safe_register g.D.Disk.state f.writer (entries_between f.end after.end) after.end.register after.writer c.turn.result e.commits) e.commits.is.stays
+    flushes_of f after e.commits.is.same.0 c.turn.result e.turns e.commits.is.broken (safe_register g.D.Disk.state f.writer (entries_between f.end after.end) after.end.state.register after.writer c.turn.result e.commits) e.commits.is.stays
 
 pub returns-clause-fails : goal.returns-clause-fails
 returns-clause-fails g c is =
@@ -19,3 +19,6 @@ pub returns-clause-rests : goal.returns-clause-rests
 returns-clause-rests g c is =
     let e = c.turn.ensures.flushes in
     rests_of c.args.flusher.now c.turn.new.self e.commits.is.same.0 c.turn.result is e.turns e.commits.is.broken e.commits.is.rests
+
+pub returns-clause-past : goal.returns-clause-past
+returns-clause-past g c = λ w terminals safe given p takes. c.flushes_are_steps.ensures.pasts c.args.flusher.now c.turn.new.self c.turn.result c.turn.ensures.flushes w terminals safe given p takes

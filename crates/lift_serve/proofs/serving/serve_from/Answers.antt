@@ -1,20 +1,27 @@
 use Rattle.std.proofs.Common.{refl, sym, ◌∙◌, inl}
-use Rattle.lift_serve.proofs.Relayings.{tells_no_network, tells_spawn}
+use Rattle.lift_serve.proofs.Relayings.{all_ended, ended_so, tells_no_network, tells_spawn}
 use Rattle.lift_serve.proofs.serving.serve_from.Goals as goal
 
-pub returns-in-Ok : goal.returns-in-Ok
-returns-in-Ok g c =
+pub returns-in-Ok-clause-comes : goal.returns-in-Ok-clause-comes
+returns-in-Ok-clause-comes g c =
     inl (record {
       relayed = record {
         before = c.args.clerk;
         after = c.in-Ok.clerk;
         fault = c.in-Ok.ensures.ran.0;
         begins = refl;
+        unused = c.requires.unused;
         policy_is = refl;
         relayed = c.in-Ok.ensures.ran.1;
-        ends = sym (c.behind.ensures.keeper ∙ c.into_parts-seat.ensures.keeper);
+        ends = sym (c.behind.ensures.keeper ∙ c.leave.ensures.keeper);
       };
       seats = c.requires.count;
       tells = tells_spawn c.in-Ok.ensures.ran.0 c.in-Ok.own _ _ c.in-Ok.ensures.ran.2 c.behind.ensures.fault;
-      begun = tells_no_network c.in-Ok.ensures.ran.0 c.in-Ok.own _ _ c.in-Ok.ensures.ran.2 c.behind.ensures.fault;
+      begun = tells_no_network _ _ c.behind.ensures.fault;
     })
+
+pub returns-in-Ok-clause-ended : goal.returns-in-Ok-clause-ended
+returns-in-Ok-clause-ended g c = ended_so c.in-Ok.over _ c.args.listener.now c.args.sessions c.in-Ok.ensures.over c.behind.ensures.ended
+
+pub returns-in-Ok-clause-counted : goal.returns-in-Ok-clause-counted
+returns-in-Ok-clause-counted g c = all_ended c.in-Ok.own _ c.in-Ok.over _ _ c.behind.ensures.fault c.behind.ensures.ended

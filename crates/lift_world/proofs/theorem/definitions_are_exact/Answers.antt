@@ -11,15 +11,22 @@ use Rattle.lift_world.specs.Faults.{goes_on}
 use Rattle.lift_world.proofs.theorem.definitions_are_exact.Goals as goal
 
 pub returns-clause-open_call : goal.returns-clause-open_call
-returns-clause-open_call c entries kiosk number from to car party =
+returns-clause-open_call c base entries kiosk number from to car party =
     (λ k. (k.row, k.is, k.is_open, k.in_order), λ k. record { row = k.0; is = k.1; is_open = k.2; in_order = k.3 })
 
 pub returns-clause-done_call : goal.returns-clause-done_call
-returns-clause-done_call c entries kiosk number from to car party =
+returns-clause-done_call c base entries kiosk number from to car party =
     (λ k. (k.call, k.is, k.is_counted, k.is_done), λ k. record { call = k.0; is = k.1; is_counted = k.2; is_done = k.3 })
 
+pub returns-clause-held : goal.returns-clause-held
+returns-clause-held c base entries entry = (λ k. k, λ k. k)
+
+pub returns-clause-done_before : goal.returns-clause-done_before
+returns-clause-done_before c base kiosk number from to car party =
+    (λ k. (k.was_last, k.no_row), λ k. record { was_last = k.0; no_row = k.1 })
+
 pub returns-clause-letter : goal.returns-clause-letter
-returns-clause-letter c entries kiosk number from to car party = (λ k. k, λ k. k)
+returns-clause-letter c base entries kiosk number from to car party = (λ k. k, λ k. k)
 
 pub returns-clause-typed_call : goal.returns-clause-typed_call
 returns-clause-typed_call c terminal number floor party =

@@ -1,4 +1,4 @@
-use Rattle.std.proofs.Common.{ℕ, ◌≡◌, ◌≢◌, false, refl}
+use Rattle.std.proofs.Common.{◌≡◌, ◌≢◌, false, refl}
 use Rattle.lift_world.specs.declared.event.Kept.{Kept}
 use Rattle.lift_world.specs.declared.event.Event.{Event}
 use Rattle.lift_world.specs.declared.event.Event.TheVariants.{Gate, SecondSync, Reopen}

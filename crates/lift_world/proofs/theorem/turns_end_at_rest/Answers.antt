@@ -9,11 +9,12 @@ none_placed zero = tt
 none_placed (suc n) = (refl, none_placed n)
 
 pub returns-clause-start : goal.returns-clause-start
-returns-clause-start c building = start_rests building
+returns-clause-start c building base = start_rests building base
 
 pub returns-clause-fresh : goal.returns-clause-fresh
-returns-clause-fresh c building = record {
+returns-clause-fresh c building base = record {
   same_building = refl;
+  same_base = refl;
   nothing_accepted = refl;
   no_car_placed = none_placed 16;
   nothing_asked = refl;

@@ -1,4 +1,4 @@
-use Rattle.std.proofs.Common.{◌≡◌, inl, inr, true, false, length, sym, ap, ◌∙◌, subst}
+use Rattle.std.proofs.Common.{◌≡◌, inl, inr, true, false, length, refl, sym, ap, ◌∙◌, subst}
 use Rattle.std.specs.Prelude.{Ok, Err}
 use Rattle.lift_register.specs.Register.{register_of}
 use Rattle.lift_policy.specs.Step.{State}
@@ -83,7 +83,7 @@ returns-in-Err-clause-fails g c = λ of_disk.
     let whole : between.writer.is_broken ≡ false = is_whole between.writer.is_broken (λ broken. let other = commit.broken.1 broken in cc) in
     let shown = c.register-shown.ensures in
     subst (λ (v : ClerkState g.row.D.Denot g.row.P.Denot). IsFailedTurn (g.P.Policy.chooses v.policy) v new) c.self.view_is
-    (failed_turn s.desk.now (g.P.Policy.chooses s.policy) old new c.scan.new.seat between.state answers c.self.invariant.seated scans (c.answer_all-in-Err.ensures.stored s.seat scans.visits scans.scanned) c.answer_all-in-Err.ensures.in_range c.self.invariant.settled
+    (failed_turn s.desk.now (g.P.Policy.chooses s.policy) old new c.scan.new.seat between.state answers c.self.invariant.seated scans (c.answer_all-in-Err.ensures.stored s.seat scans.visits scans.scanned) c.answer_all-in-Err.ensures.in_range refl c.self.invariant.settled
     (sym (ap (λ (w : WriterView g.row.D.Denot). w.is_broken) writer) ∙ whole)
     c.in-Err.ensures.unmoved
     (λ none. let no = (commit.empty whole none).0 in cc)
@@ -101,5 +101,5 @@ returns-in-Err-clause-rests g c = λ was.
     let new : ClerkState g.row.D.Denot g.row.P.Denot = record { desk = s.desk.now; seat = c.answer_all-in-Err.new.seat; keeper = c.commit.new.self; policy = s.policy } in
     let broken : s.keeper.writer.is_broken ≡ true = ap (λ (v : ClerkState g.row.D.Denot g.row.P.Denot). v.keeper.writer.is_broken) c.self.view_is ∙ was in
     subst (λ (v : ClerkState g.row.D.Denot g.row.P.Denot). IsBrokenTurn v new) c.self.view_is
-    (broken_turn s.desk.now (g.P.Policy.chooses s.policy) old new c.scan.new.seat answers between c.self.invariant.seated scans (c.answer_all-in-Err.ensures.stored s.seat scans.visits scans.scanned) c.answer_all-in-Err.ensures.in_range
+    (broken_turn s.desk.now (g.P.Policy.chooses s.policy) old new c.scan.new.seat answers between c.self.invariant.seated scans (c.answer_all-in-Err.ensures.stored s.seat scans.visits scans.scanned) c.answer_all-in-Err.ensures.in_range refl
     broken writer (same_keeper c.commit.new.self between c.in-Err.ensures.unmoved (c.in-Err.ensures.commits.rests (ap (λ (w : WriterView g.row.D.Denot). w.is_broken) writer ∙ broken))))

@@ -9,11 +9,11 @@ use Rattle.lift_relay.proofs.allocator.Allocator.send_hand.Goals as goal
 pub send-requires-clause-few : goal.send-requires-clause-few
 send-requires-clause-few g c =
     let s = c.self.inside in
-    let many : length s.seat ≡ length s.desk.now = sym (length-map s.seat (λ (p : ClerkPlace). p.table)) ∙ ap length c.self.invariant.seated in
-    let range = c.len-terminals.ensures.in_range in
-    let count = c.len-terminals.ensures.count in
+    let many : length s.scanner.seat ≡ length s.scanner.desk = sym (length-map s.scanner.seat (λ (p : ClerkPlace). p.table)) ∙ ap length c.self.invariant.seated in
+    let range = c.terminals-terminals.ensures.in_range in
+    let count = c.terminals-terminals.ensures.count in
     let held : s.hand ≡ Some c.in-Some.batch = sym c.take.ensures.value ∙ c.in-Some.is in
     let one : length (option_to_list s.hand) ≡ 1 = ap (λ (h : Option BatchState). length (option_to_list h)) held in
-    let most = most_turns s.seat in
+    let most = most_turns s.scanner.seat in
     let few = c.self.invariant.few in
     omega arith

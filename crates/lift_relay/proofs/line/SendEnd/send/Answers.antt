@@ -1,12 +1,13 @@
-use Rattle.std.proofs.Common.{ap, ◌∙◌, sym, subst, length, ◌<◌}
-use Rattle.crossbeam_queue.specs.Passes.{ruled_capacity, view}
+use Rattle.std.proofs.Common.{sym, subst, length, ◌<◌, refl}
 use Rattle.lift_parts.specs.Line.{SendState, IsNext}
 use Rattle.lift_relay.proofs.Moves.{sends, sender_learns}
 use Rattle.lift_relay.proofs.line.SendEnd.send.Goals as goal
 
-pub push_as-requires-clause-rule : goal.push_as-requires-clause-rule
-push_as-requires-clause-rule g c =
-    let next = subst (λ (s : SendState). IsNext s.building s.desk s.register s.turns c.args.batch) (sym c.self.view_is) c.requires.next in (
-      sends _ _ (view c.self.inside.pass) c.args.batch (ap (λ q. ruled_capacity q) c.deref.ensures ∙ c.self.invariant.capacity) c.self.invariant.begun c.self.invariant.sends (subst (λ (s : SendState). length s.sent < 66060225) (sym c.self.view_is) c.requires.few) next,
-      sender_learns _ (view c.self.inside.pass) c.self.invariant.begun c.self.invariant.sends,
-    )
+pub push-requires-clause-pushes : goal.push-requires-clause-pushes
+push-requires-clause-pushes g c =
+    let s = c.self.inside.side in
+    sends 4 s.pass s.knows c.args.batch refl c.self.invariant.begun c.self.invariant.sends (subst (λ (e : SendState). length e.sent < 66060225) (sym c.self.view_is) c.requires.few)
+    (subst (λ (e : SendState). IsNext e.building e.desk e.state e.turns c.args.batch) (sym c.self.view_is) c.requires.next)
+
+pub push-requires-clause-learns : goal.push-requires-clause-learns
+push-requires-clause-learns g c = sender_learns _ _ c.self.invariant.begun c.self.invariant.sends

@@ -2,10 +2,11 @@ use Rattle.std.proofs.Common.{◌≡◌, List, Option, sym, ap, ◌∙◌, subst
 use Rattle.std.specs.Prelude.{IsSome, IsTrue}
 use Rattle.lift_base.specs.declared.history.Entry.{Entry}
 use Rattle.lift_base.specs.declared.travel.Position.{Position}
+use Rattle.lift_register.specs.Register.{register_of, empty}
 use Rattle.lift_policy.specs.declared.command.Command.{Command}
 use Rattle.lift_world.specs.Decided.{decided}
 use Rattle.lift_world.specs.Carries.{Carries, state_with}
-use Rattle.lift_world.specs.World.{World, register_after}
+use Rattle.lift_world.specs.World.{World}
 use Rattle.lift_world.specs.Next.{taking}
 use Rattle.lift_world.specs.Replays.{view_of}
 use Rattle.lift_world.proofs.Carried.{decided_both}
@@ -21,7 +22,7 @@ returns c =
     let carries : (batch : List Entry) → Carries (decided w.building (state_with c.replay-register.result w.positions batch) command.terminal command.number command.body c.args.letter) c.replay-register.result w.positions batch d.result d.new.register d.new.positions =
     subst (λ (ps : List (Option Position)). (batch : List Entry) → Carries (decided w.building (state_with c.replay-register.result ps batch) command.terminal command.number command.body c.args.letter) c.replay-register.result ps batch d.result d.new.register d.new.positions) copied d.ensures.carries in
     let both = decided_both w c.replay-register.result command c.args.letter
-    (record { fits = c.self.invariant.fits; register_is = c.replay-register.ensures.value ∙ ap (λ (xs : List Entry). register_after xs) c.deref.ensures.value; balanced = c.replay-register.ensures.balanced })
+    (record { fits = c.self.invariant.fits; register_is = c.replay-register.ensures.value ∙ ap (λ (xs : List Entry). register_of empty xs) c.deref.ensures.value; balanced = c.replay-register.ensures.balanced })
     d.result d.new.register d.new.positions carries in
     subst (λ (v : World). (IsTrue c.is_some.result → IsSome (taking v c.args.letter command)) × (IsSome (taking v c.args.letter command) → IsTrue c.is_some.result)) c.self.view_is
     ((λ yes. both.0 (sym c.is_some.ensures ∙ yes)), (λ possible. c.is_some.ensures ∙ both.1 possible))

@@ -1,6 +1,6 @@
 use Rattle.std.proofs.Common.{rules, ◌≡◌, sym, subst}
 use Rattle.std.specs.Prelude.{IsSome}
-use Rattle.lift_register.specs.Register.{RegisterState}
+use Rattle.lift_register.specs.Register.{RegisterState, empty}
 use Rattle.lift_world.specs.World.{World}
 use Rattle.lift_world.specs.Replays.{view_of, IsTight}
 use Rattle.lift_world.specs.Next.{taking}
@@ -11,7 +11,7 @@ pub invariant_of-self-in_default : goal.invariant_of-self-in_default
 invariant_of-self-in_default c =
     let i = c.self.inside in
     let w : World = view_of i.building.now i.accepted.items i.safe i.sealed i.flight i.phase i.queue.items i.power i.positions i.taken.items i.due.items i.asked.items i.answered.items i.heard.items i.given.items in
-    rw c.reserve.ensures.items (subst (λ (r : RegisterState). IsTight i.building.now r i.accepted.items)
+    rw c.reserve.ensures.items (subst (λ (r : RegisterState). IsTight i.building.now empty r i.accepted.items)
     (sym (undecided w i.register c.args.command c.args.letter c.self.invariant c.decide.result c.decide.new.register c.decide.new.positions c.decide.ensures.carries c.in_default.is).1) c.self.invariant)
 
 pub returns-in_default-clause-ok : goal.returns-in_default-clause-ok

@@ -44,13 +44,13 @@ captures_send ν A B C D a b c d = search sendable depth 20
 
 pub spawn-requires-send-T : goal.spawn-requires-send-T
 spawn-requires-send-T g c = λ κs h.
-    let p : IsSend (param 3 g.row.P) = c.requires-raw.1.1.1.1.0 in
+    let p : IsSend (param 3 g.row.P) = c.requires-raw.1.1.1.1.1.0 in
     param_send 3 _ (arg_send _ no _ (allocating_send _ _ (param 3 g.row.P) _ p))
 
 pub spawn-requires-send-F : goal.spawn-requires-send-F
 spawn-requires-send-F g c = λ κs h.
-    let p : IsSend (param 3 g.row.P) = c.requires-raw.1.1.1.1.0 in
-    let rt : IsSync (param 0 g.row.R) = c.requires-raw.1.1.1.1.1.0 in
-    let gate : IsSync (param 1 g.row.G) = c.requires-raw.1.1.1.1.1.1 in
+    let p : IsSend (param 3 g.row.P) = c.requires-raw.1.1.1.1.1.0 in
+    let rt : IsSync (param 0 g.row.R) = c.requires-raw.1.1.1.1.1.1.0 in
+    let gate : IsSync (param 1 g.row.G) = c.requires-raw.1.1.1.1.1.1.1 in
     let flag : IsSync AtomicBool.the_row = flag_is.the_sync in
     param_send 2 _ (arg_send _ no _ (captures_send _ _ _ _ _ (shr_send _ _ _ rt) (shr_send _ _ _ flag) (allocator_send _ _ (param 3 g.row.P) _ p) (shr_send _ _ _ gate)))

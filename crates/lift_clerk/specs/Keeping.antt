@@ -1,0 +1,90 @@
+-- What is kept, over power cuts, of all that was answered.
+use Rattle.std.specs.Prelude.{◌⊎◌, List, ◌++◌}
+use mathlib.Core.List.{IsPrefix}
+use Rattle.lift_base.specs.declared.history.Entry.{Entry}
+use Rattle.lift_building.specs.Plan.{Plan}
+use Rattle.lift_disk.specs.Disk.{DiskState, Image, LeavesNow, LeavesOnly}
+use Rattle.lift_register.specs.Register.{RegisterState}
+use Rattle.lift_keeper.specs.Images.{IsInDoubt}
+use Rattle.lift_keeper.specs.Writer.{WriterView}
+use Rattle.lift_world.specs.declared.event.Taken.{Taken}
+use Rattle.lift_clerk.specs.Steps.{GroupState, MayAdd}
+use Rattle.lift_clerk.specs.Machine.{kept_of}
+use Rattle.lift_clerk.specs.History.{History, BeginsOver, ShowsGiven}
+
+-- The image keeps these entries and answers. It reads as the register of the entries over what the
+-- journal began with, which holds each one that was acknowledged and still names the car of each
+-- letter given; and whoever begins over it goes on with a history of just these.
+pub record Keeps (D : Type 0) (plan : Plan) (base : RegisterState) (entries : List Entry)
+    (given : List Taken) (left : Image) : Type 0 where
+  pub shows : ShowsGiven plan base entries given left
+  pub goes_on : (clerk : GroupState D) → BeginsOver plan left clerk
+      → History base clerk entries given
+
+-- It keeps what is safe, or that with the batch on its way.
+abbrev pub KeepsEither : Type 0 → Plan → RegisterState → (safe batch : List Entry) → List Taken → Image → Type 0
+KeepsEither D plan base safe batch given left = Keeps D plan base safe given left
+    ⊎ Keeps D plan base (safe ++ batch) given left
+
+-- It keeps some front of what was accepted.
+abbrev pub KeepsFront : Type 0 → Plan → RegisterState → (accepted : List Entry) → List Taken → Image → Type 0
+KeepsFront D plan base accepted given left = (entries : List Entry) × IsPrefix entries accepted
+    × Keeps D plan base entries given left
+
+-- Each image that a crash now may leave reads as the register that is safe, or as that with the
+-- batch in doubt. Every writer promises that of itself.
+abbrev pub LeavesSafe : {D : Type 0} → WriterView D → DiskState → Type 0
+LeavesSafe writer disk = LeavesNow disk (IsInDoubt writer.plan writer.register writer.doubt)
+
+-- Each keeps what is safe, or that with the batch in doubt.
+abbrev pub KeepsNow : {D : Type 0} → RegisterState → GroupState D → (safe : List Entry) → List Taken → DiskState
+    → Type 0
+KeepsNow {D} base group safe given disk = LeavesNow disk
+    (KeepsEither D group.keeper.writer.plan base safe group.keeper.writer.doubt given)
+
+-- Whatever has happened, each image that a crash may leave now or at any moment of the next call
+-- keeps what was given: with what is safe, or with that and the batch on its way.
+abbrev pub CrashesKeep : Type 0 → Type 0
+CrashesKeep D =
+    (base : RegisterState) (group : GroupState D) (safe batch : List Entry) (given : List Taken) (left : Image)
+    → History base group safe given → MayAdd group.keeper batch
+    → (doubt : IsInDoubt group.keeper.writer.plan group.keeper.writer.register batch left)
+    → Keeps D group.keeper.writer.plan base (kept_of safe batch doubt) given left
+
+-- One call, whose device was so before it and is so behind it, with at most this batch on its way.
+-- Each image that a crash at any moment of it may leave keeps what was safe before it, or that with
+-- the batch, and all that was given before.
+abbrev pub Stands : {D : Type 0} → (base : RegisterState) → (before : GroupState D) (safe : List Entry) (given : List Taken)
+    (batch : List Entry) (old new : DiskState) → Type 0
+Stands {D} base before safe given batch old new =
+    LeavesOnly old new (KeepsEither D before.keeper.writer.plan base safe batch given)
+
+-- So it stands whatever had happened before it.
+abbrev pub MomentsStand : {D : Type 0} → GroupState D → List Entry → DiskState → DiskState → Type 0
+MomentsStand before batch old new = (base : RegisterState) (safe : List Entry)
+    (given : List Taken) → History base before safe given → Stands base before safe given batch old new
+
+-- It does wherever each image that may be left reads as the register that was safe, or as that with
+-- the batch.
+abbrev pub MomentsKeep : (D : Type 0) → (D → DiskState) → Type 0
+MomentsKeep D state =
+    (before : GroupState D) (batch : List Entry) (device : D) → MayAdd before.keeper batch
+    → LeavesOnly (state before.keeper.writer.device) (state device)
+    (IsInDoubt before.keeper.writer.plan before.keeper.writer.register batch)
+    → MomentsStand before batch (state before.keeper.writer.device) (state device)
+
+-- One call leads from one group to another, with at most this batch on its way. So much more is safe
+-- behind it, and just these commands were answered in it. What was given before is kept at each
+-- moment of it, and all of it from its end on.
+pub record AdvancesFrom {D : Type 0} (base : RegisterState) (before : GroupState D) (safe : List Entry)
+    (given : List Taken) (after : GroupState D) (batch more : List Entry) (told : List Taken)
+    (old new : DiskState) : Type 0 where
+  pub history : History base after (safe ++ more) (given ++ told)
+  pub stands : Stands base before safe given batch old new
+  pub now : KeepsNow base after (safe ++ more) (given ++ told) new
+
+-- So it is whatever had happened before.
+abbrev pub Advances : {D : Type 0} → (before after : GroupState D) (batch more : List Entry)
+    (told : List Taken) (old new : DiskState) → Type 0
+Advances before after batch more told old new = (base : RegisterState) (safe : List Entry)
+    (given : List Taken) → History base before safe given → AdvancesFrom base before safe given after batch more told old new

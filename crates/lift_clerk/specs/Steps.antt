@@ -1,0 +1,103 @@
+-- What can happen to a group in one step, whether a clerk makes it or the flusher of its two parts.
+use Rattle.std.specs.Prelude.{ℕ, ◌≡◌, ◌⊎◌, ◌<◌, true, false, List, [], length}
+use Rattle.lift_base.specs.declared.history.Entry.{Entry}
+use Rattle.lift_base.specs.declared.command.Reply.{Reply}
+use Rattle.lift_register.specs.Register.{register_of}
+use Rattle.lift_desk.specs.Seats.{view_at}
+use Rattle.lift_policy.specs.declared.command.Command.{Command}
+use Rattle.lift_policy.specs.Eligible.{any_eligible}
+use Rattle.lift_policy.specs.Step.{State}
+use Rattle.lift_policy.specs.Run.{Run, unknowns}
+use Rattle.lift_keeper.specs.Keeper.{KeeperView}
+use Rattle.lift_clerk.specs.Answered.{AreApart, Answers}
+use Rattle.lift_clerk.specs.Clerk.{ClerkState}
+use Rattle.lift_clerk.specs.Turn.{settled}
+
+-- a clerk, whatever its policy is
+abbrev pub GroupState : Type 0 → Type 0
+GroupState D = ClerkState D (Unit {0})
+
+abbrev pub group_of : {D P : Type 0} → ClerkState D P → GroupState D
+group_of clerk = record {
+  desk = clerk.desk;
+  seat = clerk.seat;
+  keeper = clerk.keeper;
+  policy = tt;
+}
+
+-- While nothing has failed, the rules decide these commands on what the keeper shows.
+pub record DecidesOn {D : Type 0} (keeper : KeeperView D) (commands : List Command)
+    (replies : List Reply) (decided : State) : Type 0 where
+  pub was_whole : keeper.writer.is_broken ≡ false
+  pub run : Run keeper.writer.plan any_eligible keeper.state commands replies decided
+  pub shows : decided.register ≡ register_of keeper.writer.register decided.batch
+
+-- Commands are decided, their batch is made safe, and then they have their replies, at the same
+-- desk.
+pub record MakesSafe {D P : Type 0} (old new : ClerkState D P) : Type 0 where
+  pub commands : List Command
+  pub replies : List Reply
+  pub decided : State
+  pub desk : new.desk ≡ old.desk
+  pub decides : DecidesOn old.keeper commands replies decided
+  pub answers : Answers old.seat new.seat commands replies
+  pub state : new.keeper.state ≡ settled decided
+  pub safe : new.keeper.writer.register ≡ decided.register
+  pub is_whole : new.keeper.writer.is_broken ≡ false
+  pub no_doubt : new.keeper.writer.doubt ≡ []
+  pub same_plan : new.keeper.writer.plan ≡ old.keeper.writer.plan
+
+-- Commands are decided, and the device fails their batch, which is in doubt. Each is answered
+-- Unknown.
+pub record LeavesInDoubt {D P : Type 0} (old new : ClerkState D P) : Type 0 where
+  pub commands : List Command
+  pub decided_so : List Reply
+  pub replies : List Reply
+  pub decided : State
+  pub desk : new.desk ≡ old.desk
+  pub decides : DecidesOn old.keeper commands decided_so decided
+  pub unknown : replies ≡ unknowns commands
+  pub answers : Answers old.seat new.seat commands replies
+  pub some : 0 < length decided.batch
+  pub doubt : new.keeper.writer.doubt ≡ decided.batch
+  pub breaks : new.keeper.writer.is_broken ≡ true
+  pub same_register : new.keeper.writer.register ≡ old.keeper.writer.register
+  pub same_plan : new.keeper.writer.plan ≡ old.keeper.writer.plan
+
+-- Behind a fault each is answered Unknown, and what is safe or in doubt stays so.
+pub record AnswersUnknown {D P : Type 0} (old new : ClerkState D P) : Type 0 where
+  pub commands : List Command
+  pub replies : List Reply
+  pub desk : new.desk ≡ old.desk
+  pub unknown : replies ≡ unknowns commands
+  pub answers : Answers old.seat new.seat commands replies
+  pub was_broken : old.keeper.writer.is_broken ≡ true
+  pub rests : new.keeper.writer ≡ old.keeper.writer
+
+-- Nothing is taken, answered or made safe, and the desk is the same. What a keeper shows stays while
+-- nothing has failed; once something has, it is no matter.
+pub record Rests {D P : Type 0} (old new : ClerkState D P) : Type 0 where
+  pub desk : new.desk ≡ old.desk
+  pub words : (t : ℕ) → ((view_at new.seat t).taken ≡ (view_at old.seat t).taken)
+      × ((view_at new.seat t).answered ≡ (view_at old.seat t).answered)
+  pub state : new.keeper.writer.is_broken ≡ false → new.keeper.state ≡ old.keeper.state
+  pub register : new.keeper.writer.register ≡ old.keeper.writer.register
+  pub doubt : new.keeper.writer.doubt ≡ old.keeper.writer.doubt
+  pub plan : new.keeper.writer.plan ≡ old.keeper.writer.plan
+  pub broken : (new.keeper.writer.is_broken ≡ true)
+      ⊎ (new.keeper.writer.is_broken ≡ old.keeper.writer.is_broken)
+
+-- The rules accept this batch on what the keeper shows, of commands that may have been asked. Whether
+-- they were is not said: what a crash leaves is shown of all of them.
+pub record MayAccept {D : Type 0} (keeper : KeeperView D) (batch : List Entry) : Type 0 where
+  pub commands : List Command
+  pub replies : List Reply
+  pub decided : State
+  pub apart : AreApart commands
+  pub decides : DecidesOn keeper commands replies decided
+  pub is : decided.batch ≡ batch
+
+-- At most this batch is on its way to the device: the one in doubt, or one that the rules accept of
+-- commands that may have been asked.
+abbrev pub MayAdd : {D : Type 0} → KeeperView D → List Entry → Type 0
+MayAdd keeper batch = (batch ≡ keeper.writer.doubt) ⊎ MayAccept keeper batch

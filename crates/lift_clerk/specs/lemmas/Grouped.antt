@@ -1,0 +1,91 @@
+-- What a clerk does, a group does.
+use Rattle.lift_building.specs.Plan.{Plan}
+use Rattle.lift_disk.specs.Disk.{Image}
+use Rattle.lift_clerk.specs.Clerk.{ClerkState}
+use Rattle.lift_clerk.specs.Steps.{group_of, MakesSafe, LeavesInDoubt, AnswersUnknown}
+use Rattle.lift_clerk.specs.Steps.{Rests}
+use Rattle.lift_clerk.specs.Machine.{Reopens, Begins}
+use Rattle.lift_clerk.specs.History.{BeginsOver}
+
+module _ {D P : Type 0} (before after : ClerkState D P) where
+  abbrev pub grouped_safe : MakesSafe before after → MakesSafe (group_of before) (group_of after)
+  grouped_safe t = record {
+    commands = t.commands;
+    replies = t.replies;
+    decided = t.decided;
+    desk = t.desk;
+    decides = t.decides;
+    answers = t.answers;
+    state = t.state;
+    safe = t.safe;
+    is_whole = t.is_whole;
+    no_doubt = t.no_doubt;
+    same_plan = t.same_plan;
+  }
+
+  abbrev pub grouped_doubt : LeavesInDoubt before after
+      → LeavesInDoubt (group_of before) (group_of after)
+  grouped_doubt t = record {
+    commands = t.commands;
+    decided_so = t.decided_so;
+    replies = t.replies;
+    decided = t.decided;
+    desk = t.desk;
+    decides = t.decides;
+    unknown = t.unknown;
+    answers = t.answers;
+    some = t.some;
+    doubt = t.doubt;
+    breaks = t.breaks;
+    same_register = t.same_register;
+    same_plan = t.same_plan;
+  }
+
+  abbrev pub grouped_unknown : AnswersUnknown before after
+      → AnswersUnknown (group_of before) (group_of after)
+  grouped_unknown t = record {
+    commands = t.commands;
+    replies = t.replies;
+    desk = t.desk;
+    unknown = t.unknown;
+    answers = t.answers;
+    was_broken = t.was_broken;
+    rests = t.rests;
+  }
+
+  abbrev pub grouped_rests : Rests before after → Rests (group_of before) (group_of after)
+  grouped_rests s = record {
+    desk = s.desk;
+    words = s.words;
+    state = s.state;
+    register = s.register;
+    doubt = s.doubt;
+    plan = s.plan;
+    broken = s.broken;
+  }
+
+  abbrev pub grouped_reopens : Reopens before after → Reopens (group_of before) (group_of after)
+  grouped_reopens r = record {
+    desk = r.desk;
+    same_seat = r.same_seat;
+    state = r.state;
+    one_of = r.one_of;
+    is_whole = r.is_whole;
+    no_doubt = r.no_doubt;
+    same_plan = r.same_plan;
+  }
+
+module _ {D P : Type 0} (clerk : ClerkState D P) where
+  abbrev pub grouped_begins : Begins clerk → Begins (group_of clerk)
+  grouped_begins b =
+      record { seat = b.seat; state = b.state; is_whole = b.is_whole; no_doubt = b.no_doubt }
+
+  abbrev pub grouped_over : (plan : Plan) (image : Image) → BeginsOver plan image clerk
+      → BeginsOver plan image (group_of clerk)
+  grouped_over plan image b =
+      record {
+        begins = grouped_begins b.begins;
+        same_plan = b.same_plan;
+        reads = b.reads;
+        only = b.only;
+      }

@@ -1,0 +1,35 @@
+-- What a crash leaves of what is safe, and what is kept by that.
+use Rattle.std.proofs.Common.{inl, inr, List, [], ◌++◌, refl}
+use Rattle.std.proofs.lemmas.List.{append-nil}
+use Rattle.lift_base.specs.declared.history.Entry.{Entry}
+use Rattle.lift_building.specs.Plan.{Plan}
+use Rattle.lift_disk.specs.Disk.{DiskState, Image}
+use Rattle.lift_register.specs.Register.{RegisterState}
+use Rattle.lift_keeper.specs.Images.{IsInDoubt}
+use Rattle.lift_world.specs.declared.event.Taken.{Taken}
+use Rattle.lift_clerk.specs.Steps.{GroupState}
+use Rattle.lift_clerk.specs.History.{History}
+use Rattle.lift_clerk.specs.Keeping.{CrashesKeep, KeepsEither, KeepsFront, KeepsNow, LeavesSafe}
+
+-- of what is safe followed by what is on its way
+pub either_front : {D : Type 0} (plan : Plan) (base : RegisterState) (safe batch : List Entry) (given : List Taken)
+    (left : Image) → KeepsEither D plan base safe batch given left
+    → KeepsFront D plan base (safe ++ batch) given left
+either_front plan base safe batch given left (inl keeps) = (safe, (batch, refl), keeps)
+either_front plan base safe batch given left (inr keeps) =
+    (safe ++ batch, ([], append-nil (safe ++ batch)), keeps)
+
+module _ {D : Type 0} (law : CrashesKeep D) (base : RegisterState) (group : GroupState D) (safe : List Entry)
+    (given : List Taken) (h : History base group safe given) where
+  in_doubt : (left : Image)
+      → IsInDoubt group.keeper.writer.plan group.keeper.writer.register group.keeper.writer.doubt left
+      → KeepsEither D group.keeper.writer.plan base safe group.keeper.writer.doubt given left
+  in_doubt left (inl without) =
+      inl (law base group safe group.keeper.writer.doubt given left h (inl refl) (inl without))
+  in_doubt left (inr whole) =
+      inr (law base group safe group.keeper.writer.doubt given left h (inl refl) (inr whole))
+
+  -- between two calls
+  pub kept_now : (disk : DiskState) → LeavesSafe group.keeper.writer disk
+      → KeepsNow base group safe given disk
+  kept_now disk leaves = λ honest left may. in_doubt left (leaves honest left may)

@@ -1,0 +1,82 @@
+-- What several calls of a file come to, one behind the other.
+use Rattle.std.proofs.Common.{append_assoc, ◌≡◌, ◌↔◌, ◌∙◌, inl, inr, ⊎_elim, ℕ, suc, ◌+◌, Bool, IsTrue, List, [], ◌∷◌, ◌++◌, refl, sym, ap, subst, arith}
+use Rattle.lift_disk.specs.Disk.{DiskState, CountsNow, Elapses, TouchesNothing}
+use Rattle.lift_disk.specs.FileCalls.{FileCall, LeadsBy}
+use Rattle.lift_disk.specs.Runs.{KeepsWrites, Rests}
+use Rattle.std.proofs.Math.Logic.{∥∥₁_map}
+use Rattle.lift_disk.specs.Holding.{IsKnownSteady, IsSameFile, MakesSafe}
+use Rattle.lift_disk.specs.Traced.{IsMaking, file_of, making_of, zero_write, zero_writes}
+use Rattle.lift_disk.specs.declared.traced.TracedFile.{TracedFile}
+use Rattle.lift_disk.specs.lemmas.Moments.{changes_more, changes_twice}
+use Rattle.lift_disk.proofs.OnFile.{elapses_then}
+
+touches_nothing_then : (old mid new : DiskState) → TouchesNothing old mid → TouchesNothing mid new → TouchesNothing old new
+touches_nothing_then old mid new first second = record {
+  loose = λ i is. first.loose i (second.loose i is);
+  within = changes_twice old.is_loose old.image mid.image new.image first.within (changes_more mid.is_loose old.is_loose mid.image new.image first.loose second.within);
+}
+
+pub same_then : (old mid new : DiskState) → IsSameFile old mid → IsSameFile mid new → IsSameFile old new
+same_then old mid new first second = record {
+  size = second.size ∙ first.size;
+  honest = (λ h. first.honest.0 (second.honest.0 h), λ h. second.honest.1 (first.honest.1 h));
+}
+
+pub rests_then : (old mid new : DiskState) → Rests old mid → Rests mid new → Rests old new
+rests_then old mid new first second = record {
+  size = second.size ∙ first.size;
+  honest = (λ h. first.honest.0 (second.honest.0 h), λ h. second.honest.1 (first.honest.1 h));
+  time = λ honest. let honest2 = first.honest.1 honest in elapses_then old mid new (first.time honest) (second.time honest2) (second.touched honest2) (second.loose honest2);
+  touched = λ honest. touches_nothing_then old mid new (first.touched honest) (second.touched (first.honest.1 honest));
+  loose = λ honest i was. second.loose (first.honest.1 honest) i (first.loose honest i was);
+  kept = λ honest. second.kept (first.honest.1 honest) ∙ first.kept honest;
+}
+
+-- what is made safe behind a write back
+pub safe_behind : (old mid new : DiskState) → CountsNow old → old.is_honest → Rests old mid → KeepsWrites old mid → MakesSafe mid new → MakesSafe old new
+safe_behind old mid new counts honest rests keeps safe =
+    let first = rests.time honest in
+    let second = safe.time in
+    let touched = rests.touched honest in record {
+      time = record {
+        later = omega (arith, first.later, second.later);
+        nothing_else = λ since left le was. ⊎_elim
+            (λ before. ⊎_elim (λ long. inl long)
+            (λ now. inl (counts honest since left le (changes_twice old.is_loose old.image mid.image left touched.within (changes_more mid.is_loose old.is_loose mid.image left touched.loose now))))
+            (first.nothing_else since left le before))
+            (λ now. inr now) (second.nothing_else since left (omega (arith, le, first.later)) was);
+        keeps = λ since left le was. second.keeps since left (omega (arith, le, first.later)) (first.keeps since left le was);
+      };
+      settled = λ i bytes was. safe.settled i bytes (keeps.written honest i bytes was);
+      touched = touches_nothing_then old mid new touched safe.touched;
+      synced = safe.synced;
+      steady = λ was.
+          let now = keeps.steady honest was in
+          let then = safe.steady now.steady in
+          record { steady = then.steady; same = then.same ∙ now.same };
+      saved = safe.saved;
+    }
+
+pub leads_then : {F : Type 0} (gives : F → FileCall → F → Type 0) (calls more : List FileCall) (old mid new : F) → LeadsBy gives calls old mid → LeadsBy gives more mid new → LeadsBy gives (calls ++ more) old new
+leads_then {F} gives [] more old mid new same led = subst (λ (f : F). LeadsBy gives more f new) same led
+leads_then gives (call ∷ calls) more old mid new led led2 = (led.0, led.1, leads_then gives calls more led.0 mid new led.2 led2)
+
+-- what was known before a call is known behind it
+pub stays_known : (known : Bool) (sectors : ℕ) (old new : DiskState) → IsSameFile old new → (old.is_honest → old.size ≡ sectors → old.is_steady → new.is_steady)
+    → (IsTrue known → old.is_honest → old.size ≡ sectors → IsKnownSteady old) → IsTrue known → new.is_honest → new.size ≡ sectors → IsKnownSteady new
+stays_known known sectors old new same goes was is honest sized =
+    let honest2 = same.honest.0 honest in
+    let sized2 = sym same.size ∙ sized in
+    ∥∥₁_map (was is honest2 sized2) (goes honest2 sized2)
+
+-- a file is made by these calls and then by more
+pub making_then : {F : Type 0} (gives : F → FileCall → F → Type 0) (calls more : List FileCall) (old mid new : TracedFile F) → IsMaking gives calls old mid → IsMaking gives more mid new → IsMaking gives (calls ++ more) old new
+making_then gives calls more old mid new first second = record {
+  led = leads_then gives calls more (file_of old) (file_of mid) (file_of new) first.led second.led;
+  listed = second.listed ∙ ap (λ (l : List FileCall). l ++ more) first.listed ∙ append_assoc (making_of old) calls more;
+  uncalled = second.uncalled ∙ first.uncalled;
+  unfailed = second.unfailed ∙ first.unfailed;
+}
+
+pub one_zero_write : (sectors i : ℕ) → zero_writes sectors (i + 1) ≡ zero_writes sectors i ++ zero_write sectors i ∷ []
+one_zero_write sectors i = ap (zero_writes sectors) (let one : i + 1 ≡ suc i = omega arith in one)

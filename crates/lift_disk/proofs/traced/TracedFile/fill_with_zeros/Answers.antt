@@ -1,0 +1,23 @@
+use Rattle.std.proofs.Common.{rules, [], ◌∷◌, ◌≡◌, ◌*◌, ◌-◌, ◌+◌, ℕ, List, min, replicate, take, ap, sym, ◌∙◌, subst, arith}
+use Rattle.std.proofs.lemmas.List.{take-replicate}
+use Rattle.lift_disk.specs.FileCalls.{FileCall}
+use Rattle.lift_disk.specs.FileCalls.FileCall.{Write}
+use Rattle.lift_disk.specs.Holding.{IsSameFile}
+use Rattle.lift_disk.specs.Runs.{joined}
+use Rattle.lift_disk.specs.Traced.{IsMaking, file_of, zero_write, zero_writes}
+use Rattle.lift_disk.proofs.Synced.{making_then, one_zero_write, same_then}
+use Rattle.lift_disk.proofs.traced.TracedFile.fill_with_zeros.Goals as goal
+
+pub loop-i-preserved : goal.loop-i-preserved
+loop-i-preserved g c =
+    let count = c.min-count.result in
+    let zero : List ℕ = replicate 512 0 in
+    let is : count ≡ min 128 (c.args.sectors - c.loop-i.i * 128) = c.min-count.ensures in
+    let run : take count (replicate 128 zero) ≡ replicate (min 128 (c.args.sectors - c.loop-i.i * 128)) zero = take-replicate count 128 zero (omega (arith, is)) ∙ ap (λ n. replicate n zero) is in
+    let call : Write (c.from.result * 512) (joined (take count (replicate 128 zero))) ≡ zero_write c.args.sectors c.loop-i.i =
+    ap (λ n. Write (n * 512) (joined (take count (replicate 128 zero)))) c.from.ensures ∙ ap (λ (run : List (List ℕ)). Write (c.loop-i.i * 128 * 512) (joined run)) run in
+    let made = subst (λ (call : FileCall). IsMaking g.F.ToldFile.gives (call ∷ []) c.loop-i.self c.fill.new.self) call c.in_ok-fill.ensures.making in (
+      subst (λ (calls : List FileCall). IsMaking g.F.ToldFile.gives calls c.args.self.now c.fill.new.self) (sym (one_zero_write c.args.sectors c.loop-i.i))
+          (making_then g.F.ToldFile.gives (zero_writes c.args.sectors c.loop-i.i) (zero_write c.args.sectors c.loop-i.i ∷ []) c.args.self.now c.loop-i.self c.fill.new.self c.loop-i.invariant.0 made),
+      same_then (g.F.ToldFile.holds (file_of c.args.self.now)) (g.F.ToldFile.holds (file_of c.loop-i.self)) (g.F.ToldFile.holds (file_of c.fill.new.self)) c.loop-i.invariant.1 c.fill.ensures.same,
+    )

@@ -1,0 +1,8 @@
+//! A file in memory that is honest, so that the honesty of a file is a premise that can be met.
+#![tactic(auto)]
+
+mod memory_file;
+mod memory_files;
+
+pub use memory_file::{MemoryFile, buffered, device, made};
+pub use memory_files::{MemoryFiles, made_in_memory};

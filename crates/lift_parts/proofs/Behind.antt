@@ -1,0 +1,556 @@
+-- The flusher's turns are steps of its group.
+use Rattle.std.proofs.Common.{ℕ, ◌≡◌, ◌≢◌, ◌⊎◌, ⊎_elim, inl, inr, ◌<◌, Bool, true, false, List, [], ◌∷◌, ◌++◌, length, map, refl, sym, ap, subst, ◌∙◌, arith, append_assoc}
+use Rattle.std.specs.Prelude.{Option, Result, Ok, Err, OnOk}
+use Rattle.std.proofs.Math.Seq.{drop-length}
+use Rattle.std.proofs.lemmas.List.{append-nil, length-map}
+use mathlib.Core.List.{map-append}
+use Rattle.lift_base.specs.declared.history.Entry.{Entry}
+use Rattle.lift_building.specs.Plan.{Plan}
+use Rattle.lift_disk.specs.Disk.{DiskState, LeavesNow, LeavesOnly}
+use Rattle.lift_register.specs.Register.{RegisterState, register_of}
+use Rattle.lift_desk.specs.Seats.{ClerkPlace, view_at}
+use Rattle.lift_policy.specs.Eligible.{any_eligible}
+use Rattle.lift_policy.specs.Step.{State}
+use Rattle.lift_policy.specs.Run.{Run}
+use Rattle.lift_policy.specs.declared.command.Command.{Command}
+use Rattle.lift_journal.specs.declared.fault.JournalFault.TheVariants.{Disk, Broken}
+use Rattle.lift_keeper.specs.declared.fault.KeeperFault.{KeeperFault}
+use Rattle.lift_keeper.specs.declared.fault.KeeperFault.TheVariants.{Journal}
+use Rattle.lift_keeper.specs.Commits.{Commits, CommitsTo}
+use Rattle.lift_keeper.specs.Images.{IsImageOf, IsInDoubt}
+use Rattle.lift_keeper.specs.Writer.{WriterView}
+use Rattle.lift_keeper.specs.lemmas.Committed.{safe_register}
+use Rattle.lift_world.specs.declared.event.Event.{Event}
+use Rattle.lift_world.specs.declared.event.Taken.{Taken as Held}
+use Rattle.lift_world.specs.World.{World}
+use Rattle.lift_world.specs.Next.{unknown_to}
+use Rattle.lift_world.specs.Turns.{with_replies}
+use Rattle.lift_clerk.specs.Answered.{Answers}
+use Rattle.lift_clerk.specs.lemmas.Committed.{moment_of}
+use Rattle.lift_clerk.specs.Clerk.{ClerkState}
+use Rattle.lift_clerk.specs.Steps.{group_of, DecidesOn, MakesSafe, LeavesInDoubt, AnswersUnknown, MayAccept, Rests}
+use Rattle.lift_clerk.specs.Group.{Terminals, TakesAsks}
+use Rattle.lift_clerk.specs.Past.{IsPastOf, GoesOn, PastsGoOn}
+use Rattle.lift_clerk.specs.History.{History, Turned, Failed, TurnedWhileBroken, Rested}
+use Rattle.lift_clerk.specs.Keeping.{CrashesKeep, MomentsKeep, LeavesSafe, KeepsNow}
+use Rattle.lift_clerk.specs.lemmas.Keeps.{kept_now}
+use Rattle.lift_parts.specs.declared.counts.FlushCounts.{FlushCounts}
+use Rattle.lift_parts.specs.Batch.{BatchState, decided, AreBelow, commands_in, replies_in}
+use Rattle.lift_parts.specs.Flusher.{FlusherState, IsFlusher, IsEmptyTurn, IsBatchTurn, Answered, is_ok, entries_between}
+use Rattle.lift_parts.specs.Turns.{NoFlush, OneFlush}
+use Rattle.lift_parts.specs.Tie.{held_as, entries_of}
+use Rattle.lift_parts.specs.History.{group_behind, held_in, Adds, GoesOnTo, FlushStands, FlushesStand, TurnsGoOn, SplitsGoOn, JoinedGoOn}
+use Rattle.lift_parts.specs.Past.{flush_events, FlushLeadsOn, FlushesLeadOn, SplitsKeepPasts, JoinedKeepPasts}
+use Rattle.lift_parts.proofs.Answering.{replies_of, held_is, answers_them}
+
+is_whole : (b : Bool) → (b ≡ true → ⊥) → b ≡ false
+is_whole true never = absurd (never refl)
+is_whole false never = refl
+
+both : {A : Type 0} (b : Bool) → b ≡ false → b ≡ true → A
+both true isnt is = absurd (cc)
+both false isnt is = absurd (cc)
+
+some_long : (xs : List Entry) → xs ≢ [] → 0 < length xs
+some_long [] some = absurd (some refl)
+some_long (x ∷ xs) some = omega arith
+
+no_entries : (xs : List Entry) → length xs ≡ 0 → xs ≡ []
+no_entries [] e = refl
+no_entries (x ∷ xs) e = absurd (omega arith)
+
+-- ---- what a commit leaves
+abbrev failing : KeeperFault → Result FlushCounts KeeperFault
+failing fault = Err fault
+
+module _ {D : Type 0} (state : D → DiskState) (old : WriterView D) (batch : List Entry) (new : WriterView D) where
+  left_safe : new.plan ≡ old.plan → (register : RegisterState) → new.register ≡ register → LeavesNow (state new.device) (IsImageOf old.plan register) → LeavesSafe new (state new.device)
+  left_safe plan register is leaves honest left may =
+      inl (subst (λ (p : Plan × RegisterState). IsImageOf p.0 p.1 left) (λ i. (sym plan i, sym is i)) (leaves honest left may))
+
+  left_in_doubt : new.plan ≡ old.plan → new.register ≡ old.register → new.doubt ≡ batch → LeavesNow (state new.device) (IsInDoubt old.plan old.register batch) → LeavesSafe new (state new.device)
+  left_in_doubt plan register doubt leaves honest left may =
+      subst (λ (p : Plan × RegisterState × List Entry). IsInDoubt p.0 p.1 p.2 left) (λ i. (sym plan i, sym register i, sym doubt i)) (leaves honest left may)
+
+  by_fault : (fault : KeeperFault) → Commits {T = FlushCounts} state old batch new (failing fault) → (fault ≡ Journal Disk) ⊎ (fault ≡ Journal Broken) → LeavesSafe old (state old.device) → LeavesSafe new (state new.device)
+  by_fault fault c (inl is) leaves = left_in_doubt c.same.0 c.unmoved (c.doubts (ap failing is)) (c.in_doubt (ap failing is))
+  by_fault fault c (inr is) leaves = subst (λ (w : WriterView D). LeavesSafe w (state w.device)) (sym (c.rests (c.broken.0 (ap failing is)))) leaves
+
+  leaves_by : (result : Result FlushCounts KeeperFault) → Commits {T = FlushCounts} state old batch new result → LeavesSafe old (state old.device) → LeavesSafe new (state new.device)
+  leaves_by (Ok counts) c leaves = left_safe c.same.0 (register_of old.register batch) c.register c.acknowledged
+  leaves_by (Err fault) c leaves = by_fault fault c c.causes leaves
+
+pub leaves_behind : {D : Type 0} (state : D → DiskState) (f g : FlusherState D) (answer : Result FlushCounts KeeperFault)
+    → CommitsTo {T = FlushCounts} state f.writer (entries_between f.end g.end) g.end.state.register g.writer answer → LeavesSafe f.writer (state f.writer.device)
+    → LeavesSafe g.writer (state g.writer.device)
+leaves_behind state f g answer c leaves = leaves_by state f.writer c.batch g.writer answer c.is leaves
+
+-- ---- one turn
+module _ {D : Type 0} (state : D → DiskState) (crashes : CrashesKeep D) (law : MomentsKeep D state) (f g : FlusherState D) (base : RegisterState) (safe : List Entry) (given : List Held) (h : History base (group_behind f) safe given) where
+  abbrev old : DiskState
+  old = state f.writer.device
+
+  abbrev new : DiskState
+  new = state g.writer.device
+
+  abbrev plan : Plan
+  plan = f.writer.plan
+
+  abbrev register : RegisterState
+  register = f.writer.register
+
+  abbrev Now : List Entry → List Held → Type 0
+  Now entries told = History base (group_behind g) entries told
+
+  -- from its end on
+  keeps_behind : (answer : Result FlushCounts KeeperFault) → CommitsTo {T = FlushCounts} state f.writer (entries_between f.end g.end) g.end.state.register g.writer answer
+      → (entries : List Entry) (told : List Held) → Now entries told → LeavesSafe f.writer old → KeepsNow base (group_behind g) entries told new
+  keeps_behind answer c entries told k leaves = kept_now crashes base (group_behind g) entries told k new (leaves_behind state f g answer c leaves)
+
+  -- a turn that received nothing
+  module _ (answer : Result FlushCounts KeeperFault) (e : IsEmptyTurn f g answer) (c : CommitsTo {T = FlushCounts} state f.writer (entries_between f.end g.end) g.end.state.register g.writer answer) where
+    none_between : c.batch ≡ []
+    none_between =
+        no_entries c.batch
+        (sym c.counted ∙ ap (λ (x : FlusherState D). entries_between f.end x.end) e.same
+        ∙ ap (λ (bs : List BatchState). Rattle.lift_parts.specs.Flusher.entries_of bs) (drop-length f.end.received))
+
+    no_doubt : f.writer.is_broken ≡ false → f.writer.doubt ≡ []
+    no_doubt whole =
+        ap (λ (x : FlusherState D). x.writer.doubt) (sym e.same)
+        ∙ (subst (λ (r : Result FlushCounts KeeperFault). OnOk r ((g.writer.is_broken ≡ false) × (g.writer.doubt ≡ []))) (e.whole whole) c.is.stays).1
+
+    moments : (b : Bool) → f.writer.is_broken ≡ b → LeavesOnly old new (IsInDoubt plan register f.writer.doubt)
+    moments true broken = c.is.while_broken broken
+    moments false whole =
+        subst (λ (xs : List Entry). LeavesOnly old new (IsInDoubt plan register xs)) (none_between ∙ sym (no_doubt whole)) (c.is.any_moment whole)
+
+    same_received : g.end.received ≡ f.end.received ++ []
+    same_received = ap (λ (x : FlusherState D). x.end.received) e.same ∙ sym (append-nil f.end.received)
+
+    empty_history : Now (safe ++ []) (given ++ [])
+    empty_history =
+        subst (λ (x : FlusherState D). History base (group_behind x) (safe ++ []) (given ++ [])) (sym e.same)
+        (subst (λ (xs : List Entry). History base (group_behind f) xs (given ++ [])) (sym (append-nil safe))
+        (subst (λ (ts : List Held). History base (group_behind f) safe ts) (sym (append-nil given)) h))
+
+    empty_adds : Adds f g [] []
+    empty_adds = record {
+      kept = [];
+      lost = [];
+      received = same_received;
+      more_is = refl;
+      told_is = refl;
+      was_broken = λ broken. (refl, ap (λ (x : FlusherState D). x.writer.is_broken) e.same ∙ broken);
+      is_whole = λ whole. refl;
+    }
+
+    -- no event
+    pub empty_leads : (w : World) (terminals : Terminals) → IsPastOf w (group_behind f) terminals safe given → FlushLeadsOn f g answer w terminals safe given
+    empty_leads w terminals p = record {
+      received = [];
+      receives = same_received;
+      more = [];
+      told = [];
+      adds = empty_adds;
+      letters = [];
+      leads = λ folds. record {
+        end = w;
+        possible = refl;
+        past = subst (λ (x : FlusherState D). IsPastOf w (group_behind x) terminals (safe ++ []) (given ++ [])) (sym e.same)
+            (subst (λ (xs : List Entry). IsPastOf w (group_behind f) terminals xs (given ++ [])) (sym (append-nil safe))
+            (subst (λ (ts : List Held). IsPastOf w (group_behind f) terminals safe ts) (sym (append-nil given)) p));
+      };
+    }
+
+    pub empty_stands : FlushStands f g base safe given old new
+    empty_stands = record {
+      goes_on = record {
+        more = [];
+        told = [];
+        adds = empty_adds;
+        history = empty_history;
+      };
+      received = [];
+      receives = same_received;
+      batch = f.writer.doubt;
+      while_whole = no_doubt;
+      while_broken = λ broken. refl;
+      stands = law (group_behind f) f.writer.doubt g.writer.device (inl refl) (moments f.writer.is_broken refl) base safe given h;
+      now = keeps_behind answer c (safe ++ []) (given ++ []) empty_history;
+    }
+
+  -- one that received a batch
+  module _ (is : IsFlusher f) (same_desk : g.desk ≡ f.desk) (batch : BatchState) where
+    abbrev cs : List Command
+    cs = commands_in batch.commands
+
+    abbrev with_given : Bool → List Held
+    with_given is_safe = given ++ with_replies cs (replies_of is_safe batch.commands)
+
+    module _ (answer : Result FlushCounts KeeperFault) (t : IsBatchTurn f g batch answer) where
+      seats : length batch.desk ≡ length f.seat
+      seats =
+          ap length (t.receives.next.at_desk ∙ is.at_desk ∙ sym is.seated)
+          ∙ length-map f.seat (λ (p : ClerkPlace). p.table)
+
+      answers : (is_safe : Bool) → is_ok answer ≡ is_safe → Answers f.seat g.seat cs (replies_of is_safe batch.commands)
+      answers is_safe e =
+          answers_them is_safe f.seat g.seat batch.commands (subst (λ (n : ℕ). AreBelow n cs) seats t.at_desk) t.apart
+          (subst (λ (b : Bool). Answered b f.seat batch.commands g.seat) e t.answered)
+
+      shows : f.writer.is_broken ≡ false → batch.after.register ≡ register_of register batch.entries
+      shows whole =
+          t.decided.shows ∙ ap (λ (r : RegisterState). register_of r batch.entries)
+          (ap (λ (s : State). s.register) t.receives.next.on_state ∙ sym (is.safe whole))
+
+      decides : f.writer.is_broken ≡ false → DecidesOn (record { state = f.end.state; writer = f.writer }) cs (replies_in batch.commands) (decided batch)
+      decides whole = record {
+        was_whole = whole;
+        run = subst (λ (p : Plan). Run p any_eligible f.end.state cs (replies_in batch.commands) (decided batch)) (t.receives.next.of_building ∙ is.of_building)
+            (subst (λ (s : State). Run batch.building any_eligible s cs (replies_in batch.commands) (decided batch)) t.receives.next.on_state t.decided.run);
+        shows = shows whole;
+      }
+
+      accepts : f.writer.is_broken ≡ false → MayAccept (record { state = f.end.state; writer = f.writer }) batch.entries
+      accepts whole = record { commands = cs; replies = replies_in batch.commands; decided = decided batch; apart = t.apart; decides = decides whole; is = refl }
+
+      -- its moments
+      moments_whole : (whole : f.writer.is_broken ≡ false) → CommitsTo {T = FlushCounts} state f.writer (entries_between f.end g.end) g.end.state.register g.writer answer
+          → LeavesOnly old new (IsInDoubt plan register batch.entries)
+      moments_whole whole c =
+          moment_of state f.writer (entries_between f.end g.end) g.end.state.register g.writer answer c whole batch.entries (ap (λ (s : State). s.register) t.receives.state ∙ shows whole)
+
+      -- what it adds
+      one_received : g.end.received ≡ f.end.received ++ (batch ∷ [])
+      one_received = t.receives.receives
+
+      kept_adds : f.writer.is_broken ≡ false → Adds f g (entries_of (batch ∷ [])) (held_in (batch ∷ []) ++ map unknown_to (held_in []))
+      kept_adds whole = record {
+        kept = batch ∷ [];
+        lost = [];
+        received = one_received;
+        more_is = refl;
+        told_is = refl;
+        was_broken = λ broken. both f.writer.is_broken whole broken;
+        is_whole = λ still. refl;
+      }
+
+      lost_adds : g.writer.is_broken ≡ true → Adds f g [] (held_in [] ++ map unknown_to (held_in (batch ∷ [])))
+      lost_adds breaks = record {
+        kept = [];
+        lost = batch ∷ [];
+        received = one_received;
+        more_is = refl;
+        told_is = refl;
+        was_broken = λ broken. (refl, breaks);
+        is_whole = λ still. both g.writer.is_broken still breaks;
+      }
+
+      kept_told : with_given true ≡ given ++ (held_in (batch ∷ []) ++ map unknown_to (held_in []))
+      kept_told = ap (λ (ts : List Held). given ++ ts)
+          (held_is true batch.commands ∙ sym (append-nil (map held_as batch.commands)) ∙ sym (append-nil (map held_as batch.commands ++ [])))
+
+      lost_told : with_given false ≡ given ++ (held_in [] ++ map unknown_to (held_in (batch ∷ [])))
+      lost_told = ap (λ (ts : List Held). given ++ ts)
+          (held_is false batch.commands ∙ ap (map unknown_to) (sym (append-nil (map held_as batch.commands))))
+
+    -- it answers Ok
+    module _ (counts : FlushCounts) (t : IsBatchTurn f g batch (Ok counts)) (c : CommitsTo {T = FlushCounts} state f.writer (entries_between f.end g.end) g.end.state.register g.writer (Ok counts)) where
+      was_whole : f.writer.is_broken ≡ false
+      was_whole = is_whole f.writer.is_broken (λ broken. let wrong : Ok counts ≡ Err (Journal Broken) = c.is.broken.1 broken in absurd (cc))
+
+      abbrev makes_safe : MakesSafe (group_behind f) (group_behind g)
+      makes_safe = record {
+        commands = cs;
+        replies = replies_in batch.commands;
+        decided = decided batch;
+        desk = same_desk;
+        decides = decides (Ok counts) t was_whole;
+        answers = answers (Ok counts) t true refl;
+        state = t.receives.state ∙ (λ i. record batch.after { batch = t.decided.sealed.1 i });
+        safe = safe_register state f.writer (entries_between f.end g.end) g.end.state.register g.writer (Ok counts) c ∙ ap (λ (s : State). s.register) t.receives.state;
+        is_whole = c.is.stays.0;
+        no_doubt = c.is.stays.1;
+        same_plan = c.is.same.0;
+      }
+
+      safe_history : Now (safe ++ entries_of (batch ∷ [])) (given ++ (held_in (batch ∷ []) ++ map unknown_to (held_in [])))
+      safe_history = subst (λ (xs : List Entry). Now (safe ++ xs) (given ++ (held_in (batch ∷ []) ++ map unknown_to (held_in [])))) (sym (append-nil batch.entries))
+          (subst (λ (ts : List Held). Now (safe ++ batch.entries) ts) (kept_told (Ok counts) t) (Turned h makes_safe))
+
+      pub safe_stands : FlushStands f g base safe given old new
+      safe_stands = record {
+        goes_on = record {
+          more = entries_of (batch ∷ []);
+          told = held_in (batch ∷ []) ++ map unknown_to (held_in []);
+          adds = kept_adds (Ok counts) t was_whole;
+          history = safe_history;
+        };
+        received = batch ∷ [];
+        receives = one_received (Ok counts) t;
+        batch = batch.entries;
+        while_whole = λ whole. sym (append-nil batch.entries);
+        while_broken = λ broken. both f.writer.is_broken was_whole broken;
+        stands = law (group_behind f) batch.entries g.writer.device (inr (accepts (Ok counts) t was_whole)) (moments_whole (Ok counts) t was_whole c) base safe given h;
+        now = keeps_behind (Ok counts) c (safe ++ entries_of (batch ∷ [])) (given ++ (held_in (batch ∷ []) ++ map unknown_to (held_in []))) safe_history;
+      }
+
+      pub safe_leads : PastsGoOn D → (w : World) (terminals : Terminals) → IsPastOf w (group_behind f) terminals safe given → TakesAsks (group_behind g) terminals
+          → FlushLeadsOn f g (Ok counts) w terminals safe given
+      safe_leads past w terminals p takes =
+          let k = past.batches (group_behind f) (group_behind g) makes_safe w terminals safe given p takes in
+          record {
+            received = batch ∷ [];
+            receives = one_received (Ok counts) t;
+            more = entries_of (batch ∷ []);
+            told = held_in (batch ∷ []) ++ map unknown_to (held_in []);
+            adds = kept_adds (Ok counts) t was_whole;
+            letters = k.0;
+            leads = λ folds.
+                let es : List Event = flush_events (batch ∷ []) true f.writer.is_broken k.0 folds in
+                subst (λ (xs : List Entry). GoesOn w es (group_behind g) terminals (safe ++ xs) (given ++ (held_in (batch ∷ []) ++ map unknown_to (held_in [])))) (sym (append-nil batch.entries))
+                (subst (λ (ts : List Held). GoesOn w es (group_behind g) terminals (safe ++ batch.entries) ts) (kept_told (Ok counts) t) (k.1 folds));
+          }
+
+    -- or it doesn't
+    module _ (fault : KeeperFault) (t : IsBatchTurn f g batch (Err fault)) (c : CommitsTo {T = FlushCounts} state f.writer (entries_between f.end g.end) g.end.state.register g.writer (Err fault)) where
+      lost_history : Now safe (with_given false) → Now (safe ++ []) (given ++ (held_in [] ++ map unknown_to (held_in (batch ∷ []))))
+      lost_history k = subst (λ (xs : List Entry). Now xs (given ++ (held_in [] ++ map unknown_to (held_in (batch ∷ []))))) (sym (append-nil safe))
+          (subst (λ (ts : List Held). Now safe ts) (lost_told (Err fault) t) k)
+
+      lost_now : Now safe (with_given false) → LeavesSafe f.writer old → KeepsNow base (group_behind g) (safe ++ []) (given ++ (held_in [] ++ map unknown_to (held_in (batch ∷ [])))) new
+      lost_now k = keeps_behind (Err fault) c (safe ++ []) (given ++ (held_in [] ++ map unknown_to (held_in (batch ∷ [])))) (lost_history k)
+
+      abbrev lost_goes_on : Now safe (with_given false) → GoesOnTo f g base safe given
+      lost_goes_on k = record {
+        more = [];
+        told = held_in [] ++ map unknown_to (held_in (batch ∷ []));
+        adds = lost_adds (Err fault) t c.is.breaks;
+        history = lost_history k;
+      }
+
+      abbrev leaves_in_doubt : f.writer.is_broken ≡ false → fault ≡ Journal Disk → LeavesInDoubt (group_behind f) (group_behind g)
+      leaves_in_doubt whole e =
+          let is_disk : Err fault ≡ Err (Journal Disk) = ap (λ (x : KeeperFault). Err x) e in
+          record {
+            commands = cs;
+            decided_so = replies_in batch.commands;
+            replies = replies_of false batch.commands;
+            decided = decided batch;
+            desk = same_desk;
+            decides = decides (Err fault) t whole;
+            unknown = refl;
+            answers = answers (Err fault) t false refl;
+            some = some_long batch.entries (t.fails is_disk).1;
+            doubt = (t.fails is_disk).0;
+            breaks = c.is.breaks;
+            same_register = c.is.unmoved;
+            same_plan = c.is.same.0;
+          }
+
+      abbrev answers_unknown : f.writer.is_broken ≡ true → AnswersUnknown (group_behind f) (group_behind g)
+      answers_unknown broken = record {
+        commands = cs;
+        replies = replies_of false batch.commands;
+        desk = same_desk;
+        unknown = refl;
+        answers = answers (Err fault) t false refl;
+        was_broken = broken;
+        rests = c.is.rests broken;
+      }
+
+      disk_stands : f.writer.is_broken ≡ false → fault ≡ Journal Disk → FlushStands f g base safe given old new
+      disk_stands whole e = record {
+        goes_on = lost_goes_on (Failed h (leaves_in_doubt whole e));
+        received = batch ∷ [];
+        receives = one_received (Err fault) t;
+        batch = batch.entries;
+        while_whole = λ still. sym (append-nil batch.entries);
+        while_broken = λ broken. both f.writer.is_broken whole broken;
+        stands = law (group_behind f) batch.entries g.writer.device (inr (accepts (Err fault) t whole)) (moments_whole (Err fault) t whole c) base safe given h;
+        now = lost_now (Failed h (leaves_in_doubt whole e));
+      }
+
+      broken_stands : f.writer.is_broken ≡ true → FlushStands f g base safe given old new
+      broken_stands broken = record {
+        goes_on = lost_goes_on (TurnedWhileBroken h (answers_unknown broken));
+        received = batch ∷ [];
+        receives = one_received (Err fault) t;
+        batch = f.writer.doubt;
+        while_whole = λ whole. both f.writer.is_broken whole broken;
+        while_broken = λ still. refl;
+        stands = law (group_behind f) f.writer.doubt g.writer.device (inl refl) (c.is.while_broken broken) base safe given h;
+        now = lost_now (TurnedWhileBroken h (answers_unknown broken));
+      }
+
+      lost_leads : (w : World) (terminals : Terminals) (was : Bool) (letters : List (Option ℕ)) → f.writer.is_broken ≡ was
+          → ((folds : ℕ) → GoesOn w (flush_events (batch ∷ []) false was letters folds) (group_behind g) terminals (safe ++ []) (with_given false)) → FlushLeadsOn f g (Err fault) w terminals safe given
+      lost_leads w terminals was letters is leads = record {
+        received = batch ∷ [];
+        receives = one_received (Err fault) t;
+        more = [];
+        told = held_in [] ++ map unknown_to (held_in (batch ∷ []));
+        adds = lost_adds (Err fault) t c.is.breaks;
+        letters = letters;
+        leads = λ folds.
+            subst (λ (b : Bool). GoesOn w (flush_events (batch ∷ []) false b letters folds) (group_behind g) terminals (safe ++ []) (given ++ (held_in [] ++ map unknown_to (held_in (batch ∷ []))))) (sym is)
+            (subst (λ (ts : List Held). GoesOn w (flush_events (batch ∷ []) false was letters folds) (group_behind g) terminals (safe ++ []) ts) (lost_told (Err fault) t) (leads folds));
+      }
+
+      leads_by_cause : PastsGoOn D → (w : World) (terminals : Terminals) → IsPastOf w (group_behind f) terminals safe given → TakesAsks (group_behind g) terminals
+          → f.writer.is_broken ≡ false → (fault ≡ Journal Disk) ⊎ (fault ≡ Journal Broken) → FlushLeadsOn f g (Err fault) w terminals safe given
+      leads_by_cause past w terminals p takes whole (inl e) =
+          let k = past.doubts (group_behind f) (group_behind g) (leaves_in_doubt whole e) w terminals safe given p takes in
+          lost_leads w terminals false k.0 whole k.1
+      leads_by_cause past w terminals p takes whole (inr e) = both f.writer.is_broken whole (c.is.broken.0 (ap (λ (x : KeeperFault). Err x) e))
+
+      pub fault_leads : PastsGoOn D → (w : World) (terminals : Terminals) → IsPastOf w (group_behind f) terminals safe given → TakesAsks (group_behind g) terminals
+          → (b : Bool) → f.writer.is_broken ≡ b → FlushLeadsOn f g (Err fault) w terminals safe given
+      fault_leads past w terminals p takes true broken =
+          let k = past.unknowns (group_behind f) (group_behind g) (answers_unknown broken) w terminals safe given p takes in
+          lost_leads w terminals true k.0 broken k.1
+      fault_leads past w terminals p takes false whole = leads_by_cause past w terminals p takes whole c.is.causes
+
+      by_cause : f.writer.is_broken ≡ false → (fault ≡ Journal Disk) ⊎ (fault ≡ Journal Broken) → FlushStands f g base safe given old new
+      by_cause whole (inl e) = disk_stands whole e
+      by_cause whole (inr e) = both f.writer.is_broken whole (c.is.broken.0 (ap (λ (x : KeeperFault). Err x) e))
+
+      pub fault_stands : (b : Bool) → f.writer.is_broken ≡ b → FlushStands f g base safe given old new
+      fault_stands true broken = broken_stands broken
+      fault_stands false whole = by_cause whole c.is.causes
+
+    pub batch_stands : (answer : Result FlushCounts KeeperFault) → IsBatchTurn f g batch answer → CommitsTo {T = FlushCounts} state f.writer (entries_between f.end g.end) g.end.state.register g.writer answer
+        → FlushStands f g base safe given old new
+    batch_stands (Ok counts) t c = safe_stands counts t c
+    batch_stands (Err fault) t c = fault_stands fault t c f.writer.is_broken refl
+
+    pub batch_leads : PastsGoOn D → (w : World) (terminals : Terminals) → IsPastOf w (group_behind f) terminals safe given → TakesAsks (group_behind g) terminals
+        → (answer : Result FlushCounts KeeperFault) → IsBatchTurn f g batch answer → CommitsTo {T = FlushCounts} state f.writer (entries_between f.end g.end) g.end.state.register g.writer answer
+        → FlushLeadsOn f g answer w terminals safe given
+    batch_leads past w terminals p takes (Ok counts) t c = safe_leads counts t c past w terminals p takes
+    batch_leads past w terminals p takes (Err fault) t c = fault_leads fault t c past w terminals p takes f.writer.is_broken refl
+
+pub flushes_stand : {D : Type 0} (state : D → DiskState) → CrashesKeep D → MomentsKeep D state → FlushesStand D state
+flushes_stand state crashes law f g answer k base safe given h =
+    ⊎_elim (λ e. empty_stands state crashes law f g base safe given h answer e k.commits)
+    (λ t. batch_stands state crashes law f g base safe given h k.before k.same.0 t.0 answer t.1 k.commits) k.turns
+
+pub flushes_lead_on : {D : Type 0} (state : D → DiskState) → CrashesKeep D → MomentsKeep D state → PastsGoOn D → FlushesLeadOn D state
+flushes_lead_on state crashes law past f g answer k w terminals safe given p takes =
+    ⊎_elim (λ e. empty_leads state crashes law f g w.base safe given p.history answer e k.commits w terminals p)
+    (λ t. batch_leads state crashes law f g w.base safe given p.history k.before k.same.0 t.0 past w terminals p takes answer t.1 k.commits) k.turns
+
+-- ---- any number of turns
+entries_both : (xs ys : List BatchState) → entries_of (xs ++ ys) ≡ entries_of xs ++ entries_of ys
+entries_both [] ys = refl
+entries_both (x ∷ xs) ys = ap (λ (es : List Entry). x.entries ++ es) (entries_both xs ys) ∙ sym (append_assoc x.entries (entries_of xs) (entries_of ys))
+
+held_both : (xs ys : List BatchState) → held_in (xs ++ ys) ≡ held_in xs ++ held_in ys
+held_both [] ys = refl
+held_both (x ∷ xs) ys = ap (λ (hs : List Held). map held_as x.commands ++ hs) (held_both xs ys) ∙ sym (append_assoc (map held_as x.commands) (held_in xs) (held_in ys))
+
+module _ {D : Type 0} (f m g : FlusherState D) (base : RegisterState) (safe : List Entry) (given : List Held) where
+  adds_both : (a b : List Entry) (u v : List Held) → Adds f m a u → Adds m g b v → (was : Bool) → m.writer.is_broken ≡ was → Adds f g (a ++ b) (u ++ v)
+  adds_both a b u v x y true broken =
+      let none : y.kept ≡ [] = (y.was_broken broken).0 in
+      let now : g.writer.is_broken ≡ true = (y.was_broken broken).1 in
+      record {
+        kept = x.kept;
+        lost = x.lost ++ y.lost;
+        received = y.received ∙ ap (λ (bs : List BatchState). m.end.received ++ (bs ++ y.lost)) none ∙ ap (λ (bs : List BatchState). bs ++ y.lost) x.received
+            ∙ append_assoc f.end.received (x.kept ++ x.lost) y.lost ∙ ap (λ (bs : List BatchState). f.end.received ++ bs) (append_assoc x.kept x.lost y.lost);
+        more_is = ap (λ (es : List Entry). a ++ es) (y.more_is ∙ ap entries_of none) ∙ append-nil a ∙ x.more_is;
+        told_is = ap (λ (hs : List Held). u ++ hs) (y.told_is ∙ ap (λ (bs : List BatchState). held_in bs ++ map unknown_to (held_in y.lost)) none)
+            ∙ ap (λ (hs : List Held). hs ++ map unknown_to (held_in y.lost)) x.told_is ∙ append_assoc (held_in x.kept) (map unknown_to (held_in x.lost)) (map unknown_to (held_in y.lost))
+            ∙ ap (λ (hs : List Held). held_in x.kept ++ hs) (sym (map-append unknown_to (held_in x.lost) (held_in y.lost)) ∙ ap (map unknown_to) (sym (held_both x.lost y.lost)));
+        was_broken = λ was. ((x.was_broken was).0, now);
+        is_whole = λ whole. both g.writer.is_broken whole now;
+      }
+  adds_both a b u v x y false whole =
+      let none : x.lost ≡ [] = x.is_whole whole in
+      let kept : x.kept ++ x.lost ≡ x.kept = ap (λ (bs : List BatchState). x.kept ++ bs) none ∙ append-nil x.kept in
+      record {
+        kept = x.kept ++ y.kept;
+        lost = y.lost;
+        received = y.received ∙ ap (λ (bs : List BatchState). bs ++ (y.kept ++ y.lost)) (x.received ∙ ap (λ (bs : List BatchState). f.end.received ++ bs) kept)
+            ∙ append_assoc f.end.received x.kept (y.kept ++ y.lost) ∙ ap (λ (bs : List BatchState). f.end.received ++ bs) (sym (append_assoc x.kept y.kept y.lost));
+        more_is = ap (λ (es : List Entry). es ++ b) x.more_is ∙ ap (λ (es : List Entry). entries_of x.kept ++ es) y.more_is ∙ sym (entries_both x.kept y.kept);
+        told_is = ap (λ (hs : List Held). hs ++ v) (x.told_is ∙ ap (λ (bs : List BatchState). held_in x.kept ++ map unknown_to (held_in bs)) none ∙ append-nil (held_in x.kept))
+            ∙ ap (λ (hs : List Held). held_in x.kept ++ hs) y.told_is ∙ sym (append_assoc (held_in x.kept) (held_in y.kept) (map unknown_to (held_in y.lost)))
+            ∙ ap (λ (hs : List Held). hs ++ map unknown_to (held_in y.lost)) (sym (held_both x.kept y.kept));
+        was_broken = λ was. both m.writer.is_broken whole (x.was_broken was).1;
+        is_whole = y.is_whole;
+      }
+
+  goes_both : (x : GoesOnTo f m base safe given) → GoesOnTo m g base (safe ++ x.more) (given ++ x.told) → GoesOnTo f g base safe given
+  goes_both x y = record {
+    more = x.more ++ y.more;
+    told = x.told ++ y.told;
+    adds = adds_both x.more y.more x.told y.told x.adds y.adds m.writer.is_broken refl;
+    history = subst (λ (es : List Entry). History base (group_behind g) es (given ++ (x.told ++ y.told))) (append_assoc safe x.more y.more)
+        (subst (λ (hs : List Held). History base (group_behind g) ((safe ++ x.more) ++ y.more) hs) (append_assoc given x.told y.told) y.history);
+  }
+
+goes_nowhere : {D : Type 0} (f : FlusherState D) (base : RegisterState) (safe : List Entry) (given : List Held) → History base (group_behind f) safe given → GoesOnTo f f base safe given
+goes_nowhere f base safe given h = record {
+  more = [];
+  told = [];
+  adds = record {
+    kept = [];
+    lost = [];
+    received = sym (append-nil f.end.received);
+    more_is = refl;
+    told_is = refl;
+    was_broken = λ broken. (refl, broken);
+    is_whole = λ whole. refl;
+  };
+  history = subst (λ (es : List Entry). History base (group_behind f) es (given ++ [])) (sym (append-nil safe)) (subst (λ (hs : List Held). History base (group_behind f) safe hs) (sym (append-nil given)) h);
+}
+
+module _ {D : Type 0} (state : D → DiskState) (crashes : CrashesKeep D) (law : MomentsKeep D state) where
+  pub turns_go_on : TurnsGoOn D state
+  turns_go_on f g first last NoFlush base safe given h = goes_nowhere f base safe given h
+  turns_go_on f g first last (OneFlush {g = m} {first = before} {answer = answer} more flush is) base safe given h =
+      let x = turns_go_on f m first before more base safe given h in
+      let y = flushes_stand state crashes law m g answer flush base (safe ++ x.more) (given ++ x.told) x.history in
+      goes_both f m g base safe given x y.goes_on
+
+-- ---- splits and joins
+split_rests : {D P : Type 0} (clerk : ClerkState D P) (f : FlusherState D) → f.desk ≡ clerk.desk → f.seat ≡ clerk.seat → f.writer ≡ clerk.keeper.writer
+    → (clerk.keeper.writer.is_broken ≡ false → f.end.state ≡ clerk.keeper.state) → Rests (group_of clerk) (group_behind f)
+split_rests {D} clerk f desk seat writer state = record {
+  desk = desk;
+  words = λ t. (ap (λ (s : List ClerkPlace). (view_at s t).taken) seat, ap (λ (s : List ClerkPlace). (view_at s t).answered) seat);
+  state = λ whole. state (ap (λ (w : WriterView D). w.is_broken) (sym writer) ∙ whole);
+  register = ap (λ (w : WriterView D). w.register) writer;
+  doubt = ap (λ (w : WriterView D). w.doubt) writer;
+  plan = ap (λ (w : WriterView D). w.plan) writer;
+  broken = inr (ap (λ (w : WriterView D). w.is_broken) writer);
+}
+
+join_rests : {D P : Type 0} (clerk : ClerkState D P) (f : FlusherState D) → clerk.desk ≡ f.desk → clerk.seat ≡ f.seat → clerk.keeper.writer ≡ f.writer → clerk.keeper.state ≡ f.end.state
+    → Rests (group_behind f) (group_of clerk)
+join_rests {D} clerk f desk seat writer state = record {
+  desk = desk;
+  words = λ t. (ap (λ (s : List ClerkPlace). (view_at s t).taken) seat, ap (λ (s : List ClerkPlace). (view_at s t).answered) seat);
+  state = λ whole. state;
+  register = ap (λ (w : WriterView D). w.register) writer;
+  doubt = ap (λ (w : WriterView D). w.doubt) writer;
+  plan = ap (λ (w : WriterView D). w.plan) writer;
+  broken = inr (ap (λ (w : WriterView D). w.is_broken) writer);
+}
+
+pub splits_go_on : {D P : Type 0} → SplitsGoOn D P
+splits_go_on clerk f base safe given desk seat writer state h = Rested h (split_rests clerk f desk seat writer state)
+
+pub joined_go_on : {D P : Type 0} → JoinedGoOn D P
+joined_go_on clerk f base safe given desk seat writer state h = Rested h (join_rests clerk f desk seat writer state)
+
+pub splits_keep_pasts : {D P : Type 0} → PastsGoOn D → SplitsKeepPasts D P
+splits_keep_pasts {D} past w clerk f terminals safe given desk seat writer state p =
+    past.rests w (group_of clerk) (group_behind f) terminals safe given p (split_rests clerk f desk seat writer state) (ap (λ (w : WriterView D). w.is_broken) writer)
+
+pub joined_keep_pasts : {D P : Type 0} → PastsGoOn D → JoinedKeepPasts D P
+joined_keep_pasts {D} past w clerk f terminals safe given desk seat writer state p =
+    past.rests w (group_behind f) (group_of clerk) terminals safe given p (join_rests clerk f desk seat writer state) (ap (λ (w : WriterView D). w.is_broken) writer)

@@ -1,0 +1,72 @@
+-- The flusher's turns in the machine's world of its group, with the terminals of its desk. Terminals
+-- ask and hear meanwhile as at a whole clerk: what they do is an event whatever the group is.
+use Rattle.std.specs.Prelude.{ℕ, ◌≡◌, Bool, true, false, List, [], ◌∷◌, ◌++◌, length, Option, Result}
+use Rattle.lift_base.specs.declared.history.Entry.{Entry}
+use Rattle.lift_disk.specs.Disk.{DiskState}
+use Rattle.lift_keeper.specs.declared.fault.KeeperFault.{KeeperFault}
+use Rattle.lift_world.specs.declared.event.Event.{Event}
+use Rattle.lift_world.specs.declared.event.Phase.TheVariants.{GateWritten}
+use Rattle.lift_world.specs.declared.event.Taken.{Taken as Held}
+use Rattle.lift_world.specs.World.{World}
+use Rattle.lift_world.specs.Turns.{failed_events}
+use Rattle.lift_clerk.specs.Clerk.{ClerkState}
+use Rattle.lift_clerk.specs.Steps.{group_of}
+use Rattle.lift_clerk.specs.Machine.{events_of_turn, events_while_broken}
+use Rattle.lift_clerk.specs.Group.{Terminals, TakesAsks}
+use Rattle.lift_clerk.specs.Past.{IsPastOf, GoesOn}
+use Rattle.lift_parts.specs.declared.counts.FlushCounts.{FlushCounts}
+use Rattle.lift_parts.specs.Batch.{BatchState, commands_in}
+use Rattle.lift_parts.specs.Flusher.{FlusherState, is_ok}
+use Rattle.lift_parts.specs.Turns.{IsFlush}
+use Rattle.lift_parts.specs.History.{group_behind, Adds}
+
+-- The events of a flusher's turn: those of a turn of the machine with the batch that it received,
+-- of one that the device fails, or of one behind a fault; and none where it received nothing.
+abbrev pub flush_events : List BatchState → Bool → Bool → List (Option ℕ) → ℕ → List Event
+flush_events [] is_safe was_broken letters folds = []
+flush_events (b ∷ batches) true was_broken letters folds =
+    events_of_turn (commands_in b.commands) letters folds (length b.entries)
+flush_events (b ∷ batches) false false letters folds =
+    failed_events (commands_in b.commands) letters folds GateWritten (length b.entries)
+flush_events (b ∷ batches) false true letters folds =
+    events_while_broken (commands_in b.commands) letters
+
+-- One turn leads on from this world by just these events, with what it adds.
+pub record FlushLeadsOn {D : Type 0} (f g : FlusherState D) (answer : Result FlushCounts KeeperFault)
+    (w : World) (terminals : Terminals) (safe : List Entry) (given : List Held) : Type 0 where
+  pub received : List BatchState
+  pub receives : g.end.received ≡ f.end.received ++ received
+  pub more : List Entry
+  pub told : List Held
+  pub adds : Adds f g more told
+  pub letters : List (Option ℕ)
+  pub leads : (folds : ℕ) → GoesOn w
+      (flush_events received (is_ok answer) f.writer.is_broken letters folds) (group_behind g)
+      terminals (safe ++ more) (given ++ told)
+
+-- A flusher's turn is a step of its group's past, in each world that it may be in. By the desk's
+-- rule what its seats took is a front of what terminals asked.
+abbrev pub FlushesLeadOn : (D : Type 0) → (D → DiskState) → Type 0
+FlushesLeadOn D state = (f g : FlusherState D) (answer : Result FlushCounts KeeperFault)
+    → IsFlush state f g answer
+    → (w : World) (terminals : Terminals) (safe : List Entry) (given : List Held)
+    → IsPastOf w (group_behind f) terminals safe given → TakesAsks (group_behind g) terminals
+    → FlushLeadsOn f g answer w terminals safe given
+
+-- A split of a clerk is no event,
+abbrev pub SplitsKeepPasts : (D P : Type 0) → Type 0
+SplitsKeepPasts D P = (w : World) (clerk : ClerkState D P) (f : FlusherState D)
+    (terminals : Terminals) (safe : List Entry) (given : List Held)
+    → f.desk ≡ clerk.desk → f.seat ≡ clerk.seat → f.writer ≡ clerk.keeper.writer
+    → (clerk.keeper.writer.is_broken ≡ false → f.end.state ≡ clerk.keeper.state)
+    → IsPastOf w (group_of clerk) terminals safe given
+    → IsPastOf w (group_behind f) terminals safe given
+
+-- and nor is a rejoining of its parts.
+abbrev pub JoinedKeepPasts : (D P : Type 0) → Type 0
+JoinedKeepPasts D P = (w : World) (clerk : ClerkState D P) (f : FlusherState D)
+    (terminals : Terminals) (safe : List Entry) (given : List Held)
+    → clerk.desk ≡ f.desk → clerk.seat ≡ f.seat → clerk.keeper.writer ≡ f.writer
+    → clerk.keeper.state ≡ f.end.state
+    → IsPastOf w (group_behind f) terminals safe given
+    → IsPastOf w (group_of clerk) terminals safe given

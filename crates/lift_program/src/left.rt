@@ -1,0 +1,37 @@
+//! How a command leaves the device that it was over.
+
+ghost use Rattle.std.specs.Prelude.{◌≡◌};
+
+use crate::fault::Fault;
+use std::marker::Model;
+
+/// A device as a command has left it. Nobody calls it any more: all that can be done with it is to let
+/// it go. So what is said of it is said of the end. Contracts see the device.
+#[derive(Drop)]
+pub struct Left<D> {
+    device: D,
+}
+
+impl<D> Model for Left<D> {
+    ghost Value = { D };
+
+    ghost view = { λ l. l.device };
+}
+
+impl<D> Left<D> {
+    /// It is called no more.
+    pub fn new(device: D) -> Self
+        ensures { result ≡ device }
+    {
+        Left { device }
+    }
+}
+
+/// Why a command over an image is undone.
+#[derive(Drop)]
+pub enum Undone<D> {
+    /// No image was opened.
+    Unopened(Fault),
+    /// One was, and was left so.
+    Opened(Fault, Left<D>),
+}

@@ -1,0 +1,19 @@
+-- What is seen of a scanner.
+use Rattle.std.specs.Prelude.{◌≡◌, []}
+use Rattle.lift_desk.specs.Seats.{IsClerkOf}
+use Rattle.lift_relay.specs.Scanner.{ScannerState}
+use Rattle.lift_relay.specs.declared.deciding.Scanner.TheInside.{Inside}
+
+abbrev pub seen : {P : Type 0} → Inside P → ScannerState P
+seen s = record {
+  desk = s.desk.now;
+  seat = s.seat;
+  plan = s.decider.plan;
+  state = s.decider.state;
+  start = s.start.value.state;
+  policy = s.policy;
+}
+
+pub record IsScanner {P : Type 0} (s : Inside P) : Type 0 where
+  pub seated : IsClerkOf s.desk.now s.seat
+  pub all_sealed : s.decider.state.batch ≡ []

@@ -1,0 +1,121 @@
+//! The half of an allocator that never waits.
+
+ghost use Rattle.std.specs.Prelude.{◌≡◌, ◌≤◌, [], length};
+ghost use Rattle.lift_desk.specs.Seats.{IsClerkOf};
+ghost use Rattle.lift_relay.specs.Scanner.{HasScanned};
+
+use crate::basis::Basis;
+use crate::batch::Batch;
+use crate::scan::scan;
+use lift_clerk::Counts;
+use lift_decider::Decider;
+use lift_desk::{Desk, TakeSeat};
+use lift_policy::Policy;
+use lift_register::Register;
+use std::marker::Model;
+use std::snapshot::Snapshot;
+
+/// Takes what terminals ask and decides it, a batch at a time. No call of it waits: so each of its
+/// batches is what one scan took and decided, whatever a thread does that has it.
+#[derive(Drop)]
+pub struct Scanner<'d, 'b, P: Policy + Drop> {
+    desk: &'d Desk,
+    seat: TakeSeat,
+    decider: Decider<'b>,
+    policy: P,
+    /// The decider when the clerk was split.
+    start: Snapshot<Decider<'b>>,
+}
+
+impl<'d, 'b, P: Policy + Drop> Model for Scanner<'d, 'b, P> {
+    ghost use Rattle.lift_relay.specs.Scanner.{ScannerState};
+
+    ghost Value = { ScannerState P };
+
+    ghost use Rattle.lift_relay.specs.ScannerInside.{seen, IsScanner};
+
+    ghost view = { seen };
+
+    ghost invariant = { IsScanner };
+}
+
+impl<'d, 'b, P: Policy + Drop> Scanner<'d, 'b, P> {
+    /// The seats that take, and what they decide on.
+    pub(crate) fn new(desk: &'d Desk, seat: TakeSeat, decider: Decider<'b>, policy: P) -> Self
+        requires seated { IsClerkOf desk.now seat }
+        requires all_sealed { decider.state.batch ≡ [] }
+        ensures { result ≡ record {
+          desk = desk.now;
+          seat = seat;
+          plan = decider.entry.plan;
+          state = decider.entry.state;
+          start = decider.entry.state;
+          policy = policy;
+        } }
+    {
+        let start = Snapshot::of(&decider);
+        Scanner {
+            desk,
+            seat,
+            decider,
+            policy,
+            start,
+        }
+    }
+
+    /// Looks once at each terminal, in rising order, and decides what was asked, refusals and repeats
+    /// too: one batch, if anything was taken.
+    pub fn scan(&mut self) -> (Counts, Option<Batch>)
+        ensures { HasScanned (P.chooses self.old.policy) self.old self.new result.0 result.1 }
+    {
+        let before = Basis::of_decider(&self.decider);
+        let seats = Snapshot::of(&self.seat);
+        let commands = scan(self.desk, &mut self.seat, &mut self.decider, &self.policy);
+        let entries = self.decider.seal();
+        let after = Basis::of_decider(&self.decider);
+        let counts = Counts {
+            taken: commands.len(),
+            accepted: entries.len(),
+        };
+        let batch = Batch::new(
+            commands,
+            entries,
+            self.decider.building(),
+            before,
+            after,
+            self.desk,
+            seats,
+        );
+        if counts.taken == 0 {
+            return (counts, None);
+        }
+        (counts, Some(batch))
+    }
+
+    /// What it shows of the calls: those of all entries that it accepted.
+    pub fn register(&self) -> &Register
+        ensures { result.now ≡ self.now.state.register }
+    {
+        self.decider.register()
+    }
+
+    /// How many terminals it looks at.
+    pub fn terminals(&self) -> usize
+        ensures count { result ≡ length self.now.desk }
+        ensures in_range { result ≤ 63 }
+    {
+        self.desk.len()
+    }
+
+    /// What it is made of.
+    pub(crate) fn into_parts(self) -> (&'d Desk, TakeSeat, Decider<'b>, P)
+        ensures desk { result.0.now ≡ self.entry.desk }
+        ensures seat { result.1 ≡ self.entry.seat }
+        ensures decider { result.2 ≡ record { plan = self.entry.plan; state = self.entry.state } }
+        ensures policy { result.3 ≡ self.entry.policy }
+        ensures seated { IsClerkOf self.entry.desk result.1 }
+        ensures all_sealed { result.2.state.batch ≡ [] }
+    {
+        (self.desk, self.seat, self.decider, self.policy)
+    }
+}

@@ -1,0 +1,244 @@
+//! The half of a flusher that never waits.
+
+ghost use Rattle.std.specs.Prelude.{◌≡◌, ℕ, List, [], ◌<◌, ◌⊎◌, ◌↔◌, length, true, false, IfOk};
+ghost use Rattle.lift_desk.specs.Rule.{IsInOrder};
+ghost use Rattle.lift_desk.specs.Seats.{IsClerkOf, IsNoteOf, IsSeatOf, OwesNothing, Says, view_at};
+ghost use Rattle.lift_desk.specs.Seats.{seat_with, clerk_with};
+ghost use Rattle.lift_desk.specs.Steps.{with_told_answers, with_told_asks, lists_of};
+ghost use Rattle.lift_keeper.specs.Commits.{Commits};
+ghost use Rattle.lift_clerk.specs.Visits.{Visit};
+ghost use Rattle.lift_parts.specs.Batch.{turns_behind, turns_with};
+ghost use Rattle.lift_parts.specs.Flusher.{AnswersOne, Answered, IsSettled};
+ghost use Rattle.lift_relay.specs.Settler.{Settles};
+
+use crate::batch::Batch;
+use crate::held::HeldClerk;
+use arrayvec::ArrayVec;
+use lift_base::{Reply, Terminal};
+use lift_clerk::Clerk;
+use lift_decider::Decider;
+use lift_desk::{ClerkSeat, Desk, Seat, TakeSeat};
+use lift_disk::Disk;
+use lift_keeper::{Keeper, KeeperFault, Writer};
+use lift_parts::{FlushCounts, Taken};
+use lift_policy::Policy;
+use lift_register::Register;
+use std::marker::{Model, PhantomData};
+use std::mem;
+
+/// Makes batches safe and answers them. No call of it waits: so what it ensures holds, and no answer
+/// stands before its batch is safe, whatever a thread does that has it. The seats and the writer are
+/// reached by its calls alone, and behind them by those of the clerk that it is joined to, which only
+/// who has a `K` gets back.
+#[derive(Drop)]
+pub struct Settler<'d, 'b, D: Disk, K> {
+    desk: &'d Desk,
+    seat: ClerkSeat,
+    writer: Writer<'b, D>,
+    key: PhantomData<K>,
+}
+
+impl<'d, 'b, D: Disk, K> Model for Settler<'d, 'b, D, K> {
+    ghost use Rattle.lift_desk.specs.Seats.{IsClerkOf};
+    ghost use Rattle.lift_relay.specs.Settler.{SettlerState};
+
+    ghost Value = { SettlerState D };
+
+    ghost use Rattle.lift_relay.specs.SettlerInside.{seen};
+
+    ghost view = { seen };
+
+    ghost invariant = { λ s. IsClerkOf s.desk.now s.seat };
+}
+
+/// Looks once at the terminal of a command, which the look gives, as its note says; and answers it:
+/// with its reply where it is safe, else Unknown.
+fn answer(desk: &Desk, seat: &mut ClerkSeat, taken: Taken, is_safe: bool)
+    requires seated { IsClerkOf desk.now seat.old }
+    requires terminal { taken.command.terminal < length desk.now }
+    requires noted { IsNoteOf desk.now taken.command.terminal taken.note }
+    requires says { Says (view_at seat.old taken.command.terminal) taken.note.word
+        (record { number = taken.command.number; body = taken.command.body }) }
+    ensures answers { (visit : Visit) × AnswersOne is_safe seat.old taken visit seat.new }
+    ensures settled { (turns : List ℕ) → IsSettled seat.old turns
+        → taken.command.terminal < length turns → IsSettled seat.new (turns_with turns taken) }
+    ensures seated { IsClerkOf desk.now seat.new }
+{
+    let Taken {
+        command,
+        reply,
+        note,
+    } = taken;
+    let _found = desk.look_for(seat, command.terminal, note);
+    let reply = if is_safe { reply } else { Reply::Unknown };
+    desk.answer(seat, command.terminal, reply);
+}
+
+/// Looks once at the terminal of each command of a batch, and answers it: with its reply where the
+/// batch is safe, else Unknown. How many commands there were.
+fn answer_all(desk: &Desk, seat: &mut ClerkSeat, batch: Batch, is_safe: bool) -> usize
+    requires seated { IsClerkOf desk.now seat.old }
+    requires at_desk { batch.desk ≡ desk.now }
+    requires settled { IsSettled seat.old batch.turns }
+    ensures answered { Answered is_safe seat.old batch.commands seat.new }
+    ensures settled { IsSettled seat.new (turns_behind batch) }
+    ensures count { result ≡ length batch.commands }
+    ensures seated { IsClerkOf desk.now seat.new }
+{
+    let mut commands = batch.into_commands();
+    let count = commands.len();
+    for place in 0..count {
+        let taken = mem::take(&mut commands[place]);
+        answer(desk, seat, taken, is_safe);
+    }
+    count
+}
+
+/// Whether an ask that these seats took is unanswered, at some terminal.
+fn owes(desk: &Desk, seat: &ClerkSeat) -> bool
+    requires { IsClerkOf desk.now seat.now }
+    ensures { (result ≡ false) ↔ OwesNothing seat.now }
+{
+    for t in 0..desk.len() {
+        let terminal = Terminal::new(t as u8).unwrap();
+        if seat.owes(terminal) {
+            return true;
+        }
+    }
+    false
+}
+
+/// The commit of a turn that received no batch.
+fn commit_nothing<D: Disk>(writer: &mut Writer<'_, D>) -> Result<FlushCounts, KeeperFault>
+    ensures commits { Commits D.state writer.old [] writer.new result }
+    ensures counts { IfOk result (λ counts. counts ≡ record { batches = 0; answers = 0 }) }
+    ensures same { writer.new ≡ writer.old }
+{
+    match writer.commit(&ArrayVec::new()) {
+        Ok(()) => Ok(FlushCounts {
+            batches: 0,
+            answers: 0,
+        }),
+        Err(fault) => Err(fault),
+    }
+}
+
+impl<'d, 'b, D: Disk, K> Settler<'d, 'b, D, K> {
+    /// The seats that answer, and the writer.
+    pub(crate) fn new(desk: &'d Desk, seat: ClerkSeat, writer: Writer<'b, D>) -> Self
+        requires seated { IsClerkOf desk.now seat }
+        ensures { result ≡ record { desk = desk.now; seat = seat; writer = writer.entry } }
+    {
+        Settler {
+            desk,
+            seat,
+            writer,
+            key: PhantomData,
+        }
+    }
+
+    /// Makes a batch safe, then looks once more at each of its commands' terminals, and answers each
+    /// command, which its look gives, with the batch's reply. After a device fault it answers Unknown
+    /// to that batch and all later ones.
+    ///
+    /// `Journal(Disk)` where a call of the device failed, `Journal(Broken)` while it is broken.
+    pub fn settle(&mut self, batch: Batch) -> Result<FlushCounts, KeeperFault>
+        requires at_desk { batch.desk ≡ self.old.desk }
+        requires next { self.old.writer.is_broken ≡ false
+            → (batch.building ≡ self.old.writer.plan)
+            × (batch.before.register ≡ self.old.writer.register) }
+        requires settled { IsSettled self.old.seat batch.turns }
+        ensures { Settles D.state self.old batch self.new result }
+    {
+        let committed = self.writer.commit(batch.entries());
+        match committed {
+            Ok(()) => {
+                let answers = answer_all(self.desk, &mut self.seat, batch, true);
+                Ok(FlushCounts {
+                    batches: 1,
+                    answers,
+                })
+            }
+            Err(fault) => {
+                answer_all(self.desk, &mut self.seat, batch, false);
+                Err(fault)
+            }
+        }
+    }
+
+    /// Tells it what a terminal has asked so far, and the terminal what was answered there so far. It
+    /// stores nothing.
+    pub fn tell_terminal(&mut self, seat: &mut Seat)
+        requires { IsSeatOf self.old.desk seat.old }
+        ensures seat { seat.new ≡ seat_with seat.old
+            (with_told_answers seat.old.view (view_at self.old.seat seat.old.terminal).answered) }
+        ensures told { self.new ≡ record self.old {
+          seat = clerk_with self.old.seat seat.old.terminal
+              (with_told_asks (view_at self.old.seat seat.old.terminal) seat.old.view.asked);
+        } }
+        // What the two have stored fits together.
+        ensures in_order { IsInOrder
+            (lists_of seat.old.view (view_at self.old.seat seat.old.terminal)) }
+        ensures settled { (turns : List ℕ) → IsSettled self.old.seat turns
+            → IsSettled self.new.seat turns }
+        ensures seat_stays { IsSeatOf self.new.desk seat.new }
+        ensures seated { IsClerkOf self.new.desk self.new.seat }
+    {
+        self.desk.tell(seat, &mut self.seat)
+    }
+
+    /// What is answered where there is no batch: `Journal(Broken)` while it is broken.
+    pub fn rest(&mut self) -> Result<FlushCounts, KeeperFault>
+        ensures commits { Commits D.state self.old.writer [] self.new.writer result }
+        ensures counts { IfOk result (λ counts. counts ≡ record { batches = 0; answers = 0 }) }
+        ensures same { self.new ≡ self.old }
+    {
+        commit_nothing(&mut self.writer)
+    }
+
+    /// Whether it took an ask that it has not answered, of any terminal.
+    pub fn owes(&self) -> bool
+        ensures { (result ≡ false) ↔ OwesNothing self.now.seat }
+    {
+        owes(self.desk, &self.seat)
+    }
+
+    /// Whether what is safe is this register, or a call of the device has failed since it was last
+    /// opened.
+    pub fn may_join(&self, register: &Register) -> bool
+        ensures { (result ≡ true)
+            ↔ ((self.now.writer.is_broken ≡ true) ⊎ (register.now ≡ self.now.writer.register)) }
+    {
+        self.writer.is_broken() || register.is_same(self.writer.register())
+    }
+
+    /// The clerk of this half, of the seats ahead of it, and of what decides, held for the same key.
+    pub(crate) fn join<P: Policy + Drop>(
+        self,
+        ahead: TakeSeat,
+        decider: Decider<'b>,
+        policy: P,
+    ) -> HeldClerk<'d, 'b, D, P, K>
+        requires seated { IsClerkOf self.desk ahead }
+        requires answered { OwesNothing self.seat }
+        requires plan { decider.plan ≡ self.writer.plan }
+        requires sealed { decider.state.batch ≡ [] }
+        requires equal { (self.writer.is_broken ≡ true)
+            ⊎ (decider.state.register ≡ self.writer.register) }
+        ensures { result ≡ record {
+          desk = self.entry.desk;
+          seat = self.entry.seat;
+          keeper = record { state = decider.entry.state; writer = self.entry.writer };
+          policy = policy;
+        } }
+    {
+        let Settler {
+            desk,
+            seat,
+            writer,
+            key: _,
+        } = self;
+        let seat = desk.join(ahead, seat);
+        HeldClerk::new(Clerk::new(desk, seat, Keeper::whole(decider, writer), policy))
+    }
+}

@@ -1,0 +1,8 @@
+use Rattle.lift_serve.specs.lemmas.Made.{images_keep, made_keeps}
+use Rattle.lift_serve.proofs.keeping.journals_keep.Goals as goal
+
+pub returns-clause-images : goal.returns-clause-images
+returns-clause-images g c = images_keep
+
+pub returns-clause-made : goal.returns-clause-made
+returns-clause-made g c = made_keeps g.M.Disk.state
