@@ -3,13 +3,14 @@ ghost use Rattle.std.specs.Prelude.{◌≡◌, ℕ, ◌<◌, ◌≤◌, ◌^◌,
 ghost use Rattle.std.specs.Prelude.{false, []};
 ghost use Rattle.lift_desk.specs.declared.words.Ask.{Ask};
 ghost use Rattle.lift_desk.specs.Words.{turn_of, last_of, ask_word};
-ghost use Rattle.lift_desk.specs.Steps.{with_taking};
+ghost use Rattle.lift_desk.specs.Rule.{IsAhead};
+ghost use Rattle.lift_desk.specs.Steps.{with_taking, with_told_asks};
 ghost use Rattle.lift_desk.specs.Spelled.{IsAsk};
 ghost use Rattle.lift_desk.specs.Seats.{ClerkPlace, placed_at, TakesAheadOf, IsToldAhead};
 
 use crate::loads::{ASK, Loads};
 use crate::note::Note;
-use crate::seat::{Chair, DeskTable};
+use crate::seat::{Chair, DeskTable, Seat};
 use crate::view::{LooksAhead, Notes, View};
 use crate::words::{Ask, read_ask, turn_of};
 use atomic_table::Badge;
@@ -92,6 +93,21 @@ impl AheadPlace {
         let ask = read_ask(word)?;
         self.turn = turn;
         Some(ask)
+    }
+
+    // Learns what the terminal asked.
+    pub(crate) fn learn(&mut self, table: &DeskTable, seat: &mut Seat)
+        requires table { (self.old.table ≡ table.now.shared.table_id)
+            × (table.now.shared.table_id.words ≡ 2) }
+        requires seated { (self.old.seated ≡ true) × (seat.old.table ≡ self.old.table) }
+        ensures place { self.new
+            ≡ placed_at self.old.table (with_told_asks self.old.view seat.old.view.asked) }
+        ensures seat { seat.new ≡ seat.old }
+        ensures asked { IsAhead seat.old.view.asked self.old.view.taken }
+    {
+        let badge = mem::replace(&mut self.badge, Badge::blank());
+        let chair = seat.share_ahead(table, badge.into_seat::<()>());
+        self.badge = chair.into_badge();
     }
 
     // A note of the last ask that was taken.

@@ -4,7 +4,7 @@ ghost use Rattle.std.specs.Prelude.{OnErr, IfOk, IfSome, Some, Err, [], ◌∷�
 ghost use Rattle.std.specs.Prelude.{vec_len};
 ghost use Rattle.lift_base.specs.declared.command.Reply.{Reply};
 ghost use Rattle.lift_desk.specs.declared.words.Ask.{Ask};
-ghost use Rattle.lift_desk.specs.Rule.{terminal_view, clerk_view, IsInOrder};
+ghost use Rattle.lift_desk.specs.Rule.{terminal_view, clerk_view, IsInOrder, IsAhead};
 ghost use mathlib.Core.List.{IsPrefix};
 ghost use Rattle.lift_desk.specs.Words.{turn_of, last_of, number_of, ask_word, reply_word, IsReply};
 ghost use Rattle.lift_desk.specs.Steps.{with_answer, with_hearing, with_look};
@@ -324,6 +324,27 @@ impl Desk {
         let table = &self.tables[at];
         let place = &mut ahead.places[at];
         place.take(table)
+    }
+
+    /// Tells these seats what the terminal has asked so far: behind a later look the last of it, or
+    /// a later ask, is taken. What they took until then was asked. It stores nothing, and gives
+    /// nothing of what it loads.
+    pub fn tell_ahead(&self, seat: &mut Seat, ahead: &mut TakeSeat)
+        requires seat { IsSeatOf self.now seat.old }
+        requires ahead { IsClerkOf self.now ahead.old }
+        ensures seat { seat.new ≡ seat.old }
+        ensures ahead { ahead.new
+            ≡ clerk_with ahead.old seat.old.terminal
+            (with_told_asks (view_at ahead.old seat.old.terminal) seat.old.view.asked) }
+        // Each word that these seats took was asked, in rising turns.
+        ensures asked { IsAhead seat.old.view.asked
+            (view_at ahead.old seat.old.terminal).taken }
+        ensures stays { IsClerkOf self.now ahead.new }
+    {
+        let at = usize::from(seat.terminal.get());
+        let table = &self.tables[at];
+        let place = &mut ahead.places[at];
+        place.learn(table, seat)
     }
 
     /// A note of the last ask that these seats took of the terminal, for the clerk's look there.

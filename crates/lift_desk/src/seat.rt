@@ -9,10 +9,12 @@ ghost use Rattle.lift_desk.specs.Steps.{with_told_asks, lists_of};
 ghost use mathlib.Core.List.{IsPrefix};
 ghost use Rattle.lift_desk.specs.Seats.{TerminalSeat, seat_with, Waits, HearsOf, IsToldAnswer};
 ghost use Rattle.lift_desk.specs.Seats.{StoresAsk};
-ghost use Rattle.lift_desk.specs.Rule.{terminal_view, no_asks, IsInOrder};
+ghost use Rattle.lift_desk.specs.Rule.{terminal_view, no_asks, IsInOrder, IsAhead};
 
 use crate::loads::{ANSWER, Loads};
-use crate::view::{Asks, Compares, DeskRule, Hears, Meets, Parts, Seats, View};
+use crate::view::{
+    AheadParts, Asks, Compares, ComparesAhead, DeskRule, Hears, Meets, Parts, Seats, View,
+};
 use crate::words::{ask_word, read_reply, turn_of};
 use atomic_table::Table;
 use lift_base::{Body, Number, Reply, Terminal};
@@ -176,5 +178,23 @@ impl Seat {
         table.shared.join_seat::<Seats>(&mut self.chair, clerk);
         let word = self.loads.load::<Meets>(table, &mut self.chair);
         (word, table.shared.split_seat::<Parts>(&mut self.chair))
+    }
+
+    // Takes the rights of a seat ahead, compares what it took with what was asked, and gives them
+    // back. That seat is told what was asked.
+    pub(crate) fn share_ahead(&mut self, table: &DeskTable, ahead: Chair) -> Chair
+        requires table { (self.old.table ≡ table.now.shared.table_id)
+            × (table.now.shared.table_id.words ≡ 2) }
+        requires ahead { (ahead.table_id ≡ self.old.table) × (ahead.me.1 ≡ []) }
+        requires rights { (ahead.me.0.looks_ahead ≡ true) × (ahead.me.0.answers ≡ false) }
+        ensures same { self.new ≡ self.old }
+        ensures ahead { (result.table_id ≡ self.old.table) × (result.me.1 ≡ []) }
+        ensures rights { (result.me.0.looks_ahead ≡ true) × (result.me.0.answers ≡ false) }
+        ensures view { result.me.0.clerk ≡ with_told_asks ahead.me.0.clerk self.old.view.asked }
+        ensures asked { IsAhead self.old.view.asked ahead.me.0.clerk.taken }
+    {
+        table.shared.join_seat::<Seats>(&mut self.chair, ahead);
+        table.shared.load::<ComparesAhead>(&mut self.chair, 0);
+        table.shared.split_seat::<AheadParts>(&mut self.chair)
     }
 }
