@@ -1,3 +1,4 @@
 pub mod Marked
 pub mod Passing
 pub mod Leavings
+pub mod Kept

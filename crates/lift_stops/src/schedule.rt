@@ -1,19 +1,20 @@
 //! The stop list of a car, kept while its position and its calls change.
 
 ghost use Rattle.std.specs.Prelude.{◌≡◌, ◌≢◌, ◌+◌, ◌<◌, ◌≤◌, List, [], ◌∷◌, ◌++◌, length, Contains};
+ghost use Rattle.std.specs.Prelude.{All, IsTrue};
 ghost use Rattle.std.specs.List.{flat_map};
 ghost use Rattle.lift_base.specs.declared.history.Row.{Row as RowValue};
 ghost use Rattle.lift_base.specs.History.{row_after};
 ghost use Rattle.lift_stops.specs.Parts.{AllDiffer};
-ghost use Rattle.lift_stops.specs.StopList.{StopsInOrder, stop_list, next_stop};
-ghost use Rattle.lift_stops.specs.Schedule.{position_after};
+ghost use Rattle.lift_stops.specs.StopList.{HasFloors, StopsInOrder, stop_list, next_stop};
+ghost use Rattle.lift_stops.specs.Schedule.{KeepsPasses, position_after};
 ghost use Rattle.lift_stops.specs.Leaving.{AreLeaving};
 
 use crate::leaving::Leaving;
 use crate::marks::write_halts;
-use crate::stops::{insert_row, stop_of};
+use crate::stops::{insert_row, is_ahead, stop_of};
 use arrayvec::ArrayVec;
-use lift_base::{Halt, Position, Row, Stop};
+use lift_base::{Halt, Pass, Position, Row, Stop};
 use std::marker::Model;
 
 fn copy_of(halts: &[Halt]) -> ArrayVec<Halt, 66>
@@ -38,6 +39,25 @@ fn rows_after(rows: &[Row], stop: &Stop) -> ArrayVec<Row, 33>
         }
     }
     left
+}
+
+/// Whether a car that goes from one position to another makes each of its calls in the pass in which
+/// it made it before, since it goes on in its direction and leaves no halt of its first pass behind.
+fn keeps_passes(halts: &[Halt], position: &Position, next: &Position) -> bool
+    ensures { (rows : List RowValue) → halts.now ≡ stop_list rows position.now
+        → All HasFloors rows → IsTrue result → KeepsPasses rows position.now next.now }
+{
+    let dir = position.dir;
+    if next.dir != dir || !is_ahead(dir, next.floor, position.floor) {
+        return false;
+    }
+    match halts.first() {
+        Some(halt) => match halt.pass {
+            Pass::First => is_ahead(dir, halt.floor, next.floor),
+            Pass::Second | Pass::Third => true,
+        },
+        None => true,
+    }
 }
 
 /// Where a car is, its open calls, the halts that it still has to make for them, and how many
@@ -123,7 +143,17 @@ impl Schedule {
     pub fn replace_position(&mut self, position: Position)
         ensures { self.new ≡ record self.old { position = position } }
     {
-        let position = &position;
+        if keeps_passes(&self.halts, &self.position, &position) {
+            self.position = position;
+        } else {
+            self.turn_to(&position);
+        }
+    }
+
+    /// The car is at a position from which some of its calls may be made in another pass.
+    fn turn_to(&mut self, position: &Position)
+        ensures { self.new ≡ record self.old { position = position.now } }
+    {
         write_halts(&mut self.halts, &self.rows, position);
         self.leaving = Leaving::of(&self.rows, position);
         self.position = *position;

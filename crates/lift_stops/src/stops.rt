@@ -13,7 +13,8 @@ use crate::marks::write_halts;
 use arrayvec::ArrayVec;
 use lift_base::{Dir, Floor, Halt, Pass, Position, Row, Stop};
 
-fn is_ahead(dir: Dir, floor: Floor, other: Floor) -> bool
+/// Whether a floor is at another one, or ahead of it in a direction.
+pub fn is_ahead(dir: Dir, floor: Floor, other: Floor) -> bool
     ensures { result ≡ is_ahead dir floor other }
 {
     match dir {
