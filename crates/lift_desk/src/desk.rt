@@ -9,6 +9,7 @@ ghost use mathlib.Core.List.{IsPrefix};
 ghost use Rattle.lift_desk.specs.Words.{turn_of, last_of, number_of, ask_word, reply_word, IsReply};
 ghost use Rattle.lift_desk.specs.Steps.{with_answer, with_hearing, with_look};
 ghost use Rattle.lift_desk.specs.Steps.{with_told_answers, with_told_asks, lists_of};
+ghost use Rattle.lift_desk.specs.Looker.{sits_at};
 ghost use Rattle.lift_desk.specs.Spelled.{IsAsk};
 ghost use Rattle.lift_desk.specs.Seats.{IsSeatOf, IsClerkOf, seat_with, clerk_with, view_at, Waits};
 ghost use Rattle.lift_desk.specs.Seats.{Owes, OwesNothing, HearsOf, TakesOf, IsToldAnswer};
@@ -17,9 +18,10 @@ ghost use Rattle.lift_desk.specs.Seats.{clerk_of, ahead_from, TakesAheadOf, AreS
 ghost use Rattle.lift_desk.specs.Seats.{LooksOnce, Tells};
 
 use crate::ahead::AheadPlace;
+use crate::looker::{DeskTable, Looker};
 use crate::note::Note;
 use crate::place::Place;
-use crate::seat::{AskRefusal, Chair, DeskTable, Seat};
+use crate::seat::{AskRefusal, Seat};
 use crate::view::Seats;
 use crate::words::Ask;
 use arrayvec::ArrayVec;
@@ -83,13 +85,14 @@ pub struct DeskParts {
 }
 
 // A new table, with the terminal's seat and the clerk's.
-fn new_table(alloc: Global) -> Result<(DeskTable, Chair, Chair), AllocError>
-    ensures { IfOk result (λ made. (made.0.shared.table_id.words ≡ 2)
-        × (made.1.table_id ≡ made.0.shared.table_id) × (made.1.me.0 ≡ terminal_view)
-        × (made.2.table_id ≡ made.0.shared.table_id) × (made.2.me ≡ (clerk_view, []))) }
+fn new_table(alloc: Global) -> Result<(DeskTable, Looker, Looker), AllocError>
+    ensures words { IfOk result (λ made. made.0.shared.table_id.words ≡ 2) }
+    ensures seats { IfOk result (λ made.
+        (made.1 ≡ sits_at made.0.shared.table_id terminal_view)
+        × (made.2 ≡ sits_at made.0.shared.table_id clerk_view)) }
 {
-    let (table, mut first) = DeskTable::of_words(alloc, &[0, 0], &())?;
-    let second = table.shared.split_seat::<Seats>(&mut first);
+    let (table, mut first) = Looker::open(alloc)?;
+    let second = first.split::<Seats>(&table);
     Ok((table, first, second))
 }
 
