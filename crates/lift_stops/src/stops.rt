@@ -2,7 +2,7 @@
 
 ghost use Rattle.std.specs.Prelude.{◌≡◌, ◌≢◌, ℕ, ◌+◌, ◌<◌, ◌≤◌, nat_lt, List, [], ◌∷◌, ◌++◌, IfOk};
 ghost use Rattle.std.specs.Prelude.{IfErr, Bool, Contains, filter, insert, length, not};
-ghost use Rattle.std.specs.Prelude.{slice_index_or, ◌&&◌, ◌||◌};
+ghost use Rattle.std.specs.Prelude.{slice_get, slice_index_or, ◌&&◌, ◌||◌};
 ghost use Rattle.std.specs.List.{flat_map};
 ghost use Rattle.arrayvec.specs.ArrayVec.{array_vec_len};
 ghost use Rattle.lift_base.specs.History.{row_after};
@@ -16,7 +16,7 @@ ghost use Rattle.lift_stops.specs.StopList.{all_halts, is_halt_of, is_needed, sa
 ghost use Rattle.lift_stops.specs.StopList.{stop_list, stop_of, next_stop};
 ghost use Rattle.lift_stops.specs.Schedule.{position_after};
 
-use crate::marks::write_halts;
+use crate::marks::{bit_of, write_halts};
 use arrayvec::ArrayVec;
 use lift_base::{Dir, Floor, Halt, Pass, Position, Row, Stop};
 
@@ -225,13 +225,64 @@ pub fn stop_list(rows: &[Row], position: Position) -> ArrayVec<Halt, 66>
     halts
 }
 
+/// How many halts a car of this direction makes before this one, if it makes them all.
+fn rank_of(dir: Dir, halt: &Halt) -> u32
+    ensures value { result ≡ rank_of dir halt.now }
+    ensures floor { halt.now.floor < 64 }
+{
+    let pass = u32::from(halt.pass.number()) - 1;
+    64 * pass + bit_of(dir_in(dir, halt.pass), halt.floor)
+}
+
+/// The first halt of a car of this direction once this one is put to its others.
+fn earlier(first: Option<Halt>, dir: Dir, halt: Halt) -> Option<Halt>
+    ensures first { (halts : List HaltValue) → first ≡ slice_get halts 0
+        → result ≡ slice_get (put (rank_of dir) halt halts) 0 }
+    ensures floor { halt.floor < 64 }
+{
+    let rank = rank_of(dir, &halt);
+    match first {
+        None => Some(halt),
+        Some(other) => {
+            if rank_of(dir, &other) <= rank {
+                Some(other)
+            } else {
+                Some(halt)
+            }
+        }
+    }
+}
+
+/// The first halt of a car at this position that takes a call more.
+fn first_with(first: Option<Halt>, position: &Position, row: &Row) -> Option<Halt>
+    ensures { (rows : List RowValue) → first ≡ slice_get (stop_list rows position.now) 0
+        → result ≡ slice_get (stop_list (rows ++ row.now ∷ []) position.now) 0 }
+{
+    let pass = pass_of(row, *position);
+    let (from, to) = (row.from, row.to);
+    if row.aboard {
+        earlier(first, position.dir, Halt { pass, floor: to })
+    } else {
+        let first = earlier(first, position.dir, Halt { pass, floor: from });
+        earlier(first, position.dir, Halt { pass, floor: to })
+    }
+}
+
+/// The first halt that a car at this position makes for these calls.
+fn first_halt(rows: &[Row], position: &Position) -> Option<Halt>
+    ensures { result ≡ slice_get (stop_list rows.now position.now) 0 }
+{
+    let mut first = None;
+    for row in rows {
+        first = first_with(first, position, row);
+    }
+    first
+}
+
 /// The stop that a car at this position makes next for these calls.
 pub fn next_stop(rows: &[Row], position: Position) -> Option<Stop>
-    requires { length rows.now ≤ 33 }
     ensures { result ≡ next_stop rows.now position }
 {
-    let position = &position;
-    let halts = stop_list(rows, *position);
-    let first = halts.first()?;
-    Some(stop_of(*first, *position))
+    let halt = first_halt(rows, &position)?;
+    Some(stop_of(halt, position))
 }
