@@ -5,7 +5,7 @@ use Rattle.lift_base.specs.declared.travel.Position.{Position}
 use Rattle.lift_base.specs.declared.travel.Stop.{Stop}
 use Rattle.lift_base.specs.declared.history.Row.{Row}
 use Rattle.lift_stops.specs.StopList.{HasFloors, pass_of, stop_list}
-use Rattle.lift_stops.specs.Leaving.{AreLeaving}
+use Rattle.lift_stops.specs.Leaving.{AreLeaving, HasParty}
 
 -- where a car is, and its open calls
 pub record ScheduleState : Type 0 where
@@ -29,4 +29,5 @@ pub record IsPlanned (position : Position) (rows : List Row) (halts : List Halt)
   pub short : length halts ≤ 2 * length rows
   pub few : length rows ≤ 33
   pub floors : All HasFloors rows
+  pub parties : All HasParty rows
   pub leaving : AreLeaving rows position table

@@ -13,5 +13,6 @@ invariant_of-self c =
       short = planned.short;
       few = planned.few;
       floors = planned.floors;
+      parties = planned.parties;
       leaving = same_table rows c.self.inside.position c.args.position _ keeps planned.leaving;
     }
