@@ -2,7 +2,7 @@
 _liftd() {
     local word=${COMP_WORDS[COMP_CWORD]} before=${COMP_WORDS[COMP_CWORD - 1]} command=${COMP_WORDS[1]}
     if [ "$COMP_CWORD" -eq 1 ]; then
-        mapfile -t COMPREPLY < <(compgen -W "replay format show serve" -- "$word")
+        mapfile -t COMPREPLY < <(compgen -W "replay format show serve --help" -- "$word")
     elif [ "$before" = --policy ]; then
         mapfile -t COMPREPLY < <(compgen -W "etd fewest wait" -- "$word")
     elif [[ $word == -* && $command = serve ]]; then
