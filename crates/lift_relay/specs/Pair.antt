@@ -35,6 +35,25 @@ HaveTurned choice state a b f g (Refused no_thread) = (b ≡ a) × (g ≡ f)
 HaveTurned choice state a b f g (Done first) = AllocatorTurns choice a b
     × FlusherTurns state f None g first
 
+-- A witness heard of the first fault when it came; else it is as it was.
+abbrev pub HeardSince : {V : Type 0} → (V → KeeperFault → V → Type 0) → Option KeeperFault
+    → Option KeeperFault → V → V → Type 0
+HeardSince hears None None old new = new ≡ old
+HeardSince hears None (Some fault) old new = hears old fault new
+HeardSince hears (Some first) None old new = ⊥
+HeardSince hears (Some first) (Some fault) old new = (fault ≡ first) × (new ≡ old)
+
+-- that of both parts' turns
+abbrev pub HeardOf : {V : Type 0} → (V → KeeperFault → V → Type 0) → Turned → V → V → Type 0
+HeardOf hears (Refused no_thread) old new = new ≡ old
+HeardOf hears (Done first) old new = HeardSince hears None first old new
+
+-- A witness heard of the fault that a run answers; of none it is as it was.
+abbrev pub Hears : {V : Type 0} → (V → KeeperFault → V → Type 0) → Option RunFault → V → V → Type 0
+Hears hears None old new = new ≡ old
+Hears hears (Some (Keeper fault)) old new = hears old fault new
+Hears hears (Some (Spawn no_thread)) old new = new ≡ old
+
 abbrev pub fault_of : Option KeeperFault → Option RunFault
 fault_of None = None
 fault_of (Some fault) = Some (Keeper fault)

@@ -17,6 +17,7 @@ mod scan;
 mod settling;
 mod side;
 mod tie;
+mod witness;
 
 pub use allocator::Allocator;
 pub use basis::Basis;
@@ -30,3 +31,4 @@ pub use refused::NoThread;
 pub use relay::{Key, rejoin, split, tell};
 pub use settling::Settler;
 pub use tie::turn_flusher_once;
+pub use witness::{NoWitness, Witness};

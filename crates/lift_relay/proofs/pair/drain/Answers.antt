@@ -2,12 +2,13 @@ use Rattle.std.proofs.Common.{◌≡◌, true, inl, refl, sym, subst, rules}
 use Rattle.lift_parts.specs.Allocator.{AllocatorState}
 use Rattle.lift_parts.specs.Turns.{AllocatorTurns, NoMore, NoFlush, OneFlush, IsSending}
 use Rattle.lift_parts.specs.lemmas.Paired.{sending_more}
+use Rattle.lift_relay.proofs.Heard.{since_same, heard_on}
 use Rattle.lift_relay.proofs.Draining.{sent_on, sends_on, waits_by}
 use Rattle.lift_relay.proofs.pair.drain.Goals.{in-None, in-Some+then-is_sent+then-sent-received}
 use Rattle.lift_relay.proofs.pair.drain.Goals as goal
 
 pub loop-init : goal.loop-init
-loop-init g c = record { allocator = NoMore; sends = inl refl; flusher = NoFlush }
+loop-init g c = record { allocator = NoMore; sends = inl refl; heard = since_same g.V.Witness.hears c.args.first c.args.witness.now; flusher = NoFlush }
 
 pub loop-preserved : goal.loop-preserved
 loop-preserved g c =
@@ -18,7 +19,8 @@ loop-preserved g c =
           i.allocator e.sent e.same e.line e.full;
       sends = sends_on c.args.allocator.now c.loop.allocator c.send_hand-is_sent.new.self c.send_hand-is_sent.result i.sends
           (λ is. record { sent = (e.sent is).1; line = e.line; same = e.same is }) (λ no. waits_by _ _ (e.full no));
-      flusher = OneFlush i.flusher c.flush_once.ensures.1 c.flush_once.ensures.2;
+      heard = heard_on g.V.Witness.hears c.args.first c.loop.first c.flush_once.new.first c.args.witness.now c.loop.witness c.flush_once.new.witness i.heard c.flush_once.ensures.heard;
+      flusher = OneFlush i.flusher c.flush_once.ensures.turns.1 c.flush_once.ensures.turns.2;
     }
 
 pub returns-clause-allocator : goal.returns-clause-allocator
