@@ -11,7 +11,7 @@ use lift_disk::Disk;
 use lift_keeper::KeeperFault;
 use lift_policy::Policy;
 use lift_relay::{
-    Allocator, FlushCounts, Flusher, Gate, NoWitness, RunFault, rejoin, run, split, tell,
+    Allocator, FlushCounts, Flusher, Gate, NoWitness, RunFault, Witness, rejoin, run, split, tell,
 };
 use std::alloc::Global;
 use std::process::Abort;
@@ -83,8 +83,22 @@ impl<'a, D: Disk + Drop, P: Policy + Drop> Relay<'a, D, P> {
         P: Send,
         ensures { self.new.allocator.desk ≡ self.old.allocator.desk }
     {
-        let (_, fault) = run(rt, &mut self.allocator, &mut self.flusher, gate, NoWitness);
+        let (_, fault) = self.run_before(rt, gate, NoWitness);
         fault
+    }
+
+    /// The witness, once the run is over, beside its fault.
+    pub(crate) fn run_before<R: Threads + Wait + Sync, G: Gate + Sync, V: Witness + Drop>(
+        &mut self,
+        rt: &R,
+        gate: &G,
+        witness: V,
+    ) -> (V, Option<RunFault>)
+    where
+        P: Send,
+        ensures { self.new.allocator.desk ≡ self.old.allocator.desk }
+    {
+        run(rt, &mut self.allocator, &mut self.flusher, gate, witness)
     }
 
     /// How many calls the clerk of both parts shows, if they may join.

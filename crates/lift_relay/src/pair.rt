@@ -19,6 +19,7 @@ ghost use Rattle.lift_parts.specs.History.{GoesOnTo, group_behind};
 
 use crate::allocator::Allocator;
 use crate::flusher::Flusher;
+use crate::gate::{Asking, Closed, Gate};
 use crate::places::with_both;
 use crate::refused::{NoThread, spawn};
 use crate::witness::Witness;
@@ -31,37 +32,6 @@ use std::sync::Wait;
 use std::sync::atomic::{AtomicBool, Ordering};
 use std::thread;
 use std::thread::{Promise, Threads};
-
-/// Says whether both parts go on, and is told how far they are, so that their threads may wait here
-/// in place of turning for nothing. What a run sends and receives behind the last turn of both is
-/// not told.
-pub trait Gate {
-    // What it tells where it doesn't go on.
-    ghost closed: { Self → Type 0 } = { λ _. Unit {0} };
-
-    /// It is asked between turns, by both threads.
-    fn go_on(&self) -> bool
-        ensures { result ≡ false → closed self.now };
-
-    /// The allocator's turn sent nothing, and has nothing in hand. The next one looks at what was
-    /// asked before this returns.
-    fn allocator_idles<R: Wait>(&self, _rt: &R) {
-        thread::yield_now();
-    }
-
-    /// The allocator has sent so many batches, the last ones in its last turn. The next turn looks
-    /// at what was asked before this returns.
-    fn has_sent<R: Wait>(&self, _rt: &R, _count: u64) {}
-
-    /// The flusher's turn received nothing.
-    fn flusher_idles<R: Wait>(&self, _rt: &R) {
-        thread::yield_now();
-    }
-
-    /// The flusher has received so many batches, the last one in its last turn, and all of their
-    /// commands are answered.
-    fn has_flushed<R: Wait>(&self, _rt: &R, _count: u64) {}
-}
 
 /// Why a run of both parts was not all it should be.
 #[derive(Clone, Copy, PartialEq, Eq)]
@@ -90,22 +60,25 @@ fn tell_of_allocator<R: Wait, G: Gate, P: Policy + Drop>(
 }
 
 /// Turns while the gate goes on.
-fn allocate<R: Wait, G: Gate, P: Policy + Drop>(
+fn allocate<'d, 'b, R: Wait, G: Gate, P: Policy + Drop>(
     rt: &R,
-    allocator: &mut Allocator<'_, '_, P>,
+    allocator: Asking<'d, 'b, P>,
     gate: &G,
-)
-    ensures turns { AllocatorTurns (P.chooses allocator.old.policy) allocator.old allocator.new }
+) -> Closed<'d, 'b, P>
+    ensures turns { AllocatorTurns (P.chooses allocator.entry.policy) allocator.entry result }
     ensures closed { G.closed gate.now }
 {
+    let mut asking = allocator;
     for _ in rt.forever() {
-        if !gate.go_on() {
-            break;
-        }
-        let sent = allocator.sent();
-        let _counts = allocator.turn(rt);
-        tell_of_allocator(rt, allocator, sent, gate);
+        let opened = match asking.ask(gate) {
+            Ok(opened) => opened,
+            Err(closed) => return closed,
+        };
+        let sent = opened.sent();
+        asking = opened.turn(rt);
+        tell_of_allocator(rt, asking.allocator(), sent, gate);
     }
+    unreachable!()
 }
 
 /// Tells the gate what a turn of the flusher did, before which so many batches had been received.
@@ -169,7 +142,7 @@ fn flush<R: Wait, G: Gate, D: Disk, K, V: Witness>(
 /// of all turns, of which one may be there already.
 fn drain<R: Wait, D: Disk, P: Policy + Drop, K, V: Witness>(
     rt: &R,
-    allocator: &mut Allocator<'_, '_, P>,
+    allocator: &mut Closed<'_, '_, P>,
     flusher: &mut Flusher<'_, '_, D, K>,
     mut first: Option<KeeperFault>,
     witness: &mut V,
@@ -196,12 +169,12 @@ fn drain<R: Wait, D: Disk, P: Policy + Drop, K, V: Witness>(
 /// What the allocating thread gives back: the part as it was, or after its turns.
 #[derive(Drop)]
 enum Allocating<'d, 'b, P: Policy + Drop> {
-    Idle(Allocator<'d, 'b, P>),
-    Ran(Allocator<'d, 'b, P>),
+    Idle(Asking<'d, 'b, P>),
+    Ran(Closed<'d, 'b, P>),
 }
 
 #[derive(Drop)]
-struct OfPart<'d, 'b, P: Policy + Drop>(Snapshot<Allocator<'d, 'b, P>>);
+struct OfPart<'d, 'b, P: Policy + Drop>(Snapshot<Asking<'d, 'b, P>>);
 
 impl<'d, 'b, P: Policy + Drop> Promise<Allocating<'d, 'b, P>> for OfPart<'d, 'b, P> {
     ghost use Rattle.lift_relay.specs.Pair.{ComesFrom};
@@ -213,7 +186,7 @@ impl<'d, 'b, P: Policy + Drop> Promise<Allocating<'d, 'b, P>> for OfPart<'d, 'b,
 fn allocate_if<'d, 'b, R: Wait, G: Gate, P: Policy + Drop>(
     rt: &R,
     may_run: &AtomicBool,
-    mut allocator: Allocator<'d, 'b, P>,
+    allocator: Asking<'d, 'b, P>,
     gate: &G,
 ) -> Allocating<'d, 'b, P>
     ensures comes { ComesFrom (P.chooses allocator.entry.policy) allocator.entry result }
@@ -222,28 +195,27 @@ fn allocate_if<'d, 'b, R: Wait, G: Gate, P: Policy + Drop>(
     if !may_run.load(Ordering::SeqCst) {
         return Allocating::Idle(allocator);
     }
-    allocate(rt, &mut allocator, gate);
-    Allocating::Ran(allocator)
+    Allocating::Ran(allocate(rt, allocator, gate))
 }
 
-/// Whether both parts had their turns.
-#[derive(Clone, Copy)]
-enum Turned {
+/// Whether both parts had their turns, and the allocator.
+#[derive(Drop)]
+enum Turned<'d, 'b, P: Policy + Drop> {
     /// No thread could be made.
-    Refused(NoThread),
+    Refused(Asking<'d, 'b, P>, NoThread),
     /// They had, and this is the flusher's first fault.
-    Done(Option<KeeperFault>),
+    Done(Closed<'d, 'b, P>, Option<KeeperFault>),
 }
 
 /// Both parts after their turns on two threads. Where no thread could be made, they are as they
 /// were.
 fn turn_both<'d, 'b, R, G, D, P, K, V>(
     rt: &R,
-    allocator: Allocator<'d, 'b, P>,
+    allocator: Asking<'d, 'b, P>,
     mut flusher: Flusher<'d, 'b, D, K>,
     gate: &G,
     mut witness: V,
-) -> (Allocator<'d, 'b, P>, Flusher<'d, 'b, D, K>, V, Turned)
+) -> (Turned<'d, 'b, P>, Flusher<'d, 'b, D, K>, V)
 where
     R: Threads + Wait + Sync,
     G: Gate + Sync,
@@ -251,21 +223,21 @@ where
     P: Policy + Drop + Send,
     K: Drop,
     V: Witness + Drop,
-    ensures turned { HaveTurned (P.chooses allocator.entry.policy) D.state allocator.entry result.0
-        flusher.entry result.1 result.3 }
-    ensures heard { HeardOf V.hears result.3 witness result.2 }
-    ensures closed { IfDone (G.closed gate.now) result.3 }
+    ensures turned { HaveTurned (P.chooses allocator.entry.policy) D.state allocator.entry
+        flusher.entry result.0 result.1 }
+    ensures heard { HeardOf V.hears result.0 witness result.2 }
+    ensures closed { IfDone (G.closed gate.now) result.0 }
 {
     let may_run = AtomicBool::new(true);
     let flag = &may_run;
     thread::scope(
         thread::scope_env(),
         rt,
-        move |scope| -> (Allocator<P>, Flusher<D, K>, V, Turned)
+        move |scope| -> (Turned<P>, Flusher<D, K>, V)
             ensures turned { HaveTurned (P.chooses allocator.entry.policy) D.state
-                allocator.entry result.0 flusher.entry result.1 result.3 }
-            ensures heard { HeardOf V.hears result.3 witness result.2 }
-            ensures closed { IfDone (G.closed gate.entry.now) result.3 }
+                allocator.entry flusher.entry result.0 result.1 }
+            ensures heard { HeardOf V.hears result.0 witness result.2 }
+            ensures closed { IfDone (G.closed gate.entry.now) result.0 }
         {
             let promise = OfPart(Snapshot::of(&allocator));
             let work = move || -> Allocating<P>
@@ -276,36 +248,25 @@ where
                 Ok(child) => {
                     let first = flush(rt, &mut flusher, gate, &mut witness);
                     match child.join(rt) {
-                        Allocating::Idle(allocator) => (
-                            allocator,
-                            flusher,
-                            witness,
-                            Turned::Done(first),
-                        ),
-                        Allocating::Ran(allocator) => (
-                            allocator,
-                            flusher,
-                            witness,
-                            Turned::Done(first),
-                        ),
+                        Allocating::Idle(allocator) => {
+                            let allocator = allocate(rt, allocator, gate);
+                            (Turned::Done(allocator, first), flusher, witness)
+                        }
+                        Allocating::Ran(allocator) => {
+                            (Turned::Done(allocator, first), flusher, witness)
+                        }
                     }
                 }
                 Err((unmade, no_thread)) => {
                     // The closure alone has the allocator, and hands it back unturned.
                     flag.store(false, Ordering::SeqCst);
                     match unmade() {
-                        Allocating::Idle(allocator) => (
-                            allocator,
-                            flusher,
-                            witness,
-                            Turned::Refused(no_thread),
-                        ),
-                        Allocating::Ran(allocator) => (
-                            allocator,
-                            flusher,
-                            witness,
-                            Turned::Done(None),
-                        ),
+                        Allocating::Idle(allocator) => {
+                            (Turned::Refused(allocator, no_thread), flusher, witness)
+                        }
+                        Allocating::Ran(allocator) => {
+                            (Turned::Done(allocator, None), flusher, witness)
+                        }
                     }
                 }
             }
@@ -316,7 +277,7 @@ where
 /// As `run`, on parts by value.
 fn run_owned<'d, 'b, R, G, D, P, K, V>(
     rt: &R,
-    allocator: Allocator<'d, 'b, P>,
+    allocator: Asking<'d, 'b, P>,
     flusher: Flusher<'d, 'b, D, K>,
     gate: &G,
     witness: V,
@@ -337,23 +298,18 @@ where
     ensures heard { Hears V.hears result.2.1 witness result.2.0 }
     ensures closed { result.2.1 ≢ Some (RunFault.Spawn tt) → G.closed gate.now }
 {
-    let (mut allocator, mut flusher, mut witness, turned) = turn_both(
-        rt, allocator, flusher, gate, witness,
-    );
+    let (turned, mut flusher, mut witness) = turn_both(rt, allocator, flusher, gate, witness);
     match turned {
-        Turned::Refused(no_thread) => {
-            (
-                allocator,
-                flusher,
-                (witness, Some(RunFault::Spawn(no_thread))),
-            )
+        Turned::Refused(allocator, no_thread) => {
+            let fault = Some(RunFault::Spawn(no_thread));
+            (allocator.back(no_thread), flusher, (witness, fault))
         }
-        Turned::Done(first) => {
+        Turned::Done(mut allocator, first) => {
             let fault = match drain(rt, &mut allocator, &mut flusher, first, &mut witness) {
                 Some(fault) => Some(RunFault::Keeper(fault)),
                 None => None,
             };
-            (allocator, flusher, (witness, fault))
+            (allocator.drained(&flusher), flusher, (witness, fault))
         }
     }
 }
@@ -422,7 +378,7 @@ where
                 flusher.entry result.1 result.2.1 }
             ensures heard { Hears V.hears result.2.1 witness result.2.0 }
             ensures closed { result.2.1 ≢ Some (RunFault.Spawn tt) → G.closed gate.entry.now }
-        { run_owned(rt, allocator, flusher, gate, witness) },
+        { run_owned(rt, Asking::new(allocator), flusher, gate, witness) },
     );
     flusher.compare(allocator);
     told
