@@ -10,7 +10,9 @@ use lift_desk::{ClerkSeat, Desk};
 use lift_disk::Disk;
 use lift_keeper::KeeperFault;
 use lift_policy::Policy;
-use lift_relay::{Allocator, FlushCounts, Flusher, Gate, RunFault, rejoin, run, split, tell};
+use lift_relay::{
+    Allocator, FlushCounts, Flusher, Gate, NoWitness, RunFault, Witness, rejoin, run, split, tell,
+};
 use std::alloc::Global;
 use std::process::Abort;
 use std::sync::Wait;
@@ -81,7 +83,22 @@ impl<'a, D: Disk + Drop, P: Policy + Drop> Relay<'a, D, P> {
         P: Send,
         ensures { self.new.allocator.desk ≡ self.old.allocator.desk }
     {
-        run(rt, &mut self.allocator, &mut self.flusher, gate)
+        let (_, fault) = self.run_before(rt, gate, NoWitness);
+        fault
+    }
+
+    /// The witness, once the run is over, beside its fault.
+    pub(crate) fn run_before<R: Threads + Wait + Sync, G: Gate + Sync, V: Witness + Drop>(
+        &mut self,
+        rt: &R,
+        gate: &G,
+        witness: V,
+    ) -> (V, Option<RunFault>)
+    where
+        P: Send,
+        ensures { self.new.allocator.desk ≡ self.old.allocator.desk }
+    {
+        run(rt, &mut self.allocator, &mut self.flusher, gate, witness)
     }
 
     /// How many calls the clerk of both parts shows, if they may join.

@@ -49,6 +49,10 @@ use Rattle.lift_relay.specs.contracts.deciding.Scanner as Scanner
 use Rattle.lift_relay.specs.contracts.deciding.Scanner.TheInside as scanner_inside
 use Rattle.lift_relay.specs.contracts.allocator.Allocator as Allocator
 use Rattle.lift_relay.specs.contracts.allocator.Allocator.TheInside as allocator_inside
+use Rattle.lift_relay.specs.contracts.gate.Asking as Asking
+use Rattle.lift_relay.specs.contracts.gate.Asking.TheInside as asking_inside
+use Rattle.lift_relay.specs.contracts.gate.Closed as Closed
+use Rattle.lift_relay.specs.contracts.gate.Closed.TheInside as closed_inside
 use Rattle.lift_relay.specs.contracts.pair.Allocating as Allocating
 
 unit_send : IsSend unit
@@ -109,13 +113,21 @@ scanner_send d b P h s = view_send _ _ _ _ _ (declared_send (scanner_inside.the_
   ),
 ))
 
-pub allocator_send : (d b : NamedLft) (P : RattleType) (h : Ghosts P.Denot) → IsSend P → IsSend (Allocator.the_row d b P h)
+allocator_send : (d b : NamedLft) (P : RattleType) (h : Ghosts P.Denot) → IsSend P → IsSend (Allocator.the_row d b P h)
 allocator_send d b P h s = view_send _ _ _ _ _ (declared_send (allocator_inside.the_type d b P h) (
   as_row_send (Scanner.the_field d b P h) (scanner_send d b P h s),
   (as_row_send SendEnd.the_field end_send, (option_send Batch.the_row batch_send, tt)),
 ))
 
+pub asking_send : (d b : NamedLft) (P : RattleType) (h : Ghosts P.Denot) → IsSend P → IsSend (Asking.the_row d b P h)
+asking_send d b P h s = view_send _ _ _ _ _ (declared_send (asking_inside.the_type d b P h) (as_row_send (Allocator.the_field d b P h) (allocator_send d b P h s), tt))
+
+closed_send : (d b : NamedLft) (P : RattleType) (h : Ghosts P.Denot) → IsSend P → IsSend (Closed.the_row d b P h)
+closed_send d b P h s = view_send _ _ _ _ _ (declared_send (closed_inside.the_type d b P h) (as_row_send (Allocator.the_field d b P h) (allocator_send d b P h s), tt))
+
 pub allocating_send : (d b : NamedLft) (P : RattleType) (h : Ghosts P.Denot) → IsSend P → IsSend (Allocating.the_row d b P h)
 allocating_send d b P h s =
-    let a = as_row_send (Allocator.the_field d b P h) (allocator_send d b P h s) in
-    variants_send (Allocating.enum d b P h) ((a, tt), ((a, tt), tt))
+    variants_send (Allocating.enum d b P h) (
+      (as_row_send (Asking.the_field d b P h) (asking_send d b P h s), tt),
+      ((as_row_send (Closed.the_field d b P h) (closed_send d b P h s), tt), tt),
+    )

@@ -4,7 +4,8 @@ use Rattle.std.proofs.lemmas.List.{append-nil}
 use Rattle.lift_clerk.specs.declared.counts.Counts.{Counts}
 use Rattle.lift_parts.specs.Line.{SendState, Tries}
 use Rattle.lift_parts.specs.Allocator.{AllocatorState, IsFullTurn}
-use Rattle.lift_parts.specs.Turns.{IsSending}
+use Rattle.lift_policy.specs.Eligible.{Choice}
+use Rattle.lift_parts.specs.Turns.{IsSending, AllocatorTurns, OneMore, HandSent}
 
 module _ {P : Type 0} where
   sent_further : (a b c : AllocatorState P) → IsSending a b → IsSending b c → IsSending a c
@@ -43,6 +44,12 @@ module _ {P : Type 0} where
       → (sent ≡ true → IsSending b c) → (sent ≡ false → Waits b c) → Waits a c ⊎ IsSending a c
   sends_on a b c true before goes stays = inr (sent_on a b c before (goes refl))
   sends_on a b c false before goes stays = then_waits a b c before (stays refl)
+
+  -- one try more to send it
+  pub sending_more : (choice : Choice) (a b c : AllocatorState P) (sent : Bool) → AllocatorTurns choice a b
+      → (sent ≡ true → (c.hand ≡ []) × IsSending b c) → (sent ≡ false → IsFullTurn b c (record { taken = 0; accepted = 0 })) → AllocatorTurns choice a c
+  sending_more choice a b c true before goes stays = HandSent before (goes refl).1
+  sending_more choice a b c false before goes stays = OneMore before (inl (stays refl))
 
   -- a turn that found the line full
   pub waits_by : {counts : Counts} (a b : AllocatorState P) → IsFullTurn a b counts → Waits a b

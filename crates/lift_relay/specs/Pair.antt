@@ -24,16 +24,35 @@ IfRan closed (Idle now) = Unit {0}
 IfRan closed (Ran now) = closed
 
 -- this, where both parts had theirs
-abbrev pub IfDone : Type 0 → Turned → Type 0
-IfDone closed (Refused no_thread) = Unit {0}
-IfDone closed (Done first) = closed
+abbrev pub IfDone : {P : Type 0} → Type 0 → Turned P → Type 0
+IfDone closed (Refused allocator no_thread) = Unit {0}
+IfDone closed (Done allocator first) = closed
 
 -- no thread could be made, and both parts are as they were; or each has had its turns
 abbrev pub HaveTurned : {D P : Type 0} → Choice → (D → DiskState) → AllocatorState P
-    → AllocatorState P → FlusherState D → FlusherState D → Turned → Type 0
-HaveTurned choice state a b f g (Refused no_thread) = (b ≡ a) × (g ≡ f)
-HaveTurned choice state a b f g (Done first) = AllocatorTurns choice a b
+    → FlusherState D → Turned P → FlusherState D → Type 0
+HaveTurned choice state a f (Refused b no_thread) g = (b ≡ a) × (g ≡ f)
+HaveTurned choice state a f (Done b first) g = AllocatorTurns choice a b
     × FlusherTurns state f None g first
+
+-- A witness heard of the first fault when it came; else it is as it was.
+abbrev pub HeardSince : {V : Type 0} → (V → KeeperFault → V → Type 0) → Option KeeperFault
+    → Option KeeperFault → V → V → Type 0
+HeardSince hears None None old new = new ≡ old
+HeardSince hears None (Some fault) old new = hears old fault new
+HeardSince hears (Some first) None old new = ⊥
+HeardSince hears (Some first) (Some fault) old new = (fault ≡ first) × (new ≡ old)
+
+-- that of both parts' turns
+abbrev pub HeardOf : {P V : Type 0} → (V → KeeperFault → V → Type 0) → Turned P → V → V → Type 0
+HeardOf hears (Refused allocator no_thread) old new = new ≡ old
+HeardOf hears (Done allocator first) old new = HeardSince hears None first old new
+
+-- A witness heard of the fault that a run answers; of none it is as it was.
+abbrev pub Hears : {V : Type 0} → (V → KeeperFault → V → Type 0) → Option RunFault → V → V → Type 0
+Hears hears None old new = new ≡ old
+Hears hears (Some (Keeper fault)) old new = hears old fault new
+Hears hears (Some (Spawn no_thread)) old new = new ≡ old
 
 abbrev pub fault_of : Option KeeperFault → Option RunFault
 fault_of None = None

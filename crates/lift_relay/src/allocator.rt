@@ -1,8 +1,8 @@
 //! The part that takes asks and decides them.
 
-ghost use Rattle.std.specs.Prelude.{◌≡◌, ◌≢◌, ◌↔◌, ◌<◌, ◌≤◌, ◌+◌, [], ◌∷◌, ◌++◌, length, true};
+ghost use Rattle.std.specs.Prelude.{◌≡◌, ◌≢◌, ◌↔◌, ◌⊎◌, ◌<◌, ◌≤◌, ◌+◌, [], ◌∷◌, ◌++◌, length, true};
 ghost use Rattle.std.specs.Prelude.{false};
-ghost use Rattle.lift_desk.specs.Seats.{IsClerkOf};
+ghost use Rattle.lift_desk.specs.Seats.{IsClerkOf, OwesNothing};
 ghost use Rattle.lift_parts.specs.Batch.{turns_of};
 ghost use Rattle.lift_parts.specs.Line.{Begins};
 ghost use Rattle.lift_parts.specs.Allocator.{IsAllocation, IsScanTurn, IsFullTurn, DecidesAlong};
@@ -12,10 +12,13 @@ ghost use Rattle.lift_parts.specs.Queued.{Queued};
 
 use crate::batch::Batch;
 use crate::deciding::Scanner;
+use crate::held::HeldClerk;
 use crate::line::{ReceiveEnd, SendEnd};
+use crate::settling::Settler;
 use lift_clerk::Counts;
 use lift_decider::Decider;
 use lift_desk::{Desk, TakeSeat};
+use lift_disk::Disk;
 use lift_policy::Policy;
 use lift_register::Register;
 use std::marker::Model;
@@ -134,16 +137,24 @@ impl<'d, 'b, P: Policy + Drop> Allocator<'d, 'b, P> {
         (self, receiver, ())
     }
 
-    /// What it is made of, without its end of the line.
-    pub(crate) fn into_parts(self) -> (&'d Desk, TakeSeat, Decider<'b>, P)
-        ensures desk { result.0.now ≡ self.entry.desk }
-        ensures seat { result.1 ≡ self.entry.seat }
-        ensures decider { result.2 ≡ record { plan = self.entry.plan; state = self.entry.state } }
-        ensures policy { result.3 ≡ self.entry.policy }
-        ensures seated { IsClerkOf self.entry.desk result.1 }
-        ensures all_sealed { result.2.state.batch ≡ [] }
+    /// The clerk of this part and of the half of the other that answers, held for the same key.
+    pub(crate) fn join<D: Disk, K>(
+        self,
+        settler: Settler<'d, 'b, D, K>,
+    ) -> HeldClerk<'d, 'b, D, P, K>
+        requires desk { settler.desk ≡ self.desk }
+        requires answered { OwesNothing settler.seat }
+        requires plan { settler.writer.plan ≡ self.plan }
+        requires equal { (settler.writer.is_broken ≡ true)
+            ⊎ (self.state.register ≡ settler.writer.register) }
+        ensures { result ≡ record {
+          desk = settler.entry.desk;
+          seat = settler.entry.seat;
+          keeper = record { state = self.entry.state; writer = settler.entry.writer };
+          policy = self.entry.policy;
+        } }
     {
-        self.scanner.into_parts()
+        self.scanner.join(settler)
     }
 
     /// Tries once to send the batch that is in hand, if there is one. Whether none is left.
@@ -199,7 +210,7 @@ impl<'d, 'b, P: Policy + Drop> Allocator<'d, 'b, P> {
                 accepted: 0,
             };
         }
-        let (counts, batch) = self.scanner.scan();
+        let (counts, batch) = self.scanner.scan(&self.end);
         let _terminals = self.scanner.terminals();
         let batch = match batch {
             Some(batch) => batch,

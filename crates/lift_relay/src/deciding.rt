@@ -1,22 +1,28 @@
 //! The half of an allocator that never waits.
 
-ghost use Rattle.std.specs.Prelude.{◌≡◌, ◌≤◌, [], length};
-ghost use Rattle.lift_desk.specs.Seats.{IsClerkOf};
+ghost use Rattle.std.specs.Prelude.{◌≡◌, ◌≤◌, ◌⊎◌, [], length, true};
+ghost use Rattle.lift_desk.specs.Seats.{IsClerkOf, OwesNothing};
+ghost use Rattle.lift_parts.specs.Batch.{turns_of};
 ghost use Rattle.lift_relay.specs.Scanner.{HasScanned};
 
 use crate::basis::Basis;
 use crate::batch::Batch;
+use crate::held::HeldClerk;
+use crate::line::SendEnd;
 use crate::scan::scan;
+use crate::settling::Settler;
 use lift_clerk::Counts;
 use lift_decider::Decider;
 use lift_desk::{Desk, TakeSeat};
+use lift_disk::Disk;
 use lift_policy::Policy;
 use lift_register::Register;
 use std::marker::Model;
 use std::snapshot::Snapshot;
 
 /// Takes what terminals ask and decides it, a batch at a time. No call of it waits: so each of its
-/// batches is what one scan took and decided, whatever a thread does that has it.
+/// batches is what one scan took and decided, and no scan comes before all of them were sent, whatever
+/// a thread does that has it. Its seats are reached by its calls alone.
 #[derive(Drop)]
 pub struct Scanner<'d, 'b, P: Policy + Drop> {
     desk: &'d Desk,
@@ -64,8 +70,9 @@ impl<'d, 'b, P: Policy + Drop> Scanner<'d, 'b, P> {
     }
 
     /// Looks once at each terminal, in rising order, and decides what was asked, refusals and repeats
-    /// too: one batch, if anything was taken.
-    pub fn scan(&mut self) -> (Counts, Option<Batch>)
+    /// too: one batch, if anything was taken. What it took before was sent at this end of the line.
+    pub fn scan(&mut self, end: &SendEnd) -> (Counts, Option<Batch>)
+        requires all_sent { turns_of self.old.seat ≡ end.now.turns }
         ensures { HasScanned (P.chooses self.old.policy) self.old self.new result.0 result.1 }
     {
         let before = Basis::of_decider(&self.decider);
@@ -107,15 +114,23 @@ impl<'d, 'b, P: Policy + Drop> Scanner<'d, 'b, P> {
         self.desk.len()
     }
 
-    /// What it is made of.
-    pub(crate) fn into_parts(self) -> (&'d Desk, TakeSeat, Decider<'b>, P)
-        ensures desk { result.0.now ≡ self.entry.desk }
-        ensures seat { result.1 ≡ self.entry.seat }
-        ensures decider { result.2 ≡ record { plan = self.entry.plan; state = self.entry.state } }
-        ensures policy { result.3 ≡ self.entry.policy }
-        ensures seated { IsClerkOf self.entry.desk result.1 }
-        ensures all_sealed { result.2.state.batch ≡ [] }
+    /// The clerk of what it is made of and of the half that answers, held for the same key.
+    pub(crate) fn join<D: Disk, K>(
+        self,
+        settler: Settler<'d, 'b, D, K>,
+    ) -> HeldClerk<'d, 'b, D, P, K>
+        requires desk { settler.desk ≡ self.desk }
+        requires answered { OwesNothing settler.seat }
+        requires plan { settler.writer.plan ≡ self.plan }
+        requires equal { (settler.writer.is_broken ≡ true)
+            ⊎ (self.state.register ≡ settler.writer.register) }
+        ensures { result ≡ record {
+          desk = settler.entry.desk;
+          seat = settler.entry.seat;
+          keeper = record { state = self.entry.state; writer = settler.entry.writer };
+          policy = self.entry.policy;
+        } }
     {
-        (self.desk, self.seat, self.decider, self.policy)
+        settler.join(self.seat, self.decider, self.policy)
     }
 }

@@ -22,8 +22,7 @@ use crate::line::ReceiveEnd;
 use crate::places::with_both;
 use crate::relay::Key;
 use crate::settling::Settler;
-use lift_decider::Decider;
-use lift_desk::{ClerkSeat, Desk, Seat, TakeSeat};
+use lift_desk::{ClerkSeat, Desk, Seat};
 use lift_disk::Disk;
 use lift_keeper::{KeeperFault, Writer};
 use lift_parts::{FlushCounts, flushes_are_steps};
@@ -150,27 +149,24 @@ impl<'d, 'b, D: Disk, K> Flusher<'d, 'b, D, K> {
         self.settler.tell_terminal(seat)
     }
 
-    /// The clerk of this part and of what the other one is made of, held for the same key.
+    /// The clerk of both parts, held for the same key.
     pub(crate) fn join<P: Policy + Drop>(
         self,
-        ahead: TakeSeat,
-        decider: Decider<'b>,
-        policy: P,
+        allocator: Allocator<'d, 'b, P>,
     ) -> HeldClerk<'d, 'b, D, P, K>
-        requires seated { IsClerkOf self.desk ahead }
+        requires desk { self.desk ≡ allocator.desk }
         requires answered { OwesNothing self.seat }
-        requires plan { decider.plan ≡ self.writer.plan }
-        requires sealed { decider.state.batch ≡ [] }
+        requires plan { self.writer.plan ≡ allocator.plan }
         requires equal { (self.writer.is_broken ≡ true)
-            ⊎ (decider.state.register ≡ self.writer.register) }
+            ⊎ (allocator.state.register ≡ self.writer.register) }
         ensures { result ≡ record {
           desk = self.entry.desk;
           seat = self.entry.seat;
-          keeper = record { state = decider.entry.state; writer = self.entry.writer };
-          policy = policy;
+          keeper = record { state = allocator.entry.state; writer = self.entry.writer };
+          policy = allocator.entry.policy;
         } }
     {
-        self.settler.join(ahead, decider, policy)
+        allocator.join(self.settler)
     }
 
     /// One turn: receives one batch, makes it safe, then looks once more at each of its commands'

@@ -262,6 +262,5 @@ pub fn rejoin_held<'d, 'b, D: Disk, P: Policy + Drop, K>(
     {
         return Err((allocator, flusher));
     }
-    let (_desk, ahead, decider, policy) = allocator.into_parts();
-    Ok(flusher.join(ahead, decider, policy))
+    Ok(flusher.join(allocator))
 }

@@ -12,14 +12,17 @@ ghost use Rattle.lift_parts.specs.Turns.{AllocatorTurns, FlusherTurns, IsFlush, 
 ghost use Rattle.lift_parts.specs.Turns.{first_of};
 ghost use Rattle.lift_relay.specs.Pair.{ComesFrom};
 ghost use Rattle.lift_relay.specs.Pair.{HaveTurned, IfDone, IfRan, IsRun, HaveRun};
+ghost use Rattle.lift_relay.specs.Pair.{Hears, HeardSince, HeardOf};
 ghost use Rattle.lift_parts.specs.Turns.{IsSameAllocator, IsSameFlusher};
 ghost use Rattle.lift_clerk.specs.History.{History};
 ghost use Rattle.lift_parts.specs.History.{GoesOnTo, group_behind};
 
 use crate::allocator::Allocator;
 use crate::flusher::Flusher;
+use crate::gate::{Asking, Closed, Gate};
 use crate::places::with_both;
 use crate::refused::{NoThread, spawn};
+use crate::witness::Witness;
 use lift_disk::Disk;
 use lift_keeper::KeeperFault;
 use lift_parts::flushes_are_steps;
@@ -29,37 +32,6 @@ use std::sync::Wait;
 use std::sync::atomic::{AtomicBool, Ordering};
 use std::thread;
 use std::thread::{Promise, Threads};
-
-/// Says whether both parts go on, and is told how far they are, so that their threads may wait here
-/// in place of turning for nothing. What a run sends and receives behind the last turn of both is
-/// not told.
-pub trait Gate {
-    // What it tells where it doesn't go on.
-    ghost closed: { Self → Type 0 } = { λ _. Unit {0} };
-
-    /// It is asked between turns, by both threads.
-    fn go_on(&self) -> bool
-        ensures { result ≡ false → closed self.now };
-
-    /// The allocator's turn sent nothing, and has nothing in hand. The next one looks at what was
-    /// asked before this returns.
-    fn allocator_idles<R: Wait>(&self, _rt: &R) {
-        thread::yield_now();
-    }
-
-    /// The allocator has sent so many batches, the last ones in its last turn. The next turn looks
-    /// at what was asked before this returns.
-    fn has_sent<R: Wait>(&self, _rt: &R, _count: u64) {}
-
-    /// The flusher's turn received nothing.
-    fn flusher_idles<R: Wait>(&self, _rt: &R) {
-        thread::yield_now();
-    }
-
-    /// The flusher has received so many batches, the last one in its last turn, and all of their
-    /// commands are answered.
-    fn has_flushed<R: Wait>(&self, _rt: &R, _count: u64) {}
-}
 
 /// Why a run of both parts was not all it should be.
 #[derive(Clone, Copy, PartialEq, Eq)]
@@ -88,22 +60,25 @@ fn tell_of_allocator<R: Wait, G: Gate, P: Policy + Drop>(
 }
 
 /// Turns while the gate goes on.
-fn allocate<R: Wait, G: Gate, P: Policy + Drop>(
+fn allocate<'d, 'b, R: Wait, G: Gate, P: Policy + Drop>(
     rt: &R,
-    allocator: &mut Allocator<'_, '_, P>,
+    allocator: Asking<'d, 'b, P>,
     gate: &G,
-)
-    ensures turns { AllocatorTurns (P.chooses allocator.old.policy) allocator.old allocator.new }
+) -> Closed<'d, 'b, P>
+    ensures turns { AllocatorTurns (P.chooses allocator.entry.policy) allocator.entry result }
     ensures closed { G.closed gate.now }
 {
+    let mut asking = allocator;
     for _ in rt.forever() {
-        if !gate.go_on() {
-            break;
-        }
-        let sent = allocator.sent();
-        let _counts = allocator.turn(rt);
-        tell_of_allocator(rt, allocator, sent, gate);
+        let opened = match asking.ask(gate) {
+            Ok(opened) => opened,
+            Err(closed) => return closed,
+        };
+        let sent = opened.sent();
+        asking = opened.turn(rt);
+        tell_of_allocator(rt, asking.allocator(), sent, gate);
     }
+    unreachable!()
 }
 
 /// Tells the gate what a turn of the flusher did, before which so many batches had been received.
@@ -121,29 +96,34 @@ fn tell_of_flusher<R: Wait, G: Gate, D: Disk, K>(
     }
 }
 
-/// One turn. Keeps the first fault of all.
-fn flush_once<R: Wait, D: Disk, K>(
+/// One turn. Keeps the first fault of all, and tells the witness of it.
+fn flush_once<R: Wait, D: Disk, K, V: Witness>(
     rt: &R,
     flusher: &mut Flusher<'_, '_, D, K>,
     first: &mut Option<KeeperFault>,
+    witness: &mut V,
 )
-    ensures { (answer : Result FlushCounts KeeperFault)
+    ensures turns { (answer : Result FlushCounts KeeperFault)
         × IsFlush D.state flusher.old flusher.new answer × (first.new ≡ first_of first.old answer) }
+    ensures heard { HeardSince V.hears first.old first.new witness.old witness.new }
 {
     if let Err(fault) = flusher.turn(rt) {
         if first.is_none() {
             *first = Some(fault);
+            witness.has_failed(fault);
         }
     }
 }
 
 /// Turns while the gate goes on. The first fault, if there was one.
-fn flush<R: Wait, G: Gate, D: Disk, K>(
+fn flush<R: Wait, G: Gate, D: Disk, K, V: Witness>(
     rt: &R,
     flusher: &mut Flusher<'_, '_, D, K>,
     gate: &G,
+    witness: &mut V,
 ) -> Option<KeeperFault>
     ensures turns { FlusherTurns D.state flusher.old None flusher.new result }
+    ensures heard { HeardSince V.hears None result witness.old witness.new }
     ensures closed { G.closed gate.now }
 {
     let mut first = None;
@@ -152,7 +132,7 @@ fn flush<R: Wait, G: Gate, D: Disk, K>(
             break;
         }
         let received = flusher.received();
-        flush_once(rt, flusher, &mut first);
+        flush_once(rt, flusher, &mut first, witness);
         tell_of_flusher(rt, flusher, received, gate);
     }
     first
@@ -160,15 +140,17 @@ fn flush<R: Wait, G: Gate, D: Disk, K>(
 
 /// Sends the batch in hand and receives all that was sent, by turns of the flusher. The first fault
 /// of all turns, of which one may be there already.
-fn drain<R: Wait, D: Disk, P: Policy + Drop, K>(
+fn drain<R: Wait, D: Disk, P: Policy + Drop, K, V: Witness>(
     rt: &R,
-    allocator: &mut Allocator<'_, '_, P>,
+    allocator: &mut Closed<'_, '_, P>,
     flusher: &mut Flusher<'_, '_, D, K>,
     mut first: Option<KeeperFault>,
+    witness: &mut V,
 ) -> Option<KeeperFault>
     ensures allocator { AllocatorTurns
         (P.chooses allocator.old.policy) allocator.old allocator.new }
     ensures flusher { FlusherTurns D.state flusher.old first flusher.new result }
+    ensures heard { HeardSince V.hears first result witness.old witness.new }
     // It takes nothing.
     ensures sends { IsSending allocator.old allocator.new }
     ensures nothing_in_hand { allocator.new.hand ≡ [] }
@@ -179,7 +161,7 @@ fn drain<R: Wait, D: Disk, P: Policy + Drop, K>(
         if is_sent && allocator.sent() == flusher.received() {
             break;
         }
-        flush_once(rt, flusher, &mut first);
+        flush_once(rt, flusher, &mut first, witness);
     }
     first
 }
@@ -187,12 +169,12 @@ fn drain<R: Wait, D: Disk, P: Policy + Drop, K>(
 /// What the allocating thread gives back: the part as it was, or after its turns.
 #[derive(Drop)]
 enum Allocating<'d, 'b, P: Policy + Drop> {
-    Idle(Allocator<'d, 'b, P>),
-    Ran(Allocator<'d, 'b, P>),
+    Idle(Asking<'d, 'b, P>),
+    Ran(Closed<'d, 'b, P>),
 }
 
 #[derive(Drop)]
-struct OfPart<'d, 'b, P: Policy + Drop>(Snapshot<Allocator<'d, 'b, P>>);
+struct OfPart<'d, 'b, P: Policy + Drop>(Snapshot<Asking<'d, 'b, P>>);
 
 impl<'d, 'b, P: Policy + Drop> Promise<Allocating<'d, 'b, P>> for OfPart<'d, 'b, P> {
     ghost use Rattle.lift_relay.specs.Pair.{ComesFrom};
@@ -204,7 +186,7 @@ impl<'d, 'b, P: Policy + Drop> Promise<Allocating<'d, 'b, P>> for OfPart<'d, 'b,
 fn allocate_if<'d, 'b, R: Wait, G: Gate, P: Policy + Drop>(
     rt: &R,
     may_run: &AtomicBool,
-    mut allocator: Allocator<'d, 'b, P>,
+    allocator: Asking<'d, 'b, P>,
     gate: &G,
 ) -> Allocating<'d, 'b, P>
     ensures comes { ComesFrom (P.chooses allocator.entry.policy) allocator.entry result }
@@ -213,46 +195,49 @@ fn allocate_if<'d, 'b, R: Wait, G: Gate, P: Policy + Drop>(
     if !may_run.load(Ordering::SeqCst) {
         return Allocating::Idle(allocator);
     }
-    allocate(rt, &mut allocator, gate);
-    Allocating::Ran(allocator)
+    Allocating::Ran(allocate(rt, allocator, gate))
 }
 
-/// Whether both parts had their turns.
-#[derive(Clone, Copy)]
-enum Turned {
+/// Whether both parts had their turns, and the allocator.
+#[derive(Drop)]
+enum Turned<'d, 'b, P: Policy + Drop> {
     /// No thread could be made.
-    Refused(NoThread),
+    Refused(Asking<'d, 'b, P>, NoThread),
     /// They had, and this is the flusher's first fault.
-    Done(Option<KeeperFault>),
+    Done(Closed<'d, 'b, P>, Option<KeeperFault>),
 }
 
 /// Both parts after their turns on two threads. Where no thread could be made, they are as they
 /// were.
-fn turn_both<'d, 'b, R, G, D, P, K>(
+fn turn_both<'d, 'b, R, G, D, P, K, V>(
     rt: &R,
-    allocator: Allocator<'d, 'b, P>,
+    allocator: Asking<'d, 'b, P>,
     mut flusher: Flusher<'d, 'b, D, K>,
     gate: &G,
-) -> (Allocator<'d, 'b, P>, Flusher<'d, 'b, D, K>, Turned)
+    mut witness: V,
+) -> (Turned<'d, 'b, P>, Flusher<'d, 'b, D, K>, V)
 where
     R: Threads + Wait + Sync,
     G: Gate + Sync,
     D: Disk + Drop,
     P: Policy + Drop + Send,
     K: Drop,
-    ensures turned { HaveTurned (P.chooses allocator.entry.policy) D.state allocator.entry result.0
-        flusher.entry result.1 result.2 }
-    ensures closed { IfDone (G.closed gate.now) result.2 }
+    V: Witness + Drop,
+    ensures turned { HaveTurned (P.chooses allocator.entry.policy) D.state allocator.entry
+        flusher.entry result.0 result.1 }
+    ensures heard { HeardOf V.hears result.0 witness result.2 }
+    ensures closed { IfDone (G.closed gate.now) result.0 }
 {
     let may_run = AtomicBool::new(true);
     let flag = &may_run;
     thread::scope(
         thread::scope_env(),
         rt,
-        move |scope| -> (Allocator<P>, Flusher<D, K>, Turned)
+        move |scope| -> (Turned<P>, Flusher<D, K>, V)
             ensures turned { HaveTurned (P.chooses allocator.entry.policy) D.state
-                allocator.entry result.0 flusher.entry result.1 result.2 }
-            ensures closed { IfDone (G.closed gate.entry.now) result.2 }
+                allocator.entry flusher.entry result.0 result.1 }
+            ensures heard { HeardOf V.hears result.0 witness result.2 }
+            ensures closed { IfDone (G.closed gate.entry.now) result.0 }
         {
             let promise = OfPart(Snapshot::of(&allocator));
             let work = move || -> Allocating<P>
@@ -261,22 +246,27 @@ where
             { allocate_if(rt, flag, allocator, gate) };
             match spawn(scope, promise, work) {
                 Ok(child) => {
-                    let first = flush(rt, &mut flusher, gate);
+                    let first = flush(rt, &mut flusher, gate, &mut witness);
                     match child.join(rt) {
-                        Allocating::Idle(allocator) => (allocator, flusher, Turned::Done(first)),
-                        Allocating::Ran(allocator) => (allocator, flusher, Turned::Done(first)),
+                        Allocating::Idle(allocator) => {
+                            let allocator = allocate(rt, allocator, gate);
+                            (Turned::Done(allocator, first), flusher, witness)
+                        }
+                        Allocating::Ran(allocator) => {
+                            (Turned::Done(allocator, first), flusher, witness)
+                        }
                     }
                 }
                 Err((unmade, no_thread)) => {
                     // The closure alone has the allocator, and hands it back unturned.
                     flag.store(false, Ordering::SeqCst);
                     match unmade() {
-                        Allocating::Idle(allocator) => (
-                            allocator,
-                            flusher,
-                            Turned::Refused(no_thread),
-                        ),
-                        Allocating::Ran(allocator) => (allocator, flusher, Turned::Done(None)),
+                        Allocating::Idle(allocator) => {
+                            (Turned::Refused(allocator, no_thread), flusher, witness)
+                        }
+                        Allocating::Ran(allocator) => {
+                            (Turned::Done(allocator, None), flusher, witness)
+                        }
                     }
                 }
             }
@@ -285,15 +275,16 @@ where
 }
 
 /// As `run`, on parts by value.
-fn run_owned<'d, 'b, R, G, D, P, K>(
+fn run_owned<'d, 'b, R, G, D, P, K, V>(
     rt: &R,
-    allocator: Allocator<'d, 'b, P>,
+    allocator: Asking<'d, 'b, P>,
     flusher: Flusher<'d, 'b, D, K>,
     gate: &G,
+    witness: V,
 ) -> (
     Allocator<'d, 'b, P>,
     Flusher<'d, 'b, D, K>,
-    Option<RunFault>,
+    (V, Option<RunFault>),
 )
 where
     R: Threads + Wait + Sync,
@@ -301,19 +292,24 @@ where
     D: Disk + Drop,
     P: Policy + Drop + Send,
     K: Drop,
+    V: Witness + Drop,
     ensures ran { IsRun (P.chooses allocator.entry.policy) D.state allocator.entry result.0
-        flusher.entry result.1 result.2 }
-    ensures closed { result.2 ≢ Some (RunFault.Spawn tt) → G.closed gate.now }
+        flusher.entry result.1 result.2.1 }
+    ensures heard { Hears V.hears result.2.1 witness result.2.0 }
+    ensures closed { result.2.1 ≢ Some (RunFault.Spawn tt) → G.closed gate.now }
 {
-    let (mut allocator, mut flusher, turned) = turn_both(rt, allocator, flusher, gate);
+    let (turned, mut flusher, mut witness) = turn_both(rt, allocator, flusher, gate, witness);
     match turned {
-        Turned::Refused(no_thread) => (allocator, flusher, Some(RunFault::Spawn(no_thread))),
-        Turned::Done(first) => {
-            let fault = match drain(rt, &mut allocator, &mut flusher, first) {
+        Turned::Refused(allocator, no_thread) => {
+            let fault = Some(RunFault::Spawn(no_thread));
+            (allocator.back(no_thread), flusher, (witness, fault))
+        }
+        Turned::Done(mut allocator, first) => {
+            let fault = match drain(rt, &mut allocator, &mut flusher, first, &mut witness) {
                 Some(fault) => Some(RunFault::Keeper(fault)),
                 None => None,
             };
-            (allocator, flusher, fault)
+            (allocator.drained(&flusher), flusher, (witness, fault))
         }
     }
 }
@@ -326,29 +322,34 @@ where
 /// It is generic in the key of its parts. So it can have the flusher's seats answer by turns alone,
 /// each of which ends, or waits for a batch, with nothing answered that isn't safe.
 ///
-/// A device fault doesn't end it: the flusher's first is the answer, and what it received from then
-/// on was answered Unknown. `Spawn` where the thread couldn't be started; then it returns at once.
-pub fn run<'d, 'b, R, G, D, P, K>(
+/// A device fault doesn't end it: the flusher's first is the answer, which the witness hears of when
+/// it comes, and what was received from then on was answered Unknown. `Spawn` where the thread
+/// couldn't be started; then it returns at once. The witness is given back.
+pub fn run<'d, 'b, R, G, D, P, K, V>(
     rt: &R,
     allocator: &mut Allocator<'d, 'b, P>,
     flusher: &mut Flusher<'d, 'b, D, K>,
     gate: &G,
-) -> Option<RunFault>
+    witness: V,
+) -> (V, Option<RunFault>)
 where
     R: Threads + Wait + Sync,
     G: Gate + Sync,
     D: Disk + Drop,
     P: Policy + Drop + Send,
     K: Drop,
+    V: Witness + Drop,
     requires of_one { AreOfOne allocator.old flusher.old }
-    ensures refused { result ≡ Some (RunFault.Spawn tt)
+    ensures refused { result.1 ≡ Some (RunFault.Spawn tt)
         → (allocator.new ≡ allocator.old) × (flusher.new ≡ flusher.old) }
-    ensures ran { result ≢ Some (RunFault.Spawn tt)
+    ensures ran { result.1 ≢ Some (RunFault.Spawn tt)
         → HaveRun (P.chooses allocator.old.policy) D.state allocator.old allocator.new flusher.old
-        flusher.new result }
+        flusher.new result.1 }
+    // The witness heard of just that fault, once; of none it is as it was.
+    ensures heard { Hears V.hears result.1 witness result.0 }
     // It ends only once the gate has said not to go on, or where no thread could be made.
-    ensures closed { result ≢ Some (RunFault.Spawn tt) → G.closed gate.now }
-    ensures broken { (fault : KeeperFault) → result ≡ Some (RunFault.Keeper fault)
+    ensures closed { result.1 ≢ Some (RunFault.Spawn tt) → G.closed gate.now }
+    ensures broken { (fault : KeeperFault) → result.1 ≡ Some (RunFault.Keeper fault)
         → flusher.new.writer.is_broken ≡ true }
     ensures same_allocator { IsSameAllocator allocator.old allocator.new }
     ensures same_flusher { IsSameFlusher flusher.old flusher.new }
@@ -356,7 +357,7 @@ where
     // What was received, and then what the line holds, is what was sent; after a run it holds
     // nothing.
     ensures queued { Queued allocator.new.end flusher.new.end }
-    ensures received { result ≢ Some (RunFault.Spawn tt)
+    ensures received { result.1 ≢ Some (RunFault.Spawn tt)
         → allocator.new.end.sent ≡ flusher.new.end.received }
     // Whatever has happened before, the group's history goes on by just the batches that the run
     // received.
@@ -365,19 +366,20 @@ where
         → GoesOnTo flusher.old flusher.new base safe given }
 {
     flushes_are_steps::<D>();
-    let fault = with_both(
+    let told = with_both(
         allocator,
         flusher,
         |allocator: Allocator<P>, flusher: Flusher<D, K>| -> (
             Allocator<P>,
             Flusher<D, K>,
-            Option<RunFault>,
+            (V, Option<RunFault>),
         )
             ensures ran { IsRun (P.chooses allocator.entry.policy) D.state allocator.entry result.0
-                flusher.entry result.1 result.2 }
-            ensures closed { result.2 ≢ Some (RunFault.Spawn tt) → G.closed gate.entry.now }
-        { run_owned(rt, allocator, flusher, gate) },
+                flusher.entry result.1 result.2.1 }
+            ensures heard { Hears V.hears result.2.1 witness result.2.0 }
+            ensures closed { result.2.1 ≢ Some (RunFault.Spawn tt) → G.closed gate.entry.now }
+        { run_owned(rt, Asking::new(allocator), flusher, gate, witness) },
     );
     flusher.compare(allocator);
-    fault
+    told
 }

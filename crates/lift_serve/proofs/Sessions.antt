@@ -11,7 +11,7 @@ use Rattle.lift_kiosk.specs.Desk.{DeskPortState, place_of, port_view}
 use Rattle.lift_kiosk.specs.Lines.{Source}
 use Rattle.lift_kiosk.specs.Kiosk.{WantsCall, keeps_letter}
 use Rattle.lift_kiosk.specs.Port.{PortPlace, PortView}
-use Rattle.lift_kiosk.specs.Session.{IsSession, Standing, standing}
+use Rattle.lift_kiosk.specs.Session.{Converses, Standing, standing}
 use Rattle.lift_kiosk.specs.declared.terms.End.{End}
 use Rattle.lift_kiosk.specs.declared.terms.LastLetter.{LastLetter}
 use Rattle.lift_car.specs.Lines.{WantsMove, keeps_stop}
@@ -22,13 +22,13 @@ are_new first [] = All-nil IsNewSeat
 are_new first (table ∷ tables) = All-cons IsNewSeat _ _ refl (are_new (suc first) tables)
 
 pub kiosk_visit : (terminal : ℕ) (end : End) (before after : Standing) → 16 ≤ terminal
-    → IsSession WantsCall keeps_letter limits end before after → IsVisit terminal end before after
+    → Converses WantsCall keeps_letter limits end before after → IsVisit terminal end before after
 kiosk_visit terminal end before after far session =
     let kiosk : nat_lt terminal 16 ≡ false = grind (arith, nat_tests) in
     subst (λ is_car. IsVisitAs is_car end before after) (sym kiosk) session
 
 pub car_visit : (terminal : ℕ) (end : End) (before after : Standing) → terminal < 16
-    → IsSession WantsMove keeps_stop limits end before after → IsVisit terminal end before after
+    → Converses WantsMove keeps_stop limits end before after → IsVisit terminal end before after
 car_visit terminal end before after near session =
     let car : nat_lt terminal 16 ≡ true = grind (arith, nat_tests) in
     subst (λ is_car. IsVisitAs is_car end before after) (sym car) session

@@ -12,7 +12,7 @@ use Rattle.lift_kiosk.specs.Desk.{port_view}
 use Rattle.lift_kiosk.specs.Lines.{Source}
 use Rattle.lift_kiosk.specs.Kiosk.{WantsCall, keeps_letter}
 use Rattle.lift_kiosk.specs.Port.{PortView}
-use Rattle.lift_kiosk.specs.Session.{IsSession, Standing, standing}
+use Rattle.lift_kiosk.specs.Session.{Converses, Standing, standing}
 use Rattle.lift_kiosk.specs.declared.terms.End.{End}
 use Rattle.lift_kiosk.specs.declared.terms.LastLetter.{LastLetter}
 use Rattle.lift_kiosk.specs.declared.terms.Limits.{Limits}
@@ -28,8 +28,8 @@ abbrev pub limits : Limits
 limits = record { lines = 1000000; looks = 60000; reads = 100000000 }
 
 abbrev pub IsVisitAs : (is_car : Bool) → End → (before after : Standing) → Type 0
-IsVisitAs true end before after = IsSession WantsMove keeps_stop limits end before after
-IsVisitAs false end before after = IsSession WantsCall keeps_letter limits end before after
+IsVisitAs true end before after = Converses WantsMove keeps_stop limits end before after
+IsVisitAs false end before after = Converses WantsCall keeps_letter limits end before after
 
 -- a session of the terminal: terminals below 16 are cars
 abbrev pub IsVisit : (terminal : ℕ) → End → (before after : Standing) → Type 0

@@ -12,6 +12,7 @@ use std::marker::Model;
 use std::net::{Shutdown, TcpListener, TcpStream};
 use std::snapshot::Snapshot;
 use std::sync::Arc;
+use std::sync::atomic::{AtomicBool, Ordering};
 
 /// An open connection.
 #[derive(Drop)]
@@ -183,7 +184,13 @@ impl Connections {
     }
 
     /// The connection of this number has ended, and so, where so many are to end.
-    pub(crate) fn leave(&mut self, sessions: u32, number: u64, ending: Ending<'_>) -> Left
+    pub(crate) fn leave(
+        &mut self,
+        sessions: u32,
+        turned_away: &AtomicBool,
+        number: u64,
+        ending: Ending<'_>,
+    ) -> Left
         ensures left { self.new ≡ record self.old {
           numbers = filter (λ n.
               not (n == number)) self.old.numbers;
@@ -193,21 +200,21 @@ impl Connections {
     {
         let _used = ending;
         self.open.retain(|open| open.number != number);
-        self.ended(sessions);
+        self.ended(sessions, turned_away);
         Left { number }
     }
 
     /// A connection that was not let in has ended, for which something was wanting.
-    pub(crate) fn refuse(&mut self, sessions: u32, noted: Noted)
+    pub(crate) fn refuse(&mut self, sessions: u32, turned_away: &AtomicBool, noted: Noted)
         ensures { self.new ≡ record self.old { ended = one_more sessions self.old.ended } }
     {
         let _used = noted;
-        self.ended(sessions);
+        self.ended(sessions, turned_away);
     }
 
-    /// One connection more has ended. Behind the last one that is to end no more are accepted, and
+    /// One connection more has ended. After the last one that is to end no more are accepted, and
     /// nothing more is read from the others.
-    fn ended(&mut self, sessions: u32)
+    fn ended(&mut self, sessions: u32, turned_away: &AtomicBool)
         ensures { self.new ≡ record self.old { ended = one_more sessions self.old.ended } }
     {
         if self.ended >= sessions {
@@ -215,20 +222,22 @@ impl Connections {
         }
         self.ended += 1;
         if self.ended == sessions {
-            self.turn_away();
+            self.turn_away(turned_away);
         }
     }
 
-    /// No more are to end, for what was wanting: as behind the last one that was to.
-    pub fn give_up(&mut self, lacked: Lacked)
+    /// No more are to end, for what was wanting: as after the last one that was to.
+    pub fn give_up(&mut self, turned_away: &AtomicBool, lacked: Lacked)
         ensures { self.new ≡ record self.old { given_up = Some lacked } }
     {
         self.given_up = Some(lacked);
-        self.turn_away();
+        self.turn_away(turned_away);
     }
 
-    /// No more are accepted, and nothing more is read from those that are open.
-    fn turn_away(&self) {
+    /// No more are accepted, and nothing more is read from those that are open: who waits for a line
+    /// finds the end, and the others look at this before each read.
+    fn turn_away(&self, turned_away: &AtomicBool) {
+        turned_away.store(true, Ordering::SeqCst);
         self.shut(Shutdown::Read);
         let _closed = self.listening.shutdown(Shutdown::Both);
     }

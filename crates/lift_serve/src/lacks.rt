@@ -20,7 +20,9 @@ use crate::serving::{ServeFault, Served, unserved};
 use lift_desk::{Desk, DeskParts};
 use lift_disk::Disk;
 use lift_policy::Policy;
-use lift_relay::{Allocator, Flusher, Gate, HeldClerk, HeldKeeper, RunFault, run, split_held};
+use lift_relay::{
+    Allocator, Flusher, Gate, HeldClerk, HeldKeeper, NoWitness, RunFault, run, split_held,
+};
 use std::alloc::Global;
 use std::io::{BufReader, Read};
 use std::marker::Model;
@@ -482,7 +484,7 @@ where
         fault: _,
         refusal: _,
     } = parts;
-    let fault = run(rt, &mut allocator, &mut flusher, gate);
+    let (_, fault) = run(rt, &mut allocator, &mut flusher, gate, NoWitness);
     let refusal = undone_by(&fault);
     Parts {
         allocator,

@@ -13,6 +13,7 @@ mod lobby;
 mod pace;
 mod pager;
 mod port;
+mod reading;
 mod relaying;
 mod rung;
 mod seating;

@@ -20,6 +20,7 @@ use crate::lacks::{
 use crate::lobby::Lobby;
 use crate::pace::{Bells, Pace};
 use crate::pager::Pager;
+use crate::reading::OpenReader;
 use crate::relaying::{Parts, turn_rejoined};
 use crate::seating::{lobby_of, new_pagers};
 use crate::waking::WakingWriter;
@@ -34,7 +35,7 @@ use std::alloc::Global;
 use std::net::{Shutdown, TcpListener, TcpStream};
 use std::os::fd::OwnedFd;
 use std::snapshot::Snapshot;
-use std::sync::atomic::{AtomicU64, Ordering};
+use std::sync::atomic::{AtomicBool, AtomicU64, Ordering};
 use std::sync::{Arc, Mutex, Wait};
 use std::thread;
 use std::thread::{Scope, Threads};
@@ -83,6 +84,8 @@ struct Shared<'a, 'd> {
     sessions: u32,
     lobby: &'a Mutex<Lobby<'d>>,
     bells: &'a Bells<'a>,
+    /// Set once no more are accepted: nothing more is read.
+    turned_away: &'a AtomicBool,
     closing: &'a AtomicU64,
     connections: &'a Mutex<Connections>,
     lacks: &'a Mutex<Lacks>,
@@ -128,12 +131,14 @@ impl<'a, 'd> Shared<'a, 'd> {
     /// A connection is not served.
     fn refuse<R: Wait>(self, rt: &R, lacking: Lacking) {
         let noted = self.note(rt, lacking);
-        self.connections.lock(rt).refuse(self.sessions, noted);
+        self.connections
+            .lock(rt)
+            .refuse(self.sessions, self.turned_away, noted);
     }
 
     /// No connection is served any more, for what was wanting.
     fn give_up<R: Wait>(self, rt: &R, lacked: Lacked) {
-        self.connections.lock(rt).give_up(lacked);
+        self.connections.lock(rt).give_up(self.turned_away, lacked);
     }
 
     /// The connection of this number has ended, and so.
@@ -142,7 +147,7 @@ impl<'a, 'd> Shared<'a, 'd> {
     {
         self.connections
             .lock(rt)
-            .leave(self.sessions, number, ending)
+            .leave(self.sessions, self.turned_away, number, ending)
     }
 
     fn is_empty<R: Wait>(self, rt: &R) -> bool {
@@ -172,7 +177,8 @@ fn speak<'d, R: Wait + Clock>(
 ) -> Result<Attended<'d>, Lacking>
     ensures lack { IfErr result (λ lacking. lacking.what ≡ Lack.Memory) }
 {
-    let mut reader = Counted::new(read_ahead(alloc, AHEAD, stream)?);
+    let ahead = read_ahead(alloc, AHEAD, stream)?;
+    let mut reader = Counted::new(OpenReader::new(ahead, shared.turned_away));
     let mut writer = Watched::new(WakingWriter::new(stream, shared.bells));
     Ok(attend(
         rt,
@@ -430,6 +436,7 @@ where
     let connections = Mutex::new(connections);
     let lacks = Mutex::new(Lacks::new());
     let bells = Bells::new(pagers);
+    let turned_away = AtomicBool::new(false);
     let closing = AtomicU64::new(0);
     let shared = Shared {
         building: clerk.keeper().building(),
@@ -437,6 +444,7 @@ where
         sessions,
         lobby: &lobby,
         bells: &bells,
+        turned_away: &turned_away,
         closing: &closing,
         connections: &connections,
         lacks: &lacks,

@@ -1,3 +1,6 @@
 pub mod Marked
 pub mod Passing
 pub mod Leavings
+pub mod Kept
+pub mod Served
+pub mod Dropped

@@ -1,5 +1,5 @@
 -- Bits of a set, and the halts that they stand for.
-use Rattle.std.proofs.Common.{◌≡◌, ◌≢◌, ℕ, zero, suc, ◌+◌, ◌*◌, ◌^◌, ◌%◌, ◌<◌, ◌≤◌, ◌==◌, ◌||◌, Bool, true, false, cond, List, [], ◌∷◌, ◌++◌, map, filter, length, refl, sym, ap, subst, ◌∙◌, arith, inl, inr}
+use Rattle.std.proofs.Common.{All, take, get_or, ◌≡◌, ◌≢◌, ℕ, zero, suc, ◌+◌, ◌*◌, ◌^◌, ◌%◌, ◌<◌, ◌≤◌, ◌==◌, ◌||◌, Bool, true, false, cond, List, [], ◌∷◌, ◌++◌, map, filter, length, refl, sym, ap, subst, ◌∙◌, arith, inl, inr}
 use Rattle.std.specs.Int.{bit_at, bit_not, trailing_zeros, w64}
 use Rattle.std.specs.Int.RustNames.{bit_or}
 use lib.Bits.{bit_and}
@@ -7,6 +7,7 @@ use Rattle.std.specs.List.{range_with_len}
 use Rattle.std.proofs.Math.Nat.{eq-or-lt_of_le}
 use Rattle.std.proofs.lemmas.Bool.{cases_eq, eq-eqb, ne_eqb}
 use Rattle.std.proofs.lemmas.Nat.Bits.{bit_at-zero, bit_at-trailing_zeros, bit_at_set_same, bit_at_set_other, bit_at_clear_same, bit_at_clear_other}
+use Rattle.std.proofs.lemmas.List.{take_more, take_all}
 use Rattle.std.proofs.lemmas.List.Elements.{filter_agree, filter-append}
 use Rattle.lift_base.specs.declared.travel.Dir.{Dir}
 use Rattle.lift_base.specs.declared.travel.Dir.TheVariants.{Up, Down}
@@ -20,7 +21,7 @@ use Rattle.lift_stops.specs.Insertion.{floor_rank}
 use Rattle.lift_stops.specs.StopList.{HasFloors, legs_of, pass_of, dir_in, is_needed, floors_along, halts_in, stop_list}
 use Rattle.lift_stops.specs.Marks.{has_bit, places, marked, halt_on, halts_marked, all_marked, set_in, HasHalts}
 use Rattle.lift_stops.specs.lemmas.Insertion.{IsIn, filter-agree}
-use Rattle.lift_stops.specs.lemmas.Halts.{halt_at, or_false, stop_list-push, length-put_legs}
+use Rattle.lift_stops.specs.lemmas.Halts.{halt_at, or_false, stop_list-none, stop_list-push, length-put_legs}
 
 -- ---- the lowest bit of a set
 
@@ -163,3 +164,20 @@ pub length-push : (rows : List Row) (row : Row) (position : Position) → HasFlo
 length-push rows row position floors =
     let same = ap (λ (halts : List Halt). length halts) (stop_list-push rows row position floors) in
     omega (arith, same, length-put_legs position.dir (pass_of position row) (legs_of row) (stop_list rows position), few_legs row)
+
+short_to : (rows : List Row) (blank : Row) (position : Position) (k : ℕ) → k ≤ length rows → All HasFloors rows → length (stop_list (take k rows) position) ≤ 2 * k
+short_to rows blank position zero within floors = (let none = ap (λ (halts : List Halt). length halts) (stop_list-none position) in omega (arith, none))
+short_to rows blank position (suc k) within floors =
+    let next : suc k ≡ k + 1 = omega arith in
+    let more = ap (λ (rs : List Row). length (stop_list rs position)) (take_more rows k blank (omega (arith, within))) in
+    let one = length-push (take k rows) (get_or rows k blank) position (floors k blank (omega (arith, within))) in
+    let before = short_to rows blank position k (omega (arith, within)) floors in
+    rw next (omega (arith, more, one, before))
+
+-- at most two halts for each call
+pub short : (rows : List Row) (position : Position) → All HasFloors rows → length (stop_list rows position) ≤ 2 * length rows
+short [] position floors = (let none = ap (λ (halts : List Halt). length halts) (stop_list-none position) in omega (arith, none))
+short (row ∷ others) position floors =
+    let rows : List Row = row ∷ others in
+    let all = ap (λ (rs : List Row). length (stop_list rs position)) (take_all (length rows) rows (omega arith)) in
+    omega (arith, all, short_to rows row position (length rows) (omega arith) floors)

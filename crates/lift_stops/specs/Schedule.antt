@@ -4,8 +4,8 @@ use Rattle.lift_base.specs.declared.travel.Halt.{Halt}
 use Rattle.lift_base.specs.declared.travel.Position.{Position}
 use Rattle.lift_base.specs.declared.travel.Stop.{Stop}
 use Rattle.lift_base.specs.declared.history.Row.{Row}
-use Rattle.lift_stops.specs.StopList.{HasFloors, stop_list}
-use Rattle.lift_stops.specs.Leaving.{AreLeaving}
+use Rattle.lift_stops.specs.StopList.{HasFloors, pass_of, stop_list}
+use Rattle.lift_stops.specs.Leaving.{AreLeaving, HasParty}
 
 -- where a car is, and its open calls
 pub record ScheduleState : Type 0 where
@@ -16,6 +16,11 @@ pub record ScheduleState : Type 0 where
 abbrev pub position_after : Stop → Position
 position_after stop = record { floor = stop.floor; dir = stop.dir }
 
+-- At another position a car makes each call in the pass in which it made it before.
+pub record KeepsPasses (rows : List Row) (position next : Position) : Type 0 where
+  pub dir : next.dir ≡ position.dir
+  pub passes : All (λ row. pass_of next row ≡ pass_of position row) rows
+
 -- The halts are the stop list of the calls, at most two for each, and the table tells how many
 -- persons leave there. Each leg is a floor that a building may have.
 pub record IsPlanned (position : Position) (rows : List Row) (halts : List Halt)
@@ -24,4 +29,5 @@ pub record IsPlanned (position : Position) (rows : List Row) (halts : List Halt)
   pub short : length halts ≤ 2 * length rows
   pub few : length rows ≤ 33
   pub floors : All HasFloors rows
+  pub parties : All HasParty rows
   pub leaving : AreLeaving rows position table

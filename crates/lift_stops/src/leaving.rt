@@ -3,7 +3,8 @@
 ghost use Rattle.std.specs.Prelude.{◌≡◌, ◌<◌, ◌≤◌, List, [], ◌∷◌, ◌++◌, length, slice_index};
 ghost use Rattle.lift_base.specs.declared.history.Row.{Row as RowValue};
 ghost use Rattle.lift_base.specs.declared.travel.Position.{Position as PositionValue};
-ghost use Rattle.lift_stops.specs.Leaving.{AreLeaving, leaving_at, place_of};
+ghost use Rattle.lift_stops.specs.StopList.{halt_at};
+ghost use Rattle.lift_stops.specs.Leaving.{AreCounted, AreLeaving, HasParty, leaving_at, place_of};
 
 use crate::stops::pass_of;
 use lift_base::{Halt, Position, Row};
@@ -17,6 +18,18 @@ fn place_of(halt: &Halt) -> usize
 {
     let floor = usize::from(halt.floor.get());
     64 * usize::from(halt.pass.number() - 1) + floor
+}
+
+/// Where the halt stands at which the passengers of a call leave a car at this position.
+fn goal_of(position: &Position, row: &Row) -> usize
+    ensures value { result ≡ place_of (halt_at position.now row.now row.now.to) }
+    ensures limit { result < 192 }
+    ensures floor { row.now.to < 64 }
+{
+    place_of(&Halt {
+        pass: pass_of(row, *position),
+        floor: row.to,
+    })
 }
 
 /// How many persons of a car's open calls leave at each halt.
@@ -43,17 +56,25 @@ impl Leaving {
 
     /// Counts one call more, of a car at this position.
     pub(crate) fn add(&mut self, position: &Position, row: &Row)
-        ensures { (rows : List RowValue) → length rows ≤ 32
+        ensures added { (rows : List RowValue) → length rows ≤ 32
             → AreLeaving rows position.now self.old
             → AreLeaving (rows ++ row.now ∷ []) position.now self.new }
+        ensures party { HasParty row.now }
     {
-        let halt = Halt {
-            pass: pass_of(row, *position),
-            floor: row.to,
-        };
-        let place = place_of(&halt);
+        let place = goal_of(position, row);
         let persons = u16::from(row.party.get());
         self.persons[place] = self.persons[place].saturating_add(persons);
+    }
+
+    /// Counts a call less, one of those of a car at this position.
+    pub(crate) fn remove(&mut self, position: &Position, row: &Row)
+        ensures { (before behind : List RowValue)
+            → AreCounted (before ++ row.now ∷ behind) position.now self.old
+            → AreCounted (before ++ behind) position.now self.new }
+    {
+        let place = goal_of(position, row);
+        let party = u16::from(row.party.get());
+        self.persons[place] = self.persons[place].saturating_sub(party);
     }
 
     /// Who leaves where, of these calls of a car at this position, at most 33.

@@ -25,7 +25,7 @@ struct Marks {
 }
 
 /// How many floors a car that travels all of them in this direction reaches before this one.
-fn bit_of(dir: Dir, floor: Floor) -> u32
+pub fn bit_of(dir: Dir, floor: Floor) -> u32
     ensures place { result ≡ floor_rank dir floor }
     ensures below { result < 64 }
     ensures floor { floor < 64 }

@@ -1,19 +1,20 @@
 //! The stop list of a car, kept while its position and its calls change.
 
 ghost use Rattle.std.specs.Prelude.{◌≡◌, ◌≢◌, ◌+◌, ◌<◌, ◌≤◌, List, [], ◌∷◌, ◌++◌, length, Contains};
+ghost use Rattle.std.specs.Prelude.{All, IsTrue, take};
 ghost use Rattle.std.specs.List.{flat_map};
 ghost use Rattle.lift_base.specs.declared.history.Row.{Row as RowValue};
 ghost use Rattle.lift_base.specs.History.{row_after};
 ghost use Rattle.lift_stops.specs.Parts.{AllDiffer};
-ghost use Rattle.lift_stops.specs.StopList.{StopsInOrder, stop_list, next_stop};
-ghost use Rattle.lift_stops.specs.Schedule.{position_after};
-ghost use Rattle.lift_stops.specs.Leaving.{AreLeaving};
+ghost use Rattle.lift_stops.specs.StopList.{HasFloors, StopsInOrder, stop_list, next_stop};
+ghost use Rattle.lift_stops.specs.Schedule.{KeepsPasses, position_after};
+ghost use Rattle.lift_stops.specs.Leaving.{AreCounted, AreLeaving};
 
 use crate::leaving::Leaving;
 use crate::marks::write_halts;
-use crate::stops::{insert_row, stop_of};
+use crate::stops::{drop_halts, insert_row, is_ahead, stop_of};
 use arrayvec::ArrayVec;
-use lift_base::{Halt, Position, Row, Stop};
+use lift_base::{Halt, Pass, Position, Row, Stop};
 use std::marker::Model;
 
 fn copy_of(halts: &[Halt]) -> ArrayVec<Halt, 66>
@@ -25,19 +26,69 @@ fn copy_of(halts: &[Halt]) -> ArrayVec<Halt, 66>
     copy
 }
 
-/// The calls that are open after a stop of their car.
-fn rows_after(rows: &[Row], stop: &Stop) -> ArrayVec<Row, 33>
-    requires { length rows.now ≤ 33 }
-    ensures { result.items ≡ flat_map (row_after stop.now) rows.now }
+/// Takes a stop into the calls of a car that is there: moves those that are open still to the front
+/// in their order, and answers how many these are. Those who leave are counted no more.
+fn keep_open(rows: &mut [Row], leaving: &mut Leaving, stop: &Stop) -> usize
+    ensures rows { take result rows.new ≡ flat_map (row_after stop.now) rows.old }
+    ensures kept { result ≤ length rows.old }
+    ensures leaving { AreCounted rows.old (position_after stop.now) leaving.old
+        → AreCounted (flat_map (row_after stop.now) rows.old) (position_after stop.now)
+        leaving.new }
 {
-    let mut left = ArrayVec::new();
-    for row in rows {
+    let position = &position_at(stop);
+    let mut kept = 0;
+    for index in 0..rows.len() {
+        let row = &rows[index];
         match row.after(*stop) {
-            None => {}
-            Some(next) => left.push(next),
+            Some(after) => {
+                rows[kept] = after;
+                kept += 1;
+            }
+            None => leaving.remove(position, row),
         }
     }
-    left
+    kept
+}
+
+/// Takes a stop into the calls of a car that is there: those that are open still stay in their
+/// order, and those who leave are counted no more.
+fn serve_rows(rows: &mut ArrayVec<Row, 33>, leaving: &mut Leaving, stop: &Stop)
+    ensures rows { rows.new.items ≡ flat_map (row_after stop.now) rows.old.items }
+    ensures leaving { AreCounted rows.old.items (position_after stop.now) leaving.old
+        → AreCounted (flat_map (row_after stop.now) rows.old.items) (position_after stop.now)
+        leaving.new }
+{
+    let kept = keep_open(rows.as_mut_slice(), leaving, stop);
+    rows.truncate(kept);
+}
+
+/// Where a car is that makes a stop.
+fn position_at(stop: &Stop) -> Position
+    ensures { result ≡ position_after stop.now }
+{
+    Position {
+        floor: stop.floor,
+        dir: stop.dir,
+    }
+}
+
+/// Whether a car that goes from one position to another makes each of its calls in the pass in which
+/// it made it before, since it goes on in its direction and leaves no halt of its first pass behind.
+fn keeps_passes(halts: &[Halt], position: &Position, next: &Position) -> bool
+    ensures { (rows : List RowValue) → halts.now ≡ stop_list rows position.now
+        → All HasFloors rows → IsTrue result → KeepsPasses rows position.now next.now }
+{
+    let dir = position.dir;
+    if next.dir != dir || !is_ahead(dir, next.floor, position.floor) {
+        return false;
+    }
+    match halts.first() {
+        Some(halt) => match halt.pass {
+            Pass::First => is_ahead(dir, halt.floor, next.floor),
+            Pass::Second | Pass::Third => true,
+        },
+        None => true,
+    }
 }
 
 /// Where a car is, its open calls, the halts that it still has to make for them, and how many
@@ -92,38 +143,37 @@ impl Schedule {
           rows = flat_map (row_after stop) self.old.rows;
         } }
     {
-        if self.rows.is_empty() {
-            self.replace_position(Position {
-                floor: stop.floor,
-                dir: stop.dir,
-            });
-        } else {
-            self.serve_rows(&stop);
-        }
+        self.replace_position(position_at(&stop));
+        self.exchange(&stop);
     }
 
-    /// The stop of a car with calls.
-    fn serve_rows(&mut self, stop: &Stop)
-        ensures { self.new ≡ record {
-          position = position_after stop.now;
+    /// At the stop where the car is those for this floor leave, and those who wait there for its
+    /// direction board.
+    fn exchange(&mut self, stop: &Stop)
+        requires { self.old.position ≡ position_after stop.now }
+        ensures { self.new ≡ record self.old {
           rows = flat_map (row_after stop.now) self.old.rows;
         } }
     {
-        let left = rows_after(&self.rows, stop);
-        self.position = Position {
-            floor: stop.floor,
-            dir: stop.dir,
-        };
-        write_halts(&mut self.halts, &left, &self.position);
-        self.leaving = Leaving::of(&left, &self.position);
-        self.rows = left;
+        serve_rows(&mut self.rows, &mut self.leaving, stop);
+        drop_halts(&mut self.halts, &self.rows, &self.position);
     }
 
     /// The car told where it is. Its calls stay as they are.
     pub fn replace_position(&mut self, position: Position)
         ensures { self.new ≡ record self.old { position = position } }
     {
-        let position = &position;
+        if keeps_passes(&self.halts, &self.position, &position) {
+            self.position = position;
+        } else {
+            self.turn_to(&position);
+        }
+    }
+
+    /// The car is at a position from which some of its calls may be made in another pass.
+    fn turn_to(&mut self, position: &Position)
+        ensures { self.new ≡ record self.old { position = position.now } }
+    {
         write_halts(&mut self.halts, &self.rows, position);
         self.leaving = Leaving::of(&self.rows, position);
         self.position = *position;

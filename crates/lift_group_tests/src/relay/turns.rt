@@ -13,7 +13,7 @@ use lift_disk::{Disk, FlakyDisk};
 use lift_journal::JournalFault;
 use lift_keeper::KeeperFault;
 use lift_policy::Etd;
-use lift_relay::{FlushCounts, Gate, RunFault};
+use lift_relay::{FlushCounts, Gate, RunFault, Witness};
 use std::alloc::Global;
 use std::process::Abort;
 use std::sync::Wait;
@@ -273,4 +273,45 @@ fn a_closed_gate_drains(rt: HostRuntime) {
     };
     drains(&rt, rt.alloc(), whole);
     drains(&rt, rt.alloc(), failing);
+}
+
+/// Counts the faults that it is told of, each but the device's own as a hundred.
+#[derive(Drop)]
+struct Counter<'a> {
+    told: &'a AtomicU64,
+}
+
+impl<'a> Witness for Counter<'a> {
+    fn has_failed(&mut self, fault: KeeperFault) {
+        let count = if fault == FAILED { 1 } else { 100 };
+        self.told.fetch_add(count, Ordering::SeqCst);
+    }
+}
+
+/// Goes on until a fault is told.
+#[derive(Drop)]
+struct UntilTold<'a> {
+    told: &'a AtomicU64,
+}
+
+impl<'a> Gate for UntilTold<'a> {
+    fn go_on(&self) -> bool {
+        self.told.load(Ordering::SeqCst) == 0
+    }
+}
+
+/// The fourth of five batches fails, and the fifth behind it. The witness is told of the first fault
+/// alone, and at once: the gate stays open until then.
+#[test]
+fn a_witness_is_told_while_the_run_goes_on(rt: HostRuntime) {
+    let building = group(&rt, rt.alloc());
+    let DeskParts { desk, seats, clerk } = open(&rt, rt.alloc());
+    let mut terminals = Terminals::of(&desk, seats);
+    let mut relay = failing(&rt, rt.alloc(), &desk, clerk, &building, 6);
+    five_batches(&rt, &mut terminals, &mut relay);
+    let told = AtomicU64::new(0);
+    let gate = UntilTold { told: &told };
+    let (_, fault) = relay.run_before(&rt, &gate, Counter { told: &told });
+    assert!(rt; fault == Some(RunFault::Keeper(FAILED)) && told.load(Ordering::SeqCst) == 1);
+    assert!(rt; relay.has_moved(5, 5));
 }

@@ -1,5 +1,6 @@
-use Rattle.std.proofs.Common.{refl, ◌∙◌}
-use Rattle.lift_parts.specs.Turns.{NoMore}
+use Rattle.std.proofs.Common.{◌≡◌, rules, refl, sym, ◌∙◌, subst}
+use Rattle.lift_parts.specs.Allocator.{AllocatorState, IsAllocation}
+use Rattle.lift_parts.specs.Turns.{NoMore, AllocatorTurns}
 use Rattle.lift_parts.specs.lemmas.Paired.{same_policy, turns_more}
 use Rattle.lift_relay.proofs.pair.allocate.Goals as goal
 
@@ -10,7 +11,18 @@ pub loop-preserved : goal.loop-preserved
 loop-preserved g c =
     let i = c.loop.invariant in
     let chooses = g.P.Policy.chooses in
+    let counts = c.turn-asking.ensures.0 in
+    let same : c.in-Ok.opened ≡ c.loop.asking = c.in-Ok.ensures.goes.0 in
+    let turn = subst (λ (a : AllocatorState g.row.P.Denot). IsAllocation (chooses a.policy) a c.turn-asking.result counts) same c.turn-asking.ensures.1 in
     record {
-      turns = turns_more chooses c.args.allocator.now c.loop.allocator c.turn-counts.new.self c.turn-counts.result i.policy i.turns c.turn-counts.ensures.turns;
-      policy = same_policy (chooses c.loop.allocator.policy) c.loop.allocator c.turn-counts.new.self c.turn-counts.result c.turn-counts.ensures.turns ∙ i.policy;
+      turns = turns_more chooses c.args.allocator c.loop.asking c.turn-asking.result counts i.policy i.turns turn;
+      policy = same_policy (chooses c.loop.asking.policy) c.loop.asking c.turn-asking.result counts turn ∙ i.policy;
+    }
+
+pub returns-in-Err : goal.returns-in-Err
+returns-in-Err g c =
+    let i = c.loop.invariant in
+    record {
+      turns = subst (λ (a : AllocatorState g.row.P.Denot). AllocatorTurns (g.P.Policy.chooses c.args.allocator.policy) c.args.allocator a) (sym c.in-Err.ensures.stops.0) i.turns;
+      closed = c.in-Err.ensures.stops.1;
     }

@@ -1,13 +1,13 @@
 use Rattle.std.proofs.Common.{◌≡◌, true, inl, refl, sym, subst, rules}
 use Rattle.lift_parts.specs.Allocator.{AllocatorState}
 use Rattle.lift_parts.specs.Turns.{AllocatorTurns, NoMore, NoFlush, OneFlush, IsSending}
-use Rattle.lift_parts.specs.lemmas.Paired.{sending_more}
-use Rattle.lift_relay.proofs.Draining.{sent_on, sends_on, waits_by}
+use Rattle.lift_relay.proofs.Heard.{since_same, heard_on}
+use Rattle.lift_relay.proofs.Draining.{sending_more, sent_on, sends_on, waits_by}
 use Rattle.lift_relay.proofs.pair.drain.Goals.{in-None, in-Some+then-is_sent+then-sent-received}
 use Rattle.lift_relay.proofs.pair.drain.Goals as goal
 
 pub loop-init : goal.loop-init
-loop-init g c = record { allocator = NoMore; sends = inl refl; flusher = NoFlush }
+loop-init g c = record { allocator = NoMore; sends = inl refl; heard = since_same g.V.Witness.hears c.args.first c.args.witness.now; flusher = NoFlush }
 
 pub loop-preserved : goal.loop-preserved
 loop-preserved g c =
@@ -15,10 +15,10 @@ loop-preserved g c =
     let e = c.send_hand-is_sent.ensures in
     record {
       allocator = sending_more (g.P.Policy.chooses c.args.allocator.now.policy) c.args.allocator.now c.loop.allocator c.send_hand-is_sent.new.self c.send_hand-is_sent.result
-          i.allocator e.sent e.same e.line e.full;
-      sends = sends_on c.args.allocator.now c.loop.allocator c.send_hand-is_sent.new.self c.send_hand-is_sent.result i.sends
-          (λ is. record { sent = (e.sent is).1; line = e.line; same = e.same is }) (λ no. waits_by _ _ (e.full no));
-      flusher = OneFlush i.flusher c.flush_once.ensures.1 c.flush_once.ensures.2;
+          i.allocator e.sent e.full;
+      sends = sends_on c.args.allocator.now c.loop.allocator c.send_hand-is_sent.new.self c.send_hand-is_sent.result i.sends (λ is. (e.sent is).1) (λ no. waits_by _ _ (e.full no));
+      heard = heard_on g.V.Witness.hears c.args.first c.loop.first c.flush_once.new.first c.args.witness.now c.loop.witness c.flush_once.new.witness i.heard c.flush_once.ensures.heard;
+      flusher = OneFlush i.flusher c.flush_once.ensures.turns.1 c.flush_once.ensures.turns.2;
     }
 
 pub returns-clause-allocator : goal.returns-clause-allocator
@@ -30,7 +30,7 @@ returns-clause-allocator g c =
       | in-None w ↦ subst to (sym w.allocator-is) i.allocator
       | in-Some+then-is_sent+then-sent-received w ↦ let s = w.send_hand-is_sent in
           subst to (sym w.allocator-is) (sending_more choice c.args.allocator.now c.loop.allocator s.new.self s.result
-          i.allocator s.ensures.sent s.ensures.same s.ensures.line s.ensures.full)
+          i.allocator s.ensures.sent s.ensures.full)
     ]
 
 pub returns-clause-sends : goal.returns-clause-sends
@@ -42,6 +42,5 @@ returns-clause-sends g c =
       | in-None w ↦ search rules
       | in-Some+then-is_sent+then-sent-received w ↦ let s = w.send_hand-is_sent in
           let goes : s.result ≡ true = search rules in
-          subst sends (sym w.allocator-is) (sent_on a c.loop.allocator s.new.self i.sends
-          (record { sent = (s.ensures.sent goes).1; line = s.ensures.line; same = s.ensures.same goes }))
+          subst sends (sym w.allocator-is) (sent_on a c.loop.allocator s.new.self i.sends (s.ensures.sent goes).1)
     ]

@@ -14,25 +14,25 @@ pub compare-requires : goal.compare-requires
 compare-requires g c =
     let choice = g.P.Policy.chooses c.args.allocator.now.policy in
     let state = g.D.Disk.state in
-    let ran = c.with_both-fault.ensures.0 in
+    let ran = c.with_both-told.ensures.0 in
     record {
-      of_one = still_of_one c.args.allocator.now c.with_both-fault.new.a c.args.flusher.now c.with_both-fault.new.b
-          (allocator_of choice state c.args.allocator.now c.with_both-fault.new.a c.args.flusher.now c.with_both-fault.new.b c.with_both-fault.result ran)
-          (flusher_of choice state c.args.allocator.now c.with_both-fault.new.a c.args.flusher.now c.with_both-fault.new.b c.with_both-fault.result ran)
+      of_one = still_of_one c.args.allocator.now c.with_both-told.new.a c.args.flusher.now c.with_both-told.new.b
+          (allocator_of choice state c.args.allocator.now c.with_both-told.new.a c.args.flusher.now c.with_both-told.new.b c.with_both-told.result.1 ran)
+          (flusher_of choice state c.args.allocator.now c.with_both-told.new.a c.args.flusher.now c.with_both-told.new.b c.with_both-told.result.1 ran)
           c.requires.of_one;
     }
 
 pub returns-clause-refused : goal.returns-clause-refused
 returns-clause-refused g c = λ spawn.
-    let both = refused_of (g.P.Policy.chooses c.args.allocator.now.policy) g.D.Disk.state c.args.allocator.now c.with_both-fault.new.a c.args.flusher.now c.with_both-fault.new.b c.with_both-fault.result c.with_both-fault.ensures.0 spawn in
+    let both = refused_of (g.P.Policy.chooses c.args.allocator.now.policy) g.D.Disk.state c.args.allocator.now c.with_both-told.new.a c.args.flusher.now c.with_both-told.new.b c.with_both-told.result.1 c.with_both-told.ensures.0 spawn in
     (c.compare.ensures.allocator ∙ both.0, c.compare.ensures.flusher ∙ both.1)
 
 pub returns-clause-ran : goal.returns-clause-ran
 returns-clause-ran g c = λ ran.
     let choice = g.P.Policy.chooses c.args.allocator.now.policy in
-    subst (λ (p : AllocatorState g.row.P.Denot × FlusherState g.row.D.Denot). HaveRun choice g.D.Disk.state c.args.allocator.now p.0 c.args.flusher.now p.1 c.with_both-fault.result)
+    subst (λ (p : AllocatorState g.row.P.Denot × FlusherState g.row.D.Denot). HaveRun choice g.D.Disk.state c.args.allocator.now p.0 c.args.flusher.now p.1 c.with_both-told.result.1)
     (λ i. (sym c.compare.ensures.allocator i, sym c.compare.ensures.flusher i))
-    (ran_of choice g.D.Disk.state c.args.allocator.now c.with_both-fault.new.a c.args.flusher.now c.with_both-fault.new.b c.with_both-fault.result c.with_both-fault.ensures.0 ran)
+    (ran_of choice g.D.Disk.state c.args.allocator.now c.with_both-told.new.a c.args.flusher.now c.with_both-told.new.b c.with_both-told.result.1 c.with_both-told.ensures.0 ran)
 
 pub returns-clause-received : goal.returns-clause-received
 returns-clause-received g c = λ ran. all_received c.compare.new.allocator.end c.compare.new.self.end c.compare.ensures.queued (returns-clause-ran g c ran).all_received
@@ -40,31 +40,31 @@ returns-clause-received g c = λ ran. all_received c.compare.new.allocator.end c
 pub returns-clause-broken : goal.returns-clause-broken
 returns-clause-broken g c = λ of is.
     ap (λ (f : FlusherState g.row.D.Denot). f.writer.is_broken) c.compare.ensures.flusher
-    ∙ broken_of (g.P.Policy.chooses c.args.allocator.now.policy) g.D.Disk.state c.args.allocator.now c.with_both-fault.new.a c.args.flusher.now c.with_both-fault.new.b c.with_both-fault.result c.with_both-fault.ensures.0 of is
+    ∙ broken_of (g.P.Policy.chooses c.args.allocator.now.policy) g.D.Disk.state c.args.allocator.now c.with_both-told.new.a c.args.flusher.now c.with_both-told.new.b c.with_both-told.result.1 c.with_both-told.ensures.0 of is
 
 pub returns-clause-same_allocator : goal.returns-clause-same_allocator
 returns-clause-same_allocator g c =
     subst (λ (a : AllocatorState g.row.P.Denot). IsSameAllocator c.args.allocator.now a) (sym c.compare.ensures.allocator)
-    (allocator_of (g.P.Policy.chooses c.args.allocator.now.policy) g.D.Disk.state c.args.allocator.now c.with_both-fault.new.a c.args.flusher.now c.with_both-fault.new.b c.with_both-fault.result c.with_both-fault.ensures.0)
+    (allocator_of (g.P.Policy.chooses c.args.allocator.now.policy) g.D.Disk.state c.args.allocator.now c.with_both-told.new.a c.args.flusher.now c.with_both-told.new.b c.with_both-told.result.1 c.with_both-told.ensures.0)
 
 pub returns-clause-same_flusher : goal.returns-clause-same_flusher
 returns-clause-same_flusher g c =
     subst (λ (f : FlusherState g.row.D.Denot). IsSameFlusher c.args.flusher.now f) (sym c.compare.ensures.flusher)
-    (flusher_of (g.P.Policy.chooses c.args.allocator.now.policy) g.D.Disk.state c.args.allocator.now c.with_both-fault.new.a c.args.flusher.now c.with_both-fault.new.b c.with_both-fault.result c.with_both-fault.ensures.0)
+    (flusher_of (g.P.Policy.chooses c.args.allocator.now.policy) g.D.Disk.state c.args.allocator.now c.with_both-told.new.a c.args.flusher.now c.with_both-told.new.b c.with_both-told.result.1 c.with_both-told.ensures.0)
 
 pub returns-clause-of_one : goal.returns-clause-of_one
 returns-clause-of_one g c =
     let choice = g.P.Policy.chooses c.args.allocator.now.policy in
     let state = g.D.Disk.state in
-    let ran = c.with_both-fault.ensures.0 in
-    let before = still_of_one c.args.allocator.now c.with_both-fault.new.a c.args.flusher.now c.with_both-fault.new.b
-    (allocator_of choice state c.args.allocator.now c.with_both-fault.new.a c.args.flusher.now c.with_both-fault.new.b c.with_both-fault.result ran)
-    (flusher_of choice state c.args.allocator.now c.with_both-fault.new.a c.args.flusher.now c.with_both-fault.new.b c.with_both-fault.result ran)
+    let ran = c.with_both-told.ensures.0 in
+    let before = still_of_one c.args.allocator.now c.with_both-told.new.a c.args.flusher.now c.with_both-told.new.b
+    (allocator_of choice state c.args.allocator.now c.with_both-told.new.a c.args.flusher.now c.with_both-told.new.b c.with_both-told.result.1 ran)
+    (flusher_of choice state c.args.allocator.now c.with_both-told.new.a c.args.flusher.now c.with_both-told.new.b c.with_both-told.result.1 ran)
     c.requires.of_one in
     subst (λ (p : AllocatorState g.row.P.Denot × FlusherState g.row.D.Denot). AreOfOne p.0 p.1) (λ i. (sym c.compare.ensures.allocator i, sym c.compare.ensures.flusher i)) before
 
 pub returns-clause-history : goal.returns-clause-history
 returns-clause-history g c = λ base safe given h.
-    let ran = c.with_both-fault in
+    let ran = c.with_both-told in
     subst (λ (x : FlusherState g.row.D.Denot). GoesOnTo c.args.flusher.now x base safe given) (sym c.compare.ensures.flusher)
-    (goes_on (g.P.Policy.chooses c.args.allocator.now.policy) g.D.Disk.state c.args.allocator.now ran.new.a c.args.flusher.now ran.new.b ran.result c.flushes_are_steps.ensures.turns ran.ensures.0 base safe given h)
+    (goes_on (g.P.Policy.chooses c.args.allocator.now.policy) g.D.Disk.state c.args.allocator.now ran.new.a c.args.flusher.now ran.new.b ran.result.1 c.flushes_are_steps.ensures.turns ran.ensures.0 base safe given h)

@@ -1,23 +1,41 @@
-use Rattle.std.proofs.Common.{◌≡◌, inr, sym, ap, ◌∙◌, subst}
+use Rattle.std.proofs.Common.{◌≡◌, None, inr, sym, ap, ◌∙◌, subst}
+use Rattle.lift_parts.specs.Allocator.{AllocatorState}
 use Rattle.lift_relay.specs.declared.pair.Turned.{Turned}
-use Rattle.lift_relay.specs.Pair.{HaveTurned, fault_of}
+use Rattle.lift_relay.specs.Pair.{HaveTurned, HeardOf, HaveRun, fault_of}
+use Rattle.lift_relay.proofs.Heard.{since_drain, heard_on}
 use Rattle.lift_relay.proofs.Ran.{have_run}
 use Rattle.lift_relay.proofs.pair.run_owned.Goals.{in-Some, in-None}
 use Rattle.lift_relay.proofs.pair.run_owned.Goals as goal
 
-pub returns-after-drain-clause-ran : goal.returns-after-drain-clause-ran
-returns-after-drain-clause-ran g c =
-    let chooses = g.P.Policy.chooses in
-    let state = g.D.Disk.state in
-    let both = c.turn_both-allocator in
+pub returns-after-drain-clause-heard : goal.returns-after-drain-clause-heard
+returns-after-drain-clause-heard g c =
+    let hears = g.V.Witness.hears in
+    let both = c.turn_both-turned in
     let drained = c.drain in
-    let a = c.args.allocator in
-    let f = c.args.flusher in
-    let turned = subst (λ (t : Turned). HaveTurned (chooses a.policy) state a both.result.0 f both.result.1 t) c.in-Done.is both.ensures.turned in
+    let u = c.args.witness in
+    let turned = subst (λ (t : Turned g.row.P.Denot). HeardOf hears t u both.result.2) c.in-Done.is both.ensures.heard in
     let is : c.match-drain.fault ≡ fault_of drained.result =
     elim c.match-drain.branch [
       | in-Some w ↦ w.fault-is ∙ ap fault_of (sym w.in-Some.is)
       | in-None w ↦ w.fault-is ∙ ap fault_of (sym w.in-None.is)
     ] in
-    inr (have_run chooses state a both.result.0 drained.new.allocator f both.result.1 drained.new.flusher c.in-Done.first drained.result c.match-drain.fault
-    turned.0 turned.1 drained.ensures.allocator drained.ensures.flusher drained.ensures.nothing_in_hand drained.ensures.all_received is)
+    since_drain hears drained.result c.match-drain.fault u drained.new.witness is
+    (heard_on hears None c.in-Done.first drained.result u both.result.2 drained.new.witness turned drained.ensures.heard)
+
+pub returns-after-drain-clause-ran : goal.returns-after-drain-clause-ran
+returns-after-drain-clause-ran g c =
+    let chooses = g.P.Policy.chooses in
+    let state = g.D.Disk.state in
+    let both = c.turn_both-turned in
+    let drained = c.drain in
+    let a = c.args.allocator in
+    let f = c.args.flusher in
+    let turned = subst (λ (t : Turned g.row.P.Denot). HaveTurned (chooses a.policy) state a f t both.result.1) c.in-Done.is both.ensures.turned in
+    let is : c.match-drain.fault ≡ fault_of drained.result =
+    elim c.match-drain.branch [
+      | in-Some w ↦ w.fault-is ∙ ap fault_of (sym w.in-Some.is)
+      | in-None w ↦ w.fault-is ∙ ap fault_of (sym w.in-None.is)
+    ] in
+    inr (subst (λ (b : AllocatorState g.row.P.Denot). HaveRun (chooses a.policy) state a b f drained.new.flusher c.match-drain.fault) (sym c.drained.ensures)
+    (have_run chooses state a c.in-Done.allocator drained.new.allocator f both.result.1 drained.new.flusher c.in-Done.first drained.result c.match-drain.fault
+    turned.0 turned.1 drained.ensures.allocator drained.ensures.flusher drained.ensures.nothing_in_hand drained.ensures.all_received is))

@@ -2,6 +2,7 @@ use Rattle.std.proofs.Common.{arith, ap, length}
 use Rattle.std.proofs.lemmas.List.{length_push}
 use Rattle.std.proofs.lemmas.List.Elements.{All-push}
 use Rattle.lift_stops.specs.StopList.{HasFloors}
+use Rattle.lift_stops.specs.Leaving.{HasParty}
 use Rattle.lift_stops.specs.Schedule.{ScheduleState}
 use Rattle.lift_stops.proofs.schedule.Schedule.insert.Goals as goal
 
@@ -23,5 +24,6 @@ invariant_of-self c =
       short = omega (arith, long, before, added);
       few = omega (arith, long, few);
       floors = All-push HasFloors rows c.args.row c.self.invariant.floors c.insert_row.ensures.floors;
-      leaving = c.add.ensures rows (omega (arith, few)) c.self.invariant.leaving;
+      parties = All-push HasParty rows c.args.row c.self.invariant.parties c.add.ensures.party;
+      leaving = c.add.ensures.added rows (omega (arith, few)) c.self.invariant.leaving;
     })

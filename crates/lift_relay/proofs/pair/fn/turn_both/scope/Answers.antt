@@ -7,27 +7,27 @@ use denote.Struct.Tuple.{TupleAt}
 use denote.Param.Send.{IsSend, IsSync, sendable, param_send, arg_send, shr_send}
 use Rattle.core.specs.contracts.atomic.AtomicBool as AtomicBool
 use Rattle.core.proofs.atomic.AtomicBool.TheSendSync as flag_is
-use Rattle.lift_policy.specs.Eligible.{Choice}
 use Rattle.lift_parts.specs.Allocator.{AllocatorState}
-use Rattle.lift_parts.specs.Turns.{AllocatorTurns, NoMore, NoFlush}
-use Rattle.lift_relay.proofs.Crosses.{allocator_send, allocating_send}
+use Rattle.lift_parts.specs.Turns.{AllocatorTurns, NoFlush}
+use Rattle.lift_relay.proofs.Crosses.{asking_send, allocating_send}
 use Rattle.lift_relay.proofs.pair.fn.turn_both.scope.Goals as goal
-
-none_made : {P : Type 0} (choice : Choice) (a b : AllocatorState P) → b ≡ a → AllocatorTurns choice a b
-none_made {P} choice a b is = subst (λ (x : AllocatorState P). AllocatorTurns choice a x) (sym is) NoMore
 
 pub returns-in-Idle : goal.returns-in-Idle
 returns-in-Idle g c =
     let kept : c.in-Ok.child.promise.0.value ≡ c.captures.allocator = search rules in
     record {
-      turned = (none_made (g.P.Policy.chooses c.captures.allocator.policy) c.captures.allocator c.in-Idle.allocator (c.in-Idle.ensures ∙ kept), c.flush-first.ensures.turns);
+      turned = (
+        subst (λ (a : AllocatorState g.row.P.Denot). AllocatorTurns (g.P.Policy.chooses a.policy) a c.allocate-allocator.result) (c.in-Idle.ensures ∙ kept) c.allocate-allocator.ensures.turns,
+        c.flush-first.ensures.turns,
+      );
+      heard = c.flush-first.ensures.heard;
       closed = c.flush-first.ensures.closed;
     }
 
 pub returns-in-Idle-2 : goal.returns-in-Idle-2
 returns-in-Idle-2 g c =
     let back : c.in-Err.unmade.2 ≡ c.captures.allocator = search rules in
-    record { turned = (c.in-Idle-2.ensures.comes ∙ back, refl); closed = tt }
+    record { turned = (c.in-Idle-2.ensures.comes ∙ back, refl); heard = refl; closed = tt }
 
 pub returns-in-Ran-2 : goal.returns-in-Ran-2
 returns-in-Ran-2 g c =
@@ -35,6 +35,7 @@ returns-in-Ran-2 g c =
     let gate : c.in-Err.unmade.3 ≡ c.captures.gate = search rules in
     record {
       turned = (subst (λ (a : AllocatorState g.row.P.Denot). AllocatorTurns (g.P.Policy.chooses a.policy) a c.in-Ran-2.allocator) back c.in-Ran-2.ensures.comes, NoFlush);
+      heard = refl;
       closed = subst (λ x. g.G.Gate.closed x.now) gate c.in-Ran-2.ensures.closed;
     }
 
@@ -44,13 +45,13 @@ captures_send ν A B C D a b c d = search sendable depth 20
 
 pub spawn-requires-send-T : goal.spawn-requires-send-T
 spawn-requires-send-T g c = λ κs h.
-    let p : IsSend (param 3 g.row.P) = c.requires-raw.1.1.1.1.1.0 in
+    let p : IsSend (param 3 g.row.P) = c.requires-raw.1.1.1.1.1.1.0 in
     param_send 3 _ (arg_send _ no _ (allocating_send _ _ (param 3 g.row.P) _ p))
 
 pub spawn-requires-send-F : goal.spawn-requires-send-F
 spawn-requires-send-F g c = λ κs h.
-    let p : IsSend (param 3 g.row.P) = c.requires-raw.1.1.1.1.1.0 in
-    let rt : IsSync (param 0 g.row.R) = c.requires-raw.1.1.1.1.1.1.0 in
-    let gate : IsSync (param 1 g.row.G) = c.requires-raw.1.1.1.1.1.1.1 in
+    let p : IsSend (param 3 g.row.P) = c.requires-raw.1.1.1.1.1.1.0 in
+    let rt : IsSync (param 0 g.row.R) = c.requires-raw.1.1.1.1.1.1.1.0 in
+    let gate : IsSync (param 1 g.row.G) = c.requires-raw.1.1.1.1.1.1.1.1 in
     let flag : IsSync AtomicBool.the_row = flag_is.the_sync in
-    param_send 2 _ (arg_send _ no _ (captures_send _ _ _ _ _ (shr_send _ _ _ rt) (shr_send _ _ _ flag) (allocator_send _ _ (param 3 g.row.P) _ p) (shr_send _ _ _ gate)))
+    param_send 2 _ (arg_send _ no _ (captures_send _ _ _ _ _ (shr_send _ _ _ rt) (shr_send _ _ _ flag) (asking_send _ _ (param 3 g.row.P) _ p) (shr_send _ _ _ gate)))

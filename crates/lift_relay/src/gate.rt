@@ -1,0 +1,180 @@
+//! What says whether a run goes on, and an allocator that turns only where it said so.
+//!
+//! Each stage is a type of its own, with what may be done there and no more: so a thread that has one
+//! can't have a turn behind the gate's no before all that was sent was received, also where it never
+//! returns.
+
+ghost use Rattle.std.specs.Prelude.{◌≡◌, [], length, true, false, IfOk, IfErr};
+ghost use Rattle.lift_clerk.specs.declared.counts.Counts.{Counts};
+ghost use Rattle.lift_parts.specs.Allocator.{IsAllocation, IsFullTurn};
+ghost use Rattle.lift_parts.specs.Turns.{IsSending};
+
+use crate::allocator::Allocator;
+use crate::flusher::Flusher;
+use crate::refused::NoThread;
+use lift_disk::Disk;
+use lift_policy::Policy;
+use std::marker::Model;
+use std::sync::Wait;
+use std::thread;
+
+/// Says whether both parts go on, and is told how far they are, so that their threads may wait here
+/// in place of turning for nothing. What a run sends and receives behind the last turn of both is
+/// not told.
+pub trait Gate {
+    // What it tells where it goes on.
+    ghost opened: { Self → Type 0 } = { λ _. Unit {0} };
+
+    // What it tells where it doesn't go on.
+    ghost closed: { Self → Type 0 } = { λ _. Unit {0} };
+
+    /// It is asked between turns, by both threads.
+    fn go_on(&self) -> bool
+        ensures goes { result ≡ true → opened self.now }
+        ensures stops { result ≡ false → closed self.now };
+
+    /// The allocator's turn sent nothing, and has nothing in hand. The next one looks at what was
+    /// asked before this returns.
+    fn allocator_idles<R: Wait>(&self, _rt: &R) {
+        thread::yield_now();
+    }
+
+    /// The allocator has sent so many batches, the last ones in its last turn. The next turn looks
+    /// at what was asked before this returns.
+    fn has_sent<R: Wait>(&self, _rt: &R, _count: u64) {}
+
+    /// The flusher's turn received nothing.
+    fn flusher_idles<R: Wait>(&self, _rt: &R) {
+        thread::yield_now();
+    }
+
+    /// The flusher has received so many batches, the last one in its last turn, and all of their
+    /// commands are answered.
+    fn has_flushed<R: Wait>(&self, _rt: &R, _count: u64) {}
+}
+
+/// An allocator whose gate is to be asked.
+#[derive(Drop)]
+pub(crate) struct Asking<'d, 'b, P: Policy + Drop> {
+    allocator: Allocator<'d, 'b, P>,
+}
+
+/// An allocator whose gate has said to go on, for one turn.
+#[derive(Drop)]
+pub(crate) struct Opened<'d, 'b, P: Policy + Drop> {
+    allocator: Allocator<'d, 'b, P>,
+}
+
+/// An allocator whose gate has said not to go on. It may send what it has in hand.
+#[derive(Drop)]
+pub(crate) struct Closed<'d, 'b, P: Policy + Drop> {
+    allocator: Allocator<'d, 'b, P>,
+}
+
+impl<'d, 'b, P: Policy + Drop> Model for Asking<'d, 'b, P> {
+    ghost use Rattle.lift_parts.specs.Allocator.{AllocatorState};
+
+    ghost Value = { AllocatorState P };
+
+    ghost view = { λ s. s.allocator };
+}
+
+impl<'d, 'b, P: Policy + Drop> Model for Opened<'d, 'b, P> {
+    ghost use Rattle.lift_parts.specs.Allocator.{AllocatorState};
+
+    ghost Value = { AllocatorState P };
+
+    ghost view = { λ s. s.allocator };
+}
+
+impl<'d, 'b, P: Policy + Drop> Model for Closed<'d, 'b, P> {
+    ghost use Rattle.lift_parts.specs.Allocator.{AllocatorState};
+
+    ghost Value = { AllocatorState P };
+
+    ghost view = { λ s. s.allocator };
+}
+
+impl<'d, 'b, P: Policy + Drop> Asking<'d, 'b, P> {
+    pub(crate) fn new(allocator: Allocator<'d, 'b, P>) -> Self
+        ensures { result ≡ allocator.entry }
+    {
+        Asking { allocator }
+    }
+
+    /// Asks the gate.
+    pub(crate) fn ask<G: Gate>(self, gate: &G) -> Result<Opened<'d, 'b, P>, Closed<'d, 'b, P>>
+        ensures goes { IfOk result (λ goes. (goes ≡ self.entry) × G.opened gate.now) }
+        ensures stops { IfErr result (λ stops. (stops ≡ self.entry) × G.closed gate.now) }
+    {
+        if gate.go_on() {
+            Ok(Opened {
+                allocator: self.allocator,
+            })
+        } else {
+            Err(Closed {
+                allocator: self.allocator,
+            })
+        }
+    }
+
+    /// The allocator, to be read.
+    pub(crate) fn allocator(&self) -> &Allocator<'d, 'b, P>
+        ensures { result.now ≡ self.now }
+    {
+        &self.allocator
+    }
+
+    /// The allocator, where no thread could be made for it.
+    pub(crate) fn back(self, _refused: NoThread) -> Allocator<'d, 'b, P>
+        ensures { result ≡ self.entry }
+    {
+        self.allocator
+    }
+}
+
+impl<'d, 'b, P: Policy + Drop> Opened<'d, 'b, P> {
+    /// How many batches were sent.
+    pub(crate) fn sent(&self) -> u64
+        ensures { result ≡ length self.now.end.sent }
+    {
+        self.allocator.sent()
+    }
+
+    /// The turn.
+    pub(crate) fn turn<R: Wait>(self, rt: &R) -> Asking<'d, 'b, P>
+        ensures { (counts : Counts)
+            × IsAllocation (P.chooses self.entry.policy) self.entry result counts }
+    {
+        let mut allocator = self.allocator;
+        let _counts = allocator.turn(rt);
+        Asking { allocator }
+    }
+}
+
+impl<'d, 'b, P: Policy + Drop> Closed<'d, 'b, P> {
+    /// Tries once to send the batch that is in hand, if there is one. Whether none is left.
+    pub(crate) fn send_hand<R: Wait>(&mut self, rt: &R) -> bool
+        ensures sent { result ≡ true → (self.new.hand ≡ []) × IsSending self.old self.new }
+        ensures full { result ≡ false
+            → IsFullTurn self.old self.new (record { taken = 0; accepted = 0 }) }
+    {
+        self.allocator.send_hand(rt)
+    }
+
+    /// How many batches were sent.
+    pub(crate) fn sent(&self) -> u64
+        ensures { result ≡ length self.now.end.sent }
+    {
+        self.allocator.sent()
+    }
+
+    /// The allocator, once all that it sent was received.
+    pub(crate) fn drained<D: Disk, K>(self, flusher: &Flusher<'_, '_, D, K>) -> Allocator<'d, 'b, P>
+        requires nothing_in_hand { self.hand ≡ [] }
+        requires all_received { length self.end.sent ≡ length flusher.now.end.received }
+        ensures { result ≡ self.entry }
+    {
+        self.allocator
+    }
+}
