@@ -30,139 +30,51 @@ blank = record {
   noted = 0;
 }
 
--- the first seat, before it is split into the terminal's and the clerk's
-abbrev pub opening_view : View
-opening_view = record {
-  asks = true;
-  answers = true;
-  looks_ahead = false;
-  terminal = no_asks;
-  clerk = no_answers;
-  noted = 0;
-}
-
 abbrev pub terminal_view : View
-terminal_view = record {
-  asks = true;
-  answers = false;
-  looks_ahead = false;
-  terminal = no_asks;
-  clerk = no_answers;
-  noted = 0;
-}
+terminal_view = record blank { asks = true }
 
 abbrev pub clerk_view : View
-clerk_view = record {
-  asks = false;
-  answers = true;
-  looks_ahead = false;
-  terminal = no_asks;
-  clerk = no_answers;
-  noted = 0;
-}
+clerk_view = record blank { answers = true }
 
--- what a seat that looks ahead of the clerk begins with
+-- the first seat, before it is split into the terminal's and the clerk's
+abbrev pub opening_view : View
+opening_view = record blank { asks = true; answers = true }
+
+-- what a seat that looks ahead of the clerk begins with: what the clerk took and was told of
+abbrev pub taken_only : ClerkView → ClerkView
+taken_only v = record no_answers { taken = v.taken; told = v.told }
+
 abbrev pub ahead_of : View → View
-ahead_of v = record {
-  asks = false;
-  answers = false;
-  looks_ahead = true;
-  terminal = no_asks;
-  clerk = record {
-    taken = v.clerk.taken;
-    answered = [];
-    looks = 0;
-    last = 0;
-    told = v.clerk.told;
-  };
-  noted = 0;
-}
+ahead_of v = record blank { looks_ahead = true; clerk = taken_only v.clerk }
 
 -- a note of the last ask that was taken ahead of the clerk
 abbrev pub ahead_note_of : View → View
-ahead_note_of v = record {
-  asks = false;
-  answers = false;
-  looks_ahead = false;
-  terminal = no_asks;
-  clerk = no_answers;
-  noted = last_of v.clerk.taken;
-}
+ahead_note_of v = record blank { noted = last_of v.clerk.taken }
 
 -- the view of a seat that has read a note of this ask
 abbrev pub with_note : View → ℕ → View
-with_note v word = record {
-  asks = v.asks;
-  answers = v.answers;
-  looks_ahead = v.looks_ahead;
-  terminal = v.terminal;
-  clerk = v.clerk;
-  noted = word;
-}
+with_note v word = record v { noted = word }
 
 abbrev pub noted_by : View → View → View
 noted_by v note = with_note v note.noted
 
 -- a seat with the rights of both
 abbrev pub united : View → View → View
-united v c = record {
-  asks = v.asks;
-  answers = c.answers;
-  looks_ahead = c.looks_ahead;
-  terminal = v.terminal;
-  clerk = c.clerk;
-  noted = 0;
-}
+united v c = record c { asks = v.asks; terminal = v.terminal; noted = 0 }
 
 -- the terminal's part of it, which is told that these words were answered
 abbrev pub terminal_part : View → List ℕ → View
-terminal_part v words = record {
-  asks = true;
-  answers = false;
-  looks_ahead = false;
-  terminal = record {
-    asked = v.terminal.asked;
-    heard = v.terminal.heard;
-    looks = v.terminal.looks;
-    last = v.terminal.last;
-    told = words;
-  };
-  clerk = no_answers;
-  noted = 0;
-}
+terminal_part v words = record terminal_view { terminal = record v.terminal { told = words } }
 
 -- the clerk's part of it, which is told that these words were asked
 abbrev pub clerk_part : View → List ℕ → View
-clerk_part v words = record {
-  asks = false;
-  answers = true;
-  looks_ahead = false;
-  terminal = no_asks;
-  clerk = record {
-    taken = v.clerk.taken;
-    answered = v.clerk.answered;
-    looks = v.clerk.looks;
-    last = v.clerk.last;
-    told = words;
-  };
-  noted = 0;
-}
+clerk_part v words = record clerk_view { clerk = record v.clerk { told = words } }
 
 -- the part of it that looks ahead of the clerk, which is told what the terminal has asked
 abbrev pub ahead_part : View → View
-ahead_part v = record {
-  asks = false;
-  answers = false;
+ahead_part v = record blank {
   looks_ahead = true;
-  terminal = no_asks;
-  clerk = record {
-    taken = v.clerk.taken;
-    answered = v.clerk.answered;
-    looks = v.clerk.looks;
-    last = v.clerk.last;
-    told = v.terminal.asked;
-  };
-  noted = 0;
+  clerk = record v.clerk { told = v.terminal.asked };
 }
 
 -- the turn and the number of a word

@@ -11,7 +11,7 @@ use Rattle.lift_desk.specs.declared.view.ClerkView.{ClerkView}
 use Rattle.lift_desk.specs.declared.words.Ask.{Ask}
 use Rattle.lift_desk.specs.Words.{turn_of, number_of, last_of, ask_word, reply_word, IsReply}
 use Rattle.lift_desk.specs.Looker.{LookerState}
-use Rattle.lift_desk.specs.Rule.{no_asks, no_answers}
+use Rattle.lift_desk.specs.Rule.{no_asks, no_answers, taken_only}
 use Rattle.lift_desk.specs.Spelled.{IsAsk}
 use Rattle.lift_desk.specs.Steps.{is_awaited, is_new, with_ask, with_taking}
 
@@ -67,7 +67,7 @@ IsClerkOf desk clerk = map (λ (p : ClerkPlace). p.table) clerk ≡ desk
 
 -- the seat with another view
 abbrev pub seat_with : TerminalSeat → TerminalView → TerminalSeat
-seat_with seat view = record { table = seat.table; terminal = seat.terminal; view = view }
+seat_with seat view = record seat { view = view }
 
 -- the clerk's seats, with another view of one terminal's words
 abbrev pub clerk_with : List ClerkPlace → ℕ → ClerkView → List ClerkPlace
@@ -160,10 +160,6 @@ TakesAheadOf v word (Some ask) =
 -- what is seen of a place by its seat
 abbrev pub place_of : LookerState → ClerkPlace
 place_of l = record { seated = l.seated; table = l.table; view = l.view.clerk }
-
--- what a seat ahead of the clerk begins with: what the clerk took and was told of
-abbrev pub taken_only : ClerkView → ClerkView
-taken_only v = record { taken = v.taken; answered = []; looks = 0; last = 0; told = v.told }
 
 -- a seat ahead of each of the clerk's
 abbrev pub ahead_from : List ClerkPlace → List ClerkPlace

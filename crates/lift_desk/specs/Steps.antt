@@ -14,47 +14,25 @@ Seated = Me (Unit {0}) View
 
 -- the terminal has stored this ask
 abbrev pub with_ask : TerminalView → ℕ → TerminalView
-with_ask v word = record {
-  asked = v.asked ++ word ∷ [];
-  heard = v.heard;
-  looks = v.looks;
-  last = v.last;
-  told = v.told;
-}
+with_ask v word = record v { asked = v.asked ++ word ∷ [] }
 
 -- the clerk has stored this answer
 abbrev pub with_answer : ClerkView → ℕ → ClerkView
-with_answer v word = record {
-  taken = v.taken;
-  answered = v.answered ++ word ∷ [];
-  looks = v.looks;
-  last = v.last;
-  told = v.told;
-}
+with_answer v word = record v { answered = v.answered ++ word ∷ [] }
 
 -- the word answers the last ask, which waits for it
 abbrev pub is_awaited : TerminalView → ℕ → Bool
 is_awaited v word = nat_lt (length v.heard) (length v.asked) &&
     (nat_eq (turn_of word) (length v.asked))
 
--- the terminal has looked at an answer and heard it, if it is the one that it waits for
-abbrev pub with_hearing : TerminalView → ℕ → TerminalView
-with_hearing v word = record {
-  asked = v.asked;
-  heard = if is_awaited v word then v.heard ++ word ∷ [] else v.heard;
-  looks = suc v.looks;
-  last = word;
-  told = v.told;
-}
-
 -- the terminal has looked at an answer
 abbrev pub with_look : TerminalView → ℕ → TerminalView
-with_look v word = record {
-  asked = v.asked;
-  heard = v.heard;
-  looks = suc v.looks;
-  last = word;
-  told = v.told;
+with_look v word = record v { looks = suc v.looks; last = word }
+
+-- and has heard it, if it is the one that it waits for
+abbrev pub with_hearing : TerminalView → ℕ → TerminalView
+with_hearing v word = record (with_look v word) {
+  heard = if is_awaited v word then v.heard ++ word ∷ [] else v.heard;
 }
 
 -- the word's turn is above that of each ask that was taken
@@ -63,47 +41,29 @@ is_new v word = nat_lt (turn_of (last_of v.taken)) (turn_of word)
 
 -- the clerk has looked at an ask and taken it, if it is new
 abbrev pub with_taking : ClerkView → ℕ → ClerkView
-with_taking v word = record {
+with_taking v word = record v {
   taken = if is_new v word then v.taken ++ word ∷ [] else v.taken;
-  answered = v.answered;
   looks = suc v.looks;
   last = word;
-  told = v.told;
 }
 
 -- the terminal was told that these words were answered
 abbrev pub with_told_answers : TerminalView → List ℕ → TerminalView
-with_told_answers v words =
-    record { asked = v.asked; heard = v.heard; looks = v.looks; last = v.last; told = words }
+with_told_answers v words = record v { told = words }
 
 -- the clerk was told that these words were asked
 abbrev pub with_told_asks : ClerkView → List ℕ → ClerkView
-with_told_asks v words =
-    record { taken = v.taken; answered = v.answered; looks = v.looks; last = v.last; told = words }
+with_told_asks v words = record v { told = words }
 
 -- what the terminal asked and heard, and what the clerk took and answered of it
 abbrev pub lists_of : TerminalView → ClerkView → Lists
 lists_of t c = record { asked = t.asked; taken = c.taken; answered = c.answered; heard = t.heard }
 
 abbrev pub at_terminal : View → TerminalView → View
-at_terminal v terminal = record {
-  asks = v.asks;
-  answers = v.answers;
-  looks_ahead = v.looks_ahead;
-  terminal = terminal;
-  clerk = v.clerk;
-  noted = v.noted;
-}
+at_terminal v terminal = record v { terminal = terminal }
 
 abbrev pub at_clerk : View → ClerkView → View
-at_clerk v clerk = record {
-  asks = v.asks;
-  answers = v.answers;
-  looks_ahead = v.looks_ahead;
-  terminal = v.terminal;
-  clerk = clerk;
-  noted = v.noted;
-}
+at_clerk v clerk = record v { clerk = clerk }
 
 abbrev pub Asked : Step (Unit {0}) → Seated → ℕ → Seated → Type 0
 Asked step before found after =

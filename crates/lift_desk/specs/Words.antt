@@ -1,16 +1,21 @@
 -- A word of the desk: 20 bits of turn, 24 bits of number, and 20 bits that spell an ask or an
 -- answer.
 use Rattle.std.specs.Prelude.{◌≡◌, ℕ, ◌+◌, ◌*◌, ◌/◌, ◌%◌, ◌^◌, ◌<◌, ◌≤◌, List, [], ◌∷◌, Option}
-use Rattle.std.specs.Prelude.{Some, None, IfSome}
+use Rattle.std.specs.Prelude.{Some, None, IfSome, ◌==◌, if◌then◌else◌}
 use Rattle.lift_base.specs.declared.travel.Dir.{Dir}
 use Rattle.lift_base.specs.declared.travel.Dir.TheVariants.{Up, Down}
 use Rattle.lift_base.specs.declared.travel.Stop.{Stop as StopAt}
 use Rattle.lift_base.specs.declared.command.Body.{Body}
 use Rattle.lift_base.specs.declared.command.Body.TheVariants.{Call, Stop, Place}
+use Rattle.lift_base.specs.declared.command.Reason.{Reason}
+use Rattle.lift_base.specs.declared.command.Reason.TheVariants.{NoSuchFloor, SameFloor, NoCar}
+use Rattle.lift_base.specs.declared.command.Reason.TheVariants.{OldNumber, GapNumber, OtherBody}
+use Rattle.lift_base.specs.declared.command.Reason.TheVariants.{WrongKind, Full, NotServed}
 use Rattle.lift_base.specs.declared.command.Reply.{Reply}
 use Rattle.lift_base.specs.declared.command.Reply.TheVariants.{Car, Stopped, Placed, Refused}
 use Rattle.lift_base.specs.declared.command.Reply.TheVariants.{Unknown}
 use Rattle.lift_base.specs.Command.{reason_number}
+use Rattle.lift_desk.specs.declared.words.Ask.{Ask}
 
 -- the turn in bits 63 to 44
 abbrev pub turn_of : ℕ → ℕ
@@ -50,6 +55,53 @@ reply_bits Unknown = 5 * 2 ^ 12
 
 abbrev pub reply_word : ℕ → ℕ → Reply → ℕ
 reply_word turn number reply = turn * 2 ^ 44 + number * 2 ^ 20 + reply_bits reply
+
+-- What a word spells: the spellings above read back. Of other words they mean nothing.
+abbrev pub dir_of : ℕ → Dir
+dir_of bit = if bit == 0 then Up else Down
+
+-- the command that these bits spell
+abbrev pub body_of : ℕ → Body
+body_of bits =
+    if bits / 2 ^ 18 == 1 then Call (bits % 64) (bits / 128 % 16)
+    else (if bits / 2 ^ 18 == 2 then Stop (bits % 64) (dir_of (bits / 64 % 2)) else Place
+    (bits % 64) (dir_of (bits / 64 % 2)))
+
+-- the ask that a word spells
+abbrev pub ask_of : ℕ → Ask
+ask_of word = record { number = number_of word; body = body_of (word % 2 ^ 20) }
+
+abbrev pub stop_of : ℕ → Option StopAt
+stop_of bits = if bits == 0 then None else Some (record {
+  floor = bits % 64;
+  dir = dir_of (bits / 64 % 2);
+})
+
+-- the reason that a number names
+abbrev pub reason_of : ℕ → Reason
+reason_of number =
+    if number == 1 then NoSuchFloor
+    else (if number == 2 then SameFloor
+    else (if number == 3 then NoCar
+    else (if number == 4 then OldNumber
+    else (if number == 5 then GapNumber
+    else (if number == 6 then OtherBody
+    else (if number == 7 then WrongKind
+    else (if number == 8 then Full
+    else NotServed)))))))
+
+-- the answer of this code and argument
+abbrev pub reply_by : (code argument : ℕ) → Reply
+reply_by code argument =
+    if code == 1 then Car argument
+    else (if code == 2 then Stopped (stop_of argument)
+    else (if code == 3 then Placed (stop_of argument)
+    else (if code == 4 then Refused (reason_of argument)
+    else Unknown)))
+
+-- the answer that a word spells
+abbrev pub reply_of : ℕ → Reply
+reply_of word = reply_by (word % 2 ^ 20 / 2 ^ 12) (word % 2 ^ 12)
 
 -- a turn, counted from 1, and a number that fit a word
 pub record FitsWord (turn number : ℕ) : Type 0 where

@@ -4,10 +4,11 @@ ghost use Rattle.std.specs.Prelude.{length, true, false, [], ◌∷◌, ◌++◌
 ghost use mathlib.Core.List.{IsPrefix};
 ghost use Rattle.lift_desk.specs.Words.{turn_of, last_of, number_of, reply_word};
 ghost use Rattle.lift_desk.specs.declared.words.Ask.{Ask};
-ghost use Rattle.lift_desk.specs.Rule.{clerk_view, no_answers, with_note, IsInOrder};
+ghost use Rattle.lift_desk.specs.Rule.{clerk_view, no_answers, taken_only, with_note};
+ghost use Rattle.lift_desk.specs.Rule.{IsInOrder};
 ghost use Rattle.lift_desk.specs.Steps.{with_answer, with_look, with_taking, with_told_answers};
 ghost use Rattle.lift_desk.specs.Steps.{with_told_asks, lists_of};
-ghost use Rattle.lift_desk.specs.Seats.{ClerkPlace, placed_at, taken_only, Owes, TakesOf};
+ghost use Rattle.lift_desk.specs.Seats.{ClerkPlace, placed_at, Owes, TakesOf};
 ghost use Rattle.lift_desk.specs.Seats.{Says, seat_with, Tells};
 
 use crate::ahead::AheadPlace;

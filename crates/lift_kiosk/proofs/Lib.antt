@@ -2,7 +2,6 @@ pub mod Hearing
 pub mod Texts
 pub mod Sessions
 pub mod Calls
-pub mod Spelled
 pub mod Desk
 pub mod Single
 pub mod Determined

@@ -1,8 +1,7 @@
 //! A port at the desk.
 
-ghost use Rattle.std.specs.Prelude.{◌≡◌, ◌<◌};
+ghost use Rattle.std.specs.Prelude.{◌≡◌};
 ghost use Rattle.lift_desk.specs.Seats.{IsSeatOf};
-ghost use Rattle.lift_desk.specs.Words.{IsBody, IsReply};
 
 use crate::port::Port;
 use crate::rests::{Rest, Rests};
@@ -74,38 +73,6 @@ impl<'d> DeskPort<'d> {
     }
 }
 
-/// What a word can spell is what the types hold.
-fn body_fits(body: &Body)
-    ensures { IsBody body.now }
-{
-    match body {
-        Body::Call(floor, party) => {
-            let _floor = floor.get();
-            let _party = party.get();
-        }
-        Body::Stop(floor, _) => {
-            let _floor = floor.get();
-        }
-        Body::Place(floor, _) => {
-            let _floor = floor.get();
-        }
-    }
-}
-
-fn reply_fits(reply: &Reply)
-    ensures { IsReply reply.now }
-{
-    match reply {
-        Reply::Car(car) => {
-            let _car = car.get();
-        }
-        Reply::Stopped(Some(stop)) | Reply::Placed(Some(stop)) => {
-            let _floor = stop.floor.get();
-        }
-        _ => {}
-    }
-}
-
 impl<'d> Port for DeskPort<'d> {
     ghost use Rattle.lift_kiosk.specs.Desk.{port_view, place_of};
 
@@ -118,14 +85,11 @@ impl<'d> Port for DeskPort<'d> {
     }
 
     fn ask(&mut self, number: Number, body: Body) -> Result<(), AskRefusal> {
-        let _number = number.get();
-        body_fits(&body);
         self.desk.ask(&mut self.seat, number, body)
     }
 
     fn hear(&mut self) -> Option<Reply> {
         let reply = self.desk.hear(&mut self.seat)?;
-        reply_fits(&reply);
         Some(reply)
     }
 

@@ -13,7 +13,7 @@ use Rattle.lift_base.specs.declared.command.Reply.{Reply}
 use Rattle.lift_base.specs.declared.command.Reply.TheVariants.{Car, Stopped, Placed, Refused, Unknown}
 use Rattle.lift_base.specs.Command.{reason_number}
 use Rattle.lift_desk.specs.Words.{dir_bit, body_bits, ask_word, stop_bits, reply_bits, reply_word, IsBody, IsNext, IsReply}
-use Rattle.lift_kiosk.specs.Desk.{dir_of, body_of, ask_of, stop_of, reason_of, reply_by, reply_of}
+use Rattle.lift_desk.specs.Words.{dir_of, body_of, ask_of, stop_of, reason_of, reply_by, reply_of}
 
 dir_bit_small : (dir : Dir) → dir_bit dir < 2
 dir_bit_small Up = omega arith
