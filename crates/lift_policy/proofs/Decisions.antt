@@ -1,6 +1,6 @@
 -- For a policy that leaves no choice, a decision is what its function computes.
 use Rattle.std.proofs.Common.{◌≡◌, ℕ, zero, suc, ◌<◌, ◌↔◌, Bool, true, false, ◌&&◌, cond, eqb, List, length, refl, sym, ap, subst, ◌∙◌, arith}
-use Rattle.std.specs.Prelude.{Option, Some, None, IsSome, MatchOption, MatchBool}
+use Rattle.std.specs.Prelude.{Contains, Option, Some, None, IsSome, MatchOption, MatchBool}
 use Rattle.std.specs.Option.{option_map_or}
 use Rattle.std.proofs.lemmas.Bool.{and_parts, eqb-true}
 use Rattle.lift_base.specs.declared.history.Content.{Content}
@@ -20,10 +20,21 @@ use Rattle.lift_policy.specs.Decision.{Decision, Pick, etd_pick, fewest_open_pic
 use Rattle.lift_cost.specs.declared.call.NewCall.{NewCall}
 use Rattle.lift_policy.specs.View.{ViewState}
 use Rattle.lift_policy.specs.Choices.{IsFirstLeast, IsEtdChoice, IsFewestOpen, IsShortestWait, first_least, total_cost_at, open_at, wait_at}
-use Rattle.lift_policy.specs.Laws.{IsPickedBy}
 use Rattle.lift_policy.proofs.Picks.{first_least-exact, first_least-some, first_least-member}
 use Rattle.lift_policy.proofs.Letters.{eligible_cars-rise}
 use Rattle.lift_policy.specs.lemmas.Steps.{NoCause, no_cause, IsRepeat, repeated, HasStepped, has_stepped, Proceeded, WasRefused}
+
+-- a policy that leaves no choice: of eligible cars it may name just the one that a pick gives, and
+-- a pick of some cars is one of them
+pub record IsPickedBy (choice : Choice) (pick : Pick) : Type 0 where
+  pub exact : (plan : Plan) (view : ViewState) (call : NewCall) (eligible : List ℕ) (car : ℕ)
+      → Rise 0 eligible
+      → choice plan view call eligible car ↔ (pick plan view call eligible ≡ Some car)
+  pub some : (plan : Plan) (view : ViewState) (call : NewCall) (eligible : List ℕ)
+      → 0 < length eligible
+      → IsSome (pick plan view call eligible)
+  pub member : (plan : Plan) (view : ViewState) (call : NewCall) (eligible : List ℕ) (car : ℕ)
+      → pick plan view call eligible ≡ Some car → Contains eligible car
 
 -- the reply and the state after it are a decision's
 abbrev Carries : Decision → Reply → State → Type 0

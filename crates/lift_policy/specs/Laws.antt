@@ -1,6 +1,6 @@
 -- What every decision keeps, under any policy.
 use Rattle.std.specs.Prelude.{ℕ, ◌≡◌, ◌≢◌, ◌↔◌, ◌⊎◌, ◌<◌, ◌≤◌, true, List, [], ◌∷◌, ◌++◌, length}
-use Rattle.std.specs.Prelude.{Contains, Some, IsSome}
+use Rattle.std.specs.Prelude.{Some}
 use Rattle.lift_base.specs.History.{terminal_of, number_of}
 use Rattle.lift_base.specs.declared.history.Entry.{Entry}
 use Rattle.lift_base.specs.Records.{IsTypedCommand}
@@ -14,10 +14,9 @@ use Rattle.lift_building.specs.Plan.{Plan, IsBuilding}
 use Rattle.lift_register.specs.Prelude.{RegisterState, last_of, kept_of, register_of, Fits}
 use Rattle.lift_register.specs.Prelude.{IsBalanced}
 use Rattle.lift_policy.specs.declared.command.Command.{Command}
-use Rattle.lift_cost.specs.declared.call.NewCall.{NewCall}
 use Rattle.lift_policy.specs.Terminals.{kiosk_floor}
-use Rattle.lift_policy.specs.View.{ViewState, IsViewIn}
-use Rattle.lift_policy.specs.Eligible.{Rise, Choice}
+use Rattle.lift_policy.specs.View.{IsViewIn}
+use Rattle.lift_policy.specs.Eligible.{Choice}
 use Rattle.lift_policy.specs.Step.{State, Step, view_of, first_cause, is_same}
 use Rattle.lift_policy.specs.Run.{Run}
 use Rattle.lift_policy.specs.Decision.{Pick, decision_by}
@@ -102,18 +101,6 @@ StepsTell choice = (plan : Plan) (state : State) (terminal number : ℕ) (body :
     (next : State)
     → terminal < 63 → IsStateIn plan state → Step plan choice state terminal number body reply next
     → Tells plan next.register terminal number body reply
-
--- a policy that leaves no choice: of eligible cars it may name just the one that a pick gives, and
--- a pick of some cars is one of them
-pub record IsPickedBy (choice : Choice) (pick : Pick) : Type 0 where
-  pub exact : (plan : Plan) (view : ViewState) (call : NewCall) (eligible : List ℕ) (car : ℕ)
-      → Rise 0 eligible
-      → choice plan view call eligible car ↔ (pick plan view call eligible ≡ Some car)
-  pub some : (plan : Plan) (view : ViewState) (call : NewCall) (eligible : List ℕ)
-      → 0 < length eligible
-      → IsSome (pick plan view call eligible)
-  pub member : (plan : Plan) (view : ViewState) (call : NewCall) (eligible : List ℕ) (car : ℕ)
-      → pick plan view call eligible ≡ Some car → Contains eligible car
 
 -- the rules allow just the decision that is computed
 abbrev pub StepsAreDecisions : Choice → Pick → Type 0
