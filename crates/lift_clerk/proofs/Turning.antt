@@ -15,10 +15,11 @@ use Rattle.lift_policy.specs.Eligible.{Choice}
 use Rattle.lift_policy.specs.Run.{Run}
 use Rattle.lift_policy.specs.Step.{State}
 use Rattle.lift_keeper.specs.declared.fault.KeeperFault.{KeeperFault}
+use Rattle.lift_keeper.specs.Calls.{CommitCalls}
 use Rattle.lift_keeper.specs.Commits.{Commits, CommitsTo}
 use Rattle.lift_keeper.specs.Keeper.{KeeperView}
 use Rattle.lift_keeper.specs.Writer.{WriterView}
-use Rattle.lift_keeper.specs.lemmas.Committed.{under_ok, under_err}
+use Rattle.lift_keeper.specs.lemmas.Committed.{under_ok, under_err, calls_under_ok, calls_under_err}
 use Rattle.lift_clerk.specs.declared.counts.Counts.{Counts}
 use Rattle.lift_clerk.specs.declared.scan.Answer.{Answer}
 use Rattle.lift_clerk.specs.Visits.{Visit, commands_of, served, Serves}
@@ -149,3 +150,19 @@ module _ {D : Type 0} (state : D → DiskState) (old : WriterView D) (between af
         leads = λ whole. ap (λ (s : State). s.register) same ∙ sym shown ∙ ahead whole;
         is = under_err state between.writer between.state.batch after.writer fault c;
       })
+
+  pub calls_on_ok : (counts : Counts) → counts.accepted ≡ length between.state.batch
+      → CommitCalls {D = D} {T = Unit {0}} state between.writer (length between.state.batch) after.writer (Ok tt)
+      → CommitCalls {D = D} {T = Counts} state old counts.accepted after.writer (Ok counts)
+  calls_on_ok counts accepted c =
+      subst (λ (w : WriterView D). CommitCalls {D = D} {T = Counts} state w counts.accepted after.writer (Ok counts)) writer
+      (subst (λ n. CommitCalls {D = D} {T = Counts} state between.writer n after.writer (Ok counts)) (sym accepted)
+      (calls_under_ok state between.writer (length between.state.batch) after.writer tt counts c))
+
+  pub calls_on_err : (fault : KeeperFault) → after.state ≡ between.state
+      → CommitCalls {D = D} {T = Unit {0}} state between.writer (length between.state.batch) after.writer (Err fault)
+      → CommitCalls {D = D} {T = Counts} state old (length after.state.batch) after.writer (Err fault)
+  calls_on_err fault same c =
+      subst (λ (w : WriterView D). CommitCalls {D = D} {T = Counts} state w (length after.state.batch) after.writer (Err fault)) writer
+      (subst (λ n. CommitCalls {D = D} {T = Counts} state between.writer n after.writer (Err fault)) (ap (λ (s : State). length s.batch) (sym same))
+      (calls_under_err state between.writer (length between.state.batch) after.writer fault c))

@@ -25,8 +25,8 @@ pub record TurnsOnce {D P : Type 0} (state : D → DiskState) (choice : Choice)
   pub turns : IfOk result (Turns choice before after)
   pub fails : result ≡ Err (Journal Disk) → Fails choice before after
   pub rests : result ≡ Err (Journal Broken) → IsBrokenTurn before after
-  -- Its device has the calls of its one commit and no other. That also says which faults there are,
-  -- and that a clerk which answers that it is broken was broken before.
+  -- What its commit leaves, which faults there are, and that a clerk which answers that it is broken
+  -- was broken before.
   pub commits : CommitsTo state before.keeper.writer (entries_in result after.keeper)
       after.keeper.state.register after.keeper.writer result
   pub kept : (after.desk ≡ before.desk) × (after.policy ≡ before.policy)
@@ -39,8 +39,7 @@ pub record ReopensOnce {D P T : Type 0} (state : D → DiskState) (before after 
   pub stays : OnErr result (Stays before after)
   pub same : OnErr result ((after.keeper.writer.is_broken ≡ true)
       ⊎ (after.keeper.writer.is_broken ≡ before.keeper.writer.is_broken))
-  -- Its device has the calls of one opening and no other. It is refused for a failed call alone,
-  -- where the device is honest.
+  -- It is refused for a failed call alone, where the device is honest.
   pub recovers : Recovers state before.keeper.writer after.keeper.writer result
   pub starts : OnOk result (after.keeper.state ≡ starting after.keeper.writer.register)
   pub kept : (after.desk ≡ before.desk) × (after.seat ≡ before.seat)

@@ -5,7 +5,7 @@ ghost use Rattle.lift_desk.specs.Rule.{IsInOrder};
 ghost use Rattle.lift_desk.specs.Seats.{IsClerkOf, IsSeatOf, OwesNothing, seat_with, view_at};
 ghost use Rattle.lift_desk.specs.Steps.{with_told_answers, lists_of};
 ghost use Rattle.lift_decider.specs.Decider.{starting};
-ghost use Rattle.lift_keeper.specs.Prelude.{CommitsTo, Recovers};
+ghost use Rattle.lift_keeper.specs.Prelude.{CommitsTo, CommitCalls, Recovers, ReopeningCalls};
 ghost use Rattle.lift_clerk.specs.Clerk.{IsClerk, IsToldAt};
 ghost use Rattle.lift_clerk.specs.Turn.{IsTurn, IsFailedTurn, IsBrokenTurn, entries_in};
 
@@ -117,6 +117,8 @@ impl<'d, 'b, D: Disk, P: Policy + Drop> Clerk<'d, 'b, D, P> {
         ensures commits { CommitsTo D.state self.old.keeper.writer
             (entries_in result self.new.keeper) self.new.keeper.state.register
             self.new.keeper.writer result }
+        ensures calls { CommitCalls D.state self.old.keeper.writer
+            (entries_in result self.new.keeper) self.new.keeper.writer result }
         ensures same { (self.new.desk ≡ self.old.desk) × (self.new.policy ≡ self.old.policy) }
         ensures seated { IsClerkOf self.new.desk self.new.seat }
         ensures answered { OwesNothing self.new.seat }
@@ -153,6 +155,8 @@ impl<'d, 'b, D: Disk, P: Policy + Drop> Clerk<'d, 'b, D, P> {
         ensures same { (self.new.desk ≡ self.old.desk) × (self.new.seat ≡ self.old.seat)
             × (self.new.policy ≡ self.old.policy) }
         ensures recovers { Recovers
+            D.state self.old.keeper.writer self.new.keeper.writer result }
+        ensures calls { ReopeningCalls
             D.state self.old.keeper.writer self.new.keeper.writer result }
         ensures state { OnOk result (self.new.keeper.state
             ≡ starting self.new.keeper.writer.register) }

@@ -1,13 +1,13 @@
 //! What every history of a group leads to, and what every crash then shows.
 
-ghost use Rattle.std.specs.Prelude.{◌≡◌, ◌++◌, false, List, [], IfOk, IfErr};
+ghost use Rattle.std.specs.Prelude.{◌≡◌, false, List, [], IfOk, IfErr};
 ghost use Rattle.lift_base.specs.declared.history.Entry.{Entry};
 ghost use Rattle.lift_disk.specs.Disk.{MayLeave, LeavesNow};
 ghost use Rattle.lift_register.specs.Register.{RegisterState};
 ghost use Rattle.lift_desk.specs.Seats.{IsClerkOf, OwesNothing, clerk_of};
 ghost use Rattle.lift_decider.specs.Decider.{starting};
-ghost use Rattle.lift_journal.specs.Calls.{opening_of};
-ghost use Rattle.lift_keeper.specs.Prelude.{Reopens as Recovers, RefusesReopening, StopsOpening};
+ghost use Rattle.lift_keeper.specs.Prelude.{Opens, RefusesReopening, OpensByCalls, RefusedCalls};
+ghost use Rattle.lift_keeper.specs.Prelude.{ReopeningCalls};
 ghost use Rattle.lift_world.specs.declared.event.Taken.{Taken};
 ghost use Rattle.lift_clerk.specs.Steps.{group_of};
 ghost use Rattle.lift_clerk.specs.Once.{TurnsOnce, TurnAdvances, ReopensOnce};
@@ -54,18 +54,12 @@ pub fn begin_over<'d, 'b, D: Disk, P: Policy + Drop>(
     requires answered { OwesNothing seat }
     requires unused { seat ≡ clerk_of desk.now }
     ensures parts { IfOk result (λ clerk. (clerk.desk ≡ desk.now) × (clerk.seat ≡ seat)
-        × (clerk.policy ≡ policy) × (clerk.keeper.writer.plan ≡ building.now)) }
-    // No car has told where it is, nothing is in the batch, and nothing is in doubt.
+        × (clerk.policy ≡ policy)) }
+    // Of the keeper nothing is in doubt, no car has told where it is, and nothing is in the batch.
+    ensures opens { IfOk result (λ clerk.
+        Opens D.state building.now (D.state disk) clerk.keeper.writer) }
     ensures state { IfOk result (λ clerk.
         clerk.keeper.state ≡ starting clerk.keeper.writer.register) }
-    ensures whole { IfOk result (λ clerk. (clerk.keeper.writer.is_broken ≡ false)
-        × (clerk.keeper.writer.doubt ≡ [])) }
-    ensures opened { IfOk result (λ clerk.
-        clerk.keeper.writer.opened ≡ (D.state clerk.keeper.writer.device).failures) }
-    ensures recovers { IfOk result (λ clerk.
-        Recovers building.now (D.state disk) (D.state clerk.keeper.writer.device)
-        clerk.keeper.writer.register clerk.keeper.writer.half clerk.keeper.writer.is_second
-        clerk.keeper.writer.used) }
     ensures first { IfOk result (λ clerk.
         History clerk.keeper.writer.register (group_of clerk) [] []) }
     ensures again { IfOk result (λ clerk. (D.state disk).is_honest
@@ -76,11 +70,9 @@ pub fn begin_over<'d, 'b, D: Disk, P: Policy + Drop>(
     ensures refused { IfErr result (λ err.
         RefusesReopening building.now (D.state disk) (D.state err.0) err.1) }
     // The opening of its journal, and no other call; where it is refused, as far as that came.
-    ensures calls { IfOk result (λ clerk. (D.state clerk.keeper.writer.device).trace
-        ≡ (D.state disk).trace ++ opening_of clerk.keeper.writer.half
-        clerk.keeper.writer.is_second clerk.keeper.writer.used) }
+    ensures calls { IfOk result (λ clerk. OpensByCalls D.state (D.state disk) clerk.keeper.writer) }
     ensures calls_before { IfErr result (λ err.
-        StopsOpening err.1 (D.state disk) (D.state err.0)) }
+        RefusedCalls (D.state disk) (D.state err.0) err.1) }
 {
     let keeper = Keeper::open(disk, building)?;
     let _shown = keeper.register();
@@ -128,6 +120,7 @@ pub fn reopening_shows_letters<D: Disk, P: Policy + Drop>(
     clerk: &mut Clerk<'_, '_, D, P>,
 ) -> Result<(), KeeperFault>
     ensures reopening { ReopensOnce D.state clerk.old clerk.new result }
+    ensures calls { ReopeningCalls D.state clerk.old.keeper.writer clerk.new.keeper.writer result }
     ensures moments { MomentsStand (group_of clerk.old) clerk.old.keeper.writer.doubt
         (D.state clerk.old.keeper.writer.device) (D.state clerk.new.keeper.writer.device) }
 {

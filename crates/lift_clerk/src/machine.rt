@@ -1,5 +1,6 @@
 //! What the machine of events is while a clerk runs.
 
+ghost use Rattle.lift_keeper.specs.Calls.{ReopeningCalls};
 ghost use Rattle.lift_world.specs.Policies.{RunsAreAny};
 ghost use Rattle.lift_clerk.specs.Laws.{Laws, TurnsAreTheMachines};
 ghost use Rattle.lift_clerk.specs.Once.{TurnsOnce, ReopensOnce};
@@ -62,6 +63,7 @@ pub fn reopen_once<D: Disk, P: Policy + Drop>(
     clerk: &mut Clerk<'_, '_, D, P>,
 ) -> Result<(), KeeperFault>
     ensures reopening { ReopensOnce D.state clerk.old clerk.new result }
+    ensures calls { ReopeningCalls D.state clerk.old.keeper.writer clerk.new.keeper.writer result }
 {
     clerk.reopen()
 }

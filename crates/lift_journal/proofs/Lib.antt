@@ -5,6 +5,7 @@ pub mod Texts
 pub mod Appends
 pub mod Halves
 pub mod Unique
+pub mod Pairs
 pub mod Visiting
 pub mod Walks
 pub mod Seeing

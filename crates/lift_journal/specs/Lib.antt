@@ -5,6 +5,7 @@ pub mod Steps
 pub mod Calls
 pub mod Stops
 pub mod Journal
+pub mod Laws
 pub mod Walk
 pub mod Seen
 pub mod Fronts

@@ -14,6 +14,7 @@ use Rattle.lift_register.specs.Base.{with_records}
 use Rattle.lift_register.specs.Belongs.{BelongsTo}
 use Rattle.lift_journal.specs.declared.fault.JournalFault.{JournalFault}
 use Rattle.lift_journal.specs.declared.fault.JournalFault.TheVariants.{Disk}
+use Rattle.lift_journal.specs.Behind.{RefusedBehind}
 use Rattle.lift_journal.specs.Calls.{opening_of}
 use Rattle.lift_journal.specs.Journal.{ReadsAs}
 use Rattle.lift_journal.specs.Layout.{Batch, records_of, Holds, Picks}
@@ -23,11 +24,11 @@ use Rattle.lift_journal.specs.Visits.{TakesAll}
 use Rattle.lift_journal.specs.lemmas.Chains.{all_same}
 use Rattle.lift_keeper.specs.declared.fault.KeeperFault.{KeeperFault}
 use Rattle.lift_keeper.specs.declared.fault.KeeperFault.TheVariants.{Journal, OtherBuilding, BadEntry}
-use Rattle.lift_keeper.specs.Calls.{ReadsAll, StopsOpening}
+use Rattle.lift_keeper.specs.Calls.{ReadsAll, StopsOpening, FailsBy, OpeningCalls, RefusedCalls}
 use Rattle.lift_keeper.specs.Images.{IsImageOf, IsImageIn}
 use Rattle.lift_keeper.specs.Reading.{ReadingState, Reads, reading_from, Gives, GivesNone}
 use Rattle.lift_keeper.specs.Recovery.{RecordFits, with_next, with_all, AllFit, IsFirstMisfit, MakesRegister, entries_of, IsRegisterOf}
-use Rattle.lift_keeper.specs.Reopening.{Reopens, ReadsNow, RefusedFor, FailsBy, RefusesReopening}
+use Rattle.lift_keeper.specs.Reopening.{Reopens, ReadsNow, RefusedFor, RefusesReopening}
 use Rattle.lift_keeper.specs.Writer.{Keeps, Guards}
 use Rattle.lift_keeper.proofs.Guarding.{image_of, keeps_safe, keeps_placed}
 use Rattle.lift_keeper.proofs.Histories.{register_then}
@@ -60,16 +61,66 @@ image_fits plan register image is place misfit =
     let fit : AllFit plan empty (records_of is.reads.batches) = subst (AllFit plan empty) (sym is.reads.joined) (all_fit plan is.base is.entries register is.is is.reads.are_entries) in
     misfit.fails (fit_at plan empty (records_of is.reads.batches) place misfit.misfit misfit.there fit)
 
--- all calls of an opening were made, and no other
-pub all_read : (old new : DiskState) (shape : Shape) (taken : ℕ) → Opens old new shape taken → (is_second : Bool) → LeavesNow new (Picks is_second)
-    → new.trace ≡ old.trace ++ opening_of shape.half is_second taken → ReadsAll old new
-all_read old new shape taken opens is_second picks made = record {
-  half = shape.half;
-  is_second = is_second;
-  taken = taken;
+-- the calls of an opening of a journal, all of them
+module _ (plan : Plan) (old new : DiskState) (shape : Shape) (taken : ℕ) (opens : Opens old new shape taken) (is_second : Bool) (picks : LeavesNow new (Picks is_second))
+    (made : new.trace ≡ old.trace ++ opening_of shape.half is_second taken) where
+  picked : old.is_honest → Picks is_second new.image
+  picked honest = picks (opens.runs.honest.1 honest) new.image (changes_nothing new.is_loose new.image)
+
+  pub opening_calls : OpeningCalls plan old new shape.half is_second taken
+  opening_calls = record {
+    runs = opens.runs;
+    made = made;
+    told = opens.told;
+    image = opens.image;
+    saved = opens.saved;
+    found = λ honest half second count register is.
+        (let same = opens.found honest (shape_of plan half) is.reads.batches is.reads.holds in (
+          ap (λ (s : Shape). s.half) same.0,
+          sym is.picks ∙ picked honest,
+          is.counts ∙ sym same.1,
+        ));
+  }
+
+  all_read : ReadsAll old new
+  all_read = record {
+    half = shape.half;
+    is_second = is_second;
+    taken = taken;
+    made = made;
+    picks = picked;
+    found = λ honest other batches holds. (let same = opens.found honest other batches holds in (sym (ap (λ (s : Shape). s.half) same.0), same.1));
+  }
+
+  -- where its register was refused
+  module _ (reading : ReadingState) where
+    stopped : (fault : KeeperFault) → GivesNone fault plan shape reading → StopsOpening fault old new
+    stopped (Journal fault) none = absurd none
+    stopped OtherBuilding none = all_read
+    stopped (BadEntry place) none = all_read
+
+    told_of : (fault : KeeperFault) → GivesNone fault plan shape reading → FailsBy fault old new
+    told_of (Journal fault) none = absurd none
+    told_of OtherBuilding none = opens.told
+    told_of (BadEntry place) none = opens.told
+
+    pub refused_calls : (fault : KeeperFault) → GivesNone fault plan shape reading → RefusedCalls old new fault
+    refused_calls fault none = record {
+      runs = opens.runs;
+      made = stopped fault none;
+      told = told_of fault none;
+      image = opens.image;
+      saved = opens.saved;
+    }
+
+-- those of one that was refused
+pub journal_calls : (old new : DiskState) (fault : JournalFault) → Refuses old new fault → RefusedBehind fault old new → RefusedCalls old new (Journal fault)
+journal_calls old new fault refuses made = record {
+  runs = refuses.runs;
   made = made;
-  picks = λ honest. picks (opens.runs.honest.1 honest) new.image (changes_nothing new.is_loose new.image);
-  found = λ honest other batches holds. (let same = opens.found honest other batches holds in (sym (ap (λ (s : Shape). s.half) same.0), same.1));
+  told = refuses.told;
+  image = refuses.image;
+  saved = refuses.saved;
 }
 
 module _ (plan : Plan) (old new : DiskState) (shape : Shape) (taken : ℕ) (opens : Opens old new shape taken) where
@@ -134,31 +185,16 @@ module _ (plan : Plan) (old new : DiskState) (shape : Shape) (taken : ℕ) (open
         keeps = kept;
       }
 
-      found : old.is_honest → (half : ℕ) (second : Bool) (count : ℕ) (other : RegisterState) → IsImageIn plan half second count other new.image
-          → (half ≡ shape.half) × (second ≡ is_second) × (count ≡ taken) × (other ≡ register)
-      found honest half second count other is =
-          let same = opens.found honest (shape_of plan half) is.reads.batches is.reads.holds in (
-            ap (λ (s : Shape). s.half) same.0,
-            sym is.picks ∙ picks (opens.runs.honest.1 honest) new.image here,
-            is.counts ∙ sym same.1,
-            only honest other (image_of plan half second count other new.image is),
-          )
-
       pub reopens : Reopens plan old new register shape.half is_second taken
       reopens = record {
         moments = opens.moments;
-        runs = opens.runs;
         writes = opens.writes;
-        image = opens.image;
-        saved = opens.saved;
         failures = opens.failures;
-        told = opens.told;
         synced = opens.synced;
         seen = opens.seen;
         safe = keeps_safe plan shape is_second taken register new kept;
         only = only;
         placed = keeps_placed plan shape is_second taken register new kept;
-        found = found;
       }
 
     -- a journal that has opened, and gives no register
@@ -183,11 +219,6 @@ module _ (plan : Plan) (old new : DiskState) (shape : Shape) (taken : ℕ) (open
           )),
     )
 
-    told_of : (fault : KeeperFault) → GivesNone fault plan shape reading → FailsBy fault old new
-    told_of (Journal fault) none = absurd none
-    told_of OtherBuilding none = opens.told
-    told_of (BadEntry place) none = opens.told
-
     good_of : (fault : KeeperFault) → GivesNone fault plan shape reading → old.is_honest → (register : RegisterState) → IsImageOf plan register new.image → fault ≡ Journal Disk
     good_of (Journal fault) none honest register image = absurd none
     good_of OtherBuilding none honest register image =
@@ -200,30 +231,16 @@ module _ (plan : Plan) (old new : DiskState) (shape : Shape) (taken : ℕ) (open
     pub refused_reading : (fault : KeeperFault) → GivesNone fault plan shape reading → RefusesReopening plan old new fault
     refused_reading fault none = record {
       moments = opens.moments;
-      runs = opens.runs;
       writes = opens.writes;
-      image = opens.image;
-      saved = opens.saved;
       cause = cause_of fault none;
-      told = told_of fault none;
       good = good_of fault none;
     }
-
--- one that has opened, and whose register was refused
-pub stopped_reading : (plan : Plan) (shape : Shape) (reading : ReadingState) (old new : DiskState) (fault : KeeperFault) → GivesNone fault plan shape reading → ReadsAll old new → StopsOpening fault old new
-stopped_reading plan shape reading old new (Journal fault) none read = absurd none
-stopped_reading plan shape reading old new OtherBuilding none read = read
-stopped_reading plan shape reading old new (BadEntry place) none read = read
 
 -- a journal that was refused
 pub refused_journal : (plan : Plan) (old new : DiskState) (fault : JournalFault) → Refuses old new fault → RefusesReopening plan old new (Journal fault)
 refused_journal plan old new fault refuses = record {
   moments = refuses.moments;
-  runs = refuses.runs;
   writes = refuses.writes;
-  image = refuses.image;
-  saved = refuses.saved;
   cause = refuses.cause;
-  told = refuses.told;
   good = λ honest register is. ap (λ (f : JournalFault). Journal f) (refuses.good honest (shape_of plan is.half) is.reads.batches is.reads.holds);
 }

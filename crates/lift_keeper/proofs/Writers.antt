@@ -71,12 +71,12 @@ module _ {D : Type 0} (plan : Plan) (journal : JournalView D) (register : Regist
         by_state true is = writer.leaves is honest left leaves
         by_state false is = inl (safe_of is honest left leaves)
 
-    module _ (after : JournalView D) (new : DiskState) (fault : KeeperFault) (refuses : RefusesReopening plan disk new fault) (counts : CountsNow new) where
+    module _ (after : JournalView D) (new : DiskState) (fault : KeeperFault) (refuses : RefusesReopening plan disk new fault) (runs : disk.failures ≤ new.failures) (counts : CountsNow new) where
       left_now : new.is_honest → (left : Image) → MayLeave new left → MayLeave disk left
       left_now honest_new left now = now_after disk new (MayLeave disk) refuses.moments counts honest_new left now
 
       still_doubt : LeavesNow new (IsInDoubt plan register doubt)
-      still_doubt honest_new left now = doubt_of (refuses.runs.honest.0 honest_new) left (left_now honest_new left now)
+      still_doubt honest_new left now = doubt_of (refuses.moments.honest.0 honest_new) left (left_now honest_new left now)
 
       -- an opening at which a call failed
       pub failed_opening : (now_broken : Bool) → now_broken ≡ true → fault ≡ Journal Disk → IsWriter plan after register doubt opened now_broken new
@@ -99,12 +99,12 @@ module _ {D : Type 0} (plan : Plan) (journal : JournalView D) (register : Regist
         lawful = writer.lawful;
         belongs = writer.belongs;
         balanced = writer.balanced;
-        counted = omega (arith, writer.counted, refuses.runs.failures);
-        failed = λ broken. omega (arith, writer.failed broken, refuses.runs.failures);
+        counted = omega (arith, writer.counted, runs);
+        failed = λ broken. omega (arith, writer.failed broken, runs);
         whole = whole;
         settled = writer.settled;
         keeps = λ sound honest_new.
-            (let honest = refuses.runs.honest.0 honest_new in
+            (let honest = refuses.moments.honest.0 honest_new in
             let now = left_now honest_new new.image (changes_nothing new.is_loose new.image) in
             absurd (other (refuses.good honest register (safe_of sound honest new.image now))));
         leaves = λ _. still_doubt;
@@ -117,7 +117,7 @@ module _ {D : Type 0} (plan : Plan) (journal : JournalView D) (register : Regist
     -- an honest device is refused for a failed call alone
     pub refused_good : (new : DiskState) (fault : KeeperFault) → RefusesReopening plan disk new fault → CountsNow new → disk.is_honest → fault ≡ Journal Disk
     refused_good new fault refuses counts honest =
-        let now = now_after disk new (MayLeave disk) refuses.moments counts (refuses.runs.honest.1 honest) new.image (changes_nothing new.is_loose new.image) in
+        let now = now_after disk new (MayLeave disk) refuses.moments counts (refuses.moments.honest.1 honest) new.image (changes_nothing new.is_loose new.image) in
         ⊎_elim (λ is. refuses.good honest register is) (λ is. refuses.good honest (register_of register doubt) is) (doubt_of honest new.image now)
 
     -- what an opening gives

@@ -1,13 +1,22 @@
--- Which calls of the device an opening makes: no sector is named.
-use Rattle.std.specs.Prelude.{◌≡◌, ◌++◌, ℕ, Bool, List}
+-- Which calls of the device a commit or an opening makes, how many, and what a stopped one leaves: no
+-- sector is named. Nothing of this is needed to know which register is safe.
+use Rattle.std.specs.Prelude.{◌≡◌, ◌++◌, ℕ, Bool, List, Result, Err, IfErr, OnOk}
 use Rattle.lift_base.specs.declared.history.Shape.{Shape}
-use Rattle.lift_disk.specs.Disk.{DiskState}
+use Rattle.lift_building.specs.Plan.{Plan}
+use Rattle.lift_disk.specs.Disk.{DiskState, KeepsImage, RunsOn}
+use Rattle.lift_register.specs.Register.{RegisterState}
+use Rattle.lift_journal.specs.declared.fault.JournalFault.TheVariants.{Disk}
 use Rattle.lift_journal.specs.Behind.{RefusedBehind}
 use Rattle.lift_journal.specs.Calls.{opening_of}
 use Rattle.lift_journal.specs.Layout.{Batch, Holds, Picks, used}
+use Rattle.lift_journal.specs.Steps.{Makes, SavesAsRead}
+use Rattle.lift_journal.specs.Told.{NoneFails, FailsBy as JournalFailsBy}
 use Rattle.lift_keeper.specs.declared.fault.KeeperFault.{KeeperFault}
 use Rattle.lift_keeper.specs.declared.fault.KeeperFault.TheVariants.{Journal, OtherBuilding}
 use Rattle.lift_keeper.specs.declared.fault.KeeperFault.TheVariants.{BadEntry}
+use Rattle.lift_keeper.specs.Images.{IsImageIn}
+use Rattle.lift_keeper.specs.Writer.{WriterView, StopsCommit, commit_calls, commit_writes}
+use Rattle.lift_keeper.specs.Writer.{commit_used, commit_second}
 
 -- A journal was opened and read to its end, with no other call: a half of so many sectors, which of
 -- the two it is, and how many of its sectors are used.
@@ -27,3 +36,62 @@ abbrev pub StopsOpening : KeeperFault → DiskState → DiskState → Type 0
 StopsOpening (Journal fault) old new = RefusedBehind fault old new
 StopsOpening OtherBuilding old new = ReadsAll old new
 StopsOpening (BadEntry place) old new = ReadsAll old new
+
+-- which call has failed: the last, just where the fault is of the device
+abbrev pub FailsBy : KeeperFault → DiskState → DiskState → Type 0
+FailsBy (Journal fault) old new = JournalFailsBy fault old new
+FailsBy OtherBuilding old new = NoneFails old new
+FailsBy (BadEntry place) old new = NoneFails old new
+
+-- A commit of so many entries: it makes no call for none, else those of an append, and of a
+-- checkpoint where room is wanted.
+pub record CommitCalls {D T : Type 0} (state : D → DiskState) (old : WriterView D) (count : ℕ)
+    (new : WriterView D) (result : Result T KeeperFault) : Type 0 where
+  pub runs : RunsOn (state old.device) (state new.device)
+  pub made : Makes result (commit_calls old.register old.used old.half count)
+      (commit_writes old.register old.used old.half count) (state old.device) (state new.device)
+  pub used : OnOk result (new.used ≡ commit_used old.register old.used old.half count)
+  pub second : OnOk result (new.is_second ≡ commit_second old.is_second old.used old.half count)
+  pub told_ok : OnOk result (NoneFails (state old.device) (state new.device))
+  pub told : IfErr result (λ fault. FailsBy fault (state old.device) (state new.device))
+  -- where a device stopped it that changes no byte in a failed call, the number of calls says what
+  -- each cut leaves
+  pub stops : result ≡ Err (Journal Disk) → (state old.device).is_honest
+      → (state old.device).is_inert
+      → StopsCommit old.plan old.half old.is_second old.used old.register new.doubt
+      (state old.device) (state new.device)
+
+-- An opening that found a half of so many sectors, which of the two it is, and how many of its
+-- sectors are used: it makes the calls of its journal's opening, and no other.
+pub record OpeningCalls (plan : Plan) (old new : DiskState) (half : ℕ) (is_second : Bool)
+    (taken : ℕ) : Type 0 where
+  pub runs : RunsOn old new
+  pub made : new.trace ≡ old.trace ++ opening_of half is_second taken
+  pub told : NoneFails old new
+  -- an inert device reads as before, and what its last sync saved is what was saved before, or what
+  -- is read
+  pub image : KeepsImage old new
+  pub saved : SavesAsRead old new
+  -- no register is anywhere else in the image that is read
+  pub found : old.is_honest → (length : ℕ) (second : Bool) (count : ℕ) (register : RegisterState)
+      → IsImageIn plan length second count register new.image
+      → (length ≡ half) × (second ≡ is_second) × (count ≡ taken)
+
+-- one that was refused for this fault: it makes as many of these calls as that took
+pub record RefusedCalls (old new : DiskState) (fault : KeeperFault) : Type 0 where
+  pub runs : RunsOn old new
+  pub made : StopsOpening fault old new
+  pub told : FailsBy fault old new
+  pub image : KeepsImage old new
+  pub saved : SavesAsRead old new
+
+-- an opening of a writer
+abbrev pub OpensByCalls : {D : Type 0} → (D → DiskState) → DiskState → WriterView D → Type 0
+OpensByCalls state old writer =
+    OpeningCalls writer.plan old (state writer.device) writer.half writer.is_second writer.used
+
+-- a reopening, whatever it answers
+pub record ReopeningCalls {D T : Type 0} (state : D → DiskState) (old new : WriterView D)
+    (result : Result T KeeperFault) : Type 0 where
+  pub opens : OnOk result (OpensByCalls state (state old.device) new)
+  pub refused : IfErr result (λ fault. RefusedCalls (state old.device) (state new.device) fault)

@@ -1,12 +1,10 @@
 -- What a reopening does to a writer, whatever it answers.
-use Rattle.std.specs.Prelude.{◌≡◌, ◌⊎◌, ◌++◌, true, false, [], Result, Err, IfErr, OnOk, OnErr}
+use Rattle.std.specs.Prelude.{◌≡◌, ◌⊎◌, true, false, [], Result, Err, IfErr, OnOk, OnErr}
 use Rattle.lift_disk.specs.Disk.{DiskState, LeavesOnly}
 use Rattle.lift_register.specs.Register.{register_of}
 use Rattle.lift_journal.specs.declared.fault.JournalFault.TheVariants.{Disk}
-use Rattle.lift_journal.specs.Calls.{opening_of}
 use Rattle.lift_keeper.specs.declared.fault.KeeperFault.{KeeperFault}
 use Rattle.lift_keeper.specs.declared.fault.KeeperFault.TheVariants.{Journal}
-use Rattle.lift_keeper.specs.Calls.{StopsOpening}
 use Rattle.lift_keeper.specs.Images.{IsInDoubt}
 use Rattle.lift_keeper.specs.Reopening.{Reopens, RefusesReopening}
 use Rattle.lift_keeper.specs.Writer.{WriterView}
@@ -39,8 +37,3 @@ pub record Recovers {D T : Type 0} (state : D → DiskState) (old new : WriterVi
   pub place : OnErr result ((new.half ≡ old.half) × (new.is_second ≡ old.is_second)
       × (new.used ≡ old.used))
   pub plan : new.plan ≡ old.plan
-  -- the opening of its journal, and no other call; where it is refused, as far as that came
-  pub calls : OnOk result ((state new.device).trace
-      ≡ (state old.device).trace ++ opening_of new.half new.is_second new.used)
-  pub calls_before : IfErr result (λ fault.
-      StopsOpening fault (state old.device) (state new.device))

@@ -1,6 +1,6 @@
 //! Decisions, and the batch that makes them safe.
 
-ghost use Rattle.std.specs.Prelude.{◌≡◌, ◌<◌, ◌≤◌, ◌+◌, ◌++◌, ◌⊎◌, ◌↔◌, [], length, true, false, Ok};
+ghost use Rattle.std.specs.Prelude.{◌≡◌, ◌<◌, ◌≤◌, ◌+◌, ◌⊎◌, ◌↔◌, [], length, true, false, Ok};
 ghost use Rattle.std.specs.Prelude.{Err, IfOk, IfErr, OnOk, OnErr};
 ghost use Rattle.lift_disk.specs.Disk.{LeavesNow};
 ghost use Rattle.lift_register.specs.Prelude.{register_of, BelongsTo, IsBalanced, IsWellFormed};
@@ -8,8 +8,8 @@ ghost use Rattle.lift_policy.specs.View.{positions_of, AreSchedulesOf};
 ghost use Rattle.lift_policy.specs.Step.{Step, view_of};
 ghost use Rattle.lift_decider.specs.Decider.{starting, IsPossible};
 ghost use Rattle.lift_keeper.specs.Prelude.{IsImageOf, IsImageIn, IsInDoubt, Commits, Recovers};
-ghost use Rattle.lift_keeper.specs.Prelude.{Reopens, RefusesReopening, StopsOpening};
-ghost use Rattle.lift_journal.specs.Calls.{opening_of};
+ghost use Rattle.lift_keeper.specs.Prelude.{Opens, RefusesReopening, CommitCalls, OpensByCalls};
+ghost use Rattle.lift_keeper.specs.Prelude.{RefusedCalls, ReopeningCalls};
 
 use crate::copies::copy_of;
 use crate::fault::KeeperFault;
@@ -47,26 +47,18 @@ impl<'b, D: Disk> Keeper<'b, D> {
     /// recovery. It writes nothing. No car has told where it is. An `Err` hands the device back.
     ///
     /// `Journal` with the journal's faults 1 to 3, then `OtherBuilding`, then `BadEntry`;
-    /// `Journal(Disk)` comes at the call that failed.
+    /// `Journal(Disk)` where a call of the device failed: of an inert one that was the last.
     pub fn open(disk: D, building: &'b Building) -> Result<Self, (D, KeeperFault)>
         ensures opens { IfOk result (λ keeper.
-            Reopens building.now (D.state disk)
-            (D.state keeper.writer.device) keeper.writer.register keeper.writer.half
-            keeper.writer.is_second keeper.writer.used) }
+            Opens D.state building.now (D.state disk) keeper.writer) }
         ensures state { IfOk result (λ keeper. keeper.state ≡ starting keeper.writer.register) }
-        ensures plan { IfOk result (λ keeper. keeper.writer.plan ≡ building.now) }
-        ensures whole { IfOk result (λ keeper. (keeper.writer.is_broken ≡ false)
-            × (keeper.writer.doubt ≡ [])) }
-        ensures opened { IfOk result (λ keeper.
-            keeper.writer.opened ≡ (D.state keeper.writer.device).failures) }
         ensures refused { IfErr result (λ err.
             RefusesReopening building.now (D.state disk) (D.state err.0) err.1) }
         // The opening of its journal, and no other call; where it is refused, as far as that came.
-        ensures calls { IfOk result (λ keeper. (D.state keeper.writer.device).trace
-            ≡ (D.state disk).trace ++ opening_of
-            keeper.writer.half keeper.writer.is_second keeper.writer.used) }
+        ensures calls { IfOk result (λ keeper.
+            OpensByCalls D.state (D.state disk) keeper.writer) }
         ensures calls_before { IfErr result (λ err.
-            StopsOpening err.1 (D.state disk) (D.state err.0)) }
+            RefusedCalls (D.state disk) (D.state err.0) err.1) }
     {
         match Writer::open(disk, building) {
             Ok(writer) => {
@@ -177,6 +169,8 @@ impl<'b, D: Disk> Keeper<'b, D> {
     pub fn commit(&mut self) -> Result<(), KeeperFault>
         ensures commits { Commits
             D.state self.old.writer self.old.state.batch self.new.writer result }
+        ensures calls { CommitCalls
+            D.state self.old.writer (length self.old.state.batch) self.new.writer result }
         // What is safe at Ok is what it shows.
         ensures register { OnOk result (self.new.writer.register ≡ self.old.state.register) }
         ensures begins { OnOk result (self.new.state ≡ record self.old.state { batch = [] }) }
@@ -193,6 +187,7 @@ impl<'b, D: Disk> Keeper<'b, D> {
     /// where it would have gone before.
     pub fn reopen(&mut self) -> Result<(), KeeperFault>
         ensures recovers { Recovers D.state self.old.writer self.new.writer result }
+        ensures calls { ReopeningCalls D.state self.old.writer self.new.writer result }
         ensures state { OnOk result (self.new.state ≡ starting self.new.writer.register) }
         ensures unmoved { OnErr result (self.new.state ≡ self.old.state) }
     {

@@ -1,12 +1,13 @@
 //! The safe register, and the journal that it is safe in.
 
-ghost use Rattle.std.specs.Prelude.{◌≡◌, ◌<◌, ◌++◌, ◌⊎◌, [], true, false};
+ghost use Rattle.std.specs.Prelude.{◌≡◌, ◌<◌, ◌⊎◌, [], length, true, false};
 ghost use Rattle.std.specs.Prelude.{IfOk, IfErr, OnOk, OnErr};
 ghost use Rattle.lift_disk.specs.Disk.{LeavesNow};
 ghost use Rattle.lift_register.specs.Prelude.{FitFrom, BelongsTo, IsBalanced, IsWellFormed};
 ghost use Rattle.lift_keeper.specs.Prelude.{IsImageOf, IsImageIn, IsInDoubt, Commits, Recovers};
-ghost use Rattle.lift_keeper.specs.Prelude.{Reopens, RefusesReopening, StopsOpening};
-ghost use Rattle.lift_journal.specs.Calls.{opening_of};
+ghost use Rattle.lift_keeper.specs.Prelude.{Reopens, Opens, RefusesReopening};
+ghost use Rattle.lift_keeper.specs.Calls.{CommitCalls, OpeningCalls, OpensByCalls, RefusedCalls};
+ghost use Rattle.lift_keeper.specs.Calls.{ReopeningCalls};
 ghost use Rattle.lift_keeper.specs.Writer.{Guards};
 
 use crate::copies::{apply_all, put_records};
@@ -65,21 +66,16 @@ impl<'b, D: Disk> Writer<'b, D> {
     /// writes nothing. An `Err` hands the device back.
     ///
     /// `Journal` with the journal's faults 1 to 3, then `OtherBuilding`, then `BadEntry`;
-    /// `Journal(Disk)` comes at the call that failed.
+    /// `Journal(Disk)` where a call of the device failed: of an inert one that was the last.
     pub fn open(disk: D, building: &'b Building) -> Result<Self, (D, KeeperFault)>
         ensures opens { IfOk result (λ writer.
-            Reopens building.now (D.state disk) (D.state writer.device) writer.register writer.half
-            writer.is_second writer.used) }
-        ensures plan { IfOk result (λ writer. writer.plan ≡ building.now) }
-        ensures whole { IfOk result (λ writer. (writer.is_broken ≡ false) × (writer.doubt ≡ [])) }
-        ensures opened { IfOk result (λ writer. writer.opened ≡ (D.state writer.device).failures) }
+            Opens D.state building.now (D.state disk) writer) }
         ensures refused { IfErr result (λ err.
             RefusesReopening building.now (D.state disk) (D.state err.0) err.1) }
         // The opening of its journal, and no other call; where it is refused, as far as that came.
-        ensures calls { IfOk result (λ writer. (D.state writer.device).trace
-            ≡ (D.state disk).trace ++ opening_of writer.half writer.is_second writer.used) }
+        ensures calls { IfOk result (λ writer. OpensByCalls D.state (D.state disk) writer) }
         ensures calls_before { IfErr result (λ err.
-            StopsOpening err.1 (D.state disk) (D.state err.0)) }
+            RefusedCalls (D.state disk) (D.state err.0) err.1) }
     {
         let mut reading = Reading::new(building);
         let journal = match Journal::open_with(disk, &mut reading) {
@@ -138,6 +134,7 @@ impl<'b, D: Disk> Writer<'b, D> {
         requires fits { self.old.is_broken ≡ false
             → FitFrom self.old.plan self.old.register batch.now.items }
         ensures commits { Commits D.state self.old batch.now.items self.new result }
+        ensures calls { CommitCalls D.state self.old (length batch.now.items) self.new result }
     {
         if self.is_broken {
             return Err(KeeperFault::Journal(JournalFault::Broken));
@@ -165,6 +162,7 @@ impl<'b, D: Disk> Writer<'b, D> {
     /// where it would have gone before.
     pub fn reopen(&mut self) -> Result<(), KeeperFault>
         ensures recovers { Recovers D.state self.old self.new result }
+        ensures calls { ReopeningCalls D.state self.old self.new result }
     {
         match reopened(&mut self.journal, self.building) {
             Ok(register) => {
@@ -230,11 +228,11 @@ fn reopened<D: Disk>(journal: &mut Journal<D>, building: &Building) -> Result<Re
     ensures unmoved { OnErr result ((journal.new.shape ≡ journal.old.shape)
         × (journal.new.is_second ≡ journal.old.is_second) × (journal.new.used ≡ journal.old.used)) }
     ensures number { OnErr result (journal.new.number ≡ journal.old.number) }
-    ensures calls { OnOk result ((D.state journal.new.device).trace
-        ≡ (D.state journal.old.device).trace
-        ++ opening_of journal.new.shape.half journal.new.is_second journal.new.used) }
+    ensures calls { OnOk result
+        (OpeningCalls building.now (D.state journal.old.device) (D.state journal.new.device)
+        journal.new.shape.half journal.new.is_second journal.new.used) }
     ensures calls_before { IfErr result (λ fault.
-        StopsOpening fault (D.state journal.old.device) (D.state journal.new.device)) }
+        RefusedCalls (D.state journal.old.device) (D.state journal.new.device) fault) }
 {
     let mut reading = Reading::new(building);
     let former = match journal.reopen_from(&mut reading) {

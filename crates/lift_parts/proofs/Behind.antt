@@ -73,11 +73,11 @@ module _ {D : Type 0} (state : D → DiskState) (old : WriterView D) (batch : Li
       subst (λ (p : Plan × RegisterState × List Entry). IsInDoubt p.0 p.1 p.2 left) (λ i. (sym plan i, sym register i, sym doubt i)) (leaves honest left may)
 
   by_fault : (fault : KeeperFault) → Commits {T = FlushCounts} state old batch new (failing fault) → (fault ≡ Journal Disk) ⊎ (fault ≡ Journal Broken) → LeavesSafe old (state old.device) → LeavesSafe new (state new.device)
-  by_fault fault c (inl is) leaves = left_in_doubt c.same.0 c.unmoved (c.doubts (ap failing is)) (c.in_doubt (ap failing is))
+  by_fault fault c (inl is) leaves = left_in_doubt c.same.0 c.unmoved (c.doubts (ap failing is)) (c.safe.in_doubt (ap failing is))
   by_fault fault c (inr is) leaves = subst (λ (w : WriterView D). LeavesSafe w (state w.device)) (sym (c.rests (c.broken.0 (ap failing is)))) leaves
 
   leaves_by : (result : Result FlushCounts KeeperFault) → Commits {T = FlushCounts} state old batch new result → LeavesSafe old (state old.device) → LeavesSafe new (state new.device)
-  leaves_by (Ok counts) c leaves = left_safe c.same.0 (register_of old.register batch) c.register c.acknowledged
+  leaves_by (Ok counts) c leaves = left_safe c.same.0 (register_of old.register batch) c.safe.register c.safe.acknowledged
   leaves_by (Err fault) c leaves = by_fault fault c c.causes leaves
 
 pub leaves_behind : {D : Type 0} (state : D → DiskState) (f g : FlusherState D) (answer : Result FlushCounts KeeperFault)
@@ -121,9 +121,9 @@ module _ {D : Type 0} (state : D → DiskState) (crashes : CrashesKeep D) (law :
         ∙ (subst (λ (r : Result FlushCounts KeeperFault). OnOk r ((g.writer.is_broken ≡ false) × (g.writer.doubt ≡ []))) (e.whole whole) c.is.stays).1
 
     moments : (b : Bool) → f.writer.is_broken ≡ b → LeavesOnly old new (IsInDoubt plan register f.writer.doubt)
-    moments true broken = c.is.while_broken broken
+    moments true broken = c.is.safe.while_broken broken
     moments false whole =
-        subst (λ (xs : List Entry). LeavesOnly old new (IsInDoubt plan register xs)) (none_between ∙ sym (no_doubt whole)) (c.is.any_moment whole)
+        subst (λ (xs : List Entry). LeavesOnly old new (IsInDoubt plan register xs)) (none_between ∙ sym (no_doubt whole)) (c.is.safe.any_moment whole)
 
     same_received : g.end.received ≡ f.end.received ++ []
     same_received = ap (λ (x : FlusherState D). x.end.received) e.same ∙ sym (append-nil f.end.received)
@@ -380,7 +380,7 @@ module _ {D : Type 0} (state : D → DiskState) (crashes : CrashesKeep D) (law :
         batch = f.writer.doubt;
         while_whole = λ whole. both f.writer.is_broken whole broken;
         while_broken = λ still. refl;
-        stands = law (group_behind f) f.writer.doubt g.writer.device (inl refl) (c.is.while_broken broken) base safe given h;
+        stands = law (group_behind f) f.writer.doubt g.writer.device (inl refl) (c.is.safe.while_broken broken) base safe given h;
         now = lost_now (TurnedWhileBroken h (answers_unknown broken));
       }
 

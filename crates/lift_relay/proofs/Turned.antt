@@ -20,10 +20,10 @@ use Rattle.lift_parts.specs.Flusher.{FlusherState, IsFlusher, IsEmptyTurn, IsBat
 use Rattle.lift_parts.specs.Turns.{IsFlush}
 use Rattle.lift_relay.specs.Settler.{SettlerState, Settles}
 
-none_between : (old new : ReceiveState) (tries : Tries) → new ≡ record old { tries = tries } → 0 ≡ entries_between old new
+pub none_between : (old new : ReceiveState) (tries : Tries) → new ≡ record old { tries = tries } → 0 ≡ entries_between old new
 none_between old new tries same = sym (ap (λ (r : ReceiveState). entries_of (drop (length old.received) r.received)) same ∙ ap entries_of (drop-length old.received))
 
-one_between : (old new : ReceiveState) (batch : BatchState) → new.received ≡ old.received ++ batch ∷ [] → entries_between old new ≡ length batch.entries
+pub one_between : (old new : ReceiveState) (batch : BatchState) → new.received ≡ old.received ++ batch ∷ [] → entries_between old new ≡ length batch.entries
 one_between old new batch receives =
     let seam : entries_between old new ≡ length batch.entries + 0 =
     ap (λ (l : List BatchState). entries_of (drop (length old.received) l)) receives ∙ ap entries_of (drop-append_seam old.received (batch ∷ [])) in
@@ -52,7 +52,7 @@ module _ {D : Type 0} (state : D → DiskState) (f g : FlusherState D) (is_flush
           commits = record {
             batch = [];
             counted = sym (none_between f.end g.end (tried f.end.tries true) end);
-            leads = λ whole. ap (λ (r : ReceiveState). r.state.register) end ∙ sym (is_flusher.safe whole) ∙ sym (ap (λ (w : WriterView D). w.register) nothing.1) ∙ c.register;
+            leads = λ whole. ap (λ (r : ReceiveState). r.state.register) end ∙ sym (is_flusher.safe whole) ∙ sym (ap (λ (w : WriterView D). w.register) nothing.1) ∙ c.safe.register;
             is = c;
           };
           same = (desk, ap (λ (r : ReceiveState). r.line) end);
@@ -98,7 +98,7 @@ half_of f = record { desk = f.desk; seat = f.seat; writer = f.writer }
 pub leads_to : {D : Type 0} (state : D → DiskState) (old new : WriterView D) (batch : BatchState) (answer : Result FlushCounts KeeperFault) → IsDecided batch
     → (old.is_broken ≡ false → (batch.building ≡ old.plan) × (batch.before.register ≡ old.register)) → Commits state old batch.entries new answer → new.is_broken ≡ false → new.register ≡ batch.after.register
 leads_to state old new batch (Ok counts) is next c whole =
-    let was = whole_before state old batch.entries new (Ok counts) c (λ is. cc) in c.register ∙ ap (λ r. register_of r batch.entries) (sym (next was).1) ∙ sym is.shows
+    let was = whole_before state old batch.entries new (Ok counts) c (λ is. cc) in c.safe.register ∙ ap (λ r. register_of r batch.entries) (sym (next was).1) ∙ sym is.shows
 leads_to state old new batch (Err fault) is next c whole = absurd (let broken = c.breaks in cc)
 
 -- a batch that was received and settled

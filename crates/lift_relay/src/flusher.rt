@@ -6,10 +6,11 @@ ghost use Rattle.lift_desk.specs.Rule.{IsInOrder};
 ghost use Rattle.lift_desk.specs.Seats.{IsClerkOf, IsSeatOf, OwesNothing, seat_with, clerk_with};
 ghost use Rattle.lift_desk.specs.Seats.{view_at};
 ghost use Rattle.lift_desk.specs.Steps.{with_told_answers, with_told_asks, lists_of};
+ghost use Rattle.lift_keeper.specs.Calls.{CommitCalls};
 ghost use Rattle.lift_parts.specs.Batch.{BatchState};
 ghost use Rattle.lift_parts.specs.Queued.{Queued};
 ghost use Rattle.lift_parts.specs.Parts.{AreOfOne};
-ghost use Rattle.lift_parts.specs.Flusher.{IsFlusher, IsSettled, IsBatchTurn};
+ghost use Rattle.lift_parts.specs.Flusher.{IsFlusher, IsSettled, IsBatchTurn, entries_between};
 ghost use Rattle.lift_parts.specs.Turns.{IsFlush};
 ghost use Rattle.lift_base.specs.declared.history.Entry.{Entry};
 ghost use Rattle.lift_world.specs.declared.event.Taken.{Taken as Held};
@@ -177,6 +178,8 @@ impl<'d, 'b, D: Disk, K> Flusher<'d, 'b, D, K> {
     /// also where the line was empty.
     pub fn turn<R: Wait>(&mut self, rt: &R) -> Result<FlushCounts, KeeperFault>
         ensures flushes { IsFlush D.state self.old self.new result }
+        ensures calls { CommitCalls D.state self.old.writer
+            (entries_between self.old.end self.new.end) self.new.writer result }
         // A batch that it was told of, it receives.
         ensures finds { length self.old.end.received < length self.old.end.known
             → (batch : BatchState) × IsBatchTurn self.old self.new batch result }

@@ -5,7 +5,7 @@ ghost use Rattle.lift_desk.specs.Rule.{IsInOrder};
 ghost use Rattle.lift_desk.specs.Seats.{IsClerkOf, IsNoteOf, IsSeatOf, OwesNothing, Says, view_at};
 ghost use Rattle.lift_desk.specs.Seats.{seat_with, clerk_with};
 ghost use Rattle.lift_desk.specs.Steps.{with_told_answers, with_told_asks, lists_of};
-ghost use Rattle.lift_keeper.specs.Commits.{Commits};
+ghost use Rattle.lift_keeper.specs.Prelude.{Commits, CommitCalls};
 ghost use Rattle.lift_clerk.specs.Visits.{Visit};
 ghost use Rattle.lift_parts.specs.Batch.{turns_behind, turns_with};
 ghost use Rattle.lift_parts.specs.Flusher.{AnswersOne, Answered, IsSettled};
@@ -111,6 +111,7 @@ fn owes(desk: &Desk, seat: &ClerkSeat) -> bool
 /// The commit of a turn that received no batch.
 fn commit_nothing<D: Disk>(writer: &mut Writer<'_, D>) -> Result<FlushCounts, KeeperFault>
     ensures commits { Commits D.state writer.old [] writer.new result }
+    ensures calls { CommitCalls D.state writer.old 0 writer.new result }
     ensures counts { IfOk result (λ counts. counts ≡ record { batches = 0; answers = 0 }) }
     ensures same { writer.new ≡ writer.old }
 {
@@ -148,7 +149,9 @@ impl<'d, 'b, D: Disk, K> Settler<'d, 'b, D, K> {
             → (batch.building ≡ self.old.writer.plan)
             × (batch.before.register ≡ self.old.writer.register) }
         requires settled { IsSettled self.old.seat batch.turns }
-        ensures { Settles D.state self.old batch self.new result }
+        ensures settles { Settles D.state self.old batch self.new result }
+        ensures calls { CommitCalls
+            D.state self.old.writer (length batch.entries) self.new.writer result }
     {
         let committed = self.writer.commit(batch.entries());
         match committed {
@@ -190,6 +193,7 @@ impl<'d, 'b, D: Disk, K> Settler<'d, 'b, D, K> {
     /// What is answered where there is no batch: `Journal(Broken)` while it is broken.
     pub fn rest(&mut self) -> Result<FlushCounts, KeeperFault>
         ensures commits { Commits D.state self.old.writer [] self.new.writer result }
+        ensures calls { CommitCalls D.state self.old.writer 0 self.new.writer result }
         ensures counts { IfOk result (λ counts. counts ≡ record { batches = 0; answers = 0 }) }
         ensures same { self.new ≡ self.old }
     {

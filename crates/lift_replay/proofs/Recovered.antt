@@ -15,7 +15,8 @@ use Rattle.lift_journal.specs.declared.fault.JournalFault.TheVariants.{Disk}
 use Rattle.lift_keeper.specs.declared.fault.KeeperFault.{KeeperFault}
 use Rattle.lift_keeper.specs.declared.fault.KeeperFault.TheVariants.{Journal}
 use Rattle.lift_keeper.specs.Images.{IsImageOf, IsInDoubt, IsImageIn}
-use Rattle.lift_keeper.specs.Reopening.{Reopens, RefusesReopening, FailsBy}
+use Rattle.lift_keeper.specs.Calls.{OpensByCalls, RefusedCalls, FailsBy}
+use Rattle.lift_keeper.specs.Reopening.{Reopens, RefusesReopening}
 use Rattle.lift_replay.specs.Group.{GroupState, Found, Stopped, half, left_by, recovered, asking_at, unasked, new_terminals}
 use Rattle.lift_replay.specs.Group.{left_of as left_as}
 use Rattle.lift_replay.specs.Shows.{IsFound, IsInStep, AreInStep, Stands, IsKept, Shows}
@@ -52,10 +53,11 @@ never_fails old new unarmed last = elim (last.last tt) [
 
 -- so an opening over it is not refused where it reads as a register
 pub never_refused : (plan : Plan) (old new : FusedDisk) (fault : KeeperFault) → IsUnarmed (fuse_state_of old)
-    → (register : RegisterState) × IsImageOf plan register (fuse_state_of old).image → RefusesReopening plan (fuse_state_of old) (fuse_state_of new) fault → ⊥
-never_refused plan old new fault unarmed (register, reads) refuses =
-    let of_disk : fault ≡ Journal Disk = refuses.good tt register (subst (IsImageOf plan register) (sym (refuses.image tt tt)) reads) in
-    never_fails old new unarmed (subst (λ f. FailsBy f (fuse_state_of old) (fuse_state_of new)) of_disk refuses.told)
+    → (register : RegisterState) × IsImageOf plan register (fuse_state_of old).image → RefusesReopening plan (fuse_state_of old) (fuse_state_of new) fault
+    → RefusedCalls (fuse_state_of old) (fuse_state_of new) fault → ⊥
+never_refused plan old new fault unarmed (register, reads) refuses calls =
+    let of_disk : fault ≡ Journal Disk = refuses.good tt register (subst (IsImageOf plan register) (sym (calls.image tt tt)) reads) in
+    never_fails old new unarmed (subst (λ f. FailsBy f (fuse_state_of old) (fuse_state_of new)) of_disk calls.told)
 
 pub left_unchanged : (outcome : Outcome) (old new : DiskState) (left : Image) → IsUnchanged old new → IsLeftBy outcome new left → IsLeftBy outcome old left
 left_unchanged Keep old new left same is = is ∙ same.image
@@ -96,17 +98,19 @@ left_reads keeper plan register image is safe in_doubt may = subst (λ p. (other
 -- the keeper that recovers what was found shows just that
 pub kept_of : (plan : Plan) (f : Found) (disk : FusedDisk) (keeper : KeeperView FusedDisk) → IsFound plan f (fuse_state_of disk).image
     → Reopens plan (fuse_state_of disk) (fuse_state_of keeper.writer.device) keeper.writer.register keeper.writer.half keeper.writer.is_second keeper.writer.used
-    → (fuse_state_of keeper.writer.device).image ≡ (fuse_state_of disk).image → IsUnarmed (fuse_state_of keeper.writer.device) → keeper.state ≡ starting keeper.writer.register
+    → OpensByCalls fuse_state_of (fuse_state_of disk) keeper.writer → (fuse_state_of keeper.writer.device).image ≡ (fuse_state_of disk).image → IsUnarmed (fuse_state_of keeper.writer.device) → keeper.state ≡ starting keeper.writer.register
     → keeper.writer.plan ≡ plan → (keeper.writer.is_broken ≡ false) × (keeper.writer.doubt ≡ []) → IsKept plan (recovered plan f) keeper
-kept_of plan f disk keeper found opens image unarmed state of_plan whole =
-    let is = opens.found tt half f.is_second f.used f.register (subst (IsFound plan f) (sym image) found) in
+kept_of plan f disk keeper found opens calls image unarmed state of_plan whole =
+    let here : IsImageIn plan half f.is_second f.used f.register (fuse_state_of keeper.writer.device).image = subst (IsFound plan f) (sym image) found in
+    let is = calls.found tt half f.is_second f.used f.register (subst (λ (p : Plan). IsImageIn p half f.is_second f.used f.register (fuse_state_of keeper.writer.device).image) (sym of_plan) here) in
+    let same = opens.only tt f.register (record { half = half; base = here.base; entries = here.entries; reads = here.reads; is = here.is }) in
     record {
       same_plan = of_plan;
       half_is = sym is.0;
-      register = sym is.3;
+      register = sym same;
       stands = (
         whole.0,
-        state ∙ ap starting (sym is.3),
+        state ∙ ap starting (sym same),
         sym is.2,
         sym is.1,
         record { told = λ call past. ((λ fails. unarmed call past fails), (λ fails. absurd fails)); short = refl },

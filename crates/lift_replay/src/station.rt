@@ -8,7 +8,7 @@ ghost use Rattle.lift_disk.specs.Outcomes.{IsLeftBy};
 ghost use Rattle.lift_register.specs.Register.{RegisterState, empty};
 ghost use Rattle.lift_desk.specs.Seats.{AreSeatsOf, IsClerkOf, OwesNothing, seats_from};
 ghost use Rattle.lift_decider.specs.Decider.{starting};
-ghost use Rattle.lift_keeper.specs.Prelude.{IsImageOf, Reopens};
+ghost use Rattle.lift_keeper.specs.Prelude.{IsImageOf, Reopens, OpensByCalls};
 ghost use Rattle.lift_replay.specs.Group.{GroupState, first_group, left_by, recovered};
 ghost use Rattle.lift_replay.specs.Recovering.{Recovers};
 ghost use Rattle.lift_replay.specs.Shows.{Shows, IsKept};
@@ -46,6 +46,7 @@ fn keeper_over(disk: FuseDisk, building: &Building) -> Keeper<'_, FuseDisk>
         × IsImageOf building.now register (fuse_state_of disk).image }
     ensures opens { Reopens building.now (fuse_state_of disk) (fuse_state_of result.writer.device)
         result.writer.register result.writer.half result.writer.is_second result.writer.used }
+    ensures calls { OpensByCalls fuse_state_of (fuse_state_of disk) result.writer }
     ensures image { (fuse_state_of result.writer.device).image ≡ (fuse_state_of disk).image }
     ensures recovers { Recovers building.now
         (fuse_state_of result.writer.device).image result.writer.register }

@@ -26,7 +26,7 @@ pub moment_of : {D T : Type 0} (state : D → DiskState) (old : WriterView D) (c
 moment_of state old count register new result c whole batch same =
     subst (λ (r : RegisterState). LeavesOnly (state old.device) (state new.device)
     (λ (left : Image). IsImageOf old.plan old.register left ⊎ IsImageOf old.plan r left))
-    (sym (c.leads whole) ∙ same) (c.is.any_moment whole)
+    (sym (c.leads whole) ∙ same) (c.is.safe.any_moment whole)
 
 -- what a turn's contract gives of the machine's turns
 module _ {D P : Type 0} (state : D → DiskState) (choice : Choice) (before after : ClerkState D P) where

@@ -7,6 +7,7 @@ use Rattle.lift_register.specs.Register.{RegisterState}
 use Rattle.lift_journal.specs.declared.fault.JournalFault.TheVariants.{Disk, Broken}
 use Rattle.lift_keeper.specs.declared.fault.KeeperFault.{KeeperFault}
 use Rattle.lift_keeper.specs.declared.fault.KeeperFault.TheVariants.{Journal}
+use Rattle.lift_keeper.specs.Calls.{CommitCalls}
 use Rattle.lift_keeper.specs.Commits.{Commits, CommitsTo}
 use Rattle.lift_keeper.specs.Writer.{WriterView}
 
@@ -15,16 +16,18 @@ module _ {D T U : Type 0} (state : D → DiskState) (old : WriterView D) (batch 
   pub under_ok : (a : T) (b : U) → Commits {D = D} {T = T} state old batch new (Ok a)
       → Commits {D = D} {T = U} state old batch new (Ok b)
   under_ok a b c = record {
-    any_moment = c.any_moment;
-    while_broken = c.while_broken;
-    acknowledged = c.acknowledged;
-    register = c.register;
-    in_doubt = λ is. absurd (cc);
+    safe = record {
+      any_moment = c.safe.any_moment;
+      while_broken = c.safe.while_broken;
+      acknowledged = c.safe.acknowledged;
+      register = c.safe.register;
+      in_doubt = λ is. absurd (cc);
+    };
+    causes = c.causes;
     broken = (λ is. absurd (cc), λ is. (let other = c.broken.1 is in absurd (cc)));
+    failed = λ is. absurd (cc);
     rests = c.rests;
     empty = c.empty;
-    causes = c.causes;
-    failed = λ is. absurd (cc);
     breaks = c.breaks;
     since = c.since;
     doubts = λ is. absurd (cc);
@@ -32,6 +35,46 @@ module _ {D T U : Type 0} (state : D → DiskState) (old : WriterView D) (batch 
     whole = c.whole;
     stays = c.stays;
     same = c.same;
+  }
+
+  pub under_err : (fault : KeeperFault) → Commits {D = D} {T = T} state old batch new (Err fault)
+      → Commits {D = D} {T = U} state old batch new (Err fault)
+  under_err fault c = record {
+    safe = record {
+      any_moment = c.safe.any_moment;
+      while_broken = c.safe.while_broken;
+      acknowledged = c.safe.acknowledged;
+      register = c.safe.register;
+      in_doubt = λ is. (let same : fault ≡ Journal Disk = cc in
+          c.safe.in_doubt (ap (λ (f : KeeperFault). Err f) same));
+    };
+    causes = c.causes;
+    broken = (
+      λ is. (let same : fault ≡ Journal Broken = cc in
+          c.broken.0 (ap (λ (f : KeeperFault). Err f) same)),
+      λ is. (let other = c.broken.1 is in
+          let same : fault ≡ Journal Broken = cc in ap (λ (f : KeeperFault). Err f) same),
+    );
+    failed = λ is. (let same : fault ≡ Journal Disk = cc in
+        c.failed (ap (λ (f : KeeperFault). Err f) same));
+    rests = c.rests;
+    empty = c.empty;
+    breaks = c.breaks;
+    since = c.since;
+    doubts = λ is. (let same : fault ≡ Journal Disk = cc in
+        c.doubts (ap (λ (f : KeeperFault). Err f) same));
+    unmoved = c.unmoved;
+    whole = c.whole;
+    stays = c.stays;
+    same = c.same;
+  }
+
+-- the same of its calls
+module _ {D T U : Type 0} (state : D → DiskState) (old : WriterView D) (count : ℕ)
+    (new : WriterView D) where
+  pub calls_under_ok : (a : T) (b : U) → CommitCalls {D = D} {T = T} state old count new (Ok a)
+      → CommitCalls {D = D} {T = U} state old count new (Ok b)
+  calls_under_ok a b c = record {
     runs = c.runs;
     made = record {
       calls = c.made.calls;
@@ -46,34 +89,10 @@ module _ {D T U : Type 0} (state : D → DiskState) (old : WriterView D) (batch 
     stops = λ is. absurd (cc);
   }
 
-  pub under_err : (fault : KeeperFault) → Commits {D = D} {T = T} state old batch new (Err fault)
-      → Commits {D = D} {T = U} state old batch new (Err fault)
-  under_err fault c = record {
-    any_moment = c.any_moment;
-    while_broken = c.while_broken;
-    acknowledged = c.acknowledged;
-    register = c.register;
-    in_doubt = λ is. (let same : fault ≡ Journal Disk = cc in
-        c.in_doubt (ap (λ (f : KeeperFault). Err f) same));
-    broken = (
-      λ is. (let same : fault ≡ Journal Broken = cc in
-          c.broken.0 (ap (λ (f : KeeperFault). Err f) same)),
-      λ is. (let other = c.broken.1 is in
-          let same : fault ≡ Journal Broken = cc in ap (λ (f : KeeperFault). Err f) same),
-    );
-    rests = c.rests;
-    empty = c.empty;
-    causes = c.causes;
-    failed = λ is. (let same : fault ≡ Journal Disk = cc in
-        c.failed (ap (λ (f : KeeperFault). Err f) same));
-    breaks = c.breaks;
-    since = c.since;
-    doubts = λ is. (let same : fault ≡ Journal Disk = cc in
-        c.doubts (ap (λ (f : KeeperFault). Err f) same));
-    unmoved = c.unmoved;
-    whole = c.whole;
-    stays = c.stays;
-    same = c.same;
+  pub calls_under_err : (fault : KeeperFault)
+      → CommitCalls {D = D} {T = T} state old count new (Err fault)
+      → CommitCalls {D = D} {T = U} state old count new (Err fault)
+  calls_under_err fault c = record {
     runs = c.runs;
     made = record {
       calls = c.made.calls;
@@ -103,7 +122,7 @@ pub safe_register : {D T : Type 0} (state : D → DiskState) (old : WriterView D
     → CommitsTo state old count register new result → OnOk result (new.register ≡ register)
 safe_register state old count register new (Ok a) c =
     let whole = was_whole old.is_broken (λ is. (let other = c.is.broken.1 is in cc)) in
-    c.is.register ∙ sym (c.leads whole)
+    c.is.safe.register ∙ sym (c.leads whole)
 safe_register state old count register new (Err fault) c = tt
 
 -- a commit of no entries, by its answer

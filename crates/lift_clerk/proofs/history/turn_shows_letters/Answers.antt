@@ -14,7 +14,7 @@ returns-clause-advances g c =
     let state = g.D.Disk.state in
     let own = after.keeper in
     turn_advances state c.histories_are_runs.ensures.kept before after (g.P.Policy.chooses before.policy) (c.policies_are_covered.ensures.runs before.policy)
-    (moment_of state before.keeper.writer (entries_in result own) own.state.register own.writer result commits) commits.is.while_broken
+    (moment_of state before.keeper.writer (entries_in result own) own.state.register own.writer result commits) commits.is.safe.while_broken
     (doubt_now state own
     (safe_of state c.keeper.result.now own c.safe_register-safe.result.now c.keeper.ensures.value c.safe_register-safe.ensures.value c.safe_register-safe.ensures.safe)
     (in_doubt_of state c.keeper.result.now own c.safe_register-safe.result.now c.keeper.ensures.value c.safe_register-safe.ensures.value c.safe_register-safe.ensures.in_doubt)

@@ -54,4 +54,4 @@ module _ {D P T : Type 0} (state : D → DiskState) (before after : ClerkState D
 
 pub returns : goal.returns
 returns g c =
-    record { reopening = reopens g.D.Disk.state c.args.clerk.now c.reopen.new.self c.reopen.ensures.same c.reopen.result c.reopen.ensures.recovers c.reopen.ensures.state c.reopen.ensures.unmoved }
+    record { reopening = reopens g.D.Disk.state c.args.clerk.now c.reopen.new.self c.reopen.ensures.same c.reopen.result c.reopen.ensures.recovers c.reopen.ensures.state c.reopen.ensures.unmoved; calls = c.reopen.ensures.calls }

@@ -2,11 +2,11 @@ use Rattle.std.proofs.Common.{sym, ◌∙◌, ap, subst}
 use Rattle.lift_journal.specs.Journal.{JournalView}
 use Rattle.lift_journal.specs.Steps.{ReadsOnly}
 use Rattle.lift_journal.specs.Visits.{TakesAll}
-use Rattle.lift_keeper.specs.Calls.{StopsOpening}
+use Rattle.lift_keeper.specs.Calls.{RefusedCalls}
 use Rattle.lift_keeper.specs.Reading.{ReadingState, Reads}
 use Rattle.lift_keeper.specs.Reopening.{RefusesReopening}
 use Rattle.lift_keeper.proofs.Recovering.{plan_read}
-use Rattle.lift_keeper.proofs.Reopenings.{reopens, guards, all_read, refused_journal, refused_reading, stopped_reading}
+use Rattle.lift_keeper.proofs.Reopenings.{reopens, guards, opening_calls, refused_calls, journal_calls, refused_journal, refused_reading}
 use Rattle.lift_keeper.proofs.writer.reopened.Goals as goal
 
 pub returns-in-Err-clause-refused : goal.returns-in-Err-clause-refused
@@ -46,10 +46,22 @@ returns-in-Ok-recovered-clause-guards g c =
     c.in-Ok-recovered.register found.shape found.gives journal.is_second c.in-Ok.ensures.reopens.opens.half
     (plan_read c.new-reading.result some.batches reading some.taken ∙ ap (λ (s : ReadingState). s.recovery.plan) c.new-reading.ensures)
 
+pub returns-in-Err-clause-calls_before : goal.returns-in-Err-clause-calls_before
+returns-in-Err-clause-calls_before g c =
+    let refused = c.in-Err.ensures.reopens.refused in
+    journal_calls (g.D.Disk.state c.args.journal.now.device) (g.D.Disk.state c.reopen_from.new.self.device) c.in-Err.fault refused.refused refused.behind
+
+pub returns-in-Ok-recovered-clause-calls : goal.returns-in-Ok-recovered-clause-calls
+returns-in-Ok-recovered-clause-calls g c =
+    let journal = c.reopen_from.new.self in
+    let is = c.in-Ok.ensures.reopens.opens in
+    opening_calls c.args.building.now (g.D.Disk.state c.args.journal.now.device) (g.D.Disk.state journal.device) journal.shape journal.used is.opens journal.is_second is.half is.calls
+
 pub returns-in-Err-recovered-clause-calls_before : goal.returns-in-Err-recovered-clause-calls_before
 returns-in-Err-recovered-clause-calls_before g c =
     let journal = c.reopen_from.new.self in
-    let reading = c.reopen_from.new.visitor in
-    subst (λ (d : g.row.D.Denot). StopsOpening c.in-Err-recovered.fault (g.D.Disk.state c.args.journal.now.device) (g.D.Disk.state d)) (sym c.return_to.ensures.device)
-    (stopped_reading c.args.building.now journal.shape reading (g.D.Disk.state c.args.journal.now.device) (g.D.Disk.state journal.device) c.in-Err-recovered.fault c.in-Err-recovered.ensures.refused
-    (all_read (g.D.Disk.state c.args.journal.now.device) (g.D.Disk.state journal.device) journal.shape journal.used c.in-Ok.ensures.reopens.opens.opens journal.is_second c.in-Ok.ensures.reopens.opens.half c.in-Ok.ensures.reopens.opens.calls))
+    let old = g.D.Disk.state c.args.journal.now.device in
+    let is = c.in-Ok.ensures.reopens.opens in
+    subst (λ (d : g.row.D.Denot). RefusedCalls old (g.D.Disk.state d) c.in-Err-recovered.fault) (sym c.return_to.ensures.device)
+    (refused_calls c.args.building.now old (g.D.Disk.state journal.device) journal.shape journal.used is.opens journal.is_second is.half is.calls
+    c.reopen_from.new.visitor c.in-Err-recovered.fault c.in-Err-recovered.ensures.refused)

@@ -14,7 +14,7 @@ returns-in-Ok-open-clause-opened g c =
     subst (λ (k : KeeperView files.Served). HasKeeperOf files c.args.path.now c.args.building.now k) (sym c.new.ensures)
     (has_keeper files c.args.path.now c.args.building.now c.over.result c.in-Ok-open.keeper
     (is_opened _ _ _ _ _ _ c.in-Ok.file _ c.args.path.now c.over.ensures.below c.over.ensures.calls (c.over.ensures.failures ∙ c.in-Ok.ensures.failures) c.in-Ok.ensures.calls c.in-Ok.ensures.measured c.over.ensures.honest)
-    c.in-Ok-open.ensures.opens c.in-Ok-open.ensures.state c.in-Ok-open.ensures.whole.0 c.in-Ok-open.ensures.whole.1 c.in-Ok-open.ensures.plan)
+    c.in-Ok-open.ensures.opens.reopens c.in-Ok-open.ensures.state c.in-Ok-open.ensures.opens.whole.0 c.in-Ok-open.ensures.opens.whole.1 c.in-Ok-open.ensures.opens.plan)
 
 pub returns-in-Err-open-clause-undone : goal.returns-in-Err-open-clause-undone
 returns-in-Err-open-clause-undone g c =

@@ -1,11 +1,9 @@
-use Rattle.std.proofs.Common.{◌≡◌, ◌+◌, ◌≤◌, List, sym, ap, subst, ◌∙◌, inl, refl, Err}
+use Rattle.std.proofs.Common.{◌≡◌, ap, subst, ◌∙◌, inl, refl, Err}
 use Rattle.std.specs.Prelude.{codes}
-use Rattle.lift_base.specs.declared.history.Entry.{Entry}
 use Rattle.lift_disk.specs.Faults.{fuse_state_of}
 use Rattle.lift_journal.specs.declared.fault.JournalFault.TheVariants.{Disk}
 use Rattle.lift_keeper.specs.declared.fault.KeeperFault.TheVariants.{Journal}
-use Rattle.lift_keeper.specs.Reopening.{FailsBy}
-use Rattle.lift_keeper.specs.Writer.{StopsCommit, commit_calls, commit_used, commit_second}
+use Rattle.lift_keeper.specs.Calls.{FailsBy}
 use Rattle.lift_keeper.specs.lemmas.Committed.{safe_register}
 use Rattle.lift_replay.specs.Told.{HasCommitted, device_of}
 use Rattle.lift_replay.specs.Report.{fault_text, turn_text}
@@ -19,14 +17,15 @@ returns-in-Ok-clause-tells c =
     let old = before.keeper.writer in
     let counts = c.in-Ok.counts in
     let e = c.in-Ok.ensures.commits in
+    let made = c.in-Ok.ensures.calls in
     let committed : HasCommitted before after counts.accepted = record {
       was_whole = is_whole _ (λ broken. let err = c.turn.ensures.commits.is.broken.1 broken in let ok = c.in-Ok.is in cc);
       whole = e.is.stays.0;
       register = safe_register fuse_state_of old counts.accepted after.keeper.state.register after.keeper.writer _ e;
-      calls = subst (λ n. (device_of after).calls ≡ (device_of before).calls + commit_calls old.register old.used old.half n) (sym e.counted) e.is.made.calls;
-      used = subst (λ n. after.keeper.writer.used ≡ commit_used old.register old.used old.half n) (sym e.counted) e.is.used;
-      second = subst (λ n. after.keeper.writer.is_second ≡ commit_second old.is_second old.used old.half n) (sym e.counted) e.is.second;
-      none_fails = e.is.told_ok;
+      calls = made.made.calls;
+      used = made.used;
+      second = made.second;
+      none_fails = made.told_ok;
     } in
     on_ok c.push_turn.result (λ told. (turn_text counts.taken counts.accepted, inl (counts, c.in-Ok.ensures.turns, committed, refl), told)) c.push_turn.ensures
 
@@ -45,9 +44,9 @@ returns-in-Err-clause-tells c =
       was_whole = is_whole _ (λ broken. let err = t.is.broken.1 broken in cc);
       broken = e.is.breaks;
       register = e.is.unmoved;
-      calls = subst (λ n. (device_of after).calls ≤ (device_of before).calls + commit_calls old.register old.used old.half n) (sym e.counted) e.is.made.most_calls;
-      stops = subst (λ (b : List Entry). StopsCommit old.plan old.half old.is_second old.used old.register b (device_of before) (device_of after)) (sym (t.is.doubts failed)) (t.is.stops failed tt tt);
-      last_fails = subst (λ f. FailsBy f (device_of before) (device_of after)) disk e.is.told;
+      calls = c.in-Err.ensures.calls.made.most_calls;
+      stops = c.turn.ensures.calls.stops failed tt tt;
+      last_fails = subst (λ f. FailsBy f (device_of before) (device_of after)) disk c.in-Err.ensures.calls.told;
     })
     (λ broken. t.is.broken.0 (c.in-Err.is ∙ ap Err broken)) c.turn.ensures.rests in
     on_ok c.push_fault.result (λ told. (fault_text (codes "turn") c.number.result, tells, told)) c.push_fault.ensures

@@ -4,13 +4,14 @@ use Rattle.lift_register.specs.Register.{register_of}
 use Rattle.lift_policy.specs.Step.{State}
 use Rattle.lift_journal.specs.declared.fault.JournalFault.TheVariants.{Disk}
 use Rattle.lift_keeper.specs.declared.fault.KeeperFault.TheVariants.{Journal}
+use Rattle.lift_keeper.specs.Calls.{CommitCalls}
 use Rattle.lift_keeper.specs.Commits.{CommitsTo}
 use Rattle.lift_keeper.specs.Writer.{WriterView}
 use Rattle.lift_clerk.specs.declared.counts.Counts.{Counts}
 use Rattle.lift_clerk.specs.Clerk.{ClerkState}
 use Rattle.lift_clerk.specs.Turn.{IsFailedTurn, IsBrokenTurn}
 use Rattle.lift_clerk.specs.Scanning.{replies_told}
-use Rattle.lift_clerk.proofs.Turning.{serves_all, serves_rest, is_whole, same_keeper, failed_turn, broken_turn, committed, not_committed}
+use Rattle.lift_clerk.proofs.Turning.{serves_all, serves_rest, is_whole, same_keeper, failed_turn, broken_turn, committed, not_committed, calls_on_ok, calls_on_err}
 use Rattle.lift_clerk.proofs.clerk.Clerk.turn.Goals as goal
 
 pub returns-in-Ok-clause-answered : goal.returns-in-Ok-clause-answered
@@ -60,6 +61,22 @@ returns-in-Ok-clause-commits g c =
     let counts : Counts = record { taken = c.len.result; accepted = c.pending.result } in
     subst (λ (v : ClerkState g.row.D.Denot g.row.P.Denot). CommitsTo {D = g.row.D.Denot} {T = Counts} g.D.Disk.state v.keeper.writer c.pending.result after.state.register after.writer (Ok counts)) c.self.view_is
     (committed g.D.Disk.state c.self.inside.keeper.writer c.scan.new.keeper after shown.result.now c.scan.ensures.writer shown.ensures.value shown.ensures.ahead counts c.pending.ensures.value c.in-Ok.ensures.begins c.in-Ok.ensures.commits)
+
+pub returns-in-Ok-clause-calls : goal.returns-in-Ok-clause-calls
+returns-in-Ok-clause-calls g c =
+    let after = c.commit.new.self in
+    let shown = c.register-shown in
+    let counts : Counts = record { taken = c.len.result; accepted = c.pending.result } in
+    subst (λ (v : ClerkState g.row.D.Denot g.row.P.Denot). CommitCalls {D = g.row.D.Denot} {T = Counts} g.D.Disk.state v.keeper.writer c.pending.result after.writer (Ok counts)) c.self.view_is
+    (calls_on_ok g.D.Disk.state c.self.inside.keeper.writer c.scan.new.keeper after shown.result.now c.scan.ensures.writer shown.ensures.value shown.ensures.ahead counts c.pending.ensures.value c.in-Ok.ensures.calls)
+
+pub returns-in-Err-clause-calls : goal.returns-in-Err-clause-calls
+returns-in-Err-clause-calls g c =
+    let after = c.commit.new.self in
+    let shown = c.register-shown in
+    let fault = c.in-Err.fault in
+    subst (λ (v : ClerkState g.row.D.Denot g.row.P.Denot). CommitCalls {D = g.row.D.Denot} {T = Counts} g.D.Disk.state v.keeper.writer (length after.state.batch) after.writer (Err fault)) c.self.view_is
+    (calls_on_err g.D.Disk.state c.self.inside.keeper.writer c.scan.new.keeper after shown.result.now c.scan.ensures.writer shown.ensures.value shown.ensures.ahead fault c.in-Err.ensures.unmoved c.in-Err.ensures.calls)
 
 pub returns-in-Err-clause-commits : goal.returns-in-Err-clause-commits
 returns-in-Err-clause-commits g c =

@@ -8,7 +8,7 @@ invariant_of-result g c =
     let writer = c.in-Ok.writer in
     let made = c.of-decider.result in
     settled_keeper writer.plan made.state made.plan writer.register writer.is_broken
-    (ap (λ (d : DeciderState). d.plan) c.of-decider.ensures ∙ sym c.in-Ok.ensures.plan)
+    (ap (λ (d : DeciderState). d.plan) c.of-decider.ensures ∙ sym c.in-Ok.ensures.opens.plan)
     (ap (λ (d : DeciderState). d.state.batch) c.of-decider.ensures)
     (nothing_more writer.register c.register.result.now c.register.ensures.value c.register.ensures.lawful)
     (λ _. ap (λ (d : DeciderState). d.state.register) c.of-decider.ensures ∙ c.copy_of-register.ensures.value ∙ c.register.ensures.value)

@@ -11,13 +11,13 @@ use Rattle.lift_keeper.proofs.writer.Writer.reopen.Goals as goal
 pub invariant_of-self-then-is_of_disk : goal.invariant_of-self-then-is_of_disk
 invariant_of-self-then-is_of_disk g c =
     failed_opening c.self.inside.building.now c.self.inside.journal c.self.inside.register c.self.inside.doubt.value.items (g.D.Disk.state c.self.inside.opened.value.device).failures c.self.inside.is_broken
-    (g.D.Disk.state c.self.inside.journal.device) c.self.invariant c.reopened.new.journal (g.D.Disk.state c.reopened.new.journal.device) c.in-Err.fault c.in-Err.ensures.refused
+    (g.D.Disk.state c.self.inside.journal.device) c.self.invariant c.reopened.new.journal (g.D.Disk.state c.reopened.new.journal.device) c.in-Err.fault c.in-Err.ensures.refused c.in-Err.ensures.calls_before.runs.failures
     (g.met.D.Disk.counts_now c.reopened.new.journal.device) _ refl (c.is_of_disk.ensures.0 c.if-is_of_disk.true)
 
 pub invariant_of-self-else-is_of_disk : goal.invariant_of-self-else-is_of_disk
 invariant_of-self-else-is_of_disk g c =
     refused_opening c.self.inside.building.now c.self.inside.journal c.self.inside.register c.self.inside.doubt.value.items (g.D.Disk.state c.self.inside.opened.value.device).failures c.self.inside.is_broken
-    (g.D.Disk.state c.self.inside.journal.device) c.self.invariant c.reopened.new.journal (g.D.Disk.state c.reopened.new.journal.device) c.in-Err.fault c.in-Err.ensures.refused
+    (g.D.Disk.state c.self.inside.journal.device) c.self.invariant c.reopened.new.journal (g.D.Disk.state c.reopened.new.journal.device) c.in-Err.fault c.in-Err.ensures.refused c.in-Err.ensures.calls_before.runs.failures
     (g.met.D.Disk.counts_now c.reopened.new.journal.device) (λ is. cc (c.is_of_disk.ensures.1 is, c.if-is_of_disk.false))
     (λ whole. ⊎_elim (λ is. absurd (cc (c.is_of_disk.ensures.1 is, c.if-is_of_disk.false))) (λ same. same ∙ c.self.invariant.whole whole) c.in-Err.ensures.stays)
 

@@ -1,9 +1,11 @@
-use Rattle.std.proofs.Common.{◌≡◌, ℕ, List, sym, ap, ◌∙◌, subst}
+use Rattle.std.proofs.Common.{◌≡◌, true, ℕ, List, sym, ap, ◌∙◌, subst}
 use Rattle.lift_policy.specs.Step.{State}
-use Rattle.lift_parts.specs.Flusher.{FlusherState, IsSettled}
+use Rattle.lift_keeper.specs.Calls.{CommitCalls}
+use Rattle.lift_parts.specs.Flusher.{FlusherState, IsSettled, entries_between}
+use Rattle.lift_parts.specs.Line.{tried}
 use Rattle.lift_parts.specs.Turns.{IsFlush}
 use Rattle.lift_relay.specs.Settler.{SettlerState}
-use Rattle.lift_relay.proofs.Turned.{idle, flushed, settled_turn}
+use Rattle.lift_relay.proofs.Turned.{idle, flushed, settled_turn, none_between, one_between}
 use Rattle.lift_relay.proofs.flusher.Flusher.turn.Goals as goal
 
 pub returns-in-None-clause-flushes : goal.returns-in-None-clause-flushes
@@ -23,15 +25,30 @@ returns-clause-flushes g c =
     let old : FlusherState g.row.D.Denot = record { desk = s.settler.desk; seat = s.settler.seat; writer = s.settler.writer; end = s.end } in
     let now = c.settle.new.self in
     let new : FlusherState g.row.D.Denot = record { desk = now.desk; seat = now.seat; writer = now.writer; end = c.receive.new.self } in
-    let made = c.settle.ensures in
+    let made = c.settle.ensures.settles in
     subst (λ (v : FlusherState g.row.D.Denot). IsFlush g.D.Disk.state v new c.settle.result) c.self.view_is
     (flushed g.D.Disk.state old new c.self.invariant made.same batch c.settle.result c.in-Some.ensures made.commits (settled_turn g.D.Disk.state old new batch c.settle.result c.in-Some.ensures made))
+
+pub returns-in-None-clause-calls : goal.returns-in-None-clause-calls
+returns-in-None-clause-calls g c =
+    let s = c.self.inside in
+    let end = c.receive.new.self in
+    subst (λ (v : FlusherState g.row.D.Denot). CommitCalls g.D.Disk.state v.writer (entries_between v.end end) c.rest.new.self.writer c.rest.result) c.self.view_is
+    (subst (λ n. CommitCalls g.D.Disk.state s.settler.writer n c.rest.new.self.writer c.rest.result) (none_between s.end end (tried s.end.tries true) c.in-None.ensures.tries) c.rest.ensures.calls)
+
+pub returns-clause-calls : goal.returns-clause-calls
+returns-clause-calls g c =
+    let s = c.self.inside in
+    let end = c.receive.new.self in
+    let writer = c.settle.new.self.writer in
+    subst (λ (v : FlusherState g.row.D.Denot). CommitCalls g.D.Disk.state v.writer (entries_between v.end end) writer c.settle.result) c.self.view_is
+    (subst (λ n. CommitCalls g.D.Disk.state s.settler.writer n writer c.settle.result) (sym (one_between s.end end c.in-Some.batch c.in-Some.ensures.receives)) c.settle.ensures.calls)
 
 pub invariant_of-self-2 : goal.invariant_of-self-2
 invariant_of-self-2 g c =
     let was = c.self.invariant in
     let receives = c.in-Some.ensures in
-    let made = c.settle.ensures in
+    let made = c.settle.ensures.settles in
     record {
       seated = made.seated;
       of_building = receives.same.1 ∙ was.of_building ∙ sym made.commits.same.0;

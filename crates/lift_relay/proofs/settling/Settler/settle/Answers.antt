@@ -1,15 +1,15 @@
-use Rattle.std.proofs.Common.{◌≡◌, false, List, refl, sym, ap, ◌∙◌, subst}
+use Rattle.std.proofs.Common.{◌≡◌, false, List, length, refl, sym, ap, ◌∙◌, subst}
 use Rattle.std.specs.Prelude.{Result, Ok, Err}
 use Rattle.lift_base.specs.declared.history.Entry.{Entry}
-use Rattle.lift_keeper.specs.Commits.{Commits}
-use Rattle.lift_keeper.specs.lemmas.Committed.{under_ok, under_err}
+use Rattle.lift_keeper.specs.Prelude.{Commits, CommitCalls}
+use Rattle.lift_keeper.specs.lemmas.Committed.{under_ok, under_err, calls_under_ok, calls_under_err}
 use Rattle.lift_parts.specs.declared.counts.FlushCounts.{FlushCounts}
 use Rattle.lift_relay.specs.Settler.{SettlerState, Settles}
 use Rattle.lift_relay.proofs.Turned.{leads_to}
 use Rattle.lift_relay.proofs.settling.Settler.settle.Goals as goal
 
-pub returns-in-Ok : goal.returns-in-Ok
-returns-in-Ok g c =
+pub returns-in-Ok-clause-settles : goal.returns-in-Ok-clause-settles
+returns-in-Ok-clause-settles g c =
     let s = c.self.inside in
     let batch = c.args.batch in
     let state = g.D.Disk.state in
@@ -32,8 +32,8 @@ returns-in-Ok g c =
       same = refl;
     })
 
-pub returns-in-Err : goal.returns-in-Err
-returns-in-Err g c =
+pub returns-in-Err-clause-settles : goal.returns-in-Err-clause-settles
+returns-in-Err-clause-settles g c =
     let s = c.self.inside in
     let batch = c.args.batch in
     let state = g.D.Disk.state in
@@ -54,3 +54,23 @@ returns-in-Err g c =
       apart = c.entries.ensures.apart;
       same = refl;
     })
+
+pub returns-in-Ok-clause-calls : goal.returns-in-Ok-clause-calls
+returns-in-Ok-clause-calls g c =
+    let s = c.self.inside in
+    let state = g.D.Disk.state in
+    let writer = c.commit-committed.new.self in
+    let count = length c.args.batch.entries in
+    let counts : FlushCounts = record { batches = 1; answers = c.answer_all-answers.result } in
+    subst (λ (v : SettlerState g.row.D.Denot). CommitCalls state v.writer count writer (Ok counts)) c.self.view_is
+    (calls_under_ok state s.writer count writer tt counts (subst (λ (b : List Entry). CommitCalls state s.writer (length b) writer (Ok tt)) c.entries.ensures.value c.in-Ok.ensures.calls))
+
+pub returns-in-Err-clause-calls : goal.returns-in-Err-clause-calls
+returns-in-Err-clause-calls g c =
+    let s = c.self.inside in
+    let state = g.D.Disk.state in
+    let writer = c.commit-committed.new.self in
+    let count = length c.args.batch.entries in
+    let fault = c.in-Err.fault in
+    subst (λ (v : SettlerState g.row.D.Denot). CommitCalls state v.writer count writer (Err fault)) c.self.view_is
+    (calls_under_err state s.writer count writer fault (subst (λ (b : List Entry). CommitCalls state s.writer (length b) writer (Err fault)) c.entries.ensures.value c.in-Err.ensures.calls))

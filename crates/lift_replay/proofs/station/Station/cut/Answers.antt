@@ -46,4 +46,4 @@ returns-clause-kept c =
     λ g shows.
     kept_of c.args.self.building.now (left_by c.args.outcome g) c.new.result c.keeper_over.result
     (left_found c.args.self.building.now g c.args.self.clerk.keeper c.args.outcome image g.stopped refl shows.keeper.stands shows.keeper.same_plan shows.keeper.half_is shows.keeper.register placed left may)
-    c.keeper_over.ensures.opens c.keeper_over.ensures.image c.keeper_over.ensures.unarmed c.keeper_over.ensures.state c.keeper_over.ensures.plan c.keeper_over.ensures.whole
+    c.keeper_over.ensures.opens c.keeper_over.ensures.calls c.keeper_over.ensures.image c.keeper_over.ensures.unarmed c.keeper_over.ensures.state c.keeper_over.ensures.plan c.keeper_over.ensures.whole
