@@ -7,7 +7,7 @@ import sys
 
 HERE = pathlib.Path(__file__).resolve().parent
 if not (HERE / "plain_group.py").exists():
-    sys.path.insert(0, str(HERE.parent / "tools"))
+    sys.path.insert(0, str(HERE.parent / "tools/judge"))
 import plain_group as plain
 
 MOST_BYTES = 1_048_576  # of a building's file
