@@ -1,6 +1,6 @@
 //! Tests of `lift_clerk`: turns whose device fails, reopenings, histories behind cuts, and a late
 //! session and a drive over a clerk. Turns of scripts and sessions are data, tried by
-//! `tools/try-cases`.
+//! `tools/try/cases`.
 
 mod faults;
 mod histories;

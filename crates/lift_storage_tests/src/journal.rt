@@ -1,5 +1,5 @@
 //! Tests of `lift_journal`: the calls of the device and their bytes, what is read, and calls and
-//! recoveries that are stopped. Images, whole and damaged, are data, tried by `tools/try-images`.
+//! recoveries that are stopped. Images, whole and damaged, are data, tried by `tools/try/images`.
 
 mod calls;
 mod cuts;

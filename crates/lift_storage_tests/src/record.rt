@@ -1,5 +1,5 @@
 //! Tests of `lift_record`: its worked bytes as tables, none of them made by the program. Bytes that
-//! are none are data, tried by `tools/try-images`.
+//! are none are data, tried by `tools/try/images`.
 
 mod headers;
 mod parts;
