@@ -23,6 +23,9 @@ use std::time::{Clock, Duration};
 /// How often a thread looks for what another does.
 const LIMIT: u64 = 20_000_000;
 
+/// How long a sync is held before the last connection ends, ms.
+const HELD_MS: u64 = 1_000;
+
 /// Both cars say where they are.
 const PLACED: &str = "\
 1+
@@ -184,7 +187,8 @@ fn both_call<R: Net<Listener = TcpListener, Stream = TcpStream>>(
 }
 
 /// Kiosk 0 calls, and the sync for its call is held when the last connection that counts ends. It
-/// is released behind that; the kiosk hears its letter, and is closed then.
+/// is released after that, and the kiosk has called once more; it hears the letter for its first
+/// call, and is closed then: the second one isn't read.
 fn one_calls<R: Clock + Net<Listener = TcpListener, Stream = TcpStream>>(
     rt: &R,
     port: u16,
@@ -192,15 +196,18 @@ fn one_calls<R: Clock + Net<Listener = TcpListener, Stream = TcpStream>>(
 ) -> Option<bool> {
     let kiosk = connected(rt, port)?;
     let last = connected(rt, port)?;
-    let is_over = follows_step(&kiosk, ">KIOSK 0")
+    let is_held = follows_step(&kiosk, ">KIOSK 0")
         && follows_step(&kiosk, "<READY 0")
         && follows_step(&kiosk, ">CALL 1 5")
-        && comes_to(&shared.held, 1)
-        && follows_step(&last, "-");
+        && comes_to(&shared.held, 1);
+    // All of its looks would be made in that time without their rests.
+    thread::sleep(rt, Duration::from_millis(HELD_MS));
+    let is_over = is_held && follows_step(&last, "-");
     // Its end is counted just behind its closing.
     thread::sleep(rt, Duration::from_millis(100));
+    let is_over = is_over && follows_step(&kiosk, ">CALL 2 8");
     shared.released.store(1, Ordering::SeqCst);
-    Some(is_over && follows_step(&kiosk, "<CAR A") && follows_step(&kiosk, "."))
+    Some(is_over && follows_step(&kiosk, "<CAR A") && follows_step(&kiosk, "x"))
 }
 
 /// The callers, of whom either both kiosks call or one.

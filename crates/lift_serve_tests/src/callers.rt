@@ -1,7 +1,7 @@
 //! Connections that follow a script.
 
 use std::alloc::Global;
-use std::io::{Read, Write};
+use std::io::{ErrorKind, Read, Write};
 use std::net::{Ipv4Addr, Net, Shutdown, SocketAddr, SocketAddrV4, TcpListener, TcpStream};
 use std::sync::atomic::{AtomicU64, Ordering};
 use std::thread;
@@ -53,6 +53,15 @@ fn is_over(stream: &TcpStream) -> bool {
     matches!((&mut &*stream).read(&mut heard), Ok(0))
 }
 
+/// Whether the other end is closed, or is reset for what it left unread, and nothing comes before.
+fn is_gone(stream: &TcpStream) -> bool {
+    let mut heard = [0u8];
+    match (&mut &*stream).read(&mut heard) {
+        Ok(count) => count == 0,
+        Err(error) => error.kind() == ErrorKind::ConnectionReset,
+    }
+}
+
 fn says(stream: &TcpStream, text: &str) -> bool {
     (&mut &*stream).write_all(text.as_bytes()).is_ok()
 }
@@ -99,6 +108,8 @@ pub(crate) fn follows_step(stream: &TcpStream, step: &str) -> bool {
         hears(stream, text.as_bytes()) && hears(stream, b"\n")
     } else if step == "." {
         is_over(stream)
+    } else if step == "x" {
+        is_gone(stream)
     } else {
         step == "-" && stream.shutdown(Shutdown::Write).is_ok() && is_over(stream)
     }

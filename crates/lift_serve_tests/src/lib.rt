@@ -11,4 +11,6 @@ mod group;
 #[cfg(test)]
 mod loopback;
 #[cfg(test)]
+mod rests;
+#[cfg(test)]
 mod serving;

@@ -1,0 +1,66 @@
+//! Tests: how long a terminal's pager rests.
+ghost use Rattle.std.specs.Prelude.{◌<◌, vec_len};
+ghost use Rattle.lift_desk.specs.Seats.{AreSeatsOf, IsSeatOf};
+
+use lift_base::Terminal;
+use lift_desk::{Desk, DeskParts, Seat};
+use lift_kiosk::DeskPort;
+use lift_serve::Pager;
+use std::sync::Wait;
+use std::test::Fail;
+use std::time::{Clock, Duration, Instant};
+
+/// How many rests are measured.
+const RESTS: u32 = 20;
+
+/// How long one rest takes.
+fn rest<R: Wait + Clock>(rt: &R, pager: &Pager) -> Result<Duration, Fail> {
+    let begun = Instant::now(rt)?;
+    pager.rest(rt);
+    Ok(begun.elapsed(rt)?)
+}
+
+fn only_seat(_desk: &Desk, seats: &mut Vec<Seat>) -> Seat
+    requires at { AreSeatsOf _desk.now seats.old.items }
+    requires some { 0 < vec_len seats.old }
+    ensures seat { IsSeatOf _desk.now result }
+{
+    seats.pop().unwrap()
+}
+
+/// Has the terminal ask, and its answer stored in a batch.
+fn is_answered(pager: &Pager, port: &DeskPort<'_>) -> bool {
+    let _told = pager.asked(port);
+    pager.scan_begins(1) && pager.is_flushed(1)
+}
+
+/// A rest that no answer ends takes a millisecond.
+#[test]
+fn each_rest_takes_a_millisecond(rt: HostRuntime) -> Result<(), Fail> {
+    let pager = Pager::new(Terminal::default());
+    for _ in 0..RESTS {
+        assert!(rt; rest(&rt, &pager)? >= Duration::from_millis(1));
+    }
+    Ok(())
+}
+
+/// An answer ends one rest and no more: what it woke is left behind it, and shortens none.
+#[test]
+fn an_answer_ends_one_rest(rt: HostRuntime) -> Result<(), Fail> {
+    let DeskParts {
+        desk,
+        mut seats,
+        clerk: _,
+    } = Desk::open(rt.alloc(), 1).ok().ok_or("memory")?;
+    let seat = only_seat(&desk, &mut seats);
+    let port = DeskPort::new(&desk, seat);
+    let pager = Pager::new(Terminal::default());
+    let mut shortest = Duration::from_millis(1);
+    for _ in 0..RESTS {
+        assert!(rt; is_answered(&pager, &port));
+        shortest = shortest.min(rest(&rt, &pager)?);
+        assert!(rt; rest(&rt, &pager)? >= Duration::from_millis(1));
+    }
+    assert!(rt; shortest < Duration::from_millis(1));
+    Ok(())
+}
