@@ -12,8 +12,8 @@ use Rattle.atomic_table.proofs.Lists.{at_set, at_snoc}
 use Rattle.lift_desk.specs.declared.view.ClerkView.{ClerkView}
 use Rattle.lift_desk.specs.declared.view.View.{View}
 use Rattle.lift_desk.specs.Words.{turn_of, number_of, last_of, IsAskWord, IsReplyWord}
-use Rattle.lift_desk.specs.Rule.{blank, opening_view, united, terminal_part, clerk_part, ahead_of, ahead_note_of, noted_by, stamp_of, CountTurns, Lists, IsInOrder, IsAhead, Fits, IsKept}
-use Rattle.lift_desk.specs.Steps.{with_ask, with_answer, with_hearing, with_look, with_taking, is_new, is_awaited, at_terminal, at_clerk, Asked, Answered, Looked, LookedAhead, Heard, Met, Compared}
+use Rattle.lift_desk.specs.Rule.{blank, opening_view, united, terminal_part, clerk_part, ahead_part, ahead_of, ahead_note_of, noted_by, stamp_of, CountTurns, Lists, IsInOrder, IsAhead, Fits, IsKept}
+use Rattle.lift_desk.specs.Steps.{with_ask, with_answer, with_hearing, with_look, with_taking, is_new, is_awaited, at_terminal, at_clerk, Asked, Answered, Looked, LookedAhead, Heard, Met, Compared, ComparedAhead}
 use Rattle.lift_desk.specs.lemmas.WordLists.{last_of-push, CountTurns-push, turn_of-last_of, CountTurns-prefix, CountTurns-stamped, prefix_length, stamped_length, prefix_whole, prefix_refl, prefix_nil, prefix_push, prefix_next, stamped_next, stamped_same, All-last_of, IsAhead-push, IsAhead-prefix, IsAhead-take, turn_at_most, turn_is_last}
 
 abbrev M : Type 0
@@ -503,17 +503,17 @@ seats_split id v asks answers = parts_split id v v.clerk.answered v.terminal.ask
 pub untold_split : (id : ℕ) (v : View) → v.asks ≡ true → v.answers ≡ true → Splits IsKept id v (terminal_part v v.terminal.told) (clerk_part v v.clerk.told)
 untold_split id v asks answers = parts_split id v v.terminal.told v.clerk.told asks answers (λ terminal clerk l f. (f.told_answers, f.told_asks))
 
--- a new seat that may store nothing
-adds : (id : ℕ) (v w : View) (s : State (Unit {0}) View) (r : IsKept s) → get_elem? s.views id ≡ some v → ((j : ℕ) → Fits r.terminal r.clerk r.lists j w)
+-- a new seat that may store nothing, beside one that keeps to the rule
+adds : (id : ℕ) (v w : View) (s : State (Unit {0}) View) (r : IsKept s) → Fits r.terminal r.clerk r.lists id v → ((j : ℕ) → Fits r.terminal r.clerk r.lists j w)
     → IsKept record { words = s.words; homes = s.homes; views = set s.views id v ++ w ∷ [] }
-adds id v w s r at new = record {
+adds id v w s r old new = record {
   terminal = r.terminal;
   clerk = r.clerk;
   lists = r.lists;
   words = r.words;
   in_order = r.in_order;
   views = λ j u e. ⊎_elim
-      (λ (x : get_elem? (set s.views id v) j ≡ some u). fit_set r.terminal r.clerk r.lists s.views id v (r.views id v at) (λ i y apart e'. r.views i y e') j u x)
+      (λ (x : get_elem? (set s.views id v) j ≡ some u). fit_set r.terminal r.clerk r.lists s.views id v old (λ i y apart e'. r.views i y e') j u x)
       (λ (is : w ≡ u). subst (Fits r.terminal r.clerk r.lists j) is (new j))
       (at_snoc (set s.views id v) w u j e);
 }
@@ -523,12 +523,34 @@ ahead_split id v may s r at =
     let f = r.views id v at in
     let a = f.answers may in
     let o = r.in_order in
-    adds id v (ahead_of v) s r at (λ j. record {
+    adds id v (ahead_of v) s r f (λ j. record {
       asks = λ k. off k;
       answers = λ k. off k;
       looks_ahead = λ _. subst (IsAhead r.lists.asked) (sym a.1) (IsAhead-prefix r.lists.asked r.lists.taken o.turns o.taken);
       told_answers = prefix_nil r.lists.answered;
       told_asks = f.told_asks;
+      noted = λ any. absurd (any refl);
+    })
+
+-- a seat with the terminal's rights and a seat ahead's is parted; the seat ahead is told what was asked
+pub ahead_parts_split : (id : ℕ) (v : View) → v.asks ≡ true → v.looks_ahead ≡ true → Splits IsKept id v (terminal_part v v.terminal.told) (ahead_part v)
+ahead_parts_split id v asks looks s r at =
+    let f = r.views id v at in
+    let a = f.asks asks in
+    let l = r.lists in
+    adds id (terminal_part v v.terminal.told) (ahead_part v) s r (record {
+      asks = λ _. a;
+      answers = λ k. off k;
+      looks_ahead = λ k. off k;
+      told_answers = f.told_answers;
+      told_asks = prefix_nil l.asked;
+      noted = λ any. absurd (any refl);
+    }) (λ j. record {
+      asks = λ k. off k;
+      answers = λ k. off k;
+      looks_ahead = λ _. f.looks_ahead looks;
+      told_answers = prefix_nil l.answered;
+      told_asks = subst (λ z. IsPrefix z l.asked) (sym a.1) (prefix_refl l.asked);
       noted = λ any. absurd (any refl);
     })
 
@@ -558,7 +580,7 @@ spends id v other u w s r mine = record {
 -- a seat ahead notes the last ask that it took
 pub notes_split : (id : ℕ) (v : View) → v.looks_ahead ≡ true → Splits IsKept id v v (ahead_note_of v)
 notes_split id v may s r at =
-    adds id v (ahead_note_of v) s r at (λ j. record {
+    adds id v (ahead_note_of v) s r (r.views id v at) (λ j. record {
       asks = λ k. off k;
       answers = λ k. off k;
       looks_ahead = λ k. off k;
@@ -594,7 +616,7 @@ unites_join id v other c asks answers s r at apart there =
     let mine : Fits r.terminal id l id w = record {
       asks = λ _. a;
       answers = λ _. (refl, b.1, b.2);
-      looks_ahead = λ k. off k;
+      looks_ahead = g.looks_ahead;
       told_answers = f.told_answers;
       told_asks = g.told_asks;
       noted = λ any. absurd (any refl);
@@ -618,6 +640,22 @@ unites_join id v other c asks answers s r at apart there =
           (at_set s.views id j w y e));
     }
 
+-- the rights of a seat ahead go to the terminal's seat
+pub ahead_unites_join : (id : ℕ) (v : View) (other : ℕ) (u : View) → v.asks ≡ true → u.answers ≡ false → Joins IsKept id v other u (united v u) blank
+ahead_unites_join id v other u asks silent s r at apart there =
+    let w = united v u in
+    let was : get_elem? s.views other ≡ some u = ⊎_elim (λ (x : (other ≡ id) × (w ≡ u)). absurd (apart x.0)) (λ (x : (other ≢ id) × (get_elem? s.views other ≡ some u)). x.1) (at_set s.views id other w u there) in
+    let f = r.views id v at in
+    let g = r.views other u was in
+    spends id v other u w s r (record {
+      asks = λ _. f.asks asks;
+      answers = λ k. off (sym silent ∙ k);
+      looks_ahead = g.looks_ahead;
+      told_answers = f.told_answers;
+      told_asks = g.told_asks;
+      noted = λ any. absurd (any refl);
+    })
+
 -- a seat with both rights has all that there is
 pub compares_keep : (slots id : ℕ) (me : M) → me.0.asks ≡ true → me.0.answers ≡ true → Allows IsKept slots id me 0 (λ n. n) (Compared (step slots 0 0 0 none) me)
 compares_keep slots id me asks answers s r _ at _ =
@@ -638,6 +676,26 @@ compares_keep slots id me asks answers s r _ at _ =
         views = fit_set r.terminal r.clerk l s.views id v f (λ j u apart e. r.views j u e);
       },
       (refl, subst IsInOrder (λ i. record { asked = sym a.1 i; taken = sym b.1 i; answered = sym b.2 i; heard = sym a.2 i }) r.in_order),
+    )
+
+-- a seat with the terminal's rights and a seat ahead's has taken what was asked
+pub compares_ahead_keep : (slots id : ℕ) (me : M) → me.0.asks ≡ true → me.0.looks_ahead ≡ true → Allows IsKept slots id me 0 (λ n. n) (ComparedAhead (step slots 0 0 0 none) me)
+compares_ahead_keep slots id me asks looks s r _ at _ =
+    let v = me.0 in
+    let l = r.lists in
+    let f = r.views id v at in (
+      v,
+      keeps,
+      tt,
+      record {
+        terminal = r.terminal;
+        clerk = r.clerk;
+        lists = l;
+        words = loaded (last_of l.asked) (last_of l.answered) s.words 0 (omega arith) r.words;
+        in_order = r.in_order;
+        views = fit_set r.terminal r.clerk l s.views id v f (λ j u apart e. r.views j u e);
+      },
+      (refl, subst (λ z. IsAhead z v.clerk.taken) (sym (f.asks asks).1) (f.looks_ahead looks)),
     )
 
 abbrev AheadSo : State (Unit {0}) View → ℕ → View → ℕ → Bool → Type 0

@@ -108,7 +108,7 @@ abbrev pub united : View → View → View
 united v c = record {
   asks = v.asks;
   answers = c.answers;
-  looks_ahead = false;
+  looks_ahead = c.looks_ahead;
   terminal = v.terminal;
   clerk = c.clerk;
   noted = 0;
@@ -144,6 +144,23 @@ clerk_part v words = record {
     looks = v.clerk.looks;
     last = v.clerk.last;
     told = words;
+  };
+  noted = 0;
+}
+
+-- the part of it that looks ahead of the clerk, which is told what the terminal has asked
+abbrev pub ahead_part : View → View
+ahead_part v = record {
+  asks = false;
+  answers = false;
+  looks_ahead = true;
+  terminal = no_asks;
+  clerk = record {
+    taken = v.clerk.taken;
+    answered = v.clerk.answered;
+    looks = v.clerk.looks;
+    last = v.clerk.last;
+    told = v.terminal.asked;
   };
   noted = 0;
 }

@@ -8,11 +8,10 @@ use Rattle.lift_base.specs.declared.command.Body.{Body}
 use Rattle.lift_base.specs.declared.command.Reply.{Reply}
 use Rattle.lift_desk.specs.declared.view.TerminalView.{TerminalView}
 use Rattle.lift_desk.specs.declared.view.ClerkView.{ClerkView}
-use Rattle.lift_desk.specs.declared.view.View.{View}
 use Rattle.lift_desk.specs.declared.words.Ask.{Ask}
 use Rattle.lift_desk.specs.Words.{turn_of, number_of, last_of, ask_word, reply_word, IsReply}
-use Rattle.lift_desk.specs.Loads.{Loaded, is_odd}
-use Rattle.lift_desk.specs.Rule.{blank, no_asks, no_answers}
+use Rattle.lift_desk.specs.Looker.{LookerState}
+use Rattle.lift_desk.specs.Rule.{no_asks, no_answers}
 use Rattle.lift_desk.specs.Spelled.{IsAsk}
 use Rattle.lift_desk.specs.Steps.{is_awaited, is_new, with_ask, with_taking}
 
@@ -158,22 +157,9 @@ TakesAheadOf v word None = is_new v word ≡ false
 TakesAheadOf v word (Some ask) =
     (is_new v word ≡ true) × (word ≡ ask_word (turn_of word) ask.number ask.body)
 
--- a badge has one view, or none where it stands in for one
-abbrev pub is_seated : List View → Bool
-is_seated [] = false
-is_seated (v ∷ vs) = true
-
-abbrev pub view_in : List View → View
-view_in [] = blank
-view_in (v ∷ vs) = v
-
-abbrev pub IsOneView : List View → Type 0
-IsOneView views = is_seated views ≡ true → views ≡ view_in views ∷ []
-
--- what is seen of a place by its badge
-abbrev pub place_of : TableId → List View → ClerkPlace
-place_of table views =
-    record { seated = is_seated views; table = table; view = (view_in views).clerk }
+-- what is seen of a place by its seat
+abbrev pub place_of : LookerState → ClerkPlace
+place_of l = record { seated = l.seated; table = l.table; view = l.view.clerk }
 
 -- what a seat ahead of the clerk begins with: what the clerk took and was told of
 abbrev pub taken_only : ClerkView → ClerkView
@@ -190,10 +176,9 @@ pub record NoteState : Type 0 where
   pub table : TableId
   pub word : ℕ
 
--- what is seen of a note by its badge
-abbrev pub note_of : TableId → List View → NoteState
-note_of table views =
-    record { seated = is_seated views; table = table; word = (view_in views).noted }
+-- what is seen of a note by its seat
+abbrev pub note_of : LookerState → NoteState
+note_of l = record { seated = l.seated; table = l.table; word = l.view.noted }
 
 -- the note is of this terminal's table
 abbrev pub IsNoteOf : List TableId → ℕ → NoteState → Type 0
@@ -203,7 +188,3 @@ IsNoteOf desk terminal note =
 -- the word says this ask, and it is later than all that was taken
 abbrev pub Says : ClerkView → ℕ → Ask → Type 0
 Says v word ask = IsAsk ask × TakesAheadOf v word (Some ask)
-
--- whether the looks that the clerk's view counts are odd, and what was read last
-abbrev pub loads_of : View → Loaded
-loads_of v = record { odd = is_odd v.clerk.looks; last = v.clerk.last }

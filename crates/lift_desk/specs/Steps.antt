@@ -7,7 +7,7 @@ use Rattle.lift_desk.specs.declared.view.TerminalView.{TerminalView}
 use Rattle.lift_desk.specs.declared.view.ClerkView.{ClerkView}
 use Rattle.lift_desk.specs.declared.view.View.{View}
 use Rattle.lift_desk.specs.Words.{turn_of, number_of, last_of, IsAskWord, IsReplyWord}
-use Rattle.lift_desk.specs.Rule.{Lists, IsInOrder}
+use Rattle.lift_desk.specs.Rule.{Lists, IsInOrder, IsAhead}
 
 abbrev Seated : Type 0
 Seated = Me (Unit {0}) View
@@ -165,3 +165,8 @@ Met step before found after =
 abbrev pub Compared : Step (Unit {0}) → Seated → ℕ → Seated → Type 0
 Compared step before found after =
     (after ≡ before) × IsInOrder (lists_of before.0.terminal before.0.clerk)
+
+-- nothing changes, and what a seat took ahead was asked by the terminal whose rights it has too
+abbrev pub ComparedAhead : Step (Unit {0}) → Seated → ℕ → Seated → Type 0
+ComparedAhead step before found after =
+    (after ≡ before) × IsAhead before.0.terminal.asked before.0.clerk.taken

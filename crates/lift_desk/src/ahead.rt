@@ -3,24 +3,23 @@ ghost use Rattle.std.specs.Prelude.{◌≡◌, ℕ, ◌<◌, ◌≤◌, ◌^◌,
 ghost use Rattle.std.specs.Prelude.{false, []};
 ghost use Rattle.lift_desk.specs.declared.words.Ask.{Ask};
 ghost use Rattle.lift_desk.specs.Words.{turn_of, last_of, ask_word};
-ghost use Rattle.lift_desk.specs.Steps.{with_taking};
+ghost use Rattle.lift_desk.specs.Rule.{IsAhead};
+ghost use Rattle.lift_desk.specs.Steps.{with_taking, with_told_asks};
 ghost use Rattle.lift_desk.specs.Spelled.{IsAsk};
-ghost use Rattle.lift_desk.specs.Seats.{ClerkPlace, placed_at, TakesAheadOf, IsToldAhead};
+ghost use Rattle.lift_desk.specs.Seats.{placed_at, place_of, TakesAheadOf, IsToldAhead};
 
-use crate::loads::{ASK, Loads};
+use crate::looker::{ASK, DeskTable, Looker};
 use crate::note::Note;
-use crate::seat::{Chair, DeskTable};
-use crate::view::{LooksAhead, Notes, View};
+use crate::seat::Seat;
+use crate::view::{LooksAhead, Notes};
 use crate::words::{Ask, read_ask, turn_of};
-use atomic_table::Badge;
 use std::marker::Model;
 use std::mem;
 
 /// A seat ahead of the clerk's at a terminal's table, or a stand-in for it.
 #[derive(Drop)]
 pub struct AheadPlace {
-    badge: Badge<View>,
-    loads: Loads<ASK>,
+    looker: Looker,
     turn: u32,
 }
 
@@ -29,7 +28,7 @@ impl Model for AheadPlace {
 
     ghost Value = { ClerkPlace };
 
-    ghost view = { λ p. place_of p.badge.table_id p.badge.views };
+    ghost view = { λ p. place_of p.looker };
 
     ghost use Rattle.lift_desk.specs.AheadInside.{IsAheadPlace};
 
@@ -41,26 +40,20 @@ impl Default for AheadPlace {
 
     fn default() -> Self {
         AheadPlace {
-            badge: Badge::blank(),
-            loads: Loads::new(),
+            looker: Looker::blank(),
             turn: 0,
         }
     }
 }
 
 impl AheadPlace {
-    pub(crate) fn new(seat: Chair, turn: u32) -> AheadPlace
-        requires held { seat.me.1 ≡ [] }
-        requires ahead { (seat.me.0.looks_ahead ≡ true) × (seat.me.0.answers ≡ false) }
-        requires loads { (seat.me.0.clerk.looks ≡ 0) × (seat.me.0.clerk.last ≡ 0) }
-        requires turn { turn ≡ turn_of (last_of seat.me.0.clerk.taken) }
-        ensures { result ≡ placed_at seat.table_id seat.me.0.clerk }
+    pub(crate) fn new(looker: Looker, turn: u32) -> AheadPlace
+        requires seated { looker.seated ≡ true }
+        requires ahead { (looker.view.looks_ahead ≡ true) × (looker.view.answers ≡ false) }
+        requires turn { turn ≡ turn_of (last_of looker.view.clerk.taken) }
+        ensures { result ≡ place_of looker }
     {
-        AheadPlace {
-            badge: seat.into_badge(),
-            loads: Loads::new(),
-            turn,
-        }
+        AheadPlace { looker, turn }
     }
 
     pub(crate) fn take(&mut self, table: &DeskTable) -> Option<Ask>
@@ -81,10 +74,7 @@ impl AheadPlace {
             → IsSome result × (turn_of (last_of self.new.view.taken) ≡ length self.old.view.told
             → result ≡ Some ask) }
     {
-        let badge = mem::replace(&mut self.badge, Badge::blank());
-        let mut seat = badge.into_seat::<()>();
-        let word = self.loads.load::<LooksAhead>(table, &mut seat);
-        self.badge = seat.into_badge();
+        let word = self.looker.load::<LooksAhead>(table, ASK);
         let turn = turn_of(word);
         if turn <= self.turn {
             return None;
@@ -92,6 +82,20 @@ impl AheadPlace {
         let ask = read_ask(word)?;
         self.turn = turn;
         Some(ask)
+    }
+
+    // Learns what the terminal asked.
+    pub(crate) fn learn(&mut self, table: &DeskTable, seat: &mut Seat)
+        requires table { (self.old.table ≡ table.now.shared.table_id)
+            × (table.now.shared.table_id.words ≡ 2) }
+        requires seated { (self.old.seated ≡ true) × (seat.old.table ≡ self.old.table) }
+        ensures place { self.new
+            ≡ placed_at self.old.table (with_told_asks self.old.view seat.old.view.asked) }
+        ensures seat { seat.new ≡ seat.old }
+        ensures asked { IsAhead seat.old.view.asked self.old.view.taken }
+    {
+        let looker = mem::replace(&mut self.looker, Looker::blank());
+        self.looker = seat.share_ahead(table, looker);
     }
 
     // A note of the last ask that was taken.
@@ -106,22 +110,13 @@ impl AheadPlace {
           word = last_of self.old.view.taken;
         } }
     {
-        let badge = mem::replace(&mut self.badge, Badge::blank());
-        let mut seat = badge.into_seat::<()>();
-        let note = table.shared.split_seat::<Notes>(&mut seat);
-        self.badge = seat.into_badge();
-        Note::new(note)
+        Note::new(self.looker.split::<Notes>(table))
     }
 
-    pub(crate) fn into_seat(self) -> Chair
-        requires { self.seated ≡ true }
-        ensures { (result.table_id ≡ self.table) × (result.me.1 ≡ []) }
+    pub(crate) fn into_looker(self) -> Looker
+        ensures { place_of result ≡ self }
     {
-        let AheadPlace {
-            badge,
-            loads: _,
-            turn: _,
-        } = self;
-        badge.into_seat::<()>()
+        let AheadPlace { looker, turn: _ } = self;
+        looker
     }
 }

@@ -4,11 +4,12 @@ ghost use Rattle.std.specs.Prelude.{OnErr, IfOk, IfSome, Some, Err, [], ◌∷�
 ghost use Rattle.std.specs.Prelude.{vec_len};
 ghost use Rattle.lift_base.specs.declared.command.Reply.{Reply};
 ghost use Rattle.lift_desk.specs.declared.words.Ask.{Ask};
-ghost use Rattle.lift_desk.specs.Rule.{terminal_view, clerk_view, IsInOrder};
+ghost use Rattle.lift_desk.specs.Rule.{terminal_view, clerk_view, IsInOrder, IsAhead};
 ghost use mathlib.Core.List.{IsPrefix};
 ghost use Rattle.lift_desk.specs.Words.{turn_of, last_of, number_of, ask_word, reply_word, IsReply};
 ghost use Rattle.lift_desk.specs.Steps.{with_answer, with_hearing, with_look};
 ghost use Rattle.lift_desk.specs.Steps.{with_told_answers, with_told_asks, lists_of};
+ghost use Rattle.lift_desk.specs.Looker.{sits_at};
 ghost use Rattle.lift_desk.specs.Spelled.{IsAsk};
 ghost use Rattle.lift_desk.specs.Seats.{IsSeatOf, IsClerkOf, seat_with, clerk_with, view_at, Waits};
 ghost use Rattle.lift_desk.specs.Seats.{Owes, OwesNothing, HearsOf, TakesOf, IsToldAnswer};
@@ -17,9 +18,10 @@ ghost use Rattle.lift_desk.specs.Seats.{clerk_of, ahead_from, TakesAheadOf, AreS
 ghost use Rattle.lift_desk.specs.Seats.{LooksOnce, Tells};
 
 use crate::ahead::AheadPlace;
+use crate::looker::{DeskTable, Looker};
 use crate::note::Note;
 use crate::place::Place;
-use crate::seat::{AskRefusal, Chair, DeskTable, Seat};
+use crate::seat::{AskRefusal, Seat};
 use crate::view::Seats;
 use crate::words::Ask;
 use arrayvec::ArrayVec;
@@ -83,13 +85,14 @@ pub struct DeskParts {
 }
 
 // A new table, with the terminal's seat and the clerk's.
-fn new_table(alloc: Global) -> Result<(DeskTable, Chair, Chair), AllocError>
-    ensures { IfOk result (λ made. (made.0.shared.table_id.words ≡ 2)
-        × (made.1.table_id ≡ made.0.shared.table_id) × (made.1.me.0 ≡ terminal_view)
-        × (made.2.table_id ≡ made.0.shared.table_id) × (made.2.me ≡ (clerk_view, []))) }
+fn new_table(alloc: Global) -> Result<(DeskTable, Looker, Looker), AllocError>
+    ensures words { IfOk result (λ made. made.0.shared.table_id.words ≡ 2) }
+    ensures seats { IfOk result (λ made.
+        (made.1 ≡ sits_at made.0.shared.table_id terminal_view)
+        × (made.2 ≡ sits_at made.0.shared.table_id clerk_view)) }
 {
-    let (table, mut first) = DeskTable::of_words(alloc, &[0, 0], &())?;
-    let second = table.shared.split_seat::<Seats>(&mut first);
+    let (table, mut first) = Looker::open(alloc)?;
+    let second = first.split::<Seats>(&table);
     Ok((table, first, second))
 }
 
@@ -324,6 +327,27 @@ impl Desk {
         let table = &self.tables[at];
         let place = &mut ahead.places[at];
         place.take(table)
+    }
+
+    /// Tells these seats what the terminal has asked so far: behind a later look the last of it, or
+    /// a later ask, is taken. What they took until then was asked. It stores nothing, and gives
+    /// nothing of what it loads.
+    pub fn tell_ahead(&self, seat: &mut Seat, ahead: &mut TakeSeat)
+        requires seat { IsSeatOf self.now seat.old }
+        requires ahead { IsClerkOf self.now ahead.old }
+        ensures seat { seat.new ≡ seat.old }
+        ensures ahead { ahead.new
+            ≡ clerk_with ahead.old seat.old.terminal
+            (with_told_asks (view_at ahead.old seat.old.terminal) seat.old.view.asked) }
+        // Each word that these seats took was asked, in rising turns.
+        ensures asked { IsAhead seat.old.view.asked
+            (view_at ahead.old seat.old.terminal).taken }
+        ensures stays { IsClerkOf self.now ahead.new }
+    {
+        let at = usize::from(seat.terminal.get());
+        let table = &self.tables[at];
+        let place = &mut ahead.places[at];
+        place.learn(table, seat)
     }
 
     /// A note of the last ask that these seats took of the terminal, for the clerk's look there.

@@ -4,7 +4,7 @@
 mod ahead;
 mod desk;
 mod laws;
-mod loads;
+mod looker;
 mod note;
 mod place;
 mod seat;

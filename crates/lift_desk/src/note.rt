@@ -1,26 +1,23 @@
 //! A note of an ask that was taken ahead of the clerk.
-ghost use Rattle.std.specs.Prelude.{◌≡◌, true, false, []};
+ghost use Rattle.std.specs.Prelude.{◌≡◌, false};
+ghost use Rattle.lift_desk.specs.Seats.{note_of};
 
-use crate::seat::Chair;
-use crate::view::View;
-use atomic_table::Badge;
+use crate::looker::Looker;
 use std::marker::Model;
 
 /// Says of one ask that a seat ahead took it, or stands in for such a note. It has no rights at the
 /// desk and no bytes, and may go to another thread. Contracts see its table and the ask's word.
 #[derive(Drop)]
 pub struct Note {
-    badge: Badge<View>,
+    looker: Looker,
 }
 
 impl Model for Note {
-    ghost use Rattle.lift_desk.specs.Seats.{NoteState, note_of, IsOneView};
+    ghost use Rattle.lift_desk.specs.Seats.{NoteState, note_of};
 
     ghost Value = { NoteState };
 
-    ghost view = { λ n. note_of n.badge.table_id n.badge.views };
-
-    ghost invariant = { λ n. IsOneView n.badge.views };
+    ghost view = { λ n. note_of n.looker };
 }
 
 impl Default for Note {
@@ -28,27 +25,22 @@ impl Default for Note {
 
     fn default() -> Self {
         Note {
-            badge: Badge::blank(),
+            looker: Looker::blank(),
         }
     }
 }
 
 impl Note {
-    pub(crate) fn new(seat: Chair) -> Note
-        requires { seat.me.1 ≡ [] }
-        ensures { result ≡ record { seated = true; table = seat.table_id; word = seat.me.0.noted } }
+    pub(crate) fn new(looker: Looker) -> Note
+        ensures { result ≡ note_of looker }
     {
-        Note {
-            badge: seat.into_badge(),
-        }
+        Note { looker }
     }
 
-    pub(crate) fn into_seat(self) -> Chair
-        requires { self.seated ≡ true }
-        ensures { (result.table_id ≡ self.table) × (result.me.0.noted ≡ self.word)
-            × (result.me.1 ≡ []) }
+    pub(crate) fn into_looker(self) -> Looker
+        ensures { note_of result ≡ self }
     {
-        let Note { badge } = self;
-        badge.into_seat::<()>()
+        let Note { looker } = self;
+        looker
     }
 }

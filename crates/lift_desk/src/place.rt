@@ -11,12 +11,11 @@ ghost use Rattle.lift_desk.specs.Seats.{ClerkPlace, placed_at, taken_only, Owes,
 ghost use Rattle.lift_desk.specs.Seats.{Says, seat_with, Tells};
 
 use crate::ahead::AheadPlace;
-use crate::loads::{ASK, Loads};
+use crate::looker::{ANSWER, ASK, DeskTable, Looker};
 use crate::note::Note;
-use crate::seat::{Chair, DeskTable, Seat};
-use crate::view::{Ahead, Answers, Looks, Notes, View};
+use crate::seat::Seat;
+use crate::view::{Ahead, Answers, Looks, Notes};
 use crate::words::{Ask, read_ask, reply_word, turn_of};
-use atomic_table::Badge;
 use lift_base::{Number, Reply};
 use std::marker::Model;
 use std::mem;
@@ -24,8 +23,7 @@ use std::mem;
 /// The clerk's seat at a terminal's table, or a stand-in for it.
 #[derive(Drop)]
 pub struct Place {
-    badge: Badge<View>,
-    loads: Loads<ASK>,
+    looker: Looker,
     turn: u32,
     number: Number,
     owes: bool,
@@ -37,7 +35,7 @@ impl Model for Place {
 
     ghost Value = { ClerkPlace };
 
-    ghost view = { λ p. place_of p.badge.table_id p.badge.views };
+    ghost view = { λ p. place_of p.looker };
 
     ghost use Rattle.lift_desk.specs.PlaceInside.{IsPlaced};
 
@@ -49,8 +47,7 @@ impl Default for Place {
 
     fn default() -> Self {
         Place {
-            badge: Badge::blank(),
-            loads: Loads::new(),
+            looker: Looker::blank(),
             turn: 0,
             number: Number::default(),
             owes: false,
@@ -60,28 +57,28 @@ impl Default for Place {
 }
 
 // The seat reads a note, if there is one.
-fn read_note(table: &DeskTable, seat: &mut Chair, note: Option<Note>)
-    requires table { (seat.old.table_id ≡ table.now.shared.table_id)
+fn read_note(table: &DeskTable, looker: &mut Looker, note: Option<Note>)
+    requires table { (looker.old.table ≡ table.now.shared.table_id)
         × (table.now.shared.table_id.words ≡ 2) }
-    requires note { IfSome note (λ n. (n.seated ≡ true) × (n.table ≡ seat.old.table_id)) }
-    ensures same { (seat.new.table_id ≡ seat.old.table_id) × (seat.new.id ≡ seat.old.id) }
-    ensures noted { (word : ℕ) × (seat.new.me ≡ (with_note seat.old.me.0 word, seat.old.me.1))
+    requires seated { looker.old.seated ≡ true }
+    requires note { IfSome note (λ n. (n.seated ≡ true) × (n.table ≡ looker.old.table)) }
+    ensures { (word : ℕ)
+        × (looker.new ≡ record looker.old { view = with_note looker.old.view word })
         × IfSome note (λ n. word ≡ n.word) }
 {
     match note {
-        Some(note) => table.shared.join_seat::<Notes>(seat, note.into_seat()),
+        Some(note) => looker.join::<Notes>(table, note.into_looker()),
         None => {}
     }
 }
 
 impl Place {
-    pub(crate) fn new(seat: Chair) -> Place
-        requires { seat.me ≡ (clerk_view, []) }
-        ensures { result ≡ placed_at seat.table_id no_answers }
+    pub(crate) fn new(looker: Looker) -> Place
+        requires { (looker.seated ≡ true) × (looker.view ≡ clerk_view) }
+        ensures { result ≡ placed_at looker.table no_answers }
     {
         Place {
-            badge: seat.into_badge(),
-            loads: Loads::new(),
+            looker,
             turn: 0,
             number: Number::default(),
             owes: false,
@@ -102,11 +99,8 @@ impl Place {
         ensures noted { IfSome note (λ n. (ask : Ask) → Says self.old.view n.word ask
             → (result ≡ Some ask) × (self.new.view.taken ≡ self.old.view.taken ++ n.word ∷ [])) }
     {
-        let badge = mem::replace(&mut self.badge, Badge::blank());
-        let mut seat = badge.into_seat::<()>();
-        read_note(table, &mut seat, note);
-        let word = self.loads.load::<Looks>(table, &mut seat);
-        self.badge = seat.into_badge();
+        read_note(table, &mut self.looker, note);
+        let word = self.looker.load::<Looks>(table, ASK);
         let turn = turn_of(word);
         if turn <= self.turn {
             return None;
@@ -129,10 +123,7 @@ impl Place {
         ensures rests { ¬ (Owes self.new.view) }
     {
         let word = reply_word(self.turn, self.number, reply);
-        let badge = mem::replace(&mut self.badge, Badge::blank());
-        let mut seat = badge.into_seat::<()>();
-        table.shared.store::<Answers>(&mut seat, 1, word);
-        self.badge = seat.into_badge();
+        self.looker.store::<Answers>(table, ANSWER, word);
         self.owes = false;
         self.answered = word;
     }
@@ -148,9 +139,8 @@ impl Place {
             (with_told_answers seat.old.view self.old.view.answered) }
         ensures in_order { IsInOrder (lists_of seat.old.view self.old.view) }
     {
-        let badge = mem::replace(&mut self.badge, Badge::blank());
-        let chair = seat.share(table, badge.into_seat::<()>());
-        self.badge = chair.into_badge();
+        let looker = mem::replace(&mut self.looker, Looker::blank());
+        self.looker = seat.share(table, looker);
     }
 
     // Whether the last ask that was taken is not answered.
@@ -172,9 +162,9 @@ impl Place {
         ensures same { self.new ≡ self.old }
         ensures heard { IsPrefix seat.old.view.heard self.old.view.answered }
     {
-        let badge = mem::replace(&mut self.badge, Badge::blank());
-        let (word, chair) = seat.meet(table, badge.into_seat::<()>());
-        self.badge = chair.into_badge();
+        let looker = mem::replace(&mut self.looker, Looker::blank());
+        let (word, looker) = seat.meet(table, looker);
+        self.looker = looker;
         word == self.answered
     }
 
@@ -186,10 +176,7 @@ impl Place {
         ensures same { self.new ≡ self.old }
         ensures ahead { result ≡ placed_at self.old.table (taken_only self.old.view) }
     {
-        let badge = mem::replace(&mut self.badge, Badge::blank());
-        let mut seat = badge.into_seat::<()>();
-        let ahead = table.shared.split_seat::<Ahead>(&mut seat);
-        self.badge = seat.into_badge();
+        let ahead = self.looker.split::<Ahead>(table);
         AheadPlace::new(ahead, self.turn)
     }
 
@@ -201,11 +188,6 @@ impl Place {
             × (ahead.table ≡ self.old.table) }
         ensures { self.new ≡ self.old }
     {
-        let badge = mem::replace(&mut self.badge, Badge::blank());
-        let mut seat = badge.into_seat::<()>();
-        table
-            .shared
-            .join_seat::<Ahead>(&mut seat, ahead.into_seat());
-        self.badge = seat.into_badge();
+        self.looker.join::<Ahead>(table, ahead.into_looker());
     }
 }

@@ -9,23 +9,18 @@ ghost use Rattle.lift_desk.specs.Steps.{with_told_asks, lists_of};
 ghost use mathlib.Core.List.{IsPrefix};
 ghost use Rattle.lift_desk.specs.Seats.{TerminalSeat, seat_with, Waits, HearsOf, IsToldAnswer};
 ghost use Rattle.lift_desk.specs.Seats.{StoresAsk};
-ghost use Rattle.lift_desk.specs.Rule.{terminal_view, no_asks, IsInOrder};
+ghost use Rattle.lift_desk.specs.Rule.{clerk_part, terminal_view, no_asks, IsInOrder, IsAhead};
 
-use crate::loads::{ANSWER, Loads};
-use crate::view::{Asks, Compares, DeskRule, Hears, Meets, Parts, Seats, View};
+use crate::looker::{ANSWER, ASK, DeskTable, Looker};
+use crate::view::{
+    AheadParts, Asks, Compares, ComparesAhead, DeskRule, Hears, Meets, Parts, Seats, View,
+};
 use crate::words::{ask_word, read_reply, turn_of};
-use atomic_table::Table;
 use lift_base::{Body, Number, Reply, Terminal};
-use std::alloc::Global;
 use std::marker::Model;
 
 /// The last turn that a word can hold.
 const LAST_TURN: u32 = 1_048_575;
-
-pub(crate) type DeskTable = Table<(), View, (), DeskRule, Global>;
-
-// A seat at a table, as the tables know it.
-pub(crate) type Chair = atomic_table::Seat<(), View>;
 
 /// Why an ask was not stored.
 #[derive(Clone, Copy, PartialEq, Eq)]
@@ -44,8 +39,7 @@ pub struct Seat {
     turn: u32,
     number: Number,
     waits: bool,
-    loads: Loads<ANSWER>,
-    chair: Chair,
+    looker: Looker,
 }
 
 impl Model for Seat {
@@ -61,17 +55,16 @@ impl Model for Seat {
 }
 
 impl Seat {
-    pub(crate) fn new(terminal: Terminal, chair: Chair) -> Seat
-        requires { chair.me.0 ≡ terminal_view }
-        ensures { result ≡ record { table = chair.table_id; terminal = terminal; view = no_asks } }
+    pub(crate) fn new(terminal: Terminal, looker: Looker) -> Seat
+        requires { (looker.seated ≡ true) × (looker.view ≡ terminal_view) }
+        ensures { result ≡ record { table = looker.table; terminal = terminal; view = no_asks } }
     {
         Seat {
             terminal,
             turn: 0,
             number: Number::default(),
             waits: false,
-            loads: Loads::new(),
-            chair,
+            looker,
         }
     }
 
@@ -113,7 +106,7 @@ impl Seat {
         }
         let turn = self.turn + 1;
         let word = ask_word(turn, number, body);
-        table.shared.store::<Asks>(&mut self.chair, 0, word);
+        self.looker.store::<Asks>(table, ASK, word);
         self.turn = turn;
         self.number = number;
         self.waits = true;
@@ -132,7 +125,7 @@ impl Seat {
         ensures known { IsPrefix self.old.view.told self.new.view.heard }
         ensures finds { (reply : Reply) → IsToldAnswer self.old.view reply → result ≡ Some reply }
     {
-        let word = self.loads.load::<Hears>(table, &mut self.chair);
+        let word = self.looker.load::<Hears>(table, ANSWER);
         if !self.waits || turn_of(word) != self.turn {
             return None;
         }
@@ -142,39 +135,55 @@ impl Seat {
 
     // Takes the clerk's rights, compares all words with them, and gives them back. Each of the two
     // is told what the other has stored.
-    pub(crate) fn share(&mut self, table: &DeskTable, clerk: Chair) -> Chair
+    pub(crate) fn share(&mut self, table: &DeskTable, clerk: Looker) -> Looker
         requires table { (self.old.table ≡ table.now.shared.table_id)
             × (table.now.shared.table_id.words ≡ 2) }
-        requires clerk { (clerk.table_id ≡ self.old.table) × (clerk.me.1 ≡ [])
-            × (clerk.me.0.answers ≡ true) }
+        requires clerk { (clerk.table ≡ self.old.table) × (clerk.seated ≡ true)
+            × (clerk.view.answers ≡ true) }
         ensures told { self.new ≡ seat_with self.old
-            (with_told_answers self.old.view clerk.me.0.clerk.answered) }
-        ensures clerk { (result.table_id ≡ self.old.table) × (result.me.1 ≡ []) }
-        ensures rights { (result.me.0.answers ≡ true) × (result.me.0.looks_ahead ≡ false) }
-        ensures view { result.me.0.clerk ≡ with_told_asks clerk.me.0.clerk self.old.view.asked }
-        ensures in_order { IsInOrder (lists_of self.old.view clerk.me.0.clerk) }
+            (with_told_answers self.old.view clerk.view.clerk.answered) }
+        ensures clerk { result ≡ record clerk { view = clerk_part clerk.view self.old.view.asked } }
+        ensures in_order { IsInOrder (lists_of self.old.view clerk.view.clerk) }
     {
-        table.shared.join_seat::<Seats>(&mut self.chair, clerk);
-        table.shared.load::<Compares>(&mut self.chair, 0);
-        table.shared.split_seat::<Seats>(&mut self.chair)
+        self.looker.join::<Seats>(table, clerk);
+        self.looker.load::<Compares>(table, ASK);
+        self.looker.split::<Seats>(table)
     }
 
     // One look, by a seat that has the clerk's rights for it and gives them back. Nobody is told
     // anything.
-    pub(crate) fn meet(&mut self, table: &DeskTable, clerk: Chair) -> (u64, Chair)
+    pub(crate) fn meet(&mut self, table: &DeskTable, clerk: Looker) -> (u64, Looker)
         requires table { (self.old.table ≡ table.now.shared.table_id)
             × (table.now.shared.table_id.words ≡ 2) }
-        requires clerk { (clerk.table_id ≡ self.old.table) × (clerk.me.1 ≡ [])
-            × (clerk.me.0.answers ≡ true) }
+        requires clerk { (clerk.table ≡ self.old.table) × (clerk.seated ≡ true)
+            × (clerk.view.answers ≡ true) }
         ensures looked { self.new ≡ seat_with self.old (with_look self.old.view result.0) }
-        ensures last { result.0 ≡ last_of clerk.me.0.clerk.answered }
-        ensures heard { IsPrefix self.old.view.heard clerk.me.0.clerk.answered }
-        ensures clerk { (result.1.table_id ≡ self.old.table) × (result.1.me.1 ≡ []) }
-        ensures rights { (result.1.me.0.answers ≡ true) × (result.1.me.0.looks_ahead ≡ false) }
-        ensures view { result.1.me.0.clerk ≡ clerk.me.0.clerk }
+        ensures last { result.0 ≡ last_of clerk.view.clerk.answered }
+        ensures heard { IsPrefix self.old.view.heard clerk.view.clerk.answered }
+        ensures clerk { result.1 ≡ record clerk {
+          view = clerk_part clerk.view clerk.view.clerk.told;
+        } }
     {
-        table.shared.join_seat::<Seats>(&mut self.chair, clerk);
-        let word = self.loads.load::<Meets>(table, &mut self.chair);
-        (word, table.shared.split_seat::<Parts>(&mut self.chair))
+        self.looker.join::<Seats>(table, clerk);
+        let word = self.looker.load::<Meets>(table, ANSWER);
+        (word, self.looker.split::<Parts>(table))
+    }
+
+    // Takes the rights of a seat ahead, compares what it took with what was asked, and gives them
+    // back. That seat is told what was asked.
+    pub(crate) fn share_ahead(&mut self, table: &DeskTable, ahead: Looker) -> Looker
+        requires table { (self.old.table ≡ table.now.shared.table_id)
+            × (table.now.shared.table_id.words ≡ 2) }
+        requires ahead { (ahead.table ≡ self.old.table) × (ahead.seated ≡ true) }
+        requires rights { (ahead.view.looks_ahead ≡ true) × (ahead.view.answers ≡ false) }
+        ensures same { self.new ≡ self.old }
+        ensures ahead { (result.table ≡ self.old.table) × (result.seated ≡ true) }
+        ensures rights { (result.view.looks_ahead ≡ true) × (result.view.answers ≡ false) }
+        ensures view { result.view.clerk ≡ with_told_asks ahead.view.clerk self.old.view.asked }
+        ensures asked { IsAhead self.old.view.asked ahead.view.clerk.taken }
+    {
+        self.looker.join::<Seats>(table, ahead);
+        self.looker.load::<ComparesAhead>(table, ASK);
+        self.looker.split::<AheadParts>(table)
     }
 }

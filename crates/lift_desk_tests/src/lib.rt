@@ -8,7 +8,7 @@ mod terminal;
 
 pub use alone::{answer_and_hear, ask_and_take};
 pub use clerk::scan;
-pub use relay::relay_once;
+pub use relay::{relay_once, take_asked};
 pub use terminal::{Answer, ask_and_hear};
 
 #[cfg(test)]

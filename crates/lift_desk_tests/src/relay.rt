@@ -1,9 +1,10 @@
 //! Two seats for the clerk: one takes asks ahead, and the other looks again and answers.
-ghost use Rattle.std.specs.Prelude.{◌≡◌, ◌+◌, ◌<◌, suc, length};
-ghost use Rattle.lift_desk.specs.Seats.{IsClerkOf, view_at};
+ghost use Rattle.std.specs.Prelude.{◌≡◌, ◌+◌, ◌<◌, ◌≤◌, suc, length};
+ghost use Rattle.lift_desk.specs.Words.{last_of, turn_of};
+ghost use Rattle.lift_desk.specs.Seats.{IsClerkOf, IsSeatOf, view_at};
 
 use lift_base::{Reply, Terminal};
-use lift_desk::{ClerkSeat, Desk};
+use lift_desk::{Ask, ClerkSeat, Desk, Seat, TakeSeat};
 
 /// Takes an ask of the terminal ahead, looks at it again, and answers it. The number of the asks
 /// answered, 0 or 1.
@@ -28,4 +29,19 @@ pub fn relay_once(
         answered = 1;
     }
     (desk.join(ahead, clerk), answered)
+}
+
+/// Takes ahead what the terminal has asked, at least up to its last ask.
+pub fn take_asked(desk: &Desk, seat: &mut Seat, ahead: &mut TakeSeat) -> Option<Ask>
+    requires seat { IsSeatOf desk.now seat.old }
+    requires ahead { IsClerkOf desk.now ahead.old }
+    requires terminal { seat.old.terminal < length desk.now }
+    ensures whole { length seat.old.view.asked
+        ≤ turn_of (last_of (view_at ahead.new seat.old.terminal).taken) }
+    ensures same { seat.new ≡ seat.old }
+    ensures stays { IsClerkOf desk.now ahead.new }
+{
+    let terminal = seat.terminal();
+    desk.tell_ahead(seat, ahead);
+    desk.take(ahead, terminal)
 }

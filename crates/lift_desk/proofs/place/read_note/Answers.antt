@@ -1,16 +1,17 @@
-use Rattle.std.proofs.Common.{◌≡◌, ◌∙◌, Option, refl, sym, subst, arith}
-use Rattle.std.specs.Prelude.{IfSome, true}
+use Rattle.std.proofs.Common.{◌≡◌, refl, subst, sym, Option}
+use Rattle.std.specs.Prelude.{IfSome}
 use Rattle.lift_desk.specs.Seats.{NoteState}
 use Rattle.lift_desk.proofs.Keeps.{notes_join}
+use Rattle.lift_desk.proofs.Looks.{noted_carries}
 use Rattle.lift_desk.proofs.place.read_note.Goals as goal
 
-pub join_seat-requires : goal.join_seat-requires
-join_seat-requires c =
-    let other = c.into_seat.ensures in
-    let of = subst (λ (o : Option NoteState). IfSome o (λ n. (n.seated ≡ true) × (n.table ≡ c.args.seat.now.table_id))) c.in-Some.is c.requires.note in
-    (c.requires.table.0, other.0 ∙ of.1 ∙ c.requires.table.0, other.2, omega arith, notes_join _ _ _ _)
+pub join-requires-clause-keeps : goal.join-requires-clause-keeps
+join-requires-clause-keeps c id another = notes_join _ _ _ _
 
-pub returns-in-None-clause-noted : goal.returns-in-None-clause-noted
-returns-in-None-clause-noted c =
-    let old = c.args.seat.now.me.0.noted in
+pub join-requires-clause-counts : goal.join-requires-clause-counts
+join-requires-clause-counts c = noted_carries _ _
+
+pub returns-in-None : goal.returns-in-None
+returns-in-None c =
+    let old = c.args.looker.now.view.noted in
     (old, refl, subst (λ (o : Option NoteState). IfSome o (λ n. old ≡ n.word)) (sym c.in-None.is) tt)

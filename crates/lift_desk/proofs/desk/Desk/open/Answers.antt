@@ -25,12 +25,12 @@ loop-t-preserved c =
       place_count = ap length places.items ∙ length_push c.loop-t.places.items c.new-in-loop-t-2.result ∙ omega arith;
       room = omega arith;
       seat_room = omega arith;
-      words = λ k h. subst AllOfTwo (sym more) (two_more desk z two made.0) k (omega (arith, length-map c.push_reserved.new.self.items (λ t. t.shared.table_id)));
+      words = λ k h. subst AllOfTwo (sym more) (two_more desk z two made.words) k (omega (arith, length-map c.push_reserved.new.self.items (λ t. t.shared.table_id)));
       seats = seats.items ∙ ap (λ l. l ++ c.new-in-loop-t.result ∷ []) i.seats
-          ∙ ap (λ (s : TerminalSeat). seats_from 0 desk ++ s ∷ []) (c.new-in-loop-t.ensures ∙ λ k. record { table = made.1 k; terminal = terminal k; view = no_asks })
+          ∙ ap (λ (s : TerminalSeat). seats_from 0 desk ++ s ∷ []) (c.new-in-loop-t.ensures ∙ λ k. record { table = ap (λ l. l.table) made.seats.0 k; terminal = terminal k; view = no_asks })
           ∙ sym (seats_from-push 0 desk z c.loop-t.t (omega arith)) ∙ ap (seats_from 0) (sym more);
       places = places.items ∙ ap (λ l. l ++ c.new-in-loop-t-2.result ∷ []) i.places
-          ∙ ap (λ (p : ClerkPlace). clerk_of desk ++ p ∷ []) (c.new-in-loop-t-2.ensures ∙ λ k. placed_at (made.3 k) no_answers)
+          ∙ ap (λ (p : ClerkPlace). clerk_of desk ++ p ∷ []) (c.new-in-loop-t-2.ensures ∙ λ k. placed_at (ap (λ l. l.table) made.seats.1 k) no_answers)
           ∙ sym (map-append (λ (table : TableId). placed_at table no_answers) desk (z ∷ [])) ∙ ap clerk_of (sym more);
     }
 

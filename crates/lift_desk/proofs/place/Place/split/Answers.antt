@@ -1,17 +1,10 @@
-use Rattle.std.proofs.Common.{◌≡◌, true, sym, ap, ◌∙◌, arith}
-use Rattle.lift_desk.specs.declared.view.View.{View}
-use Rattle.lift_desk.specs.Seats.{is_seated, view_in}
+use Rattle.std.proofs.Common.{ap, ◌∙◌}
 use Rattle.lift_desk.proofs.Keeps.{ahead_split}
+use Rattle.lift_desk.proofs.Looks.{same_carries, ahead_of_carries}
 use Rattle.lift_desk.proofs.place.Place.split.Goals as goal
 
-pub split_seat-ahead-requires : goal.split_seat-ahead-requires
-split_seat-ahead-requires c =
-    let i = c.self.invariant in
-    let s = c.into_seat-seat.ensures in
-    let is = c.self.view_is in
-    let seated : is_seated c.self.inside.badge.views ≡ true = ap (λ p. p.seated) is ∙ c.requires.seated in
-    let old : view_in c.self.inside.badge.views ≡ c.into_seat-seat.result.me.0 = ap (λ b. view_in b.views) (sym c.replace-badge.ensures.value) ∙ ap view_in s.2 in (
-      s.0 ∙ ap (λ b. b.table_id) c.replace-badge.ensures.value ∙ ap (λ p. p.table) is ∙ c.requires.table.0,
-      omega arith,
-      ahead_split _ _ (ap (λ (v : View). v.answers) (sym old) ∙ i.answers seated),
-    )
+pub split-ahead-requires-clause-keeps : goal.split-ahead-requires-clause-keeps
+split-ahead-requires-clause-keeps c id = ahead_split _ _ (c.self.invariant.answers (ap (λ p. p.seated) c.self.view_is ∙ c.requires.seated))
+
+pub split-ahead-requires-clause-counts : goal.split-ahead-requires-clause-counts
+split-ahead-requires-clause-counts c = (same_carries _ _, ahead_of_carries _ (c.self.invariant.answers (ap (λ p. p.seated) c.self.view_is ∙ c.requires.seated)))

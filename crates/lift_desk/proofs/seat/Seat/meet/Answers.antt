@@ -1,26 +1,30 @@
-use Rattle.std.proofs.Common.{ap, ◌∙◌, arith}
-use Rattle.lift_desk.specs.Steps.{at_terminal, with_look}
+use Rattle.std.proofs.Common.{ap, ◌∙◌}
 use Rattle.lift_desk.proofs.Keeps.{unites_join, meets_keep, untold_split}
+use Rattle.lift_desk.proofs.Looks.{united_carries, loads_answer, terminal_part_carries, clerk_part_carries}
 use Rattle.lift_desk.proofs.seat.Seat.meet.Goals as goal
 
-pub join_seat-requires : goal.join_seat-requires
-join_seat-requires c =
-    let table = ap (λ s. s.table) c.self.view_is in
-    (table ∙ c.requires.table.0, c.requires.clerk.0 ∙ c.requires.table.0, c.requires.clerk.1, omega arith, unites_join _ _ _ _ c.self.invariant.asks c.requires.clerk.2)
+pub join-requires-clause-keeps : goal.join-requires-clause-keeps
+join-requires-clause-keeps c id another = unites_join _ _ _ _ c.self.invariant.asks c.requires.clerk.2
 
-pub load-word-requires : goal.load-word-requires
-load-word-requires c =
-    let j = c.join_seat.ensures in (
-      omega arith,
-      ((j.0 ∙ ap (λ s. s.table) c.self.view_is ∙ c.requires.table.0, omega arith), meets_keep _ _ _ (ap (λ m. m.0.asks) j.2 ∙ c.self.invariant.asks) (ap (λ m. m.0.answers) j.2 ∙ c.requires.clerk.2)),
-    )
+pub join-requires-clause-counts : goal.join-requires-clause-counts
+join-requires-clause-counts c = united_carries _ _
 
-pub split_seat-requires : goal.split_seat-requires
-split_seat-requires c =
-    let j = c.join_seat.ensures in
-    let l = c.load-word.ensures in (
-      l.same.0 ∙ j.0 ∙ ap (λ s. s.table) c.self.view_is ∙ c.requires.table.0,
-      omega arith,
-      untold_split _ _ (ap (λ m. m.0.asks) (l.tells.1 ∙ ap (λ m. (at_terminal m.0 (with_look m.0.terminal c.load-word.result), m.1)) j.2) ∙ c.self.invariant.asks)
-          (ap (λ m. m.0.answers) (l.tells.1 ∙ ap (λ m. (at_terminal m.0 (with_look m.0.terminal c.load-word.result), m.1)) j.2) ∙ c.requires.clerk.2),
-    )
+pub load-word-requires-clause-keeps : goal.load-word-requires-clause-keeps
+load-word-requires-clause-keeps c id =
+    let j = c.join.ensures in
+    meets_keep _ _ _ (ap (λ s. s.view.asks) j ∙ c.self.invariant.asks) (ap (λ s. s.view.answers) j ∙ c.requires.clerk.2)
+
+pub load-word-requires-clause-counts : goal.load-word-requires-clause-counts
+load-word-requires-clause-counts c found after e = loads_answer _ _ _ e.1
+
+pub split-requires-clause-keeps : goal.split-requires-clause-keeps
+split-requires-clause-keeps c id =
+    let j = c.join.ensures in
+    let l = ap (λ m. m.0) c.load-word.ensures.tells.1 in
+    untold_split _ _ (ap (λ v. v.asks) l ∙ ap (λ s. s.view.asks) j ∙ c.self.invariant.asks) (ap (λ v. v.answers) l ∙ ap (λ s. s.view.answers) j ∙ c.requires.clerk.2)
+
+pub split-requires-clause-counts : goal.split-requires-clause-counts
+split-requires-clause-counts c =
+    let j = c.join.ensures in
+    let l = ap (λ m. m.0) c.load-word.ensures.tells.1 in
+    (terminal_part_carries _ _ (ap (λ v. v.asks) l ∙ ap (λ s. s.view.asks) j ∙ c.self.invariant.asks), clerk_part_carries _ _ (ap (λ v. v.answers) l ∙ ap (λ s. s.view.answers) j ∙ c.requires.clerk.2))

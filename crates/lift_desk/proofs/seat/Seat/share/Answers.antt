@@ -1,25 +1,30 @@
-use Rattle.std.proofs.Common.{ap, ◌∙◌, arith}
+use Rattle.std.proofs.Common.{ap, ◌∙◌}
 use Rattle.lift_desk.proofs.Keeps.{unites_join, compares_keep, seats_split}
+use Rattle.lift_desk.proofs.Looks.{united_carries, loads_unseen, terminal_part_carries, clerk_part_carries}
 use Rattle.lift_desk.proofs.seat.Seat.share.Goals as goal
 
-pub join_seat-requires : goal.join_seat-requires
-join_seat-requires c =
-    let table = ap (λ s. s.table) c.self.view_is in
-    (table ∙ c.requires.table.0, c.requires.clerk.0 ∙ c.requires.table.0, c.requires.clerk.1, omega arith, unites_join _ _ _ _ c.self.invariant.asks c.requires.clerk.2)
+pub join-requires-clause-keeps : goal.join-requires-clause-keeps
+join-requires-clause-keeps c id another = unites_join _ _ _ _ c.self.invariant.asks c.requires.clerk.2
 
-pub load-requires : goal.load-requires
-load-requires c =
-    let j = c.join_seat.ensures in (
-      j.0 ∙ ap (λ s. s.table) c.self.view_is ∙ c.requires.table.0,
-      omega arith,
-      compares_keep _ _ _ (ap (λ m. m.0.asks) j.2 ∙ c.self.invariant.asks) (ap (λ m. m.0.answers) j.2 ∙ c.requires.clerk.2),
-    )
+pub join-requires-clause-counts : goal.join-requires-clause-counts
+join-requires-clause-counts c = united_carries _ _
 
-pub split_seat-requires : goal.split_seat-requires
-split_seat-requires c =
-    let j = c.join_seat.ensures in
-    let l = c.load.ensures in (
-      l.0 ∙ j.0 ∙ ap (λ s. s.table) c.self.view_is ∙ c.requires.table.0,
-      omega arith,
-      seats_split _ _ (ap (λ m. m.0.asks) (l.2.0 ∙ j.2) ∙ c.self.invariant.asks) (ap (λ m. m.0.answers) (l.2.0 ∙ j.2) ∙ c.requires.clerk.2),
-    )
+pub load-requires-clause-keeps : goal.load-requires-clause-keeps
+load-requires-clause-keeps c id =
+    let j = c.join.ensures in
+    compares_keep _ _ _ (ap (λ s. s.view.asks) j ∙ c.self.invariant.asks) (ap (λ s. s.view.answers) j ∙ c.requires.clerk.2)
+
+pub load-requires-clause-counts : goal.load-requires-clause-counts
+load-requires-clause-counts c found after e = loads_unseen _ _ e.0
+
+pub split-requires-clause-keeps : goal.split-requires-clause-keeps
+split-requires-clause-keeps c id =
+    let j = c.join.ensures in
+    let l = ap (λ m. m.0) c.load.ensures.tells.0 in
+    seats_split _ _ (ap (λ v. v.asks) l ∙ ap (λ s. s.view.asks) j ∙ c.self.invariant.asks) (ap (λ v. v.answers) l ∙ ap (λ s. s.view.answers) j ∙ c.requires.clerk.2)
+
+pub split-requires-clause-counts : goal.split-requires-clause-counts
+split-requires-clause-counts c =
+    let j = c.join.ensures in
+    let l = ap (λ m. m.0) c.load.ensures.tells.0 in
+    (terminal_part_carries _ _ (ap (λ v. v.asks) l ∙ ap (λ s. s.view.asks) j ∙ c.self.invariant.asks), clerk_part_carries _ _ (ap (λ v. v.answers) l ∙ ap (λ s. s.view.answers) j ∙ c.requires.clerk.2))

@@ -1,0 +1,79 @@
+-- A seat at a table: what it knows, and how each right to look keeps its count of looks.
+use Rattle.std.specs.Prelude.{◌≡◌, ℕ, zero, suc, Bool, true, false, List, [], ◌∷◌, ◌⊎◌}
+use Rattle.atomic_table.specs.Seated.{TableId}
+use Rattle.atomic_table.specs.Table.{Me}
+use Rattle.lift_desk.specs.declared.view.View.{View}
+use Rattle.lift_desk.specs.Rule.{blank}
+
+-- where it is not seated, it stands in for one
+pub record LookerState : Type 0 where
+  pub seated : Bool
+  pub table : TableId
+  pub view : View
+
+abbrev pub sits_at : TableId → View → LookerState
+sits_at table view = record { seated = true; table = table; view = view }
+
+-- a badge has one view, or none where it stands in for one
+abbrev pub is_seated : List View → Bool
+is_seated [] = false
+is_seated (v ∷ vs) = true
+
+abbrev pub view_in : List View → View
+view_in [] = blank
+view_in (v ∷ vs) = v
+
+abbrev pub IsOneView : List View → Type 0
+IsOneView views = is_seated views ≡ true → views ≡ view_in views ∷ []
+
+abbrev pub looker_of : TableId → List View → LookerState
+looker_of table views =
+    record { seated = is_seated views; table = table; view = view_in views }
+
+-- how often the word of the ask was looked at, and what was found there last
+abbrev pub ask_looks : View → ℕ × ℕ
+ask_looks v = (v.clerk.looks, v.clerk.last)
+
+-- the same of the word of the answer
+abbrev pub answer_looks : View → ℕ × ℕ
+answer_looks v = (v.terminal.looks, v.terminal.last)
+
+-- a load of this word isn't one of the other
+abbrev pub other_looks : ℕ → View → ℕ × ℕ
+other_looks zero v = answer_looks v
+other_looks (suc word) v = ask_looks v
+
+abbrev pub rights_of : View → Bool × Bool × Bool
+rights_of v = (v.asks, v.answers, v.looks_ahead)
+
+-- a seat holds none of the table's slots, and has the rights that it had
+pub record KeepsRights (before : View) (after : Me (Unit {0}) View) : Type 0 where
+  pub slots : after.1 ≡ []
+  pub rights : rights_of after.0 ≡ rights_of before
+
+-- after a load of a word, which may count a look at that one
+pub record Loads (word : ℕ) (before : View) (after : Me (Unit {0}) View) : Type 0 where
+  pub rights : KeepsRights before after
+  pub others : other_looks word after.0 ≡ other_looks word before
+
+-- after a store, which counts none
+pub record Stores (before : View) (after : Me (Unit {0}) View) : Type 0 where
+  pub rights : KeepsRights before after
+  pub asks : ask_looks after.0 ≡ ask_looks before
+  pub answers : answer_looks after.0 ≡ answer_looks before
+
+-- a right that a seat had stays or goes to another seat, and its count with it
+abbrev pub HandsOn : (View → Bool) → (View → ℕ × ℕ) → View → View → Type 0
+HandsOn right looks before after = (right before ≡ true) × (looks after ≡ looks before)
+
+-- What a seat may do it or another seat could do, and the count of looks is that one's. Only a seat
+-- that begins to look ahead of the clerk has counted none
+pub record Carries (one other after : View) : Type 0 where
+  pub asks : after.asks ≡ true
+      → HandsOn (λ v. v.asks) answer_looks one after ⊎ HandsOn (λ v. v.asks) answer_looks other after
+  pub answers : after.answers ≡ true
+      → HandsOn (λ v. v.answers) ask_looks one after ⊎ HandsOn (λ v. v.answers) ask_looks other after
+  pub ahead : after.looks_ahead ≡ true
+      → HandsOn (λ v. v.looks_ahead) ask_looks one after
+      ⊎ (HandsOn (λ v. v.looks_ahead) ask_looks other after
+      ⊎ ((one.answers ≡ true) × (ask_looks after ≡ (0, 0))))
