@@ -2,7 +2,9 @@
 
 ghost use Rattle.std.specs.Prelude.{◌≡◌, ◌≢◌, ◌↔◌, ◌⊎◌, ◌<◌, ◌≤◌, ◌+◌, [], ◌∷◌, ◌++◌, length, true};
 ghost use Rattle.std.specs.Prelude.{false};
-ghost use Rattle.lift_desk.specs.Seats.{IsClerkOf, OwesNothing};
+ghost use Rattle.lift_desk.specs.Rule.{IsAhead};
+ghost use Rattle.lift_desk.specs.Seats.{IsClerkOf, IsSeatOf, OwesNothing, clerk_with, view_at};
+ghost use Rattle.lift_desk.specs.Steps.{with_told_asks};
 ghost use Rattle.lift_parts.specs.Batch.{turns_of};
 ghost use Rattle.lift_parts.specs.Line.{Begins};
 ghost use Rattle.lift_parts.specs.Allocator.{IsAllocation, IsScanTurn, IsFullTurn, DecidesAlong};
@@ -17,7 +19,7 @@ use crate::line::{ReceiveEnd, SendEnd};
 use crate::settling::Settler;
 use lift_clerk::Counts;
 use lift_decider::Decider;
-use lift_desk::{Desk, TakeSeat};
+use lift_desk::{Desk, Seat, TakeSeat};
 use lift_disk::Disk;
 use lift_policy::Policy;
 use lift_register::Register;
@@ -107,6 +109,22 @@ impl<'d, 'b, P: Policy + Drop> Allocator<'d, 'b, P> {
         ensures behind { self.now.hand ≡ [] → self.now.state ≡ self.now.end.state }
     {
         self.scanner.register()
+    }
+
+    /// Tells it what a terminal has asked so far: behind its next turn the last of it, or a later ask,
+    /// is taken. By the desk's rule what its seats took there was asked. It stores nothing.
+    pub fn tell_terminal(&mut self, seat: &mut Seat)
+        requires { IsSeatOf self.old.desk seat.old }
+        ensures seat { seat.new ≡ seat.old }
+        ensures told { self.new ≡ record self.old {
+          seat = clerk_with self.old.seat seat.old.terminal
+              (with_told_asks (view_at self.old.seat seat.old.terminal) seat.old.view.asked);
+        } }
+        // Each word that it took there was asked, in rising turns.
+        ensures asked { IsAhead seat.old.view.asked
+            (view_at self.old.seat seat.old.terminal).taken }
+    {
+        self.scanner.tell_terminal(seat)
     }
 
     /// It and the other end of its line, once they were compared. Both are as they were.

@@ -1,8 +1,11 @@
 //! The half of an allocator that never waits.
 
 ghost use Rattle.std.specs.Prelude.{◌≡◌, ◌≤◌, ◌⊎◌, [], length, true};
-ghost use Rattle.lift_desk.specs.Seats.{IsClerkOf, OwesNothing};
+ghost use Rattle.lift_desk.specs.Rule.{IsAhead};
+ghost use Rattle.lift_desk.specs.Seats.{IsClerkOf, IsSeatOf, OwesNothing, clerk_with, view_at};
+ghost use Rattle.lift_desk.specs.Steps.{with_told_asks};
 ghost use Rattle.lift_parts.specs.Batch.{turns_of};
+ghost use Rattle.lift_parts.specs.Scan.{turns_in};
 ghost use Rattle.lift_relay.specs.Scanner.{HasScanned};
 
 use crate::basis::Basis;
@@ -13,7 +16,7 @@ use crate::scan::scan;
 use crate::settling::Settler;
 use lift_clerk::Counts;
 use lift_decider::Decider;
-use lift_desk::{Desk, TakeSeat};
+use lift_desk::{Desk, Seat, TakeSeat};
 use lift_disk::Disk;
 use lift_policy::Policy;
 use lift_register::Register;
@@ -97,6 +100,24 @@ impl<'d, 'b, P: Policy + Drop> Scanner<'d, 'b, P> {
             return (counts, None);
         }
         (counts, Some(batch))
+    }
+
+    /// Tells it what a terminal has asked so far. It takes nothing, and stores nothing.
+    pub fn tell_terminal(&mut self, seat: &mut Seat)
+        requires { IsSeatOf self.old.desk seat.old }
+        ensures seat { seat.new ≡ seat.old }
+        ensures told { self.new ≡ record self.old {
+          seat = clerk_with self.old.seat seat.old.terminal
+              (with_told_asks (view_at self.old.seat seat.old.terminal) seat.old.view.asked);
+        } }
+        // Each word that it took there was asked, in rising turns.
+        ensures asked { IsAhead seat.old.view.asked
+            (view_at self.old.seat seat.old.terminal).taken }
+        ensures turns { turns_of self.new.seat ≡ turns_of self.old.seat }
+        ensures uses { turns_in self.new.seat ≡ turns_in self.old.seat }
+        ensures seated { IsClerkOf self.new.desk self.new.seat }
+    {
+        self.desk.tell_ahead(seat, &mut self.seat)
     }
 
     /// What it shows of the calls: those of all entries that it accepted.

@@ -1,6 +1,6 @@
 -- What any number of turns leave, of either part.
 use Rattle.std.proofs.Common.{◌≡◌, true, false, Bool, [], ◌++◌, Option, Some, None, Result, Ok, Err}
-use Rattle.std.proofs.Common.{refl, ap, ⊎_elim, inl, subst, sym, ◌∙◌}
+use Rattle.std.proofs.Common.{refl, ap, ⊎_elim, subst, sym, ◌∙◌}
 use Rattle.lift_disk.specs.Disk.{DiskState}
 use Rattle.lift_policy.specs.Eligible.{Choice}
 use Rattle.lift_keeper.specs.declared.fault.KeeperFault.{KeeperFault}
@@ -133,15 +133,3 @@ pub faults_broken : {D : Type 0} (state : D
 faults_broken state f g before last NoFlush was = was
 faults_broken state f g before last (OneFlush {g = h} {first = e} {answer = x} more flush is) was =
     once_broken state e last x h g flush is (faults_broken state f h before e more was)
-
--- what is in hand is sent if there is room, and else that was a turn that found the line full
-pub sending_more : {P : Type 0} (choice : Choice) (first old new : AllocatorState P) (sent : Bool)
-    → AllocatorTurns choice first old
-    → (sent ≡ true → (new.hand ≡ []) × (new.end.sent ≡ old.end.sent ++ old.hand))
-    → (sent ≡ true → new ≡ record old { end = new.end; hand = [] })
-    → new.end.line ≡ old.end.line
-    → (sent ≡ false → IsFullTurn old new (record { taken = 0; accepted = 0 }))
-    → AllocatorTurns choice first new
-sending_more choice first old new true turns goes same line stays =
-    HandSent turns (record { sent = (goes refl).1; line = line; same = same refl })
-sending_more choice first old new false turns goes same line full = OneMore turns (inl (full refl))
