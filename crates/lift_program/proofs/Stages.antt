@@ -2,11 +2,13 @@
 use Rattle.std.proofs.Common.{◌≡◌, ◌≢◌, ◌≤◌, ◌+◌, ◌*◌, ◌∙◌, ℕ, List, [], Option, length, false, refl, sym, subst, inl, inr, arith}
 use Rattle.lift_building.specs.Describes.{IsTextOf}
 use Rattle.lift_building.specs.Gives.{IsFirstFault}
-use Rattle.lift_building.specs.Plan.{Plan, shape_of}
+use Rattle.lift_building.specs.Plan.{Plan, IsBuilding, shape_of}
 use Rattle.lift_building.specs.declared.fault.BuildingFault.{BuildingFault}
 use Rattle.lift_building.specs.declared.fault.BuildingFault.TheVariants.{NotToml, Missing, WrongType, OutOfRange, TableShape, Detour, Memory as NoRoom}
-use Rattle.lift_disk.specs.Disk.{DiskState}
+use Rattle.lift_disk.specs.Disk.{DiskState, IsSynced, RunsOn}
 use Rattle.lift_journal.specs.Calls.{format_calls}
+use Rattle.lift_journal.specs.Journal.{ReadsAs}
+use Rattle.lift_serve.specs.lemmas.Made.{made_keeps}
 use Rattle.lift_journal.specs.declared.fault.JournalFault.TheVariants.{Disk, NotFormatted, Damaged, Full, Broken}
 use Rattle.lift_decider.specs.Decider.{starting}
 use Rattle.lift_keeper.specs.Keeper.{KeeperView}
@@ -65,11 +67,27 @@ has_no_keeper {D} is_fresh state plan opened left told refusal same fresh refuse
     subst (λ (d : D). HasNoKeeperOf D is_fresh state plan (Journal refusal) d) (sym same) (record { opened = opened; fresh = fresh; refusal = refusal; is_refusal = refl; refused = refused })
 
 -- what the making of a journal leaves
-pub is_made : (plan : Plan) (half : ℕ) (disk : DiskState) → HasBuilding plan → disk.trace ≡ format_calls (shape_of plan half)
-    → disk.size ≡ 2 + 2 * half → disk.calls ≡ 5 → disk.writes ≡ 3 → disk.failures ≡ 0
-    → IsMadeWith half disk
-is_made plan half disk has made size calls writes failures =
-    record { plan = plan; building = has; made = made; size = size; calls = calls; writes = writes; failures = failures }
+pub is_made : (files : ImageFiles) (path : List ℕ) (plan : Plan) (half : ℕ) (image left : files.Made) → HasBuilding plan → IsBuilding plan
+    → files.is_just_made path (2 + 2 * half) image → RunsOn (files.made_state image) (files.made_state left)
+    → (files.made_state left).trace ≡ format_calls (shape_of plan half)
+    → (files.made_state left).size ≡ 2 + 2 * half → (files.made_state left).calls ≡ 5 → (files.made_state left).writes ≡ 3 → (files.made_state left).failures ≡ 0
+    → ((files.made_state image).is_honest → ReadsAs (shape_of plan half) [] [] (files.made_state left).image)
+    → ((files.made_state image).is_honest → IsSynced (files.made_state left))
+    → IsMadeWith files path half left
+is_made files path plan half image left has sound fresh runs made size calls writes failures reads synced =
+    record {
+      plan = plan;
+      building = has;
+      image = image;
+      fresh = fresh;
+      made = made;
+      size = size;
+      calls = calls;
+      writes = writes;
+      failures = failures;
+      honest = runs.honest.1;
+      keeps = made_keeps files.made_state plan half left sound (λ is. reads (runs.honest.0 is)) (λ is. synced (runs.honest.0 is));
+    }
 
 pub reads_building : (plan : Plan) → HasBuilding plan → ReadsBuilding
 reads_building plan has = (plan, has)

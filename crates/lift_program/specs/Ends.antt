@@ -9,24 +9,26 @@ use Rattle.clap.specs.Words.{Text}
 use Rattle.lift_base.specs.Input.{InputState}
 use Rattle.lift_base.specs.Output.{OutputState}
 use Rattle.lift_building.specs.Plan.{Plan, shape_of}
-use Rattle.lift_disk.specs.Disk.{DiskState}
+use Rattle.lift_disk.specs.Disk.{LeavesNow}
 use Rattle.lift_disk.specs.declared.file.FileFault.{FileFault}
 use Rattle.lift_disk.specs.declared.file.FileFault.TheVariants.{System, NotAFile}
 use Rattle.lift_journal.specs.Calls.{format_calls}
 use Rattle.lift_journal.specs.declared.fault.JournalFault.TheVariants.{Disk}
 use Rattle.lift_keeper.specs.declared.fault.KeeperFault.TheVariants.{Journal as OfJournal}
+use Rattle.lift_register.specs.Register.{empty}
+use Rattle.lift_clerk.specs.Keeping.{KeepsFront}
 use Rattle.lift_replay.specs.declared.lines.Verdict.{Verdict}
 use Rattle.lift_replay.specs.declared.lines.Verdict.TheVariants.{Good, Bad}
 use Rattle.lift_replay.specs.Replaying.{ReportsFront, ReportsInput}
 use Rattle.lift_serve.specs.Open.{EndedState}
-use Rattle.lift_program.specs.Faults.{fault_text, usage_text}
-use Rattle.lift_program.specs.Output.{IsTold}
+use Rattle.lift_program.specs.Faults.{fault_text, help_text, usage_text}
+use Rattle.lift_program.specs.Output.{IsTold, SaysText}
 use Rattle.lift_program.specs.Serving.{IsServing}
 use Rattle.lift_program.specs.Images.{ImageFiles}
 use Rattle.lift_program.specs.Showing.{IsShown, IsOpeningFault, ShowsPart}
 use Rattle.lift_program.specs.Stages.{HasBuilding, HasNoBuilding, IsLeftAs, IsUnopenedFault}
 use Rattle.lift_program.specs.Stages.{ReadsBuilding}
-use Rattle.lift_program.specs.Words.{Asks}
+use Rattle.lift_program.specs.Words.{Asks, AsksForHelp}
 use Rattle.lift_program.specs.declared.fault.Fault.{Fault}
 use Rattle.lift_program.specs.declared.fault.Fault.TheVariants.{Building, Journal, File, Memory}
 use Rattle.lift_program.specs.declared.fault.Fault.TheVariants.{Network, Thread}
@@ -81,23 +83,30 @@ undone_for (Unshown fault left) = Some fault
 undone_for (Unserved fault left) = Some fault
 undone_for OtherWords = None
 
--- An empty journal with so many sectors in a half was made on the device, of a building that was
--- read: by five calls, three of them writes, of which none failed.
-pub record IsMadeWith (half : ℕ) (disk : DiskState) : Type 0 where
+-- An empty journal with so many sectors in a half was made on the image that was made at this path,
+-- of a building that was read: by five calls, three of them writes, of which none failed. Where the
+-- image was honest it still is, and there a serving begins with nothing to lose: each image that a
+-- crash may leave from now on keeps the answers of nobody, and no entry.
+pub record IsMadeWith (files : ImageFiles) (path : List ℕ) (half : ℕ)
+    (left : files.Made) : Type 0 where
   pub plan : Plan
   pub building : HasBuilding plan
-  pub made : disk.trace ≡ format_calls (shape_of plan half)
-  pub size : disk.size ≡ 2 + 2 * half
-  pub calls : disk.calls ≡ 5
-  pub writes : disk.writes ≡ 3
-  pub failures : disk.failures ≡ 0
+  pub image : files.Made
+  pub fresh : files.is_just_made path (2 + 2 * half) image
+  pub made : (files.made_state left).trace ≡ format_calls (shape_of plan half)
+  pub size : (files.made_state left).size ≡ 2 + 2 * half
+  pub calls : (files.made_state left).calls ≡ 5
+  pub writes : (files.made_state left).writes ≡ 3
+  pub failures : (files.made_state left).failures ≡ 0
+  pub honest : (files.made_state image).is_honest → (files.made_state left).is_honest
+  pub keeps : LeavesNow (files.made_state left) (KeepsFront files.Served plan empty [] [])
 
--- the journal that was asked for
-abbrev pub IsMadeFor : Request → DiskState → Type 0
-IsMadeFor Replay disk = ⊥
-IsMadeFor (Format image building half) disk = IsMadeWith half disk
-IsMadeFor (Show image building) disk = ⊥
-IsMadeFor (Serve image building port sessions policy) disk = ⊥
+-- the journal that was asked for, at the path that was named
+abbrev pub IsMadeFor : (files : ImageFiles) → Request → files.Made → Type 0
+IsMadeFor files Replay left = ⊥
+IsMadeFor files (Format image building half) left = IsMadeWith files image.now half left
+IsMadeFor files (Show image building) left = ⊥
+IsMadeFor files (Serve image building port sessions policy) left = ⊥
 
 -- a file in this role, or want of memory
 abbrev pub IsFileFault : Role → Fault → Type 0
@@ -221,7 +230,7 @@ IsUnservedFor files (Serve image building port sessions policy) fault left =
 abbrev pub IsEndFor : (files : ImageFiles) → Request → (before after : Option (List ℕ))
     → End files.Made files.Shown files.Served → Type 0
 IsEndFor files request before after (Replayed verdict) = request ≡ Replay
-IsEndFor files request before after (Formatted disk) = IsMadeFor request (files.made_state disk)
+IsEndFor files request before after (Formatted left) = IsMadeFor files request left
 IsEndFor files request before after (Shown disk) = IsShownFor files request disk before after
 IsEndFor files request before after (Served port fault left ended) =
     IsServedFor files request port fault left ended × IfSome fault IsServingFault
@@ -271,7 +280,8 @@ IsReportOfFault Memory before after = Unit {0}
 IsReportOfFault Network before after = after ≡ before
 IsReportOfFault Thread before after = Unit {0}
 
--- what was written, by the end: of a script the report of the input, and of a serving what says so
+-- what was written, by the end: of a script the report of the input, and of a serving what says so;
+-- for other words it is told beside this
 abbrev pub IsReport : {M S V : Type 0} → (input : Option (List ℕ)) → End M S V
     → (before after : Option (List ℕ)) → Type 0
 IsReport input (Replayed verdict) before after = ReportsInput input before after verdict
@@ -282,7 +292,14 @@ IsReport input (Served port fault left ended) before after =
 IsReport input (Failed fault) before after = IsReportOfFault fault before after
 IsReport input (Unshown fault left) before after = IsReportOfFault fault before after
 IsReport input (Unserved fault left) before after = IsReportOfFault fault before after
-IsReport input OtherWords before after = after ≡ before
+IsReport input OtherWords before after = Unit {0}
+
+-- What was written for words that ask for nothing: how the program is called, where they ask for help,
+-- and else nothing.
+pub record IsAnswered (words : List Text) (has_failed : Type 0)
+    (before after : Option (List ℕ)) : Type 0 where
+  pub help : AsksForHelp words → SaysText help_text has_failed before after
+  pub quiet : ¬ AsksForHelp words → after ≡ before
 
 -- An end is a fault of the standard output only where that has failed, a serving at a port only
 -- where that was listened at, and a fault of the port only where it was refused.
@@ -303,6 +320,7 @@ pub record IsStatusFor (files : ImageFiles) {E : Type 0} (contents : E
   pub end : End files.Made files.Shown files.Served
   pub is_end : IsEndOf files input words before after end
   pub reported : IsReport input end before after
+  pub answered : end ≡ OtherWords → IsAnswered words has_failed before after
   pub is_status : status ≡ status_of end
   pub told : IfSome (line_of end) (IsTold contents old new)
   pub quiet : line_of end ≡ None → new ≡ old

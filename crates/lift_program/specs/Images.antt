@@ -5,8 +5,8 @@ use Rattle.lift_disk.specs.Below.{below}
 use Rattle.lift_disk.specs.Disk.{DiskState}
 use Rattle.lift_disk.specs.FileCalls.{FileCall}
 use Rattle.lift_disk.specs.FileCalls.FileCall.{Lock}
-use Rattle.lift_disk.specs.Files.{IsMeasured, sector_file_state_of}
-use Rattle.lift_disk.specs.Traced.{to_be_read, to_be_used}
+use Rattle.lift_disk.specs.Files.{IsMadeDevice, IsMeasured, sector_file_state_of}
+use Rattle.lift_disk.specs.Traced.{to_be_made, to_be_read, to_be_used}
 use Rattle.lift_disk.specs.declared.buffered.Buffered.{Buffered}
 use Rattle.lift_disk.specs.declared.disk.Disk.{Ghosts}
 use Rattle.lift_disk.specs.declared.runs.RunDisk.{Ghosts as RunGhosts}
@@ -20,6 +20,8 @@ use Rattle.lift_program.specs.declared.unwritten.UnwrittenFile.{UnwrittenFile}
 pub record ImageFiles : Type 1 where
   pub Made : Type 0
   pub made_state : Made → DiskState
+  -- its image, of so many sectors, was made at this path, and nothing else was done
+  pub is_just_made : List ℕ → ℕ → Made → Type 0
   pub Served : Type 0
   pub served_state : Served → DiskState
   -- its image was opened at this path, its lock was had, and nothing else was done
@@ -45,6 +47,16 @@ pub record IsOpened {F : Type 0} {told : Told F}
   pub measured : IsMeasured (opens how path) gives holds first file
   pub honest : (holds measured.file).is_honest → image.is_honest
 
+-- An image of so many sectors was made at this path: its file was opened there to be made, it has its
+-- room, its folder names it for good, and no call of the image was made. It is honest where the file
+-- is that was opened.
+pub record IsJustMade {F : Type 0} {told : Told F}
+    (opens : OpenOptions → List ℕ → Option F → Type 0) (names : List ℕ → F → Type 0)
+    (gives : F → FileCall → F → Type 0) (holds : F → DiskState) (path : List ℕ) (sectors : ℕ)
+    (image : SectorFile F told) : Type 0 where
+  pub made : IsMadeDevice (opens to_be_made path) (names path) gives holds sectors image
+  pub uncalled : (sector_file_state_of holds image).calls ≡ 0
+
 -- No call of the file has failed, and none was a write.
 pub record IsOnlyRead (file : DiskState) : Type 0 where
   pub unwritten : file.writes ≡ 0
@@ -55,14 +67,15 @@ pub record IsOnlyRead (file : DiskState) : Type 0 where
 abbrev pub image_files : {F : Type 0} {told : Told F} {runs : RunGhosts (SectorFile F told)}
     {disk : Ghosts (SectorFile F told)} {shown_runs : RunGhosts (UnwrittenFile F told)}
     {shown_disk : Ghosts (UnwrittenFile F told)}
-    → (opens : OpenOptions → List ℕ → Option F → Type 0)
+    → (opens : OpenOptions → List ℕ → Option F → Type 0) → (names : List ℕ → F → Type 0)
     → (gives : F → FileCall → F → Type 0) → (holds : F → DiskState)
     → (Buffered (SectorFile F told) runs disk → DiskState)
     → (Buffered (UnwrittenFile F told) shown_runs shown_disk → DiskState) → ImageFiles
-image_files {F} {told} {runs} {disk} {shown_runs} {shown_disk} opens gives holds served shown =
+image_files {F} {told} {runs} {disk} {shown_runs} {shown_disk} opens names gives holds served shown =
     record {
       Made = SectorFile F told;
       made_state = sector_file_state_of holds;
+      is_just_made = IsJustMade opens names gives holds;
       Served = Buffered (SectorFile F told) runs disk;
       served_state = served;
       is_to_be_served = λ path d.

@@ -1,5 +1,7 @@
 -- What is written, and what is known where it was not.
 use Rattle.std.specs.Prelude.{ℕ, ◌≡◌, ◌⊎◌, Bool, true, false, Option, List, OnOk, Result, Err}
+use Rattle.std.specs.Prelude.{take}
+use Rattle.std.specs.Io.KnownBytes.{Appends}
 use Rattle.lift_base.specs.Output.{OutputState, Takes, TakesFront, sink_of}
 use Rattle.lift_replay.specs.Writing.{TakesEach, FailsAtLast}
 use Rattle.lift_program.specs.declared.fault.Fault.{Fault}
@@ -40,3 +42,8 @@ pub record IsSettled {W : Type 0} (gives : W → List ℕ → Option ℕ → W �
   pub flushed : OnOk result (IsFlushed gives flushes old new)
   pub failed : result ≡ Err (File Output) → HasFailed gives flushes old new
   pub wanting : result ≡ Err Memory → WasTaken gives flushes old new
+
+-- This text was written; or a front of it, and then the output has failed.
+abbrev pub SaysText : List ℕ → (has_failed : Type 0) → (before after : Option (List ℕ)) → Type 0
+SaysText text has_failed before after = Appends before after text
+    ⊎ (has_failed × ((count : ℕ) × Appends before after (take count text)))

@@ -1,5 +1,5 @@
 -- What the program's words ask for.
-use Rattle.std.specs.Prelude.{◌≡◌, ◌≤◌, ◌⊎◌, ℕ, true, List, [], Option, Some, None, codes}
+use Rattle.std.specs.Prelude.{◌≡◌, ◌≤◌, ◌⊎◌, ℕ, true, List, [], ◌∷◌, Option, Some, None, codes}
 use Rattle.std.specs.Fmt.{decimal}
 use Rattle.clap.specs.Words.{AddsSubcommand, App, Row, Rule, Text, app_of, new_app, new_rule}
 use Rattle.clap.specs.Words.{with_rule, with_subcommand, first_of, subcommand_of, fault_of}
@@ -129,3 +129,7 @@ IsInRange (Format image building half) = (64 ≤ half) × (half ≤ 1000000)
 IsInRange (Show image building) = Unit {0}
 IsInRange (Serve image building port sessions policy) = (1 ≤ port) × (port ≤ 65535) × (1 ≤ sessions)
     × (sessions ≤ 1000000)
+
+-- the words ask for help, and for nothing else
+abbrev pub AsksForHelp : List Text → Type 0
+AsksForHelp words = words ≡ codes "--help" ∷ []

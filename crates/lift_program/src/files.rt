@@ -8,7 +8,7 @@ ghost use Rattle.lift_disk.specs.Files.{IsMeasured, making_below, sector_file_st
 ghost use Rattle.lift_disk.specs.Traced.{making_calls, to_be_read, to_be_used};
 ghost use Rattle.lift_replay.specs.Reading.{TakesUpTo};
 ghost use Rattle.lift_program.specs.Ends.{IsFileFault, IsImageFault, IsUncalled, IsUnread};
-ghost use Rattle.lift_program.specs.Images.{image_files};
+ghost use Rattle.lift_program.specs.Images.{IsJustMade, image_files};
 ghost use Rattle.lift_program.specs.Stages.{HasBuilding, IsBuildingFault, TakesAll, most_text};
 ghost use Rattle.lift_program.specs.declared.fault.Role.TheVariants.{Building as OfBuilding};
 ghost use Rattle.lift_program.specs.declared.fault.Role.TheVariants.{Image as OfImage};
@@ -145,6 +145,8 @@ pub fn image_at<F: ToldFiles>(
     ensures calls { IfOk result (λ disk. (sector_file_state_of F.Told.holds disk).calls ≡ 0) }
     ensures writes { IfOk result (λ disk. (sector_file_state_of F.Told.holds disk).writes ≡ 0) }
     ensures trace { IfOk result (λ disk. (sector_file_state_of F.Told.holds disk).trace ≡ []) }
+    ensures made { IfOk result (λ disk. IsJustMade (F.opens rt.now) (F.names rt.now) F.Told.gives
+        F.Told.holds path.now sectors disk) }
     ensures making { IfOk result (λ disk. making_below disk ≡ making_calls sectors) }
     ensures fault { IfErr result (IsFileFault OfImage) }
 {
@@ -177,7 +179,7 @@ fn image_to_read<F: ToldFiles>(rt: &F, path: &str) -> Result<SectorFile<F::Told>
 
 /// The image of a journal that is there, to be shown, also beside a group that runs over it.
 pub fn image_to_show<F: ToldFiles>(rt: &F, path: &str) -> Result<ShownImage<F::Told>, Fault>
-    ensures opened { IfOk result (λ disk. (image_files (F.opens rt.now) F.Told.gives F.Told.holds
+    ensures opened { IfOk result (λ disk. (image_files (F.opens rt.now) (F.names rt.now) F.Told.gives F.Told.holds
         ⟦<BufferedFile<F::Told> as Disk>⟧.state ⟦<ShownImage<F::Told> as Disk>⟧.state).is_to_be_shown
         path.now disk) }
     ensures fault { IfErr result (IsFileFault OfImage) }

@@ -1,13 +1,14 @@
 //! The making of an empty journal on a file.
 
 ghost use Rattle.std.specs.Prelude.{◌≤◌, IfOk, IfErr};
-ghost use Rattle.lift_disk.specs.Files.{sector_file_state_of};
 ghost use Rattle.lift_program.specs.Ends.{IsMadeWith, IsFormatFault};
+ghost use Rattle.lift_program.specs.Images.{image_files};
 
 use crate::fault::Fault;
 use crate::files::{building_in, image_at};
 use crate::left::Left;
-use lift_disk::{SectorFile, ToldFiles};
+use crate::unwritten::ShownImage;
+use lift_disk::{BufferedFile, Disk, SectorFile, ToldFiles};
 use lift_journal::JournalFault;
 use lift_keeper::KeeperFault;
 use std::alloc::Global;
@@ -15,7 +16,7 @@ use std::fs::{File, Files};
 
 /// Makes an empty journal in the file `image`, for the building in the file `building`, with so
 /// many sectors in a half. Nothing is made for a building that is refused.
-#[tactic(auto, using(crate::proofs::Stages::building_formats, crate::proofs::Stages::image_formats, crate::proofs::Stages::is_made, crate::proofs::Stages::reads_building))]
+#[tactic(auto, using(crate::proofs::Stages::building_formats, crate::proofs::Stages::image_formats, crate::proofs::Stages::reads_building))]
 pub fn format<F: Files<File = File> + ToldFiles>(
     rt: &F,
     alloc: Global,
@@ -25,8 +26,8 @@ pub fn format<F: Files<File = File> + ToldFiles>(
 ) -> Result<Left<SectorFile<F::Told>>, Fault>
     requires least { 64 ≤ half }
     requires most { half ≤ 1000000 }
-    ensures made { IfOk result (λ disk.
-        IsMadeWith half (sector_file_state_of F.Told.holds disk)) }
+    ensures made { IfOk result (IsMadeWith (image_files (F.opens rt.now) (F.names rt.now) F.Told.gives F.Told.holds
+        ⟦<BufferedFile<F::Told> as Disk>⟧.state ⟦<ShownImage<F::Told> as Disk>⟧.state) image.now half) }
     ensures fault { IfErr result IsFormatFault }
 {
     let shape = building_in(rt, alloc, building)?.shape(half);

@@ -26,11 +26,11 @@ pub fn keeper_in<'b, F: ToldFiles>(
     path: &str,
     building: &'b Building,
 ) -> Result<HeldKeeper<'b, BufferedFile<F::Told>, ImageKey>, Undone<BufferedFile<F::Told>>>
-    ensures opened { IfOk result (HasKeeperOf (image_files (F.opens rt.now) F.Told.gives F.Told.holds
+    ensures opened { IfOk result (HasKeeperOf (image_files (F.opens rt.now) (F.names rt.now) F.Told.gives F.Told.holds
         ⟦<BufferedFile<F::Told> as Disk>⟧.state ⟦<ShownImage<F::Told> as Disk>⟧.state) path.now
         building.now) }
     ensures settled { IfOk result (λ keeper. keeper.state.batch ≡ []) }
-    ensures undone { IfErr result (IsUnkept ((image_files (F.opens rt.now) F.Told.gives F.Told.holds
+    ensures undone { IfErr result (IsUnkept ((image_files (F.opens rt.now) (F.names rt.now) F.Told.gives F.Told.holds
         ⟦<BufferedFile<F::Told> as Disk>⟧.state ⟦<ShownImage<F::Told> as Disk>⟧.state).is_to_be_served path.now)
         ⟦<BufferedFile<F::Told> as Disk>⟧.state building.now) }
 {

@@ -7,6 +7,7 @@ mod fault;
 mod files;
 mod format;
 mod grammar;
+mod help;
 mod keeping;
 mod left;
 mod listening;

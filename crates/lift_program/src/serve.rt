@@ -124,7 +124,7 @@ pub fn serve<
 ) -> Result<Serving<BufferedFile<R::Told>>, Undone<BufferedFile<R::Told>>>
     ensures said { OnOk result
         (Appends (W.contents writer.old) (W.contents writer.new) (serving_text port)) }
-    ensures served { IfOk result (λ serving. IsServing (image_files (R.opens rt.now) R.Told.gives R.Told.holds
+    ensures served { IfOk result (λ serving. IsServing (image_files (R.opens rt.now) (R.names rt.now) R.Told.gives R.Told.holds
         ⟦<BufferedFile<R::Told> as Disk>⟧.state ⟦<ShownImage<R::Told> as Disk>⟧.state) image.now policy sessions
         serving.fault serving.left serving.ended) }
     // The socket was asked for at 127.0.0.1, at this port.
@@ -134,7 +134,7 @@ pub fn serve<
         → R.gives rt.now local port None) }
     ensures serving { IfOk result (λ serving. IfSome serving.fault IsServingFault) }
     // Nothing was written to an image that isn't served.
-    ensures undone { IfErr result (IsUndone ((image_files (R.opens rt.now) R.Told.gives R.Told.holds
+    ensures undone { IfErr result (IsUndone ((image_files (R.opens rt.now) (R.names rt.now) R.Told.gives R.Told.holds
         ⟦<BufferedFile<R::Told> as Disk>⟧.state ⟦<ShownImage<R::Told> as Disk>⟧.state).is_to_be_served image.now)
         ⟦<BufferedFile<R::Told> as Disk>⟧.state) }
     ensures report { IfErr result (λ undone.

@@ -88,13 +88,13 @@ pub fn show<F: Files<File = File> + ToldFiles, W: Outflow>(
     building: &str,
     writer: &mut W,
 ) -> Result<Left<ShownImage<F::Told>>, Undone<ShownImage<F::Told>>>
-    ensures shown { IfOk result (λ disk. IsShown (image_files (F.opens rt.now) F.Told.gives F.Told.holds
+    ensures shown { IfOk result (λ disk. IsShown (image_files (F.opens rt.now) (F.names rt.now) F.Told.gives F.Told.holds
         ⟦<BufferedFile<F::Told> as Disk>⟧.state ⟦<ShownImage<F::Told> as Disk>⟧.state) image.now disk
         (W.contents writer.old) (W.contents writer.new)) }
-    ensures only { ShowsPart (image_files (F.opens rt.now) F.Told.gives F.Told.holds
+    ensures only { ShowsPart (image_files (F.opens rt.now) (F.names rt.now) F.Told.gives F.Told.holds
         ⟦<BufferedFile<F::Told> as Disk>⟧.state ⟦<ShownImage<F::Told> as Disk>⟧.state) image.now
         (W.contents writer.old) (W.contents writer.new) }
-    ensures undone { IfErr result (IsUndone ((image_files (F.opens rt.now) F.Told.gives F.Told.holds
+    ensures undone { IfErr result (IsUndone ((image_files (F.opens rt.now) (F.names rt.now) F.Told.gives F.Told.holds
         ⟦<BufferedFile<F::Told> as Disk>⟧.state ⟦<ShownImage<F::Told> as Disk>⟧.state).is_to_be_shown image.now)
         ⟦<ShownImage<F::Told> as Disk>⟧.state) }
     ensures showing { IfErr result IsShowingUndone }

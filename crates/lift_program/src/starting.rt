@@ -5,7 +5,7 @@ ghost use Rattle.std.specs.IoError.{error_kind};
 ghost use Rattle.lift_replay.specs.Reading.{IsRead};
 ghost use Rattle.lift_replay.specs.declared.lines.Verdict.TheVariants.{Good};
 ghost use Rattle.lift_program.specs.declared.fault.Role.TheVariants.{Input, Output};
-ghost use Rattle.lift_program.specs.Ends.{IsCaused, IsEndFor, IsEndOf, IsReport, IsStatusFor};
+ghost use Rattle.lift_program.specs.Ends.{IsAnswered, IsCaused, IsEndFor, IsEndOf, IsReport, IsStatusFor};
 ghost use Rattle.lift_program.specs.Ends.{IsUncalled, IsUnread, WritesFor, line_of};
 ghost use Rattle.lift_program.specs.Images.{image_files};
 ghost use Rattle.lift_program.specs.Listening.{HasListened, WasRefused};
@@ -16,6 +16,7 @@ ghost use Rattle.lift_program.specs.declared.words.Request.TheVariants.{Replay};
 use crate::end::End;
 use crate::fault::Fault;
 use crate::format::format;
+use crate::help::answer;
 use crate::left::Undone;
 use crate::listening::Listens;
 use crate::output::Outflow;
@@ -49,10 +50,10 @@ fn done<
 ) -> End<SectorFile<F::Told>, ShownImage<F::Told>, BufferedFile<F::Told>>
     requires range { IsInRange request }
     requires uncalled { IsUncalled input.old }
-    ensures end { IsEndFor (image_files (F.opens rt.now) F.Told.gives F.Told.holds
+    ensures end { IsEndFor (image_files (F.opens rt.now) (F.names rt.now) F.Told.gives F.Told.holds
         ⟦<BufferedFile<F::Told> as Disk>⟧.state ⟦<ShownImage<F::Told> as Disk>⟧.state) request.entry
         (W.contents writer.old) (W.contents writer.new) result }
-    ensures only { WritesFor (image_files (F.opens rt.now) F.Told.gives F.Told.holds
+    ensures only { WritesFor (image_files (F.opens rt.now) (F.names rt.now) F.Told.gives F.Told.holds
         ⟦<BufferedFile<F::Told> as Disk>⟧.state ⟦<ShownImage<F::Told> as Disk>⟧.state) (R.remaining input.old.reader) request.entry
         (W.contents writer.old) (W.contents writer.new) }
     ensures report { IsReport (R.remaining input.old.reader) result (W.contents writer.old)
@@ -130,7 +131,7 @@ fn carry_out<
 ) -> End<SectorFile<F::Told>, ShownImage<F::Told>, BufferedFile<F::Told>>
     requires uncalled { IsUncalled input.old }
     // It ends as the words ask, and nothing is written but a front of what they ask for,
-    ensures end { IsEndOf (image_files (F.opens rt.now) F.Told.gives F.Told.holds
+    ensures end { IsEndOf (image_files (F.opens rt.now) (F.names rt.now) F.Told.gives F.Told.holds
         ⟦<BufferedFile<F::Told> as Disk>⟧.state ⟦<ShownImage<F::Told> as Disk>⟧.state) (R.remaining input.old.reader) (map S.text words.now)
         (W.contents writer.old) (W.contents writer.new) result }
     // a fault and other words are told by their line,
@@ -139,6 +140,10 @@ fn carry_out<
     ensures quiet { line_of result ≡ None → errors.new ≡ errors.old }
     // A script's report is that of the input, and a journal's are its open calls.
     ensures report { IsReport (R.remaining input.old.reader) result (W.contents writer.old)
+        (W.contents writer.new) }
+    // Words that ask for nothing are answered by how the program is called, if they ask for help.
+    ensures answered { result ≡ End.OtherWords → IsAnswered (map S.text words.now)
+        (HasFailed W.gives W.flushes writer.old writer.new) (W.contents writer.old)
         (W.contents writer.new) }
     // A good script was read to its end,
     ensures good { result ≡ End.Replayed Good → input.new.ended ≡ true }
@@ -153,7 +158,10 @@ fn carry_out<
 {
     let end = match request_of(alloc, words) {
         Ok(Some(request)) => done(rt, alloc, request, input, writer),
-        Ok(None) => End::OtherWords,
+        Ok(None) => {
+            answer(words, writer);
+            End::OtherWords
+        }
         Err(error) => End::Failed(Fault::from(error)),
     };
     end.tell(errors);
@@ -162,7 +170,7 @@ fn carry_out<
 
 /// Does what the words behind the program's name ask for, and answers the status: 0 where all was
 /// done, 1 for a bad script or a fault, 2 for other words. A fault writes its line to `errors`, and
-/// so do other words.
+/// so do other words; a request for help is told how the program is called.
 pub fn start<
     F: Files<File = File> + ToldFiles + Threads + Wait + Clock + Listens + Sync,
     S: AsStr,
@@ -171,7 +179,7 @@ pub fn start<
     E: Write + Drop,
 >(rt: &F, alloc: Global, words: &[S], reader: R, writer: &mut W, errors: &mut Watched<E>) -> u8
     // It is the status of an end that the words come to, with its report, and which is told.
-    ensures status { IsStatusFor (image_files (F.opens rt.now) F.Told.gives F.Told.holds
+    ensures status { IsStatusFor (image_files (F.opens rt.now) (F.names rt.now) F.Told.gives F.Told.holds
         ⟦<BufferedFile<F::Told> as Disk>⟧.state ⟦<ShownImage<F::Told> as Disk>⟧.state) E.contents (map S.text words.now) (R.remaining reader)
         (W.contents writer.old) (W.contents writer.new)
         (HasFailed W.gives W.flushes writer.old writer.new) (HasListened F.gives rt.now)

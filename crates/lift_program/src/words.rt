@@ -1,8 +1,8 @@
 //! What the program's words ask for.
 
-ghost use Rattle.std.specs.Prelude.{◌≡◌, ◌≤◌, ℕ, map, option_map, IfOk, IfSome, IfNone};
+ghost use Rattle.std.specs.Prelude.{◌≡◌, ◌≤◌, ◌↔◌, ℕ, map, option_map, IfOk, IfSome, IfNone, IsTrue};
 ghost use Rattle.clap.specs.Words.{Text, rows_of, found_of, subcommand_rows_of};
-ghost use Rattle.lift_program.specs.Words.{Asks, AsksNothing, IsCount, IsFor, IsFormat, IsShow};
+ghost use Rattle.lift_program.specs.Words.{Asks, AsksForHelp, AsksNothing, IsCount, IsFor, IsFormat, IsShow};
 ghost use Rattle.lift_program.specs.Words.{IsHalf, IsInRange, IsOver, IsPolicy, IsPolicyWord, IsServe};
 ghost use Rattle.lift_policy.specs.declared.shipped.Shipped.{Shipped as ShippedValue};
 
@@ -179,6 +179,16 @@ fn found_in<'a>(matches: &ArgMatches<'a>) -> Option<Request<'a>>
             b"serve" => serve_of(matches),
             _ => None,
         },
+    }
+}
+
+/// Whether the words ask for help, and for nothing else.
+pub fn asks_for_help<S: AsStr>(words: &[S]) -> bool
+    ensures { IsTrue result ↔ AsksForHelp (map S.text words.now) }
+{
+    match words {
+        [word] => word.as_str() == "--help",
+        _ => false,
     }
 }
 

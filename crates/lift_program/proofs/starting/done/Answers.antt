@@ -16,3 +16,6 @@ returns-in-Ok-clause-only g c =
 
 pub returns-in-Ok-serve-clause-end : goal.returns-in-Ok-serve-clause-end
 returns-in-Ok-serve-clause-end g c = rw c.in-Serve.is ((refl, c.in-Ok-serve.ensures.served), c.in-Ok-serve.ensures.serving)
+
+pub returns-in-Ok-format-clause-end : goal.returns-in-Ok-format-clause-end
+returns-in-Ok-format-clause-end g c = rw c.in-Format.is c.in-Ok-format.ensures.made

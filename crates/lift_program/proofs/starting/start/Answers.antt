@@ -9,7 +9,7 @@ use Rattle.lift_program.proofs.starting.start.Goals as goal
 
 pub returns : goal.returns
 returns g c =
-    let files = image_files (g.F.ToldFiles.opens c.args.rt.now) g.F.Told.ToldFile.gives g.F.Told.ToldFile.holds (buffered_state_of (sector_file_state_of g.F.Told.ToldFile.holds)) (buffered_state_of (unwritten_state_of g.F.Told.ToldFile.holds)) in
+    let files = image_files (g.F.ToldFiles.opens c.args.rt.now) (g.F.ToldFiles.names c.args.rt.now) g.F.Told.ToldFile.gives g.F.Told.ToldFile.holds (buffered_state_of (sector_file_state_of g.F.Told.ToldFile.holds)) (buffered_state_of (unwritten_state_of g.F.Told.ToldFile.holds)) in
     let words = map g.S.AsStr.text c.args.words.now in
     let before = g.W.Write.contents c.args.writer.now in
     let after = g.W.Write.contents c.carry_out-end.new.writer in
@@ -19,6 +19,7 @@ returns g c =
         end = c.carry_out-end.result;
         is_end = subst (λ r. IsEndOf files (g.R.Read.remaining r) words before after c.carry_out-end.result) same c.carry_out-end.ensures.end;
         reported = subst (λ r. IsReport (g.R.Read.remaining r) c.carry_out-end.result before after) same c.carry_out-end.ensures.report;
+        answered = c.carry_out-end.ensures.answered;
         is_status = c.status.ensures;
         told = c.carry_out-end.ensures.told;
         quiet = c.carry_out-end.ensures.quiet;

@@ -1,0 +1,24 @@
+use Rattle.std.proofs.Common.{◌≡◌, ◌∙◌, ℕ, List, Option, true, take, inr, subst, sym}
+use Rattle.std.proofs.lemmas.Bool.{false≢true}
+use Rattle.std.specs.Prelude.{Result, Ok, Err, IfErr, is_err}
+use Rattle.std.specs.Io.KnownBytes.{Appends}
+use Rattle.lift_base.specs.declared.text.output.WriteFault.{WriteFault}
+use Rattle.lift_program.proofs.Flushing.{put_failed}
+use Rattle.lift_program.proofs.help.write_text.Goals as goal
+
+-- the front that a writer took before it failed
+put_front : (before after : Option (List ℕ)) (bytes : List ℕ) (result : Result Unit WriteFault) → is_err result ≡ true → IfErr result (λ fault. Appends before after (take fault.written bytes))
+    → (count : ℕ) × Appends before after (take count bytes)
+put_front before after bytes (Ok done) failed told = absurd (false≢true failed)
+put_front before after bytes (Err fault) failed told = (fault.written, told)
+
+pub returns-then-is_err : goal.returns-then-is_err
+returns-then-is_err g c =
+    let before = g.W.Write.contents c.args.writer.now in
+    let after = g.W.Write.contents c.put_all.new.writer in
+    let failed : is_err c.put_all.result ≡ true = sym c.is_err.ensures.value ∙ c.if-is_err.true in
+    let front = put_front before after c.as_bytes.result.now c.put_all.result failed c.put_all.ensures.front in
+    inr (
+      put_failed g.W.Outlet.gives g.W.Outflow.flushes c.as_bytes.result.now _ _ c.put_all.result failed c.put_all.ensures.within c.put_all.ensures.each_so_far,
+      (front.0, subst (λ bytes. Appends before after (take front.0 bytes)) c.as_bytes.ensures.value front.1),
+    )
