@@ -16,6 +16,7 @@ use std::fs::{File, Files};
 
 /// Makes an empty journal in the file `image`, for the building in the file `building`, with so
 /// many sectors in a half. Nothing is made for a building that is refused.
+#[inline(never)]
 #[tactic(auto, using(crate::proofs::Stages::building_formats, crate::proofs::Stages::image_formats, crate::proofs::Stages::reads_building))]
 pub fn format<F: Files<File = File> + ToldFiles>(
     rt: &F,

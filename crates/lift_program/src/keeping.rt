@@ -45,6 +45,7 @@ pub fn keeper_in<'b, F: ToldFiles>(
 }
 
 /// The image as its keeper leaves it.
+#[inline(never)]
 pub fn left_by<D: Disk + Drop>(keeper: HeldKeeper<'_, D, ImageKey>) -> Left<D>
     ensures { result ≡ keeper.entry.writer.device }
 {

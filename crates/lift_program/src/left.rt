@@ -20,6 +20,10 @@ impl<D> Model for Left<D> {
 
 impl<D> Left<D> {
     /// It is called no more.
+    ///
+    /// It and the calls that answer one stay calls: built into one body, the copies of a device of
+    /// 16 KiB at several places of an end take the compiler a quarter of an hour.
+    #[inline(never)]
     pub fn new(device: D) -> Self
         ensures { result ≡ device }
     {

@@ -108,6 +108,7 @@ fn serving_of<D: Disk + Drop>(served: Served<'_, D, ImageKey>) -> Serving<D>
 /// Serves the building in the file `building` on a port of this machine, with the journal in the
 /// file `image`, until so many connections have ended. The answer tells the fault that did not end
 /// it, if there was one.
+#[inline(never)]
 #[tactic(auto, using(crate::proofs::Stages::building_undone, crate::proofs::Stages::nothing_written, crate::proofs::Writing::nothing_said, crate::proofs::Writing::said_front))]
 pub fn serve<
     R: Files<File = File> + ToldFiles + Threads + Wait + Clock + Listens + Sync,

@@ -80,6 +80,7 @@ fn show_on<D: Disk + Drop, W: Outflow>(
 
 /// Shows the open calls of the journal in the file `image`, which is of the building in the file
 /// `building`.
+#[inline(never)]
 #[tactic(auto, using(crate::proofs::Stages::building_undone, crate::proofs::Stages::image_undone, crate::proofs::Stages::nothing_written))]
 pub fn show<F: Files<File = File> + ToldFiles, W: Outflow>(
     rt: &F,

@@ -6,7 +6,7 @@ use lift_program::start;
 use std::alloc::Global;
 use std::fs::{File, Files};
 use std::io::{Read, Write};
-use std::net::{Net, TcpListener, TcpStream};
+use std::net::{Ipv4Addr, Net, SocketAddr, SocketAddrV4, TcpListener, TcpStream};
 use std::sync::Wait;
 use std::test::Fail;
 use std::thread::Threads;
@@ -77,14 +77,16 @@ impl Run {
     }
 }
 
+/// Two floors, a kiosk and a car.
+const SMALL: &str =
+    "floors = 2\ndoor_ms = 0\nkiosks = [0]\nflight = [[0, 1], [1, 0]]\ncars = [{ places = 1 }]";
+
 /// The standard output is a file too.
 #[test]
 fn outputs_that_fail(rt: HostRuntime) -> Result<(), Fail> {
     let building = "liftd_unheard.toml";
     let image = "liftd_unheard.image";
-    let text =
-        "floors = 2\ndoor_ms = 0\nkiosks = [0]\nflight = [[0, 1], [1, 0]]\ncars = [{ places = 1 }]";
-    fs::write(&rt, building, text)?;
+    fs::write(&rt, building, SMALL)?;
     let format = ["format", image, building];
     assert!(rt; Run::of(&rt, format.as_slice(), Failing).is(0, "", ""));
     let show = ["show", image, building];
@@ -134,4 +136,31 @@ fn inputs_that_fail(rt: HostRuntime) {
     }
     let nothing: [&str; 0] = [];
     assert!(rt; Run::of(&rt, nothing.as_slice(), Failing).is(1, "", "liftd: file\n"));
+}
+
+/// A port that is taken. The group is not served, and what is told is the network.
+#[test]
+fn a_port_in_use(rt: HostRuntime) -> Result<(), Fail> {
+    let building = "liftd_taken.toml";
+    let image = "liftd_taken.image";
+    fs::write(&rt, building, SMALL)?;
+    let format = ["format", image, building];
+    assert!(rt; Run::of(&rt, format.as_slice(), Failing).is(0, "", ""));
+    let here = SocketAddr::V4(SocketAddrV4::new(Ipv4Addr::from_octets([127, 0, 0, 1]), 0));
+    let listener = TcpListener::bind(&rt, here)?;
+    let number = listener.local_addr()?.port();
+    let port = format!(in rt.alloc(); "{number}")?;
+    let serve = [
+        "serve",
+        image,
+        building,
+        "--port",
+        port.as_str(),
+        "--sessions",
+        "1",
+    ];
+    assert!(rt; Run::of(&rt, serve.as_slice(), Failing).is(1, "", "liftd: network\n"));
+    fs::remove_file(&rt, image)?;
+    fs::remove_file(&rt, building)?;
+    Ok(())
 }
