@@ -138,7 +138,23 @@ fn inputs_that_fail(rt: HostRuntime) {
     assert!(rt; Run::of(&rt, nothing.as_slice(), Failing).is(1, "", "liftd: file\n"));
 }
 
-/// A port that is taken. The group is not served, and what is told is the network.
+/// Whether a group isn't served at a port, and what is told is the network.
+fn is_refused_at<F>(rt: &F, image: &str, building: &str, port: &str) -> bool
+where
+    F: Files<File = File>
+        + ToldFiles
+        + Alloc<A = Global>
+        + Threads
+        + Wait
+        + Clock
+        + Net<Listener = TcpListener, Stream = TcpStream>
+        + Sync,
+{
+    let serve = ["serve", image, building, "--port", port, "--sessions", "1"];
+    Run::of(rt, serve.as_slice(), Failing).is(1, "", "liftd: network\n")
+}
+
+/// A port that is taken.
 #[test]
 fn a_port_in_use(rt: HostRuntime) -> Result<(), Fail> {
     let building = "liftd_taken.toml";
@@ -150,16 +166,8 @@ fn a_port_in_use(rt: HostRuntime) -> Result<(), Fail> {
     let listener = TcpListener::bind(&rt, here)?;
     let number = listener.local_addr()?.port();
     let port = format!(in rt.alloc(); "{number}")?;
-    let serve = [
-        "serve",
-        image,
-        building,
-        "--port",
-        port.as_str(),
-        "--sessions",
-        "1",
-    ];
-    assert!(rt; Run::of(&rt, serve.as_slice(), Failing).is(1, "", "liftd: network\n"));
+    let is_refused = is_refused_at(&rt, image, building, port.as_str());
+    assert!(rt; is_refused);
     fs::remove_file(&rt, image)?;
     fs::remove_file(&rt, building)?;
     Ok(())
