@@ -171,6 +171,8 @@ def main():
     if not said.liftd.exists():
         sys.exit(f"lobby: there is no program {said.liftd} yet; (cd {TOP}/crates/liftd && rt run < stdin) builds it")
     signal.signal(signal.SIGTERM, lambda *_: sys.exit())
+    # (a shell that starts it in the background has it ignore this)
+    signal.signal(signal.SIGINT, signal.default_int_handler)
     with tempfile.TemporaryDirectory() as room:
         liftd, image = said.liftd.resolve(), said.image or pathlib.Path(room) / "lobby.image"
         if not image.exists():
