@@ -1,17 +1,17 @@
 //! Tests of what serves a group: `clerk` has a clerk whose device fails, its history behind cuts,
-//! and sessions over it; `relay` both parts of a clerk, by turns and on threads; `stops` commits,
+//! and sessions over it; `relay` both parts of a clerk, by turns and on threads; `faults` commits,
 //! turns and lines of batches that are stopped at each call of the device.
 #![tactic(auto)]
 
 #[cfg(test)]
 mod clerk;
 #[cfg(test)]
+mod faults;
+#[cfg(test)]
 mod groups;
 #[cfg(test)]
 mod relay;
 #[cfg(test)]
 mod relays;
-#[cfg(test)]
-mod stops;
 #[cfg(test)]
 mod terminals;

@@ -3,10 +3,10 @@
 //! at a new one.
 use crate::groups::{call, car, formatted, group_of_one_car};
 use crate::relays::Relay;
-use crate::stops::commits::open_failing;
-use crate::stops::failing::{Failing, Failures, NEVER, cut};
-use crate::stops::tally::Tally;
-use crate::stops::work::{APPENDED, BROKEN, CHECKPOINTED, DISK, Work, next_stop, stand, stop};
+use crate::faults::commits::open_failing;
+use crate::faults::failing::{Failing, Failures, NEVER, cut};
+use crate::faults::tally::Tally;
+use crate::faults::work::{APPENDED, BROKEN, CHECKPOINTED, DISK, Work, next_stop, stand, stop};
 use crate::terminals::{Terminals, Who, clerk_of, open};
 use lift_base::{Body, Reason, Reply};
 use lift_building::Building;
