@@ -14,7 +14,6 @@ ghost use Rattle.lift_disk.specs.Holding.{nothing_known};
 ghost use Rattle.lift_disk.specs.Runs.{joined};
 
 use std::fs::{File, OpenFile, OpenOptions};
-use std::os::fd::AsRawFd;
 use std::os::unix::fs::FileExt;
 use std::rt::LibcRuntime;
 use std::{fs, io};
@@ -136,10 +135,7 @@ impl HostFile for File {
     }
 
     fn drop_cached(&self) -> io::Result<()> {
-        match libc::posix_fadvise(self.as_raw_fd(), 0, 0, libc::POSIX_FADV_DONTNEED) {
-            0 => Ok(()),
-            error => Err(io::Error::from_raw_os_error(error)),
-        }
+        lift_system::drop_cached(self)
     }
 }
 

@@ -6,7 +6,6 @@ mod attending;
 mod connections;
 mod first_line;
 mod held;
-mod keep_alive;
 mod keeping;
 mod lacks;
 mod lobby;

@@ -12,7 +12,6 @@ ghost use Rattle.lift_serve.specs.Visits.{IsNewSeat};
 
 use crate::attending::{Attended, attend};
 use crate::connections::{Connections, Ended, Ending, Left, Over, Ticket};
-use crate::keep_alive::watch;
 use crate::lacks::{
     EndAt, Lack, Lacked, Lacking, Lacks, Noted, Refusal, listen_again, open_desk, part, read_ahead,
     run_parts, share, share_again, start_accepting, start_session,
@@ -31,6 +30,7 @@ use lift_disk::Disk;
 use lift_parts::{parts_are_clerks, turns_keep_what_was_given};
 use lift_policy::Policy;
 use lift_relay::{Gate, HeldClerk, HeldKeeper};
+use lift_system::watch;
 use std::alloc::Global;
 use std::net::{Shutdown, TcpListener, TcpStream};
 use std::os::fd::OwnedFd;

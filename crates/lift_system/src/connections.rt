@@ -27,7 +27,7 @@ fn value_of(number: i32) -> [u8; 16] {
 
 /// Has the system end a connection whose other side is gone, and a write that waits for too long
 /// fail. What can't be set is left as it is: the connection is served all the same.
-pub(crate) fn watch(stream: &TcpStream) {
+pub fn watch(stream: &TcpStream) {
     let _bounded = stream.set_write_timeout(Some(Duration::from_secs(WRITE_S)));
     let fd = stream.as_raw_fd();
     let (socket, tcp) = (net::SOL_SOCKET, net::IPPROTO_TCP);
