@@ -1,7 +1,7 @@
 -- What several calls of a file come to, one behind the other.
-use Rattle.std.proofs.Common.{append_assoc, ◌≡◌, ◌↔◌, ◌∙◌, inl, inr, ⊎_elim, ℕ, suc, ◌+◌, Bool, IsTrue, List, [], ◌∷◌, ◌++◌, refl, sym, ap, subst, arith}
-use Rattle.lift_disk.specs.Disk.{DiskState, CountsNow, Elapses, TouchesNothing}
-use Rattle.lift_disk.specs.FileCalls.{FileCall, LeadsBy}
+use Rattle.std.proofs.Common.{Result, Ok, Err, OnOk, OnErr, append_assoc, ◌≡◌, ◌∙◌, inl, inr, ⊎_elim, ℕ, zero, suc, ◌+◌, Bool, IsTrue, List, [], ◌∷◌, ◌++◌, refl, sym, ap, subst, arith}
+use Rattle.lift_disk.specs.Disk.{DiskState, CountsNow, TouchesNothing}
+use Rattle.lift_disk.specs.FileCalls.{FailsIn, FileCall, LeadsBy}
 use Rattle.lift_disk.specs.Runs.{KeepsWrites, Rests}
 use Rattle.std.proofs.Math.Logic.{∥∥₁_map}
 use Rattle.lift_disk.specs.Holding.{IsKnownSteady, IsSameFile, MakesSafe}
@@ -80,3 +80,39 @@ making_then gives calls more old mid new first second = record {
 
 pub one_zero_write : (sectors i : ℕ) → zero_writes sectors (i + 1) ≡ zero_writes sectors i ++ zero_write sectors i ∷ []
 one_zero_write sectors i = ap (zero_writes sectors) (let one : i + 1 ≡ suc i = omega arith in one)
+
+-- what fails after calls that succeeded has failed in all of them
+pub fails_after : {F : Type 0} (gives fails : F → FileCall → F → Type 0) (calls more : List FileCall) (old mid new : F) → LeadsBy gives calls old mid → FailsIn gives fails more mid new → FailsIn gives fails (calls ++ more) old new
+fails_after {F} gives fails [] more old mid new same failed = subst (λ (f : F). FailsIn gives fails more f new) same failed
+fails_after gives fails (call ∷ calls) more old mid new led failed = inr (led.0, led.1, fails_after gives fails calls more led.0 mid new led.2 failed)
+
+-- what has failed in calls has failed where more would have come
+pub fails_before : {F : Type 0} (gives fails : F → FileCall → F → Type 0) (calls more : List FileCall) (old new : F) → FailsIn gives fails calls old new → FailsIn gives fails (calls ++ more) old new
+fails_before gives fails [] more old new never = absurd never
+fails_before gives fails (call ∷ calls) more old new failed = ⊎_elim (λ now. inl now)
+    (λ later. inr (later.0, later.1, fails_before gives fails calls more later.0 new later.2)) failed
+
+-- and so where more sectors would have been filled
+pub fails_until : {F : Type 0} (gives fails : F → FileCall → F → Type 0) (sectors i more count : ℕ) (old new : F) → count ≡ i + more → FailsIn gives fails (zero_writes sectors i) old new → FailsIn gives fails (zero_writes sectors count) old new
+fails_until gives fails sectors i zero count old new is failed =
+    let same : i ≡ count = omega (arith, is) in
+    subst (λ (n : ℕ). FailsIn gives fails (zero_writes sectors n) old new) same failed
+fails_until gives fails sectors i (suc more) count old new is failed =
+    let last : (i + more) + 1 ≡ count = omega (arith, is) in
+    subst (λ (n : ℕ). FailsIn gives fails (zero_writes sectors n) old new) last
+    (subst (λ (calls : List FileCall). FailsIn gives fails calls old new) (sym (one_zero_write sectors (i + more)))
+    (fails_before gives fails (zero_writes sectors (i + more)) (zero_write sectors (i + more) ∷ []) old new
+    (fails_until gives fails sectors i more (i + more) old new refl failed)))
+
+-- what follows from what a call does where it succeeds, and where it fails
+pub on_ok : {T E P Q : Type 0} (result : Result T E) → (P → Q) → OnOk result P → OnOk result Q
+on_ok (Ok v) f p = f p
+on_ok (Err e) f p = tt
+
+pub on_err : {T E P Q : Type 0} (result : Result T E) → (P → Q) → OnErr result P → OnErr result Q
+on_err (Ok v) f p = tt
+on_err (Err e) f p = f p
+
+pub in_err : {T E P : Type 0} (result : Result T E) → P → OnErr result P
+in_err (Ok v) p = tt
+in_err (Err e) p = p

@@ -87,17 +87,18 @@ without_given (GetLength bytes ∷ calls) = GetLength bytes ∷ without_given ca
 without_given (DropCached ∷ calls) = without_given calls
 without_given (Lock ∷ calls) = Lock ∷ without_given calls
 
--- Exactly one call of a file: this one if it succeeded, else one that failed.
-pub record IsOneCall {F T E : Type 0} (gives : F → FileCall → F → Type 0) (fails : F → F → Type 0)
+-- Exactly one call of a file, this one: it succeeded, or it failed.
+pub record IsOneCall {F T E : Type 0} (gives fails : F → FileCall → F → Type 0)
     (result : Result T E) (call : FileCall) (old new : F) : Type 0 where
   pub made : OnOk result (gives old call new)
-  pub failed : OnErr result (fails old new)
+  pub failed : OnErr result (fails old call new)
 
--- The same of a call that gave an answer: it succeeded with this one.
-pub record IsOneAnswer {F T E : Type 0} (gives : F → FileCall → F → Type 0)
-    (fails : F → F → Type 0) (result : Result T E) (call : T → FileCall) (old new : F) : Type 0 where
+-- The same of a call that gives an answer: it succeeded with this one, or failed, whatever it would
+-- have told.
+pub record IsOneAnswer {F T E : Type 0} (gives fails : F → FileCall → F → Type 0)
+    (result : Result T E) (call : T → FileCall) (old new : F) : Type 0 where
   pub made : IfOk result (λ answer. gives old (call answer) new)
-  pub failed : OnErr result (fails old new)
+  pub failed : OnErr result ((answer : T) → fails old (call answer) new)
 
 -- These calls, one behind the other, lead from one state to another.
 abbrev pub LeadsBy : {F : Type 0} → (gives : F → FileCall → F → Type 0) → List FileCall
@@ -112,15 +113,15 @@ abbrev pub sync_calls : Bool → List FileCall
 sync_calls true = SyncData ∷ []
 sync_calls false = SyncData ∷ DropCached ∷ []
 
--- one of these calls has failed, behind those before it, and none was made after it
-abbrev pub FailsIn : {F : Type 0} → (gives : F → FileCall → F → Type 0)
-    → (fails : F → F → Type 0) → List FileCall → (old new : F) → Type 0
+-- One of these calls has failed, after those before it, and none was made after it.
+abbrev pub FailsIn : {F : Type 0} → (gives fails : F → FileCall → F → Type 0)
+    → List FileCall → (old new : F) → Type 0
 FailsIn gives fails [] old new = ⊥
-FailsIn {F} gives fails (call ∷ calls) old new =
-    fails old new ⊎ (between : F) × gives old call between × FailsIn gives fails calls between new
+FailsIn {F} gives fails (call ∷ calls) old new = fails old call new
+    ⊎ (between : F) × gives old call between × FailsIn gives fails calls between new
 
 -- Just these calls, in their order, up to one that fails.
-pub record AreCalls {F T E : Type 0} (gives : F → FileCall → F → Type 0) (fails : F → F → Type 0)
+pub record AreCalls {F T E : Type 0} (gives fails : F → FileCall → F → Type 0)
     (result : Result T E) (calls : List FileCall) (old new : F) : Type 0 where
   pub made : OnOk result (LeadsBy gives calls old new)
   pub failed : OnErr result (FailsIn gives fails calls old new)

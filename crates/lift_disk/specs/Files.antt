@@ -1,12 +1,15 @@
 -- What is said of a device on a real file.
 use Rattle.std.specs.Prelude.{ℕ, ◌≡◌, ◌↔◌, ◌≤◌, ◌-◌, ◌*◌, List, [], ◌∷◌}
-use Rattle.std.specs.Prelude.{◌++◌, slice_get, Option, Some, take, Result, OnOk, OnErr, Bool, true}
+use Rattle.std.specs.Prelude.{◌++◌, slice_get, Option, Some, None, ◌⊎◌, take, Result, OnOk, OnErr, Bool, true}
 use Rattle.std.specs.Prelude.{false}
-use Rattle.lift_disk.specs.FileCalls.{FileCall, LeadsBy, sync_calls}
+use Rattle.lift_disk.specs.FileCalls.{FailsIn, FileCall, LeadsBy, sync_calls}
 use Rattle.lift_disk.specs.FileCalls.FileCall.{ReadSectors, GetLength}
 use Rattle.lift_disk.specs.Holding.{on_file, sectors_in}
-use Rattle.lift_disk.specs.Traced.{making_of, calls_of, failures_of, file_of, IsMadeOf}
+use Rattle.lift_disk.specs.Traced.{making_calls, making_of, calls_of, failures_of, file_of}
+use Rattle.lift_disk.specs.Traced.{IsMadeOf}
 use Rattle.lift_disk.specs.Disk.{DiskState}
+use Rattle.lift_disk.specs.declared.file.FileFault.{FileFault}
+use Rattle.lift_disk.specs.declared.file.FileFault.TheVariants.{Unopened, NotAFile, Stopped}
 use Rattle.lift_disk.specs.declared.sectors.SectorFile.{SectorFile}
 use Rattle.lift_disk.specs.declared.told.ToldFile.{Ghosts as Told}
 
@@ -90,3 +93,27 @@ pub record IsMadeDevice {F : Type 0} {told : Told F} (opens : Option F → Type 
     (d : SectorFile F told) : Type 0 where
   pub made : IsMadeOf opens names gives holds sectors (file_below d)
   pub honest : (sector_file_state_of holds d).is_honest ↔ (holds made.file).is_honest
+
+-- How an opening stops that makes these calls and then asks for the length: one of them failed,
+-- whatever length it would have told, and none was made after it.
+abbrev pub stops_opening : {F : Type 0} → (gives fails : F → FileCall → F → Type 0)
+    → (first : List FileCall) → (opened left : F) → Type 0
+stops_opening gives fails first opened left =
+    (bytes : ℕ) → FailsIn gives fails (first ++ GetLength bytes ∷ []) opened left
+
+-- How a making stops of a file of so many sectors of zeros: one of its calls failed, and none was
+-- made after it; or all were made, and the folder couldn't be made safe.
+abbrev pub stops_making : {F : Type 0} → (unnamed : F → Type 0)
+    → (gives fails : F → FileCall → F → Type 0) → (sectors : ℕ) → (opened left : F) → Type 0
+stops_making unnamed gives fails sectors opened left =
+    FailsIn gives fails (making_calls sectors) opened left
+    ⊎ (LeadsBy gives (making_calls sectors) opened left × unnamed left)
+
+-- Why no device is had of what stands at a path. The system didn't tell what stands there, or didn't
+-- open it; no plain file stands there; or a file was opened, and stopped so.
+abbrev pub IsRefused : {F : Type 0} → (stands : Option Bool → Type 0)
+    → (opens : Option F → Type 0) → (stops : F → F → Type 0) → FileFault F → Type 0
+IsRefused stands opens stops (Unopened error) = stands None ⊎ opens None
+IsRefused stands opens stops NotAFile = stands (Some false)
+IsRefused {F} stands opens stops (Stopped stopped) =
+    (file : F) × opens (Some file) × stops file stopped.file

@@ -4,7 +4,7 @@ use Rattle.std.specs.Prelude.{Option, Some, true, min, replicate}
 use Rattle.std.specs.Fs.{new_options, with_create, with_read, with_write}
 use Rattle.std.specs.declared.fs.options.OpenOptions.{OpenOptions}
 use Rattle.lift_disk.specs.Disk.{DiskState}
-use Rattle.lift_disk.specs.Holding.{sectors_in}
+use Rattle.lift_disk.specs.Holding.{IsSameFile, sectors_in}
 use Rattle.lift_disk.specs.FileCalls.{AreCalls, FileCall, IsOneCall, LeadsBy, MakesCalls}
 use Rattle.lift_disk.specs.FileCalls.FileCall.{Lock, SetLength, SyncAll, Write}
 use Rattle.lift_disk.specs.Runs.{joined}
@@ -68,7 +68,7 @@ abbrev pub failures_of : {F : Type 0} → TracedFile F → ℕ
 failures_of f = f.failures.count
 
 -- One call of the file, behind those that made it: listed if it succeeded, else counted.
-pub record IsTraced {F T E : Type 0} (gives : F → FileCall → F → Type 0) (fails : F → F → Type 0)
+pub record IsTraced {F T E : Type 0} (gives fails : F → FileCall → F → Type 0)
     (result : Result T E) (call : FileCall) (old new : TracedFile F) : Type 0 where
   pub one : IsOneCall gives fails result call (file_of old) (file_of new)
   pub made : MakesCalls result (call ∷ []) (calls_of old) (calls_of new) (failures_of old)
@@ -76,7 +76,7 @@ pub record IsTraced {F T E : Type 0} (gives : F → FileCall → F → Type 0) (
   pub making : making_of new ≡ making_of old
 
 -- Just these calls of the file, up to one that fails: listed if all succeeded, else counted once.
-pub record AreTraced {F T E : Type 0} (gives : F → FileCall → F → Type 0) (fails : F → F → Type 0)
+pub record AreTraced {F T E : Type 0} (gives fails : F → FileCall → F → Type 0)
     (result : Result T E) (calls : List FileCall) (old new : TracedFile F) : Type 0 where
   pub all : AreCalls gives fails result calls (file_of old) (file_of new)
   pub made : MakesCalls result calls (calls_of old) (calls_of new) (failures_of old)
@@ -90,3 +90,14 @@ pub record IsMaking {F : Type 0} (gives : F → FileCall → F → Type 0) (call
   pub listed : making_of new ≡ making_of old ++ calls
   pub uncalled : calls_of new ≡ calls_of old
   pub unfailed : failures_of new ≡ failures_of old
+
+-- A file that was opened and then called just so, in this order, before it is a device: it told so
+-- many bytes, and is as honest as it was when it was opened.
+pub record IsOpenedBy {F : Type 0} (gives : F → FileCall → F → Type 0) (holds : F → DiskState)
+    (calls : List FileCall) (file : F) (bytes : ℕ) (opened : TracedFile F) : Type 0 where
+  pub led : LeadsBy gives calls file (file_of opened)
+  pub listed : making_of opened ≡ calls
+  pub uncalled : calls_of opened ≡ []
+  pub unfailed : failures_of opened ≡ 0
+  pub same : IsSameFile (holds file) (holds (file_of opened))
+  pub size : (holds file).is_honest → (holds file).size ≡ sectors_in bytes

@@ -1,5 +1,5 @@
 //! A device on a file of the operating system.
-ghost use Rattle.std.specs.Prelude.{◌≡◌, [], ◌∷◌, IfOk};
+ghost use Rattle.std.specs.Prelude.{◌≡◌, [], ◌∷◌, IfErr, IfOk};
 ghost use Rattle.lift_disk.specs.Holding.{sectors_in};
 ghost use Rattle.lift_disk.specs.FileCalls.FileCall.{Lock};
 
@@ -10,13 +10,23 @@ use crate::traced::TracedFile;
 use std::fs::OpenOptions;
 use std::io;
 
+/// A file that was opened, and of which a call then failed by which it was to become a device. It
+/// is as that call left it.
+#[derive(Drop)]
+pub struct Stopped<F: Drop> {
+    pub error: io::Error,
+    pub file: F,
+}
+
 /// Why a file can't be a device.
 #[derive(Drop)]
-pub enum FileFault {
-    /// The system refused a call.
-    System(io::Error),
+pub enum FileFault<F: Drop> {
+    /// The system refused to tell what stands there, or to open it.
+    Unopened(io::Error),
     /// A folder, a pipe or another thing that is no plain file stands there.
     NotAFile,
+    /// It was opened, and then a call of it failed, or its folder couldn't be made safe.
+    Stopped(Stopped<F>),
 }
 
 /// How many whole sectors a file of so many bytes has, 4,294,967,295 at most.
@@ -36,66 +46,82 @@ pub type BufferedFile<F> = Buffered<SectorFile<F>>;
 
 impl<F: ToldFile + Drop> SectorFile<F> {
     ghost use Rattle.lift_disk.specs.Files.{IsMeasured, IsMadeDevice, sector_file_state_of};
+    ghost use Rattle.lift_disk.specs.Files.{IsRefused, stops_making, stops_opening};
     ghost use Rattle.lift_disk.specs.Files.{calls_below, making_below};
     ghost use Rattle.lift_disk.specs.Traced.{making_calls, to_be_made, to_be_read, to_be_used};
 
     /// Opens a file that is there, if its lock is to be had. Its whole sectors count, 4,294,967,295
     /// at most; the end that is less than one doesn't. A pipe or a terminal isn't opened, so that
-    /// nothing waits for its other end.
-    pub fn open<R: ToldFiles<Told = F>>(rt: &R, path: &str) -> Result<SectorFile<F>, FileFault>
+    /// nothing waits for its other end. A file that was opened and is refused comes back.
+    pub fn open<R: ToldFiles<Told = F>>(rt: &R, path: &str) -> Result<SectorFile<F>, FileFault<F>>
         ensures measured { IfOk result (λ disk. IsMeasured (R.opens rt.now to_be_used path.now)
             F.gives F.holds (Lock ∷ []) disk) }
+        ensures refused { IfErr result (IsRefused (R.stands rt.now path.now)
+            (R.opens rt.now to_be_used path.now) (stops_opening F.gives F.fails (Lock ∷ []))) }
         ensures uncalled { IfOk result (λ disk. calls_below disk ≡ []) }
         ensures failures { IfOk result (λ disk. (sector_file_state_of F.holds disk).failures ≡ 0) }
         ensures calls { IfOk result (λ disk. (sector_file_state_of F.holds disk).calls ≡ 0) }
         ensures writes { IfOk result (λ disk. (sector_file_state_of F.holds disk).writes ≡ 0) }
         ensures trace { IfOk result (λ disk. (sector_file_state_of F.holds disk).trace ≡ []) }
     {
-        if !rt.is_file_told(path).map_err(FileFault::System)? {
-            return Err(FileFault::NotAFile);
+        match rt.is_file_told(path) {
+            Ok(true) => {}
+            Ok(false) => return Err(FileFault::NotAFile),
+            Err(error) => return Err(FileFault::Unopened(error)),
         }
-        let file = rt
-            .open_told(OpenOptions::new().read(true).write(true), path)
-            .map_err(FileFault::System)?;
-        let mut traced = TracedFile::locked(file).map_err(FileFault::System)?;
-        let bytes = traced.measure().map_err(FileFault::System)?;
-        Ok(SectorFile::over(traced, whole_sectors(bytes)))
+        let file = match rt.open_told(OpenOptions::new().read(true).write(true), path) {
+            Ok(file) => file,
+            Err(error) => return Err(FileFault::Unopened(error)),
+        };
+        match TracedFile::locked(file) {
+            Ok((traced, bytes)) => Ok(SectorFile::over(traced, whole_sectors(bytes))),
+            Err(stopped) => Err(FileFault::Stopped(stopped)),
+        }
     }
 
     /// The same to be read alone, beside whoever has the lock: what is read may change meanwhile.
     pub fn open_to_read<R: ToldFiles<Told = F>>(
         rt: &R,
         path: &str,
-    ) -> Result<SectorFile<F>, FileFault>
+    ) -> Result<SectorFile<F>, FileFault<F>>
         ensures measured { IfOk result (λ disk. IsMeasured (R.opens rt.now to_be_read path.now)
             F.gives F.holds [] disk) }
+        ensures refused { IfErr result (IsRefused (R.stands rt.now path.now)
+            (R.opens rt.now to_be_read path.now) (stops_opening F.gives F.fails [])) }
         ensures uncalled { IfOk result (λ disk. calls_below disk ≡ []) }
         ensures failures { IfOk result (λ disk. (sector_file_state_of F.holds disk).failures ≡ 0) }
         ensures calls { IfOk result (λ disk. (sector_file_state_of F.holds disk).calls ≡ 0) }
         ensures writes { IfOk result (λ disk. (sector_file_state_of F.holds disk).writes ≡ 0) }
         ensures trace { IfOk result (λ disk. (sector_file_state_of F.holds disk).trace ≡ []) }
     {
-        if !rt.is_file_told(path).map_err(FileFault::System)? {
-            return Err(FileFault::NotAFile);
+        match rt.is_file_told(path) {
+            Ok(true) => {}
+            Ok(false) => return Err(FileFault::NotAFile),
+            Err(error) => return Err(FileFault::Unopened(error)),
         }
-        let file = rt
-            .open_told(OpenOptions::new().read(true), path)
-            .map_err(FileFault::System)?;
-        let mut looked_at = TracedFile::over(file);
-        let bytes = looked_at.measure().map_err(FileFault::System)?;
-        Ok(SectorFile::over(looked_at, whole_sectors(bytes)))
+        let file = match rt.open_told(OpenOptions::new().read(true), path) {
+            Ok(file) => file,
+            Err(error) => return Err(FileFault::Unopened(error)),
+        };
+        match TracedFile::measured(file) {
+            Ok((looked_at, bytes)) => Ok(SectorFile::over(looked_at, whole_sectors(bytes))),
+            Err(stopped) => Err(FileFault::Stopped(stopped)),
+        }
     }
 
     /// Makes a file of so many sectors of zeros, or makes one that is there into that, if its lock
     /// is to be had. Its sectors are written and its folder is made safe, so that it has its room
-    /// and its name.
+    /// and its name. A file that was opened and is refused comes back.
     pub fn create<R: ToldFiles<Told = F>>(
         rt: &R,
         path: &str,
         sectors: u32,
-    ) -> Result<SectorFile<F>, FileFault>
+    ) -> Result<SectorFile<F>, FileFault<F>>
         ensures made { IfOk result (λ disk. IsMadeDevice (R.opens rt.now to_be_made path.now)
             (R.names rt.now path.now) F.gives F.holds sectors disk) }
+        ensures refused { IfErr result (IsRefused (R.stands rt.now path.now)
+            (R.opens rt.now to_be_made path.now)
+            (stops_making (R.unnamed rt.now path.now) F.gives F.fails sectors)) }
         ensures making { IfOk result (λ disk. making_below disk ≡ making_calls sectors) }
         ensures uncalled { IfOk result (λ disk. calls_below disk ≡ []) }
         ensures size { IfOk result (λ disk. (sector_file_state_of F.holds disk).size ≡ sectors) }
@@ -104,12 +130,22 @@ impl<F: ToldFile + Drop> SectorFile<F> {
         ensures writes { IfOk result (λ disk. (sector_file_state_of F.holds disk).writes ≡ 0) }
         ensures trace { IfOk result (λ disk. (sector_file_state_of F.holds disk).trace ≡ []) }
     {
-        if let Ok(is_file) = rt.is_file_told(path) {
-            if !is_file {
-                return Err(FileFault::NotAFile);
-            }
+        if let Ok(false) = rt.is_file_told(path) {
+            return Err(FileFault::NotAFile);
         }
-        let file = TracedFile::create(rt, path, sectors).map_err(FileFault::System)?;
-        Ok(SectorFile::over(file, sectors))
+        let mut how = OpenOptions::new();
+        how.read(true).write(true).create(true);
+        let file = match rt.open_told(&how, path) {
+            Ok(file) => file,
+            Err(error) => return Err(FileFault::Unopened(error)),
+        };
+        let made = match TracedFile::zeroed(file, sectors) {
+            Ok(made) => made,
+            Err(stopped) => return Err(FileFault::Stopped(stopped)),
+        };
+        match made.named(rt, path) {
+            Ok(named) => Ok(SectorFile::over(named, sectors)),
+            Err(stopped) => Err(FileFault::Stopped(stopped)),
+        }
     }
 }

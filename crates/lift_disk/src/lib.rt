@@ -21,7 +21,7 @@ mod traced;
 pub use buffered::Buffered;
 pub use disk::{Arm, Disk, DiskFault};
 pub use failing::{FailingDisk, FlakyDisk, FuseDisk};
-pub use file::{BufferedFile, FileDisk, FileFault};
+pub use file::{BufferedFile, FileDisk, FileFault, Stopped};
 pub use memory::MemDisk;
 pub use outcome::Outcome;
 pub use rule::{FaultRule, Flaky, Fuse};

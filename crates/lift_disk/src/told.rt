@@ -1,5 +1,5 @@
 //! A file whose calls are told.
-ghost use Rattle.std.specs.Prelude.{◌↔◌, ◌≡◌, ◌∷◌, [], ℕ, List, Option, Some, None, ⊤};
+ghost use Rattle.std.specs.Prelude.{◌↔◌, ◌≡◌, ◌∷◌, [], ℕ, List, Option, Some, None, Bool, ⊤};
 ghost use Rattle.std.specs.Prelude.{IfOk, OnErr, OnOk};
 ghost use Rattle.std.specs.declared.fs.options.OpenOptions.{OpenOptions as Options};
 ghost use Rattle.lift_disk.specs.Disk.{CountsNow, DiskState, IsWhole, LeavesNoOther, MayLose};
@@ -26,8 +26,8 @@ pub trait ToldFile {
     /// This call has succeeded, and leads from one state to the next.
     ghost gives: { Self → FileCall → Self → Type 0 };
 
-    /// A call that has failed leads from one state to the next.
-    ghost fails: { Self → Self → Type 0 };
+    /// This call was made and has failed, and leads from one state to the next.
+    ghost fails: { Self → FileCall → Self → Type 0 };
 
     /// What it holds, by its whole sectors, as many of them as can be numbered.
     ghost holds: { Self → DiskState };
@@ -155,7 +155,7 @@ impl<F> SystemFile<F> {
 impl<F: HostFile> ToldFile for SystemFile<F> {
     ghost gives = { λ _ _ _. ⊤ };
 
-    ghost fails = { λ _ _. ⊤ };
+    ghost fails = { λ _ _ _. ⊤ };
 
     ghost holds = { λ _. nothing_known };
 
@@ -227,8 +227,17 @@ pub trait ToldFiles {
     /// At this path the folder names this file for good: a power cut doesn't take the name back.
     ghost names: { Self → List ℕ → Self.Told → Type 0 };
 
+    /// What was told where it was asked whether a plain file stands at a path, nothing where that
+    /// failed.
+    ghost stands: { Self → List ℕ → Option Bool → Type 0 };
+
+    /// The folder of this path, in which this file was made, couldn't be made safe.
+    ghost unnamed: { Self → List ℕ → Self.Told → Type 0 };
+
     /// Whether a plain file is at the path.
-    fn is_file_told(&self, path: &str) -> io::Result<bool>;
+    fn is_file_told(&self, path: &str) -> io::Result<bool>
+        ensures told { IfOk result (λ is_file. stands self.now path.now (Some is_file)) }
+        ensures refused { OnErr result (stands self.now path.now None) };
 
     /// The file at the path, by these options.
     fn open_told(&self, how: &OpenOptions, path: &str) -> io::Result<Self::Told>
@@ -237,7 +246,8 @@ pub trait ToldFiles {
 
     /// Makes the folder safe in which this file was made.
     fn sync_folder_told(&self, path: &str, made: &Self::Told) -> io::Result<()>
-        ensures named { OnOk result (names self.now path.now made.now) };
+        ensures named { OnOk result (names self.now path.now made.now) }
+        ensures refused { OnErr result (unnamed self.now path.now made.now) };
 }
 
 /// The folder of a path. Where the path is a link it is the link's.
@@ -256,6 +266,10 @@ impl ToldFiles for LibcRuntime {
     ghost opens = { λ _ _ _ _. ⊤ };
 
     ghost names = { λ _ _ _. ⊤ };
+
+    ghost stands = { λ _ _ _. ⊤ };
+
+    ghost unnamed = { λ _ _ _. ⊤ };
 
     fn is_file_told(&self, path: &str) -> io::Result<bool> {
         Ok(fs::metadata(self, path)?.is_file())

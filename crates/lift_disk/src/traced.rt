@@ -1,19 +1,19 @@
 //! A file whose calls are listed.
 ghost use Rattle.std.specs.Prelude.{◌≡◌, ◌↔◌, ◌+◌, ◌*◌, ◌/◌, ◌++◌, [], ◌∷◌, IfOk, IsOk, OnErr, OnOk};
-ghost use Rattle.std.specs.Prelude.{IsTrue, false, ⊤};
+ghost use Rattle.std.specs.Prelude.{ℕ, IfErr, IsTrue, false, ⊤};
 ghost use Rattle.lift_disk.specs.Holding.{sectors_in};
 ghost use Rattle.lift_disk.specs.Holding.{IsKnownSteady, IsSameFile, OpensSector, Reads, Syncs};
 ghost use Rattle.lift_disk.specs.Holding.{Writes};
 ghost use Rattle.lift_disk.specs.Runs.{joined};
-ghost use Rattle.lift_disk.specs.FileCalls.{LeadsBy, MakesCalls, sync_calls};
+ghost use Rattle.lift_disk.specs.FileCalls.{FailsIn, LeadsBy, MakesCalls, sync_calls};
 ghost use Rattle.lift_disk.specs.FileCalls.FileCall.{Read, ReadSectors, Write, SyncData};
 ghost use Rattle.lift_disk.specs.FileCalls.FileCall.{GetLength, Lock, SetLength, SyncAll};
 
 use crate::DiskFault;
+use crate::file::Stopped;
 use crate::file_calls::{Called, ProofFileCalls};
 use crate::told::{ToldFile, ToldFiles};
 use lift_base::ProofCount;
-use std::fs::OpenOptions;
 use std::io;
 
 /// So many sectors of a file are written at once while it is made.
@@ -32,28 +32,8 @@ pub struct TracedFile<F: Drop> {
 impl<F: ToldFile + Drop> TracedFile<F> {
     ghost use Rattle.lift_disk.specs.Noted.{file_call_of};
     ghost use Rattle.lift_disk.specs.Traced.{calls_of, failures_of, making_of, file_of};
-    ghost use Rattle.lift_disk.specs.Traced.{AreTraced, IsMadeOf, IsMaking, IsTraced};
-    ghost use Rattle.lift_disk.specs.Traced.{making_calls, to_be_made, zero_writes};
-
-    /// Makes a file of so many sectors of zeros, or makes one that is there into that.
-    pub(crate) fn create<R: ToldFiles<Told = F>>(
-        rt: &R,
-        path: &str,
-        sectors: u32,
-    ) -> io::Result<TracedFile<F>>
-        ensures made { IfOk result (λ made. IsMadeOf (R.opens rt.now to_be_made path.now)
-            (R.names rt.now path.now) F.gives F.holds sectors (file_of made)) }
-        ensures making { IfOk result (λ made. making_of made ≡ making_calls sectors) }
-        ensures calls { IfOk result (λ made. calls_of made ≡ []) }
-        ensures failures { IfOk result (λ made. failures_of made ≡ 0) }
-    {
-        let mut how = OpenOptions::new();
-        how.read(true).write(true).create(true);
-        let file = rt.open_told(&how, path)?;
-        let made = TracedFile::zeroed(file, sectors)?;
-        rt.sync_folder_told(path, &made.file)?;
-        Ok(made)
-    }
+    ghost use Rattle.lift_disk.specs.Traced.{AreTraced, IsMaking, IsOpenedBy, IsTraced};
+    ghost use Rattle.lift_disk.specs.Traced.{making_calls, zero_writes};
 
     /// A file that was opened to be read and written, and not called yet.
     pub fn over(file: F) -> TracedFile<F>
@@ -73,6 +53,7 @@ impl<F: ToldFile + Drop> TracedFile<F> {
     /// Takes the file's lock.
     fn lock(&mut self) -> io::Result<()>
         ensures making { OnOk result (IsMaking F.gives (Lock ∷ []) self.old self.new) }
+        ensures failed { OnErr result (F.fails (file_of self.old) Lock (file_of self.new)) }
         ensures same { IsSameFile (F.holds (file_of self.old)) (F.holds (file_of self.new)) }
     {
         self.file.lock_told()?;
@@ -83,6 +64,8 @@ impl<F: ToldFile + Drop> TracedFile<F> {
     /// Makes it so many bytes long.
     fn set_length(&mut self, bytes: u64) -> io::Result<()>
         ensures making { OnOk result (IsMaking F.gives (SetLength bytes ∷ []) self.old self.new) }
+        ensures failed { OnErr result
+            (F.fails (file_of self.old) (SetLength bytes) (file_of self.new)) }
         ensures honest { (F.holds (file_of self.new)).is_honest
             ↔ (F.holds (file_of self.old)).is_honest }
         ensures size { OnOk result ((F.holds (file_of self.old)).is_honest
@@ -97,6 +80,8 @@ impl<F: ToldFile + Drop> TracedFile<F> {
     fn fill(&mut self, run: &[[u8; 512]], offset: u64) -> io::Result<()>
         ensures making { OnOk result
             (IsMaking F.gives (Write offset (joined run.now) ∷ []) self.old self.new) }
+        ensures failed { OnErr result
+            (F.fails (file_of self.old) (Write offset (joined run.now)) (file_of self.new)) }
         ensures same { IsSameFile (F.holds (file_of self.old)) (F.holds (file_of self.new)) }
     {
         self.file.write_sectors_told(run, offset)?;
@@ -108,6 +93,8 @@ impl<F: ToldFile + Drop> TracedFile<F> {
     fn fill_with_zeros(&mut self, sectors: u32) -> io::Result<()>
         ensures making { OnOk result
             (IsMaking F.gives (zero_writes sectors ((sectors + 127) / 128)) self.old self.new) }
+        ensures failed { OnErr result (FailsIn F.gives F.fails
+            (zero_writes sectors ((sectors + 127) / 128)) (file_of self.old) (file_of self.new)) }
         ensures same { IsSameFile (F.holds (file_of self.old)) (F.holds (file_of self.new)) }
     {
         let zeros = [[0; 512]; AT_ONCE as usize];
@@ -122,6 +109,7 @@ impl<F: ToldFile + Drop> TracedFile<F> {
     /// Makes all of it safe, its length too.
     fn sync_all(&mut self) -> io::Result<()>
         ensures making { OnOk result (IsMaking F.gives (SyncAll ∷ []) self.old self.new) }
+        ensures failed { OnErr result (F.fails (file_of self.old) SyncAll (file_of self.new)) }
         ensures same { IsSameFile (F.holds (file_of self.old)) (F.holds (file_of self.new)) }
     {
         self.file.sync_all_told()?;
@@ -129,9 +117,27 @@ impl<F: ToldFile + Drop> TracedFile<F> {
         Ok(())
     }
 
+    /// Makes it into one of so many sectors of zeros, up to a call that fails.
+    fn make(&mut self, sectors: u32) -> io::Result<()>
+        ensures making { OnOk result (IsMaking F.gives (making_calls sectors) self.old self.new) }
+        ensures failed { OnErr result (FailsIn F.gives F.fails (making_calls sectors)
+            (file_of self.old) (file_of self.new)) }
+        ensures honest { (F.holds (file_of self.new)).is_honest
+            ↔ (F.holds (file_of self.old)).is_honest }
+        ensures size { OnOk result ((F.holds (file_of self.old)).is_honest
+            → (F.holds (file_of self.new)).size ≡ sectors_in (sectors * 512)) }
+    {
+        self.lock()?;
+        self.set_length(0)?;
+        self.set_length(u64::from(sectors) * 512)?;
+        self.fill_with_zeros(sectors)?;
+        self.sync_all()
+    }
+
     /// A file that was opened to be read and written, made into one of so many sectors of zeros,
-    /// where its lock is to be had. Each is written, so that the file has its room.
-    pub fn zeroed(file: F, sectors: u32) -> io::Result<TracedFile<F>>
+    /// where its lock is to be had. Each is written, so that the file has its room. Where a call
+    /// fails none is made after it, and the file comes back as it was left.
+    pub fn zeroed(file: F, sectors: u32) -> Result<TracedFile<F>, Stopped<F>>
         ensures led { IfOk result (λ made.
             LeadsBy F.gives (making_calls sectors) file (file_of made)) }
         ensures honest { IfOk result (λ made.
@@ -141,33 +147,22 @@ impl<F: ToldFile + Drop> TracedFile<F> {
         ensures making { IfOk result (λ made. making_of made ≡ making_calls sectors) }
         ensures calls { IfOk result (λ made. calls_of made ≡ []) }
         ensures failures { IfOk result (λ made. failures_of made ≡ 0) }
+        ensures stopped { IfErr result (λ stopped.
+            FailsIn F.gives F.fails (making_calls sectors) file stopped.file) }
     {
         let mut traced = TracedFile::over(file);
-        traced.lock()?;
-        traced.set_length(0)?;
-        traced.set_length(u64::from(sectors) * 512)?;
-        traced.fill_with_zeros(sectors)?;
-        traced.sync_all()?;
-        Ok(traced)
-    }
-
-    /// A file that was opened to be read and written, once its lock was had.
-    pub fn locked(file: F) -> io::Result<TracedFile<F>>
-        ensures led { IfOk result (λ made. F.gives file Lock (file_of made)) }
-        ensures same { IfOk result (λ made. IsSameFile (F.holds file) (F.holds (file_of made))) }
-        ensures making { IfOk result (λ made. making_of made ≡ Lock ∷ []) }
-        ensures calls { IfOk result (λ made. calls_of made ≡ []) }
-        ensures failures { IfOk result (λ made. failures_of made ≡ 0) }
-    {
-        let mut locked = TracedFile::over(file);
-        locked.lock()?;
-        Ok(locked)
+        match traced.make(sectors) {
+            Ok(()) => Ok(traced),
+            Err(error) => Err(traced.stopped(error)),
+        }
     }
 
     /// Asks it for its length. That is listed with the calls that made the file.
-    pub fn measure(&mut self) -> io::Result<u64>
+    fn measure(&mut self) -> io::Result<u64>
         ensures told { IfOk result (λ bytes.
             IsMaking F.gives (GetLength bytes ∷ []) self.old self.new) }
+        ensures failed { OnErr result ((bytes : ℕ)
+            → F.fails (file_of self.old) (GetLength bytes) (file_of self.new)) }
         ensures same { IsSameFile (F.holds (file_of self.old)) (F.holds (file_of self.new)) }
         ensures size { IfOk result (λ bytes. (F.holds (file_of self.old)).is_honest
             → (F.holds (file_of self.old)).size ≡ sectors_in bytes) }
@@ -175,6 +170,76 @@ impl<F: ToldFile + Drop> TracedFile<F> {
         let bytes = self.file.length_told()?;
         self.making = self.making.then(&Called::GetLength(bytes));
         Ok(bytes)
+    }
+
+    /// Takes its lock and then asks it for its length.
+    fn lock_and_measure(&mut self) -> io::Result<u64>
+        ensures told { IfOk result (λ bytes.
+            IsMaking F.gives (Lock ∷ GetLength bytes ∷ []) self.old self.new) }
+        ensures failed { OnErr result ((bytes : ℕ) → FailsIn F.gives F.fails
+            (Lock ∷ GetLength bytes ∷ []) (file_of self.old) (file_of self.new)) }
+        ensures same { IsSameFile (F.holds (file_of self.old)) (F.holds (file_of self.new)) }
+        ensures size { IfOk result (λ bytes. (F.holds (file_of self.old)).is_honest
+            → (F.holds (file_of self.old)).size ≡ sectors_in bytes) }
+    {
+        self.lock()?;
+        self.measure()
+    }
+
+    /// A file that was opened to be read and written, once its lock was had, and its length in
+    /// bytes. Where a call fails none is made after it, and the file comes back as it was left.
+    pub fn locked(file: F) -> Result<(TracedFile<F>, u64), Stopped<F>>
+        ensures told { IfOk result (λ opened. IsOpenedBy F.gives F.holds
+            (Lock ∷ GetLength opened.1 ∷ []) file opened.1 opened.0) }
+        ensures stopped { IfErr result (λ stopped. (bytes : ℕ)
+            → FailsIn F.gives F.fails (Lock ∷ GetLength bytes ∷ []) file stopped.file) }
+    {
+        let mut traced = TracedFile::over(file);
+        match traced.lock_and_measure() {
+            Ok(bytes) => Ok((traced, bytes)),
+            Err(error) => Err(traced.stopped(error)),
+        }
+    }
+
+    /// A file that was opened to be read, and its length in bytes, likewise.
+    pub fn measured(file: F) -> Result<(TracedFile<F>, u64), Stopped<F>>
+        ensures told { IfOk result (λ opened. IsOpenedBy F.gives F.holds
+            (GetLength opened.1 ∷ []) file opened.1 opened.0) }
+        ensures stopped { IfErr result (λ stopped. (bytes : ℕ)
+            → FailsIn F.gives F.fails (GetLength bytes ∷ []) file stopped.file) }
+    {
+        let mut traced = TracedFile::over(file);
+        match traced.measure() {
+            Ok(bytes) => Ok((traced, bytes)),
+            Err(error) => Err(traced.stopped(error)),
+        }
+    }
+
+    /// It, once its folder names it for good, which comes back unless that is so.
+    pub(crate) fn named<R: ToldFiles<Told = F>>(
+        self,
+        rt: &R,
+        path: &str,
+    ) -> Result<TracedFile<F>, Stopped<F>>
+        ensures same { IfOk result (λ named. named ≡ self) }
+        ensures named { IfOk result (λ named. R.names rt.now path.now (file_of named)) }
+        ensures stopped { IfErr result (λ stopped. stopped.file ≡ file_of self) }
+        ensures unnamed { IfErr result (λ stopped. R.unnamed rt.now path.now stopped.file) }
+    {
+        match rt.sync_folder_told(path, &self.file) {
+            Ok(()) => Ok(self),
+            Err(error) => Err(self.stopped(error)),
+        }
+    }
+
+    /// The file itself, of which a call failed.
+    fn stopped(self, error: io::Error) -> Stopped<F>
+        ensures { result.file ≡ file_of self }
+    {
+        Stopped {
+            error,
+            file: self.file,
+        }
     }
 
     /// Lists a call of the file that succeeded, or counts one that failed.

@@ -84,7 +84,7 @@ impl ToldFile for MemoryFile {
 
     ghost gives = { λ _ _ _. ⊤ };
 
-    ghost fails = { λ _ _. ⊤ };
+    ghost fails = { λ _ _ _. ⊤ };
 
     ghost holds = { λ f. held f };
 

@@ -30,6 +30,10 @@ impl ToldFiles for MemoryFiles {
 
     ghost names = { λ _ _ _. ⊤ };
 
+    ghost stands = { λ _ _ _. ⊤ };
+
+    ghost unnamed = { λ _ _ _. ⊤ };
+
     fn is_file_told(&self, _path: &str) -> io::Result<bool> {
         Ok(true)
     }
