@@ -27,11 +27,12 @@ pub(crate) enum Fault {
     Memory(#[from] AllocError),
 }
 
-impl From<FileFault> for Fault {
-    fn from(fault: FileFault) -> Fault {
+impl<F: Drop> From<FileFault<F>> for Fault {
+    fn from(fault: FileFault<F>) -> Fault {
         match fault {
-            FileFault::System(error) => Fault::File(error),
+            FileFault::Unopened(error) => Fault::File(error),
             FileFault::NotAFile => Fault::NotAFile,
+            FileFault::Stopped(stopped) => Fault::File(stopped.error),
         }
     }
 }

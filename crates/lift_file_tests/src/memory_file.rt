@@ -220,7 +220,10 @@ pub fn buffered(alloc: Global, sectors: u32) -> Result<Buffered<SectorFile<Memor
 
 /// A device of 40 sectors on a file that a runtime makes, whatever runtime it is. It is honest
 /// where that file was when it was opened.
-pub fn made<R: ToldFiles>(rt: &R, path: &str) -> Result<Buffered<SectorFile<R::Told>>, FileFault>
+pub fn made<R: ToldFiles>(
+    rt: &R,
+    path: &str,
+) -> Result<Buffered<SectorFile<R::Told>>, FileFault<R::Told>>
     ensures honest { IfOk result (λ device. (file : R.Told)
         × R.opens rt.now to_be_made path.now (Some file)
         × ((R.Told.holds file).is_honest
@@ -228,5 +231,8 @@ pub fn made<R: ToldFiles>(rt: &R, path: &str) -> Result<Buffered<SectorFile<R::T
     ensures size { IfOk result (λ device.
         (⟦<Buffered<SectorFile<R::Told>> as Disk>⟧.state device).size ≡ 40) }
 {
-    Ok(Buffered::over(SectorFile::create(rt, path, 40)?))
+    match SectorFile::create(rt, path, 40) {
+        Ok(device) => Ok(Buffered::over(device)),
+        Err(fault) => Err(fault),
+    }
 }

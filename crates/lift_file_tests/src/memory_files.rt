@@ -54,7 +54,7 @@ impl ToldFiles for MemoryFiles {
 pub fn made_in_memory(
     files: &MemoryFiles,
     path: &str,
-) -> Result<Buffered<SectorFile<MemoryFile>>, FileFault>
+) -> Result<Buffered<SectorFile<MemoryFile>>, FileFault<MemoryFile>>
     ensures honest { IfOk result (λ device.
         (⟦<Buffered<SectorFile<MemoryFile>> as Disk>⟧.state device).is_honest) }
 {

@@ -1,12 +1,12 @@
 -- What the faults of each stage are to a whole command.
-use Rattle.std.proofs.Common.{◌≡◌, ◌≢◌, ◌≤◌, ◌+◌, ◌*◌, ◌∙◌, ℕ, List, [], Option, length, false, refl, sym, subst, inl, inr, arith}
+use Rattle.std.proofs.Common.{◌≡◌, ◌≢◌, ◌<◌, ◌≤◌, ◌+◌, ◌*◌, ◌∙◌, ℕ, List, [], Option, length, false, refl, sym, subst, inl, inr, arith}
 use Rattle.lift_building.specs.Describes.{IsTextOf}
 use Rattle.lift_building.specs.Gives.{IsFirstFault}
 use Rattle.lift_building.specs.Plan.{Plan, IsBuilding, shape_of}
 use Rattle.lift_building.specs.declared.fault.BuildingFault.{BuildingFault}
 use Rattle.lift_building.specs.declared.fault.BuildingFault.TheVariants.{NotToml, Missing, WrongType, OutOfRange, TableShape, Detour, Memory as NoRoom}
 use Rattle.lift_disk.specs.Disk.{DiskState, IsSynced, RunsOn}
-use Rattle.lift_journal.specs.Calls.{format_calls}
+use Rattle.lift_journal.specs.Calls.{StopsIn, format_calls}
 use Rattle.lift_journal.specs.Journal.{ReadsAs}
 use Rattle.lift_serve.specs.lemmas.Made.{made_keeps}
 use Rattle.lift_journal.specs.declared.fault.JournalFault.TheVariants.{Disk, NotFormatted, Damaged, Full, Broken}
@@ -21,12 +21,12 @@ use Rattle.lift_disk.specs.Files.{IsMeasured, sector_file_state_of}
 use Rattle.lift_disk.specs.declared.told.ToldFile.{Ghosts as Told}
 use Rattle.lift_disk.specs.declared.sectors.SectorFile.{SectorFile}
 use Rattle.lift_program.specs.Images.{ImageFiles, IsOpened}
-use Rattle.lift_program.specs.Ends.{IsFileFault, IsFormatFault, IsMadeWith, IsReplayFault, IsReportOfFault, IsShowingFault}
+use Rattle.lift_program.specs.Ends.{IsFileFault, IsMadeWith, IsUnformatted, IsReplayFault, IsReportOfFault, IsShowingFault}
 use Rattle.lift_program.specs.Faults.{of_building}
 use Rattle.lift_program.specs.Showing.{IsOpeningFault, ShowsFront, ShowsPart}
-use Rattle.lift_program.specs.Stages.{HasBuilding, HasKeeperOf, HasNoKeeperOf, HasRecovered, IsBuildingFault, IsLeftAs, IsUndone, IsUnkept, IsUnopenedFault, ReadsBuilding, StopsOver, most_text}
+use Rattle.lift_program.specs.Stages.{HasBuilding, HasKeeperOf, HasNoKeeperOf, HasRecovered, IsBuildingFault, IsLeftAs, IsNoImage, IsUndoneServing, IsUnkept, ReadsBuilding, StopsOver, most_text}
 use Rattle.lift_program.specs.declared.left.Undone.{Undone}
-use Rattle.lift_program.specs.declared.left.Undone.TheVariants.{Unopened, Opened}
+use Rattle.lift_program.specs.declared.left.Undone.TheVariants.{NoBuilding, NoImage, Opened}
 use Rattle.lift_program.proofs.Writing.{part_shown}
 use Rattle.lift_program.specs.declared.fault.Fault.{Fault}
 use Rattle.lift_program.specs.declared.fault.Fault.TheVariants.{Building, Journal, File, Memory, Network, Thread}
@@ -89,6 +89,14 @@ is_made files path plan half image left has sound fresh runs made size calls wri
       keeps = made_keeps files.made_state plan half left sound (λ is. reads (runs.honest.0 is)) (λ is. synced (runs.honest.0 is));
     }
 
+-- the journal couldn't be made
+pub is_unformatted : (files : ImageFiles) (path : List ℕ) (plan : Plan) (half : ℕ) (image left told : files.Made) (fault : Fault) → told ≡ left → HasBuilding plan → files.is_just_made path (2 + 2 * half) image
+    → fault ≡ Journal (OfJournal Disk) → StopsIn (format_calls (shape_of plan half)) (files.made_state image) (files.made_state left) → RunsOn (files.made_state image) (files.made_state left)
+    → (files.made_state image).failures < (files.made_state left).failures → IsUnformatted files path half fault told
+is_unformatted files path plan half image left told fault same has fresh is stops runs failed =
+    subst (λ (d : files.Made). IsUnformatted files path half fault d) (sym same)
+    (record { plan = plan; building = has; image = image; fresh = fresh; is_fault = is; stops = stops; runs = runs; failed = failed })
+
 pub reads_building : (plan : Plan) → HasBuilding plan → ReadsBuilding
 reads_building plan has = (plan, has)
 
@@ -106,38 +114,20 @@ opening_fault plan old new (OfJournal Broken) refuses = refuses.cause
 opening_fault plan old new OtherBuilding refuses = tt
 opening_fault plan old new (BadEntry place) refuses = tt
 
-pub building_formats : (fault : Fault) → IsBuildingFault fault → IsFormatFault fault
-building_formats (Building fault) is = is
-building_formats (Journal fault) is = absurd is
-building_formats (File OfBuilding) is = is
-building_formats (File OfImage) is = absurd is
-building_formats (File Input) is = absurd is
-building_formats (File Output) is = absurd is
-building_formats Memory is = is
-building_formats Network is = absurd is
-building_formats Thread is = absurd is
-
-pub building_undone : (fault : Fault) → IsBuildingFault fault → IsUnopenedFault fault
-building_undone (Building fault) is = is
-building_undone (Journal fault) is = absurd is
-building_undone (File OfBuilding) is = is
-building_undone (File OfImage) is = absurd is
-building_undone (File Input) is = absurd is
-building_undone (File Output) is = absurd is
-building_undone Memory is = is
-building_undone Network is = absurd is
-building_undone Thread is = absurd is
+-- no image was had for a building that was read
+pub no_image : {F : Type 0} (is_unhad : Option F → Type 0) (plan : Plan) (fault : Fault) (left : Option F) → HasBuilding plan → IsFileFault OfImage fault → is_unhad left → IsNoImage is_unhad fault left
+no_image is_unhad plan fault left has is unhad = record { building = (plan, has); is_fault = is; unhad = unhad }
 
 -- the recovery was refused, or no image could be opened
-pub keeper_undone : {D : Type 0} (is_fresh : D → Type 0) (state : D → DiskState) (plan : Plan) (undone : Undone D) → HasBuilding plan → IsUnkept is_fresh state plan undone → IsUndone is_fresh state undone
-keeper_undone is_fresh state plan (Unopened fault) has (inl is) = subst IsUnopenedFault (sym is) (plan, has)
-keeper_undone is_fresh state plan (Unopened fault) has (inr is) = subst IsUnopenedFault (sym is) tt
-keeper_undone is_fresh state plan (Opened fault left) has is = record {
+pub keeper_undone : (files : ImageFiles) (path : List ℕ) (plan : Plan) (undone : Undone files.Served files.File) → HasBuilding plan → IsUnkept files path plan undone → IsUndoneServing files path undone
+keeper_undone files path plan (NoBuilding fault) has never = absurd never
+keeper_undone files path plan (NoImage refused) has is = record { building = (plan, has); is_fault = is.0; unhad = is.1 }
+keeper_undone files path plan (Opened fault left) has is = record {
   plan = plan;
   building = has;
   opened = is.opened;
   fresh = is.fresh;
-  stops = subst (StopsOver plan (state is.opened) (state left)) (sym is.is_refusal) (opening_fault plan _ _ is.refusal is.refused, is.refused);
+  stops = subst (StopsOver plan (files.served_state is.opened) (files.served_state left)) (sym is.is_refusal) (opening_fault plan _ _ is.refusal is.refused, is.refused);
   moments = is.refused.moments;
   unwritten = is.refused.writes;
 }
@@ -169,14 +159,6 @@ output_left files path plan keeper left fault has opened is (inl output) =
     kept_left files path plan keeper left fault has opened is (λ old new recovered. subst (StopsOver plan old new) (sym output) recovered)
 output_left files path plan keeper left fault has opened is (inr memory) =
     kept_left files path plan keeper left fault has opened is (λ old new recovered. subst (StopsOver plan old new) (sym memory) recovered)
-
-pub image_formats : (plan : Plan) (fault : Fault) → HasBuilding plan → IsFileFault OfImage fault → IsFormatFault fault
-image_formats plan fault has (inl is) = subst IsFormatFault (sym is) (plan, has)
-image_formats plan fault has (inr is) = subst IsFormatFault (sym is) tt
-
-pub image_undone : (plan : Plan) (fault : Fault) → HasBuilding plan → IsFileFault OfImage fault → IsUnopenedFault fault
-image_undone plan fault has (inl is) = subst IsUnopenedFault (sym is) (plan, has)
-image_undone plan fault has (inr is) = subst IsUnopenedFault (sym is) tt
 
 recovered_left : {D : Type 0} (is_fresh : D → Type 0) (state : D → DiskState) (plan : Plan) (opened left : D) (before after : Option (List ℕ)) (fault : Fault) → HasBuilding plan
     → is_fresh opened → (HasRecovered plan (state opened) (state left) → StopsOver plan (state opened) (state left) fault)

@@ -1,5 +1,5 @@
 -- How the program ends, and what it says of it.
-use Rattle.std.specs.Prelude.{ℕ, ◌≡◌, ◌≢◌, ◌⊎◌, ◌+◌, ◌*◌, List, [], ◌∷◌, ◌++◌, Option, Some, None}
+use Rattle.std.specs.Prelude.{ℕ, ◌≡◌, ◌≢◌, ◌⊎◌, ◌<◌, ◌+◌, ◌*◌, List, [], ◌∷◌, ◌++◌, Option, Some, None}
 use Rattle.std.specs.Prelude.{IfSome, Result, Ok, Err, true, false, codes, take}
 use Rattle.std.specs.Fmt.{decimal}
 use Rattle.std.specs.IoError.{error_kind}
@@ -9,10 +9,11 @@ use Rattle.clap.specs.Words.{Text}
 use Rattle.lift_base.specs.Input.{InputState}
 use Rattle.lift_base.specs.Output.{OutputState}
 use Rattle.lift_building.specs.Plan.{Plan, shape_of}
-use Rattle.lift_disk.specs.Disk.{LeavesNow}
+use Rattle.lift_disk.specs.Disk.{LeavesNow, RunsOn}
 use Rattle.lift_disk.specs.declared.file.FileFault.{FileFault}
-use Rattle.lift_disk.specs.declared.file.FileFault.TheVariants.{System, NotAFile}
-use Rattle.lift_journal.specs.Calls.{format_calls}
+use Rattle.lift_disk.specs.declared.file.FileFault.TheVariants.{Unopened, NotAFile, Stopped}
+use Rattle.std.specs.declared.io.Error.{Error}
+use Rattle.lift_journal.specs.Calls.{StopsIn, format_calls}
 use Rattle.lift_journal.specs.declared.fault.JournalFault.TheVariants.{Disk}
 use Rattle.lift_keeper.specs.declared.fault.KeeperFault.TheVariants.{Journal as OfJournal}
 use Rattle.lift_register.specs.Register.{empty}
@@ -26,8 +27,7 @@ use Rattle.lift_program.specs.Output.{IsTold, SaysText}
 use Rattle.lift_program.specs.Serving.{IsServing}
 use Rattle.lift_program.specs.Images.{ImageFiles}
 use Rattle.lift_program.specs.Showing.{IsShown, IsOpeningFault, ShowsPart}
-use Rattle.lift_program.specs.Stages.{HasBuilding, HasNoBuilding, IsLeftAs, IsUnopenedFault}
-use Rattle.lift_program.specs.Stages.{ReadsBuilding}
+use Rattle.lift_program.specs.Stages.{HasBuilding, IsBuildingFault, IsLeftAs, IsNoImage}
 use Rattle.lift_program.specs.Words.{Asks, AsksForHelp}
 use Rattle.lift_program.specs.declared.fault.Fault.{Fault}
 use Rattle.lift_program.specs.declared.fault.Fault.TheVariants.{Building, Journal, File, Memory}
@@ -37,14 +37,15 @@ use Rattle.lift_program.specs.declared.fault.Role.TheVariants.{Building as OfBui
 use Rattle.lift_program.specs.declared.fault.Role.TheVariants.{Image as OfImage, Input, Output}
 use Rattle.lift_program.specs.declared.end.End.{End}
 use Rattle.lift_program.specs.declared.end.End.TheVariants.{Replayed, Formatted, Shown, Served}
-use Rattle.lift_program.specs.declared.end.End.TheVariants.{Failed, Unshown, Unserved, OtherWords}
+use Rattle.lift_program.specs.declared.end.End.TheVariants.{Failed, NoImage, Unformatted, Unshown}
+use Rattle.lift_program.specs.declared.end.End.TheVariants.{Unserved, OtherWords}
 use Rattle.lift_program.specs.declared.left.Undone.{Undone}
-use Rattle.lift_program.specs.declared.left.Undone.TheVariants.{Unopened, Opened}
+use Rattle.lift_program.specs.declared.left.Undone.TheVariants.{NoBuilding, NoImage as NoImageHad, Opened}
 use Rattle.lift_program.specs.declared.words.Request.{Request}
 use Rattle.lift_program.specs.declared.words.Request.TheVariants.{Replay, Format, Show, Serve}
 
 -- 0 where all was done, 1 for a bad script or a fault, 2 for other words
-abbrev pub status_of : {M S V : Type 0} → End M S V → ℕ
+abbrev pub status_of : {M S V F : Type 0} → End M S V F → ℕ
 status_of (Replayed Good) = 0
 status_of (Replayed Bad) = 1
 status_of (Formatted disk) = 0
@@ -52,6 +53,8 @@ status_of (Shown disk) = 0
 status_of (Served port None left ended) = 0
 status_of (Served port (Some fault) left ended) = 1
 status_of (Failed fault) = 1
+status_of (NoImage fault left) = 1
+status_of (Unformatted fault left) = 1
 status_of (Unshown fault left) = 1
 status_of (Unserved fault left) = 1
 status_of OtherWords = 2
@@ -61,24 +64,28 @@ abbrev pub told_line : Fault → Option (List ℕ)
 told_line fault = Some (fault_text fault ++ 10 ∷ [])
 
 -- the line that is told, none where there is nothing to tell
-abbrev pub line_of : {M S V : Type 0} → End M S V → Option (List ℕ)
+abbrev pub line_of : {M S V F : Type 0} → End M S V F → Option (List ℕ)
 line_of (Replayed verdict) = None
 line_of (Formatted disk) = None
 line_of (Shown disk) = None
 line_of (Served port None left ended) = None
 line_of (Served port (Some fault) left ended) = told_line fault
 line_of (Failed fault) = told_line fault
+line_of (NoImage fault left) = told_line fault
+line_of (Unformatted fault left) = told_line fault
 line_of (Unshown fault left) = told_line fault
 line_of (Unserved fault left) = told_line fault
 line_of OtherWords = Some (usage_text ++ 10 ∷ [])
 
 -- what the work is undone for, if it is
-abbrev pub undone_for : {M S V : Type 0} → End M S V → Option Fault
+abbrev pub undone_for : {M S V F : Type 0} → End M S V F → Option Fault
 undone_for (Replayed verdict) = None
 undone_for (Formatted disk) = None
 undone_for (Shown disk) = None
 undone_for (Served port fault left ended) = None
 undone_for (Failed fault) = Some fault
+undone_for (NoImage fault left) = Some fault
+undone_for (Unformatted fault left) = Some fault
 undone_for (Unshown fault left) = Some fault
 undone_for (Unserved fault left) = Some fault
 undone_for OtherWords = None
@@ -112,11 +119,16 @@ IsMadeFor files (Serve image building port sessions policy) left = ⊥
 abbrev pub IsFileFault : Role → Fault → Type 0
 IsFileFault role fault = (fault ≡ File role) ⊎ (fault ≡ Memory)
 
--- what a refused image comes to: want of memory where the system said so, else its file
-abbrev pub IsImageFault : FileFault → Fault → Type 0
-IsImageFault (System error) fault = (error_kind error ≡ OutOfMemory → fault ≡ Memory)
+-- what the system's refusal comes to: want of memory where it said so, else the image's file
+abbrev pub IsSystemFault : Error → Fault → Type 0
+IsSystemFault error fault = (error_kind error ≡ OutOfMemory → fault ≡ Memory)
     × (error_kind error ≢ OutOfMemory → fault ≡ File OfImage)
+
+-- what a refused image comes to
+abbrev pub IsImageFault : {F : Type 0} → FileFault F → Fault → Type 0
+IsImageFault (Unopened error) fault = IsSystemFault error fault
 IsImageFault NotAFile fault = fault ≡ File OfImage
+IsImageFault (Stopped stopped) fault = IsSystemFault stopped.error fault
 
 -- the standard input, the standard output, or want of memory
 abbrev pub IsReplayFault : Fault → Type 0
@@ -130,18 +142,27 @@ IsReplayFault Memory = Unit {0}
 IsReplayFault Network = ⊥
 IsReplayFault Thread = ⊥
 
--- The first of these that stands: the building's file; the first fault of its text; the image's
--- file; a failed call of the device. Or want of memory.
-abbrev pub IsFormatFault : Fault → Type 0
-IsFormatFault (Building fault) = HasNoBuilding fault
-IsFormatFault (Journal fault) = (fault ≡ OfJournal Disk) × ReadsBuilding
-IsFormatFault (File OfBuilding) = Unit {0}
-IsFormatFault (File OfImage) = ReadsBuilding
-IsFormatFault (File Input) = ⊥
-IsFormatFault (File Output) = ⊥
-IsFormatFault Memory = Unit {0}
-IsFormatFault Network = ⊥
-IsFormatFault Thread = ⊥
+-- An image was made at this path for a building that was read, and the journal couldn't be made on it:
+-- the calls by which that is done were made up to one that failed, and the image was left so.
+pub record IsUnformatted (files : ImageFiles) (path : List ℕ) (half : ℕ) (fault : Fault)
+    (left : files.Made) : Type 0 where
+  pub plan : Plan
+  pub building : HasBuilding plan
+  pub image : files.Made
+  pub fresh : files.is_just_made path (2 + 2 * half) image
+  pub is_fault : fault ≡ Journal (OfJournal Disk)
+  pub stops : StopsIn (format_calls (shape_of plan half)) (files.made_state image)
+      (files.made_state left)
+  pub runs : RunsOn (files.made_state image) (files.made_state left)
+  pub failed : (files.made_state image).failures < (files.made_state left).failures
+
+-- why no journal was made, and how its image or its file was left
+abbrev pub IsUnmade : (files : ImageFiles) → (path : List ℕ) → (half : ℕ)
+    → Undone files.Made files.File → Type 0
+IsUnmade files path half (NoBuilding fault) = IsBuildingFault fault
+IsUnmade files path half (NoImageHad refused) =
+    IsNoImage (files.is_unmade path (2 + 2 * half)) refused.fault refused.left
+IsUnmade files path half (Opened fault left) = IsUnformatted files path half fault left
 
 -- what an opening may be refused for, want of memory, or the standard output
 abbrev pub IsShowingFault : Fault → Type 0
@@ -156,8 +177,9 @@ IsShowingFault Network = ⊥
 IsShowingFault Thread = ⊥
 
 -- so it is with an image that was opened
-abbrev pub IsShowingUndone : {D : Type 0} → Undone D → Type 0
-IsShowingUndone (Unopened fault) = Unit {0}
+abbrev pub IsShowingUndone : {D F : Type 0} → Undone D F → Type 0
+IsShowingUndone (NoBuilding fault) = Unit {0}
+IsShowingUndone (NoImageHad refused) = Unit {0}
 IsShowingUndone (Opened fault left) = IsShowingFault fault
 
 -- what the serving itself may be undone for: a failed call of the device, and what it takes
@@ -183,12 +205,30 @@ ReportsAll input before after (Err fault) = ReportsFront input before after
 abbrev pub IsUnread : {R : Type 0} → InputState R → Type 0
 IsUnread new = (new.failed ≡ true) ⊎ ((new.calls ≡ 2097152) × (new.ended ≡ false))
 
--- what a request may fail by, with no image opened
+-- what a request may fail by, with nothing asked of an image
 abbrev pub IsFaultOf : Request → Fault → Type 0
 IsFaultOf Replay fault = IsReplayFault fault
-IsFaultOf (Format image building half) fault = IsFormatFault fault
-IsFaultOf (Show image building) fault = IsUnopenedFault fault
-IsFaultOf (Serve image building port sessions policy) fault = IsUnopenedFault fault
+IsFaultOf (Format image building half) fault = IsBuildingFault fault
+IsFaultOf (Show image building) fault = IsBuildingFault fault
+IsFaultOf (Serve image building port sessions policy) fault = IsBuildingFault fault
+
+-- no image was had at the path that was named, and the file that was opened there was left so
+abbrev pub IsNoImageFor : (files : ImageFiles) → Request → Fault → Option files.File → Type 0
+IsNoImageFor files Replay fault left = ⊥
+IsNoImageFor files (Format image building half) fault left =
+    IsNoImage (files.is_unmade image.now (2 + 2 * half)) fault left
+IsNoImageFor files (Show image building) fault left =
+    IsNoImage (files.is_unshown image.now) fault left
+IsNoImageFor files (Serve image building port sessions policy) fault left =
+    IsNoImage (files.is_unserved image.now) fault left
+
+-- a journal was to be made on the image that was made at this path, and why it wasn't
+abbrev pub IsUnformattedFor : (files : ImageFiles) → Request → Fault → files.Made → Type 0
+IsUnformattedFor files Replay fault left = ⊥
+IsUnformattedFor files (Format image building half) fault left =
+    IsUnformatted files image.now half fault left
+IsUnformattedFor files (Show image building) fault left = ⊥
+IsUnformattedFor files (Serve image building port sessions policy) fault left = ⊥
 
 -- the open calls of the journal at this path were asked for, and shown
 abbrev pub IsShownFor : (files : ImageFiles) → Request → files.Shown
@@ -228,13 +268,16 @@ IsUnservedFor files (Serve image building port sessions policy) fault left =
 
 -- what a request may come to
 abbrev pub IsEndFor : (files : ImageFiles) → Request → (before after : Option (List ℕ))
-    → End files.Made files.Shown files.Served → Type 0
+    → End files.Made files.Shown files.Served files.File → Type 0
 IsEndFor files request before after (Replayed verdict) = request ≡ Replay
 IsEndFor files request before after (Formatted left) = IsMadeFor files request left
 IsEndFor files request before after (Shown disk) = IsShownFor files request disk before after
 IsEndFor files request before after (Served port fault left ended) =
     IsServedFor files request port fault left ended × IfSome fault IsServingFault
 IsEndFor files request before after (Failed fault) = IsFaultOf request fault
+IsEndFor files request before after (NoImage fault left) = IsNoImageFor files request fault left
+IsEndFor files request before after (Unformatted fault left) =
+    IsUnformattedFor files request fault left
 IsEndFor files request before after (Unshown fault left) = IsUnshownFor files request fault left
 IsEndFor files request before after (Unserved fault left) = IsUnservedFor files request fault left
 IsEndFor files request before after OtherWords = ⊥
@@ -262,7 +305,7 @@ WritesFor files input (Serve image building port sessions policy) before after =
 -- What these words come to: an end of what they ask for; want of memory for them, with nothing
 -- written; or, where they ask for nothing, other words.
 abbrev pub IsEndOf : (files : ImageFiles) → (input : Option (List ℕ)) → List Text
-    → (before after : Option (List ℕ)) → End files.Made files.Shown files.Served → Type 0
+    → (before after : Option (List ℕ)) → End files.Made files.Shown files.Served files.File → Type 0
 IsEndOf files input words before after OtherWords = (request : Request) → Asks words request → ⊥
 IsEndOf files input words before after end = ((end ≡ Failed Memory) × (after ≡ before))
     ⊎ ((request : Request) × Asks words request × IsEndFor files request before after end
@@ -282,7 +325,7 @@ IsReportOfFault Thread before after = Unit {0}
 
 -- what was written, by the end: of a script the report of the input, and of a serving what says so;
 -- for other words it is told beside this
-abbrev pub IsReport : {M S V : Type 0} → (input : Option (List ℕ)) → End M S V
+abbrev pub IsReport : {M S V F : Type 0} → (input : Option (List ℕ)) → End M S V F
     → (before after : Option (List ℕ)) → Type 0
 IsReport input (Replayed verdict) before after = ReportsInput input before after verdict
 IsReport input (Formatted disk) before after = after ≡ before
@@ -290,6 +333,8 @@ IsReport input (Shown disk) before after = Unit {0}
 IsReport input (Served port fault left ended) before after =
     Appends before after (serving_text port)
 IsReport input (Failed fault) before after = IsReportOfFault fault before after
+IsReport input (NoImage fault left) before after = IsReportOfFault fault before after
+IsReport input (Unformatted fault left) before after = IsReportOfFault fault before after
 IsReport input (Unshown fault left) before after = IsReportOfFault fault before after
 IsReport input (Unserved fault left) before after = IsReportOfFault fault before after
 IsReport input OtherWords before after = Unit {0}
@@ -303,9 +348,9 @@ pub record IsAnswered (words : List Text) (has_failed : Type 0)
 
 -- An end is a fault of the standard output only where that has failed, a serving at a port only
 -- where that was listened at, and a fault of the port only where it was refused.
-pub record IsCaused {M S V : Type 0} (has_failed : Type 0)
+pub record IsCaused {M S V F : Type 0} (has_failed : Type 0)
     (has_listened : ℕ → Option EndedState → Type 0) (was_refused : Type 0)
-    (end : End M S V) : Type 0 where
+    (end : End M S V F) : Type 0 where
   pub unwritten : undone_for end ≡ Some (File Output) → has_failed
   pub here : (port : ℕ) (fault : Option Fault) (left : V) (ended : Option EndedState)
       → end ≡ Served port fault left ended → has_listened port ended
@@ -317,7 +362,7 @@ pub record IsStatusFor (files : ImageFiles) {E : Type 0} (contents : E
     → Option (List ℕ)) (words : List Text) (input before after : Option (List ℕ))
     (has_failed : Type 0) (has_listened : ℕ → Option EndedState → Type 0) (was_refused : Type 0)
     (old new : OutputState E) (status : ℕ) : Type 0 where
-  pub end : End files.Made files.Shown files.Served
+  pub end : End files.Made files.Shown files.Served files.File
   pub is_end : IsEndOf files input words before after end
   pub reported : IsReport input end before after
   pub answered : end ≡ OtherWords → IsAnswered words has_failed before after

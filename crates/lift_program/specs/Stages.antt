@@ -18,7 +18,7 @@ use Rattle.lift_program.specs.declared.fault.Fault.{Fault}
 use Rattle.lift_program.specs.declared.fault.Fault.TheVariants.{Building, Journal, File, Memory}
 use Rattle.lift_program.specs.declared.fault.Fault.TheVariants.{Network, Thread}
 use Rattle.lift_program.specs.declared.left.Undone.{Undone}
-use Rattle.lift_program.specs.declared.left.Undone.TheVariants.{Unopened, Opened}
+use Rattle.lift_program.specs.declared.left.Undone.TheVariants.{NoBuilding, NoImage, Opened}
 use Rattle.lift_program.specs.declared.fault.Role.TheVariants.{Building as OfBuilding}
 use Rattle.lift_program.specs.declared.fault.Role.TheVariants.{Image as OfImage, Input, Output}
 
@@ -114,34 +114,46 @@ IsBuildingFault Memory = Unit {0}
 IsBuildingFault Network = ⊥
 IsBuildingFault Thread = ⊥
 
--- What no image is opened for. The first of these that stands: the building's file; the first fault
--- of its text; the image's file. Or want of memory.
-abbrev pub IsUnopenedFault : Fault → Type 0
-IsUnopenedFault (Building fault) = HasNoBuilding fault
-IsUnopenedFault (Journal fault) = ⊥
-IsUnopenedFault (File OfBuilding) = Unit {0}
-IsUnopenedFault (File OfImage) = ReadsBuilding
-IsUnopenedFault (File Input) = ⊥
-IsUnopenedFault (File Output) = ⊥
-IsUnopenedFault Memory = Unit {0}
-IsUnopenedFault Network = ⊥
-IsUnopenedFault Thread = ⊥
+-- A building was read, and no image was had for it: that is told as its file, or as want of memory
+-- where the system told that.
+pub record IsNoImage {F : Type 0} (is_unhad : Option F → Type 0) (fault : Fault) (left : Option F)
+    : Type 0 where
+  pub building : ReadsBuilding
+  pub is_fault : (fault ≡ File OfImage) ⊎ (fault ≡ Memory)
+  pub unhad : is_unhad left
 
 -- the fault that a command over an image is undone for
-abbrev pub fault_in : {D : Type 0} → Undone D → Fault
-fault_in (Unopened fault) = fault
+abbrev pub fault_in : {D F : Type 0} → Undone D F → Fault
+fault_in (NoBuilding fault) = fault
+fault_in (NoImage refused) = refused.fault
 fault_in (Opened fault left) = fault
 
--- why a command over an image is undone, and how it has left the image
-abbrev pub IsUndone : {D : Type 0} → (is_fresh : D → Type 0) → (state : D → DiskState) → Undone D
-    → Type 0
-IsUndone is_fresh state (Unopened fault) = IsUnopenedFault fault
-IsUndone is_fresh state (Opened fault left) = IsLeftAs is_fresh state fault left
+-- Why a command over an image is undone, and how it has left the image or its file. The first of these
+-- that stands: no building was had; no image was had; or one was.
+abbrev pub IsUndone : {D F : Type 0} → (is_fresh : D → Type 0) → (state : D → DiskState)
+    → (is_unhad : Option F → Type 0) → Undone D F → Type 0
+IsUndone is_fresh state is_unhad (NoBuilding fault) = IsBuildingFault fault
+IsUndone is_fresh state is_unhad (NoImage refused) = IsNoImage is_unhad refused.fault refused.left
+IsUndone is_fresh state is_unhad (Opened fault left) = IsLeftAs is_fresh state fault left
 
--- what no keeper of this building is had for: the image's file, want of memory, or the recovery's
--- refusal
-abbrev pub IsUnkept : {D : Type 0} → (is_fresh : D → Type 0) → (state : D → DiskState) → Plan
-    → Undone D → Type 0
-IsUnkept {D} is_fresh state plan (Unopened fault) = (fault ≡ File OfImage) ⊎ (fault ≡ Memory)
-IsUnkept {D} is_fresh state plan (Opened fault left) =
-    HasNoKeeperOf D is_fresh state plan fault left
+-- so it is of an image that was to be served
+abbrev pub IsUndoneServing : (files : ImageFiles) → (path : List ℕ)
+    → Undone files.Served files.File → Type 0
+IsUndoneServing files path =
+    IsUndone (files.is_to_be_served path) files.served_state (files.is_unserved path)
+
+-- and of one that was to be shown
+abbrev pub IsUndoneShowing : (files : ImageFiles) → (path : List ℕ)
+    → Undone files.Shown files.File → Type 0
+IsUndoneShowing files path =
+    IsUndone (files.is_to_be_shown path) files.shown_state (files.is_unshown path)
+
+-- What no keeper of this building is had for: no image was had, or the recovery was refused.
+abbrev pub IsUnkept : (files : ImageFiles) → (path : List ℕ) → Plan
+    → Undone files.Served files.File → Type 0
+IsUnkept files path plan (NoBuilding fault) = ⊥
+IsUnkept files path plan (NoImage refused) =
+    ((refused.fault ≡ File OfImage) ⊎ (refused.fault ≡ Memory))
+    × files.is_unserved path refused.left
+IsUnkept files path plan (Opened fault left) =
+    HasNoKeeperOf files.Served (files.is_to_be_served path) files.served_state plan fault left

@@ -5,15 +5,17 @@ ghost use Rattle.std.specs.Prelude.{Err, false, length, vec_len};
 ghost use Rattle.std.specs.Str.{IsUtf8};
 ghost use Rattle.lift_disk.specs.FileCalls.FileCall.{Lock};
 ghost use Rattle.lift_disk.specs.Files.{IsMeasured, making_below, sector_file_state_of};
-ghost use Rattle.lift_disk.specs.Traced.{making_calls, to_be_read, to_be_used};
+ghost use Rattle.lift_disk.specs.Files.{stops_making, stops_opening};
+ghost use Rattle.lift_disk.specs.Traced.{making_calls, to_be_made, to_be_read, to_be_used};
 ghost use Rattle.lift_replay.specs.Reading.{TakesUpTo};
 ghost use Rattle.lift_program.specs.Ends.{IsFileFault, IsImageFault, IsUncalled, IsUnread};
-ghost use Rattle.lift_program.specs.Images.{IsJustMade, image_files};
+ghost use Rattle.lift_program.specs.Images.{IsJustMade, IsUnhad, file_in, image_files};
 ghost use Rattle.lift_program.specs.Stages.{HasBuilding, IsBuildingFault, TakesAll, most_text};
 ghost use Rattle.lift_program.specs.declared.fault.Role.TheVariants.{Building as OfBuilding};
 ghost use Rattle.lift_program.specs.declared.fault.Role.TheVariants.{Image as OfImage};
 
 use crate::fault::{Fault, Role};
+use crate::left::{Left, Refused};
 use crate::unwritten::{ShownImage, UnwrittenFile};
 use lift_base::text::Counted;
 use lift_building::Building;
@@ -123,14 +125,25 @@ pub fn building_in<F: Files<File = File>>(
     building_of(alloc, &bytes)
 }
 
-/// What a refused image comes to.
-fn refused(fault: FileFault) -> Fault
-    ensures file { IsFileFault OfImage result }
-    ensures cause { IsImageFault fault result }
+/// What a file comes to that can't be an image.
+fn refused<F: Drop>(fault: FileFault<F>) -> Refused<F>
+    ensures file { IsFileFault OfImage result.fault }
+    ensures cause { IsImageFault fault result.fault }
+    ensures left { result.left ≡ file_in fault }
 {
     match fault {
-        FileFault::System(error) => Fault::of_file(Role::Image, error),
-        FileFault::NotAFile => Fault::File(Role::Image),
+        FileFault::Unopened(error) => Refused {
+            fault: Fault::of_file(Role::Image, error),
+            left: None,
+        },
+        FileFault::NotAFile => Refused {
+            fault: Fault::File(Role::Image),
+            left: None,
+        },
+        FileFault::Stopped(stopped) => Refused {
+            fault: Fault::of_file(Role::Image, stopped.error),
+            left: Some(Left::new(stopped.file)),
+        },
     }
 }
 
@@ -139,7 +152,7 @@ pub fn image_at<F: ToldFiles>(
     rt: &F,
     path: &str,
     sectors: u32,
-) -> Result<SectorFile<F::Told>, Fault>
+) -> Result<SectorFile<F::Told>, Refused<F::Told>>
     ensures size { IfOk result (λ disk. (sector_file_state_of F.Told.holds disk).size ≡ sectors) }
     ensures failures { IfOk result (λ disk. (sector_file_state_of F.Told.holds disk).failures ≡ 0) }
     ensures calls { IfOk result (λ disk. (sector_file_state_of F.Told.holds disk).calls ≡ 0) }
@@ -148,42 +161,71 @@ pub fn image_at<F: ToldFiles>(
     ensures made { IfOk result (λ disk. IsJustMade (F.opens rt.now) (F.names rt.now) F.Told.gives
         F.Told.holds path.now sectors disk) }
     ensures making { IfOk result (λ disk. making_below disk ≡ making_calls sectors) }
-    ensures fault { IfErr result (IsFileFault OfImage) }
+    ensures fault { IfErr result (λ no. IsFileFault OfImage no.fault) }
+    ensures unhad { IfErr result (λ no. IsUnhad (F.stands rt.now path.now)
+        (F.opens rt.now to_be_made path.now) (stops_making (F.unnamed rt.now path.now)
+        F.Told.gives F.Told.fails sectors) no.left) }
 {
-    SectorFile::create(rt, path, sectors).map_err(refused)
+    match SectorFile::create(rt, path, sectors) {
+        Ok(disk) => Ok(disk),
+        Err(fault) => Err(refused(fault)),
+    }
 }
 
 /// The file of a journal that is there, if its lock is to be had. It is not made anew.
-pub fn image_in<F: ToldFiles>(rt: &F, path: &str) -> Result<SectorFile<F::Told>, Fault>
+pub fn image_in<F: ToldFiles>(
+    rt: &F,
+    path: &str,
+) -> Result<SectorFile<F::Told>, Refused<F::Told>>
     ensures failures { IfOk result (λ disk. (sector_file_state_of F.Told.holds disk).failures ≡ 0) }
     ensures calls { IfOk result (λ disk. (sector_file_state_of F.Told.holds disk).calls ≡ 0) }
     ensures writes { IfOk result (λ disk. (sector_file_state_of F.Told.holds disk).writes ≡ 0) }
     ensures measured { IfOk result (λ disk. IsMeasured (F.opens rt.now to_be_used path.now)
         F.Told.gives F.Told.holds (Lock ∷ []) disk) }
-    ensures fault { IfErr result (IsFileFault OfImage) }
+    ensures fault { IfErr result (λ no. IsFileFault OfImage no.fault) }
+    ensures unhad { IfErr result (λ no. IsUnhad (F.stands rt.now path.now)
+        (F.opens rt.now to_be_used path.now) (stops_opening F.Told.gives F.Told.fails (Lock ∷ [])) no.left) }
 {
-    SectorFile::open(rt, path).map_err(refused)
+    match SectorFile::open(rt, path) {
+        Ok(disk) => Ok(disk),
+        Err(fault) => Err(refused(fault)),
+    }
 }
 
 /// The file of a journal that is there, to be read alone.
-fn image_to_read<F: ToldFiles>(rt: &F, path: &str) -> Result<SectorFile<F::Told>, Fault>
+fn image_to_read<F: ToldFiles>(
+    rt: &F,
+    path: &str,
+) -> Result<SectorFile<F::Told>, Refused<F::Told>>
     ensures failures { IfOk result (λ disk. (sector_file_state_of F.Told.holds disk).failures ≡ 0) }
     ensures calls { IfOk result (λ disk. (sector_file_state_of F.Told.holds disk).calls ≡ 0) }
     ensures writes { IfOk result (λ disk. (sector_file_state_of F.Told.holds disk).writes ≡ 0) }
     ensures measured { IfOk result (λ disk. IsMeasured (F.opens rt.now to_be_read path.now)
         F.Told.gives F.Told.holds [] disk) }
-    ensures fault { IfErr result (IsFileFault OfImage) }
+    ensures fault { IfErr result (λ no. IsFileFault OfImage no.fault) }
+    ensures unhad { IfErr result (λ no. IsUnhad (F.stands rt.now path.now)
+        (F.opens rt.now to_be_read path.now) (stops_opening F.Told.gives F.Told.fails []) no.left) }
 {
-    SectorFile::open_to_read(rt, path).map_err(refused)
+    match SectorFile::open_to_read(rt, path) {
+        Ok(disk) => Ok(disk),
+        Err(fault) => Err(refused(fault)),
+    }
 }
 
 /// The image of a journal that is there, to be shown, also beside a group that runs over it.
-pub fn image_to_show<F: ToldFiles>(rt: &F, path: &str) -> Result<ShownImage<F::Told>, Fault>
-    ensures opened { IfOk result (λ disk. (image_files (F.opens rt.now) (F.names rt.now) F.Told.gives F.Told.holds
+pub fn image_to_show<F: ToldFiles>(
+    rt: &F,
+    path: &str,
+) -> Result<ShownImage<F::Told>, Refused<F::Told>>
+    ensures opened { IfOk result (λ disk. (image_files (F.stands rt.now) (F.opens rt.now) (F.names rt.now) (F.unnamed rt.now) F.Told.gives F.Told.fails F.Told.holds
         ⟦<BufferedFile<F::Told> as Disk>⟧.state ⟦<ShownImage<F::Told> as Disk>⟧.state).is_to_be_shown
         path.now disk) }
-    ensures fault { IfErr result (IsFileFault OfImage) }
+    ensures fault { IfErr result (λ no. IsFileFault OfImage no.fault) }
+    ensures unhad { IfErr result (λ no. IsUnhad (F.stands rt.now path.now)
+        (F.opens rt.now to_be_read path.now) (stops_opening F.Told.gives F.Told.fails []) no.left) }
 {
-    let file = image_to_read(rt, path)?;
-    Ok(Buffered::over(UnwrittenFile::over(file)))
+    match image_to_read(rt, path) {
+        Ok(file) => Ok(Buffered::over(UnwrittenFile::over(file))),
+        Err(refused) => Err(refused),
+    }
 }

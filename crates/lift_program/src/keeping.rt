@@ -25,18 +25,17 @@ pub fn keeper_in<'b, F: ToldFiles>(
     rt: &F,
     path: &str,
     building: &'b Building,
-) -> Result<HeldKeeper<'b, BufferedFile<F::Told>, ImageKey>, Undone<BufferedFile<F::Told>>>
-    ensures opened { IfOk result (HasKeeperOf (image_files (F.opens rt.now) (F.names rt.now) F.Told.gives F.Told.holds
+) -> Result<HeldKeeper<'b, BufferedFile<F::Told>, ImageKey>, Undone<BufferedFile<F::Told>, F::Told>>
+    ensures opened { IfOk result (HasKeeperOf (image_files (F.stands rt.now) (F.opens rt.now) (F.names rt.now) (F.unnamed rt.now) F.Told.gives F.Told.fails F.Told.holds
         ⟦<BufferedFile<F::Told> as Disk>⟧.state ⟦<ShownImage<F::Told> as Disk>⟧.state) path.now
         building.now) }
     ensures settled { IfOk result (λ keeper. keeper.state.batch ≡ []) }
-    ensures undone { IfErr result (IsUnkept ((image_files (F.opens rt.now) (F.names rt.now) F.Told.gives F.Told.holds
-        ⟦<BufferedFile<F::Told> as Disk>⟧.state ⟦<ShownImage<F::Told> as Disk>⟧.state).is_to_be_served path.now)
-        ⟦<BufferedFile<F::Told> as Disk>⟧.state building.now) }
+    ensures undone { IfErr result (IsUnkept (image_files (F.stands rt.now) (F.opens rt.now) (F.names rt.now) (F.unnamed rt.now) F.Told.gives F.Told.fails F.Told.holds
+        ⟦<BufferedFile<F::Told> as Disk>⟧.state ⟦<ShownImage<F::Told> as Disk>⟧.state) path.now building.now) }
 {
     let file = match image_in(rt, path) {
         Ok(file) => file,
-        Err(fault) => return Err(Undone::Unopened(fault)),
+        Err(refused) => return Err(Undone::NoImage(refused)),
     };
     match Keeper::open(Buffered::over(file), building) {
         Ok(keeper) => Ok(HeldKeeper::new(keeper)),

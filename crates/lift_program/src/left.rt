@@ -31,11 +31,20 @@ impl<D> Left<D> {
     }
 }
 
+/// Why no image was had, and the file that was opened for it, if one was, as it was left.
+#[derive(Drop)]
+pub struct Refused<F> {
+    pub fault: Fault,
+    pub left: Option<Left<F>>,
+}
+
 /// Why a command over an image is undone.
 #[derive(Drop)]
-pub enum Undone<D> {
-    /// No image was opened.
-    Unopened(Fault),
+pub enum Undone<D, F> {
+    /// No building was had, and nothing was asked of an image.
+    NoBuilding(Fault),
+    /// No image was had.
+    NoImage(Refused<F>),
     /// One was, and was left so.
     Opened(Fault, Left<D>),
 }

@@ -10,7 +10,7 @@ ghost use Rattle.lift_program.specs.Images.{image_files};
 ghost use Rattle.lift_program.specs.Listening.{HasListened, local};
 ghost use Rattle.lift_program.specs.Output.{HasFailed, IsSettled};
 ghost use Rattle.lift_program.specs.Serving.{IsServing};
-ghost use Rattle.lift_program.specs.Stages.{IsUndone, fault_in};
+ghost use Rattle.lift_program.specs.Stages.{IsUndoneServing, fault_in};
 ghost use Rattle.lift_program.specs.declared.fault.Role.TheVariants.{Output};
 
 use crate::fault::Fault;
@@ -109,7 +109,7 @@ fn serving_of<D: Disk + Drop>(served: Served<'_, D, ImageKey>) -> Serving<D>
 /// file `image`, until so many connections have ended. The answer tells the fault that did not end
 /// it, if there was one.
 #[inline(never)]
-#[tactic(auto, using(crate::proofs::Stages::building_undone, crate::proofs::Stages::nothing_written, crate::proofs::Writing::nothing_said, crate::proofs::Writing::said_front))]
+#[tactic(auto, using(crate::proofs::Stages::nothing_written, crate::proofs::Writing::nothing_said, crate::proofs::Writing::said_front))]
 pub fn serve<
     R: Files<File = File> + ToldFiles + Threads + Wait + Clock + Listens + Sync,
     W: Outflow,
@@ -122,10 +122,10 @@ pub fn serve<
     sessions: u32,
     policy: Shipped,
     writer: &mut W,
-) -> Result<Serving<BufferedFile<R::Told>>, Undone<BufferedFile<R::Told>>>
+) -> Result<Serving<BufferedFile<R::Told>>, Undone<BufferedFile<R::Told>, R::Told>>
     ensures said { OnOk result
         (Appends (W.contents writer.old) (W.contents writer.new) (serving_text port)) }
-    ensures served { IfOk result (λ serving. IsServing (image_files (R.opens rt.now) (R.names rt.now) R.Told.gives R.Told.holds
+    ensures served { IfOk result (λ serving. IsServing (image_files (R.stands rt.now) (R.opens rt.now) (R.names rt.now) (R.unnamed rt.now) R.Told.gives R.Told.fails R.Told.holds
         ⟦<BufferedFile<R::Told> as Disk>⟧.state ⟦<ShownImage<R::Told> as Disk>⟧.state) image.now policy sessions
         serving.fault serving.left serving.ended) }
     // The socket was asked for at 127.0.0.1, at this port.
@@ -135,9 +135,8 @@ pub fn serve<
         → R.gives rt.now local port None) }
     ensures serving { IfOk result (λ serving. IfSome serving.fault IsServingFault) }
     // Nothing was written to an image that isn't served.
-    ensures undone { IfErr result (IsUndone ((image_files (R.opens rt.now) (R.names rt.now) R.Told.gives R.Told.holds
-        ⟦<BufferedFile<R::Told> as Disk>⟧.state ⟦<ShownImage<R::Told> as Disk>⟧.state).is_to_be_served image.now)
-        ⟦<BufferedFile<R::Told> as Disk>⟧.state) }
+    ensures undone { IfErr result (IsUndoneServing (image_files (R.stands rt.now) (R.opens rt.now) (R.names rt.now) (R.unnamed rt.now) R.Told.gives R.Told.fails R.Told.holds
+        ⟦<BufferedFile<R::Told> as Disk>⟧.state ⟦<ShownImage<R::Told> as Disk>⟧.state) image.now) }
     ensures report { IfErr result (λ undone.
         IsReportOfFault (fault_in undone) (W.contents writer.old) (W.contents writer.new)) }
     ensures front { SaysFront port (W.contents writer.old) (W.contents writer.new) }
@@ -146,7 +145,7 @@ pub fn serve<
 {
     let building = match building_in(rt, alloc, building) {
         Ok(building) => building,
-        Err(fault) => return Err(Undone::Unopened(fault)),
+        Err(fault) => return Err(Undone::NoBuilding(fault)),
     };
     let keeper = match keeper_in(rt, image, &building) {
         Ok(keeper) => keeper,

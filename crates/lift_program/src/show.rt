@@ -10,7 +10,7 @@ ghost use Rattle.lift_program.specs.Ends.{IsShowingUndone};
 ghost use Rattle.lift_program.specs.Images.{image_files};
 ghost use Rattle.lift_program.specs.Output.{HasFailed, IsSettled};
 ghost use Rattle.lift_program.specs.Showing.{IsShown, Shows, ShowsFront, ShowsPart};
-ghost use Rattle.lift_program.specs.Stages.{IsUndone, fault_in};
+ghost use Rattle.lift_program.specs.Stages.{IsUndoneShowing, fault_in};
 ghost use Rattle.lift_program.specs.declared.fault.Fault.TheVariants.{Journal as OfJournal};
 ghost use Rattle.lift_program.specs.declared.fault.Role.TheVariants.{Output};
 
@@ -81,23 +81,22 @@ fn show_on<D: Disk + Drop, W: Outflow>(
 /// Shows the open calls of the journal in the file `image`, which is of the building in the file
 /// `building`.
 #[inline(never)]
-#[tactic(auto, using(crate::proofs::Stages::building_undone, crate::proofs::Stages::image_undone, crate::proofs::Stages::nothing_written))]
+#[tactic(auto, using(crate::proofs::Stages::no_image, crate::proofs::Stages::nothing_written))]
 pub fn show<F: Files<File = File> + ToldFiles, W: Outflow>(
     rt: &F,
     alloc: Global,
     image: &str,
     building: &str,
     writer: &mut W,
-) -> Result<Left<ShownImage<F::Told>>, Undone<ShownImage<F::Told>>>
-    ensures shown { IfOk result (λ disk. IsShown (image_files (F.opens rt.now) (F.names rt.now) F.Told.gives F.Told.holds
+) -> Result<Left<ShownImage<F::Told>>, Undone<ShownImage<F::Told>, F::Told>>
+    ensures shown { IfOk result (λ disk. IsShown (image_files (F.stands rt.now) (F.opens rt.now) (F.names rt.now) (F.unnamed rt.now) F.Told.gives F.Told.fails F.Told.holds
         ⟦<BufferedFile<F::Told> as Disk>⟧.state ⟦<ShownImage<F::Told> as Disk>⟧.state) image.now disk
         (W.contents writer.old) (W.contents writer.new)) }
-    ensures only { ShowsPart (image_files (F.opens rt.now) (F.names rt.now) F.Told.gives F.Told.holds
+    ensures only { ShowsPart (image_files (F.stands rt.now) (F.opens rt.now) (F.names rt.now) (F.unnamed rt.now) F.Told.gives F.Told.fails F.Told.holds
         ⟦<BufferedFile<F::Told> as Disk>⟧.state ⟦<ShownImage<F::Told> as Disk>⟧.state) image.now
         (W.contents writer.old) (W.contents writer.new) }
-    ensures undone { IfErr result (IsUndone ((image_files (F.opens rt.now) (F.names rt.now) F.Told.gives F.Told.holds
-        ⟦<BufferedFile<F::Told> as Disk>⟧.state ⟦<ShownImage<F::Told> as Disk>⟧.state).is_to_be_shown image.now)
-        ⟦<ShownImage<F::Told> as Disk>⟧.state) }
+    ensures undone { IfErr result (IsUndoneShowing (image_files (F.stands rt.now) (F.opens rt.now) (F.names rt.now) (F.unnamed rt.now) F.Told.gives F.Told.fails F.Told.holds
+        ⟦<BufferedFile<F::Told> as Disk>⟧.state ⟦<ShownImage<F::Told> as Disk>⟧.state) image.now) }
     ensures showing { IfErr result IsShowingUndone }
     ensures report { IfErr result (λ undone.
         IsReportOfFault (fault_in undone) (W.contents writer.old) (W.contents writer.new)) }
@@ -106,11 +105,11 @@ pub fn show<F: Files<File = File> + ToldFiles, W: Outflow>(
 {
     let building = match building_in(rt, alloc, building) {
         Ok(building) => building,
-        Err(fault) => return Err(Undone::Unopened(fault)),
+        Err(fault) => return Err(Undone::NoBuilding(fault)),
     };
     let disk = match image_to_show(rt, image) {
         Ok(disk) => disk,
-        Err(fault) => return Err(Undone::Unopened(fault)),
+        Err(refused) => return Err(Undone::NoImage(refused)),
     };
     let (disk, outcome) = show_on(alloc, disk, &building, writer);
     match outcome {

@@ -47,13 +47,13 @@ fn done<
     request: Request<'_>,
     input: &mut Counted<R>,
     writer: &mut W,
-) -> End<SectorFile<F::Told>, ShownImage<F::Told>, BufferedFile<F::Told>>
+) -> End<SectorFile<F::Told>, ShownImage<F::Told>, BufferedFile<F::Told>, F::Told>
     requires range { IsInRange request }
     requires uncalled { IsUncalled input.old }
-    ensures end { IsEndFor (image_files (F.opens rt.now) (F.names rt.now) F.Told.gives F.Told.holds
+    ensures end { IsEndFor (image_files (F.stands rt.now) (F.opens rt.now) (F.names rt.now) (F.unnamed rt.now) F.Told.gives F.Told.fails F.Told.holds
         ⟦<BufferedFile<F::Told> as Disk>⟧.state ⟦<ShownImage<F::Told> as Disk>⟧.state) request.entry
         (W.contents writer.old) (W.contents writer.new) result }
-    ensures only { WritesFor (image_files (F.opens rt.now) (F.names rt.now) F.Told.gives F.Told.holds
+    ensures only { WritesFor (image_files (F.stands rt.now) (F.opens rt.now) (F.names rt.now) (F.unnamed rt.now) F.Told.gives F.Told.fails F.Told.holds
         ⟦<BufferedFile<F::Told> as Disk>⟧.state ⟦<ShownImage<F::Told> as Disk>⟧.state) (R.remaining input.old.reader) request.entry
         (W.contents writer.old) (W.contents writer.new) }
     ensures report { IsReport (R.remaining input.old.reader) result (W.contents writer.old)
@@ -77,11 +77,14 @@ fn done<
             half,
         } => match format(rt, alloc, image, building, half) {
             Ok(left) => End::Formatted(left),
-            Err(fault) => End::Failed(fault),
+            Err(Undone::NoBuilding(fault)) => End::Failed(fault),
+            Err(Undone::NoImage(refused)) => End::NoImage(refused.fault, refused.left),
+            Err(Undone::Opened(fault, left)) => End::Unformatted(fault, left),
         },
         Request::Show { image, building } => match show(rt, alloc, image, building, writer) {
             Ok(left) => End::Shown(left),
-            Err(Undone::Unopened(fault)) => End::Failed(fault),
+            Err(Undone::NoBuilding(fault)) => End::Failed(fault),
+            Err(Undone::NoImage(refused)) => End::NoImage(refused.fault, refused.left),
             Err(Undone::Opened(fault, left)) => End::Unshown(fault, left),
         },
         Request::Serve {
@@ -92,14 +95,15 @@ fn done<
             policy,
         } => match serve(rt, alloc, image, building, port, sessions, policy, writer) {
             Ok(serving) => End::Served(port, serving.fault, serving.left, serving.ended),
-            Err(Undone::Unopened(fault)) => End::Failed(fault),
+            Err(Undone::NoBuilding(fault)) => End::Failed(fault),
+            Err(Undone::NoImage(refused)) => End::NoImage(refused.fault, refused.left),
             Err(Undone::Opened(fault, left)) => End::Unserved(fault, left),
         },
     }
 }
 
 /// Why the words weren't given: for want of memory, or since one of them is no text.
-pub fn not_given<E: Write + Drop>(error: io::Error, errors: &mut Watched<E>) -> End<(), (), ()>
+pub fn not_given<E: Write + Drop>(error: io::Error, errors: &mut Watched<E>) -> End<(), (), (), ()>
     ensures memory { error_kind error ≡ ErrorKind.OutOfMemory → result ≡ End.Failed Fault.Memory }
     ensures other { error_kind error ≢ ErrorKind.OutOfMemory → result ≡ End.OtherWords }
     ensures told { IfSome (line_of result) (IsTold E.contents errors.old errors.new) }
@@ -128,10 +132,10 @@ fn carry_out<
     input: &mut Counted<R>,
     writer: &mut W,
     errors: &mut Watched<E>,
-) -> End<SectorFile<F::Told>, ShownImage<F::Told>, BufferedFile<F::Told>>
+) -> End<SectorFile<F::Told>, ShownImage<F::Told>, BufferedFile<F::Told>, F::Told>
     requires uncalled { IsUncalled input.old }
     // It ends as the words ask, and nothing is written but a front of what they ask for,
-    ensures end { IsEndOf (image_files (F.opens rt.now) (F.names rt.now) F.Told.gives F.Told.holds
+    ensures end { IsEndOf (image_files (F.stands rt.now) (F.opens rt.now) (F.names rt.now) (F.unnamed rt.now) F.Told.gives F.Told.fails F.Told.holds
         ⟦<BufferedFile<F::Told> as Disk>⟧.state ⟦<ShownImage<F::Told> as Disk>⟧.state) (R.remaining input.old.reader) (map S.text words.now)
         (W.contents writer.old) (W.contents writer.new) result }
     // a fault and other words are told by their line,
@@ -179,7 +183,7 @@ pub fn start<
     E: Write + Drop,
 >(rt: &F, alloc: Global, words: &[S], reader: R, writer: &mut W, errors: &mut Watched<E>) -> u8
     // It is the status of an end that the words come to, with its report, and which is told.
-    ensures status { IsStatusFor (image_files (F.opens rt.now) (F.names rt.now) F.Told.gives F.Told.holds
+    ensures status { IsStatusFor (image_files (F.stands rt.now) (F.opens rt.now) (F.names rt.now) (F.unnamed rt.now) F.Told.gives F.Told.fails F.Told.holds
         ⟦<BufferedFile<F::Told> as Disk>⟧.state ⟦<ShownImage<F::Told> as Disk>⟧.state) E.contents (map S.text words.now) (R.remaining reader)
         (W.contents writer.old) (W.contents writer.new)
         (HasFailed W.gives W.flushes writer.old writer.new) (HasListened F.gives rt.now)

@@ -76,19 +76,25 @@ fn a_file_keeps_its_sectors(rt: HostRuntime) -> Result<(), Fail> {
 }
 
 /// How many sectors a device has, where there is one.
-fn sectors_of<F: ToldFile + Drop>(device: Result<FileDisk<F>, FileFault>) -> Option<u32> {
+fn sectors_of<F: ToldFile + Drop>(device: Result<FileDisk<F>, FileFault<F>>) -> Option<u32> {
     match device {
         Ok(disk) => Some(disk.sectors()),
         Err(_) => None,
     }
 }
 
-fn is_no_file<F: ToldFile + Drop>(device: Result<FileDisk<F>, FileFault>) -> bool {
+fn is_no_file<F: ToldFile + Drop>(device: Result<FileDisk<F>, FileFault<F>>) -> bool {
     matches!(device, Err(FileFault::NotAFile))
 }
 
-fn is_refused_by_system<F: ToldFile + Drop>(device: Result<FileDisk<F>, FileFault>) -> bool {
-    matches!(device, Err(FileFault::System(_)))
+/// Whether no file was opened.
+fn is_unopened<F: ToldFile + Drop>(device: Result<FileDisk<F>, FileFault<F>>) -> bool {
+    matches!(device, Err(FileFault::Unopened(_)))
+}
+
+/// Whether a file was opened and came back.
+fn is_stopped<F: ToldFile + Drop>(device: Result<FileDisk<F>, FileFault<F>>) -> bool {
+    matches!(device, Err(FileFault::Stopped(_)))
 }
 
 /// Only whole sectors of a file count.
@@ -101,7 +107,7 @@ fn whole_sectors_count(rt: HostRuntime) -> Result<(), Fail> {
         assert!(rt; sectors_of(FileDisk::open(&rt, path)) == Some(sectors));
     }
     fs::remove_file(&rt, path)?;
-    assert!(rt; is_refused_by_system(FileDisk::open(&rt, path)));
+    assert!(rt; is_unopened(FileDisk::open(&rt, path)));
     Ok(())
 }
 
@@ -109,8 +115,8 @@ fn whole_sectors_count(rt: HostRuntime) -> Result<(), Fail> {
 fn is_had_once<R: Files<File = File> + ToldFiles + Abort>(rt: &R, path: &str) -> bool {
     let mut first = created(rt, path, 4);
     let is_kept = keeps(&mut first);
-    is_refused_by_system(FileDisk::open(rt, path))
-        && is_refused_by_system(FileDisk::create(rt, path, 8))
+    is_stopped(FileDisk::open(rt, path))
+        && is_stopped(FileDisk::create(rt, path, 8))
         && is_kept
         && has_kept(&mut looked_at(rt, path))
 }
@@ -135,7 +141,7 @@ fn what_is_no_device_is_refused(rt: HostRuntime) -> Result<(), Fail> {
         assert!(rt; is_no_file(FileDisk::create(&rt, path, 4)));
     }
     let made = FileDisk::create(&rt, "lift_disk_folder/no/file", 4);
-    assert!(rt; is_refused_by_system(made));
+    assert!(rt; is_unopened(made));
     fs::remove_dir_all(&rt, FOLDER)?;
     Ok(())
 }

@@ -174,7 +174,7 @@ fn a_file_is_made_with_its_sectors(rt: HostRuntime) -> Result<(), Fail> {
     assert!(rt; TracedFile::zeroed(SystemFile::over(NotedFile { notes: &notes }), 300).is_err());
     assert!(rt; notes.length.get() == 0 && notes.syncs.get() == 0 && notes.written.get() == 1);
     notes.is_free.set(true);
-    let _made = TracedFile::zeroed(SystemFile::over(NotedFile { notes: &notes }), 300)?;
+    assert!(rt; TracedFile::zeroed(SystemFile::over(NotedFile { notes: &notes }), 300).is_ok());
     assert!(rt; notes.length.get() == 153_600 && notes.safe_length.get() == 153_600);
     assert!(rt; notes.given.get() == 153_600 && notes.written.get() == 131_072);
     Ok(())

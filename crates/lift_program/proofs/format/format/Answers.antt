@@ -8,12 +8,15 @@ use Rattle.lift_program.specs.Unwritten.{unwritten_state_of}
 use Rattle.lift_program.proofs.Stages.{is_made}
 use Rattle.lift_program.proofs.format.format.Goals as goal
 
-pub returns-in-Ok-clause-made : goal.returns-in-Ok-clause-made
-returns-in-Ok-clause-made g c =
-    let files : ImageFiles = image_files (g.F.ToldFiles.opens c.args.rt.now) (g.F.ToldFiles.names c.args.rt.now) g.F.Told.ToldFile.gives g.F.Told.ToldFile.holds (buffered_state_of (sector_file_state_of g.F.Told.ToldFile.holds)) (buffered_state_of (unwritten_state_of g.F.Told.ToldFile.holds)) in
+pub returns-in-Ok-format-clause-made : goal.returns-in-Ok-format-clause-made
+returns-in-Ok-format-clause-made g c =
+    let files : ImageFiles = image_files (g.F.ToldFiles.stands c.args.rt.now) (g.F.ToldFiles.opens c.args.rt.now) (g.F.ToldFiles.names c.args.rt.now) (g.F.ToldFiles.unnamed c.args.rt.now) g.F.Told.ToldFile.gives g.F.Told.ToldFile.fails g.F.Told.ToldFile.holds (buffered_state_of (sector_file_state_of g.F.Told.ToldFile.holds)) (buffered_state_of (unwritten_state_of g.F.Told.ToldFile.holds)) in
     let left = c.format.new.disk in
     subst (λ (d : files.Made). IsMadeWith files c.args.image.now c.args.half d) (sym c.new.ensures)
-    (is_made files c.args.image.now c.in_ok-building_in.field-0 c.args.half c.in_ok-disk.disk left c.in_ok-building_in.ensures.found c.shape-shape.ensures.lawful
-    c.in_ok-disk.ensures.made c.in-Ok.ensures.runs (search rules) (search rules) (search rules) (search rules) (search rules)
-    (λ honest. subst (λ s. ReadsAs s [] [] (sector_file_state_of g.F.Told.ToldFile.holds left).image) c.shape-shape.ensures.value (c.in-Ok.ensures.empty honest))
-    c.in-Ok.ensures.synced)
+    (is_made files c.args.image.now c.in-Ok.building c.args.half c.in-Ok-image_at.disk left c.in-Ok.ensures.found c.shape-shape.ensures.lawful
+    c.in-Ok-image_at.ensures.made c.in-Ok-format.ensures.runs (search rules) (search rules) (search rules) (search rules) (search rules)
+    (λ honest. subst (λ s. ReadsAs s [] [] (sector_file_state_of g.F.Told.ToldFile.holds left).image) c.shape-shape.ensures.value (c.in-Ok-format.ensures.empty honest))
+    c.in-Ok-format.ensures.synced)
+
+pub returns-in-Err-format-clause-undone : goal.returns-in-Err-format-clause-undone
+returns-in-Err-format-clause-undone g c = ?

@@ -10,7 +10,7 @@ use Rattle.lift_program.proofs.keeping.keeper_in.Goals as goal
 
 pub returns-in-Ok-open-clause-opened : goal.returns-in-Ok-open-clause-opened
 returns-in-Ok-open-clause-opened g c =
-    let files : ImageFiles = image_files (g.F.ToldFiles.opens c.args.rt.now) (g.F.ToldFiles.names c.args.rt.now) g.F.Told.ToldFile.gives g.F.Told.ToldFile.holds (buffered_state_of (sector_file_state_of g.F.Told.ToldFile.holds)) (buffered_state_of (unwritten_state_of g.F.Told.ToldFile.holds)) in
+    let files : ImageFiles = image_files (g.F.ToldFiles.stands c.args.rt.now) (g.F.ToldFiles.opens c.args.rt.now) (g.F.ToldFiles.names c.args.rt.now) (g.F.ToldFiles.unnamed c.args.rt.now) g.F.Told.ToldFile.gives g.F.Told.ToldFile.fails g.F.Told.ToldFile.holds (buffered_state_of (sector_file_state_of g.F.Told.ToldFile.holds)) (buffered_state_of (unwritten_state_of g.F.Told.ToldFile.holds)) in
     subst (λ (k : KeeperView files.Served). HasKeeperOf files c.args.path.now c.args.building.now k) (sym c.new.ensures)
     (has_keeper files c.args.path.now c.args.building.now c.over.result c.in-Ok-open.keeper
     (is_opened _ _ _ _ _ _ c.in-Ok.file _ c.args.path.now c.over.ensures.below c.over.ensures.calls (c.over.ensures.failures ∙ c.in-Ok.ensures.failures) c.in-Ok.ensures.calls c.in-Ok.ensures.measured c.over.ensures.honest)

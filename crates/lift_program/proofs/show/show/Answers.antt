@@ -15,7 +15,7 @@ use Rattle.lift_program.proofs.show.show.Goals as goal
 
 pub returns-in-Ok-outcome-clause-shown : goal.returns-in-Ok-outcome-clause-shown
 returns-in-Ok-outcome-clause-shown g c =
-    let files : ImageFiles = image_files (g.F.ToldFiles.opens c.args.rt.now) (g.F.ToldFiles.names c.args.rt.now) g.F.Told.ToldFile.gives g.F.Told.ToldFile.holds (buffered_state_of (sector_file_state_of g.F.Told.ToldFile.holds)) (buffered_state_of (unwritten_state_of g.F.Told.ToldFile.holds)) in
+    let files : ImageFiles = image_files (g.F.ToldFiles.stands c.args.rt.now) (g.F.ToldFiles.opens c.args.rt.now) (g.F.ToldFiles.names c.args.rt.now) (g.F.ToldFiles.unnamed c.args.rt.now) g.F.Told.ToldFile.gives g.F.Told.ToldFile.fails g.F.Told.ToldFile.holds (buffered_state_of (sector_file_state_of g.F.Told.ToldFile.holds)) (buffered_state_of (unwritten_state_of g.F.Told.ToldFile.holds)) in
     let before = g.W.Write.contents c.args.writer.now in
     let after = g.W.Write.contents c.show_on-disk.new.writer in
     let shown : IsShown files c.args.image.now c.show_on-disk.result.0 before after = record {
