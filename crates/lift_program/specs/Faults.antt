@@ -68,7 +68,7 @@ of_building fault = Building fault
 -- a script whose reading failed is undone for the standard input, one whose report could not be
 -- written for the standard output
 abbrev pub of_replay : ReplayFault → Fault
-of_replay NoMemory = Memory
+of_replay (NoMemory refused) = Memory
 of_replay Read = File Input
 of_replay Write = File Output
 

@@ -7,7 +7,7 @@ ghost use Rattle.arrayvec.specs.ArrayString.{array_string_len};
 ghost use Rattle.lift_program.specs.Faults.{building_text, journal_text, fault_text, of_building};
 ghost use Rattle.lift_program.specs.Faults.{of_replay};
 ghost use Rattle.lift_program.specs.Output.{IsTold};
-ghost use Rattle.lift_program.specs.declared.fault.Fault.TheVariants.{Memory as NoMemory};
+ghost use Rattle.lift_program.specs.declared.fault.Fault.TheVariants.{Memory as Wanting};
 
 use crate::output::tell;
 use arrayvec::ArrayString;
@@ -16,7 +16,7 @@ use lift_base::text::Watched;
 use lift_building::BuildingFault;
 use lift_journal::JournalFault;
 use lift_keeper::KeeperFault;
-use lift_replay::ReplayFault;
+use lift_replay::{NoMemory, ReplayFault};
 use std::alloc::AllocError;
 use std::io::{ErrorKind, Write};
 use std::{fmt, io};
@@ -53,9 +53,17 @@ pub enum Fault {
 }
 
 impl From<AllocError> for Fault {
-    ghost from_gives = { λ _ fault. fault ≡ NoMemory };
+    ghost from_gives = { λ _ fault. fault ≡ Wanting };
 
     fn from(_error: AllocError) -> Fault {
+        Fault::Memory
+    }
+}
+
+impl From<NoMemory> for Fault {
+    ghost from_gives = { λ _ fault. fault ≡ Wanting };
+
+    fn from(_no_memory: NoMemory) -> Fault {
         Fault::Memory
     }
 }
@@ -77,7 +85,7 @@ impl From<ReplayFault> for Fault {
 
     fn from(fault: ReplayFault) -> Fault {
         match fault {
-            ReplayFault::Memory => Fault::Memory,
+            ReplayFault::Memory(_) => Fault::Memory,
             ReplayFault::Read => Fault::File(Role::Input),
             ReplayFault::Write => Fault::File(Role::Output),
         }

@@ -62,7 +62,7 @@ fn bytes_of<R: Read + Drop>(alloc: Global, reader: &mut Counted<R>) -> Result<Ve
             }
         }
         Err(InputFault::Read) => Err(Fault::File(Role::Building)),
-        Err(InputFault::Memory) => Err(Fault::Memory),
+        Err(InputFault::Memory(_)) => Err(Fault::Memory),
     }
 }
 

@@ -1,8 +1,15 @@
 -- How the writer of a report was called.
 use Rattle.std.specs.Prelude.{ℕ, zero, suc, ◌≡◌, ◌≢◌, ◌<◌, ◌⊎◌, Option, Some, None, List, []}
 use Rattle.std.specs.Prelude.{length, Result, Ok, Err}
+use Rattle.lift_replay.specs.declared.input.InputFault.{InputFault}
+use Rattle.lift_replay.specs.declared.input.InputFault.TheVariants.{Memory as NoRoom, Read as Unread}
 use Rattle.lift_replay.specs.declared.script.ReplayFault.{ReplayFault}
 use Rattle.lift_replay.specs.declared.script.ReplayFault.TheVariants.{Memory, Read, Write}
+
+-- a script whose bytes were not read is undone for the same
+abbrev pub of_input : InputFault → ReplayFault
+of_input (NoRoom no_memory) = Memory no_memory
+of_input Unread = Read
 
 -- so many calls of a writer, of which each took a byte at least
 abbrev pub Took : {W : Type 0} → (gives : W → List ℕ → Option ℕ → W → Type 0) → (calls : ℕ)
@@ -28,7 +35,7 @@ FailsAtLast {W} gives before after =
 -- and that call was the last; where the reading failed there was none at all.
 abbrev pub IsCalledTill : {W : Type 0} → (gives : W → List ℕ → Option ℕ → W → Type 0)
     → (before after : W) → ReplayFault → Type 0
-IsCalledTill gives before after Memory = TakesEach gives before after
+IsCalledTill gives before after (Memory no_memory) = TakesEach gives before after
 IsCalledTill gives before after Read = after ≡ before
 IsCalledTill gives before after Write = FailsAtLast gives before after
 

@@ -5,6 +5,7 @@ ghost use Rattle.std.specs.Prelude.{OnErr, OnOk, IfSome, ◌⊎◌, true, false}
 ghost use Rattle.std.specs.Io.KnownBytes.{Consumes, IsAtEnd, Keeps};
 ghost use Rattle.lift_replay.specs.Reading.{IsOfUse, TakesByEach, TakesUpTo};
 
+use crate::refused::{NoMemory, add_bytes};
 use lift_base::text::{Counted, ReadFault};
 use std::alloc::Global;
 use std::io::Read;
@@ -15,7 +16,7 @@ pub enum InputFault {
     /// A call of the reader failed, or all calls were used and the end was not found.
     Read,
     /// A growth was refused.
-    Memory,
+    Memory(NoMemory),
 }
 
 const CHUNK: usize = 4096;
@@ -43,7 +44,7 @@ fn read_some<R: Read + Drop>(
     ensures ended { IfOk result (λ came. came ≡ true → input.new.ended ≡ input.old.ended) }
     ensures ok { OnOk result (input.new.failed ≡ input.old.failed) }
     ensures failed { result ≡ Err InputFault.Read → input.new.failed ≡ true }
-    ensures refused { result ≡ Err InputFault.Memory → input.new.failed ≡ input.old.failed }
+    ensures refused { result ≡ Err (InputFault.Memory tt) → input.new.failed ≡ input.old.failed }
     ensures bound { OnOk result (vec_len bytes.new ≤ most + 1) }
 {
     let mut buffer = [0u8; CHUNK];
@@ -51,10 +52,10 @@ fn read_some<R: Read + Drop>(
     let part = &mut buffer[..room];
     match input.read(part) {
         Ok(count) => {
-            if bytes.extend_from_slice(&part[..count]).is_err() {
-                return Err(InputFault::Memory);
+            match add_bytes(bytes, &part[..count]) {
+                Ok(()) => Ok(count != 0),
+                Err(no_memory) => Err(InputFault::Memory(no_memory)),
             }
-            Ok(count != 0)
         }
         Err(_) => Err(InputFault::Read),
     }
@@ -87,7 +88,7 @@ pub fn read_all<R: Read + Drop>(
     ensures unfailed { OnOk result (input.new.failed ≡ false) }
     ensures cause { result ≡ Err InputFault.Read
         → (input.new.failed ≡ true) ⊎ ((input.new.calls ≡ calls) × (input.new.ended ≡ false)) }
-    ensures refused { result ≡ Err InputFault.Memory → input.new.failed ≡ false }
+    ensures refused { result ≡ Err (InputFault.Memory tt) → input.new.failed ≡ false }
 {
     let mut bytes = Vec::new(alloc);
     for _ in 0..calls {

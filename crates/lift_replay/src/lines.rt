@@ -15,6 +15,7 @@ ghost use Rattle.lift_disk.specs.declared.outcome.Outcome.{Outcome as Cut};
 
 use crate::line::ScriptLine;
 use crate::parsing::parse;
+use crate::refused::NoMemory;
 use crate::report::{push_bad, push_fault, push_rows, push_spent, push_turn, push_waiting};
 use crate::shown::{Offer, push_stops};
 use crate::station::Station;
@@ -25,7 +26,6 @@ use lift_cost::NewCall;
 use lift_desk::AskRefusal;
 use lift_disk::{FuseDisk, Outcome};
 use lift_policy::Etd;
-use std::alloc::AllocError;
 
 /// Whether all lines were carried out, or one of them, or the text before them, was malformed.
 #[derive(Clone, Copy, PartialEq, Eq)]
@@ -53,7 +53,7 @@ fn push_ask(
     terminal: Terminal,
     number: Number,
     body: Body,
-) -> Result<(), AllocError>
+) -> Result<(), NoMemory>
     requires { terminal < length station.old.terminals.seats.items }
     ensures asks { OnOk result ((told : List ℕ)
         × Asks station.old.terminals.seats.items station.new.terminals.seats.items
@@ -73,10 +73,7 @@ fn push_ask(
 }
 
 /// One turn, and what it took and added, or its fault.
-fn push_taken(
-    report: &mut String,
-    clerk: &mut Clerk<'_, '_, FuseDisk, Etd>,
-) -> Result<(), AllocError>
+fn push_taken(report: &mut String, clerk: &mut Clerk<'_, '_, FuseDisk, Etd>) -> Result<(), NoMemory>
     ensures tells { OnOk result ((told : List ℕ) × TurnTells clerk.old clerk.new told
         × (string_bytes report.new ≡ string_bytes report.old ++ told)) }
     ensures desk { clerk.new.desk ≡ clerk.old.desk }
@@ -91,7 +88,7 @@ fn push_taken(
 }
 
 /// One turn, and then what each terminal hears.
-fn push_turn_of(report: &mut String, station: &mut Station) -> Result<(), AllocError>
+fn push_turn_of(report: &mut String, station: &mut Station) -> Result<(), NoMemory>
     ensures outcome { OnOk result ((told : List ℕ)
         × OutcomeTells station.old.clerk station.new.clerk station.old.terminals.seats.items
         station.new.terminals.seats.items told
@@ -121,7 +118,7 @@ fn is_known(building: &Building, line: &ScriptLine) -> bool
 }
 
 /// The stop list of a car, where it is known to be safe.
-fn show_stops(report: &mut String, station: &Station, car: Letter) -> Result<(), AllocError>
+fn show_stops(report: &mut String, station: &Station, car: Letter) -> Result<(), NoMemory>
     ensures { OnOk result (string_bytes report.new
         ≡ string_bytes report.old
         ++ shown_text station.now.clerk (codes "stops")
@@ -141,7 +138,7 @@ fn show_costs(
     kiosk: u8,
     to: Floor,
     party: Party,
-) -> Result<(), AllocError>
+) -> Result<(), NoMemory>
     requires known { kiosk < length station.now.building.now.kiosks }
     ensures { OnOk result (string_bytes report.new ≡ string_bytes report.old
         ++ shown_text station.now.clerk (codes "cost")
@@ -169,7 +166,7 @@ fn show_costs(
 }
 
 /// The open calls, where they are known to be safe.
-fn show_rows(report: &mut String, station: &Station) -> Result<(), AllocError>
+fn show_rows(report: &mut String, station: &Station) -> Result<(), NoMemory>
     ensures { OnOk result (string_bytes report.new
         ≡ string_bytes report.old
         ++ shown_text station.now.clerk (codes "rows")
@@ -199,7 +196,7 @@ fn carry_out(
     report: &mut String,
     station: &mut Station,
     line: &ScriptLine,
-) -> Result<Option<End>, AllocError>
+) -> Result<Option<End>, NoMemory>
     requires known { IsKnown station.old.building.now line.now }
     ensures tells { OnOk result ((told : List ℕ)
         × Tells station.old.building.now station.old.clerk station.new.clerk
@@ -224,10 +221,12 @@ fn carry_out(
                 Number::default(),
                 body,
             )?;
+            Ok(None)
         }
         ScriptLine::Stop { car, number, stop } => {
             let body = Body::Stop(stop.floor, stop.dir);
             push_ask(report, station, Terminal::of_car(car), number, body)?;
+            Ok(None)
         }
         ScriptLine::Call {
             kiosk,
@@ -237,19 +236,34 @@ fn carry_out(
         } => {
             let terminal = terminal_of(station.building, kiosk);
             push_ask(report, station, terminal, number, Body::Call(floor, party))?;
+            Ok(None)
         }
-        ScriptLine::Turn => push_turn_of(report, station)?,
-        ScriptLine::Stops { car } => show_stops(report, station, car)?,
+        ScriptLine::Turn => {
+            push_turn_of(report, station)?;
+            Ok(None)
+        }
+        ScriptLine::Stops { car } => {
+            show_stops(report, station, car)?;
+            Ok(None)
+        }
         ScriptLine::Cost {
             kiosk,
             floor,
             party,
-        } => show_costs(report, station, kiosk, floor, party)?,
-        ScriptLine::Rows => show_rows(report, station)?,
-        ScriptLine::Fuse { calls } => station.clerk.arm(calls),
-        ScriptLine::Cut { outcome } => return Ok(Some(End::Cut(outcome))),
+        } => {
+            show_costs(report, station, kiosk, floor, party)?;
+            Ok(None)
+        }
+        ScriptLine::Rows => {
+            show_rows(report, station)?;
+            Ok(None)
+        }
+        ScriptLine::Fuse { calls } => {
+            station.clerk.arm(calls);
+            Ok(None)
+        }
+        ScriptLine::Cut { outcome } => Ok(Some(End::Cut(outcome))),
     }
-    Ok(None)
 }
 
 /// Carries out the line with this number, counted from 1, and adds what it reports. A malformed
@@ -260,7 +274,7 @@ pub fn push_line(
     station: &mut Station,
     text: &str,
     number: usize,
-) -> Result<Option<End>, AllocError>
+) -> Result<Option<End>, NoMemory>
     ensures tells { IfOk result (λ end. (told : List ℕ)
         × LineTells station.old.building.now station.old.clerk station.new.clerk
         station.old.terminals.seats.items station.new.terminals.seats.items text.now number end

@@ -10,10 +10,6 @@ use lift_base::text::{Outlet, WriteFault, put_all};
 /// A piece is written once it has so many bytes.
 const PIECE_BYTES: usize = 32_768;
 
-/// The room for a piece: its last line, the longest of which shows 512 calls in less than 20,000
-/// bytes, goes beyond it.
-pub const ROOM_BYTES: usize = 65_536;
-
 /// Writes a piece of whole lines, and empties it, also where the writer doesn't take all of it.
 pub fn put_piece<W: Outlet>(writer: &mut W, piece: &mut String) -> Result<(), WriteFault>
     ensures ok { OnOk result

@@ -1,6 +1,6 @@
 //! The lines of a report.
 
-ghost use Rattle.std.specs.Prelude.{◌≡◌, ◌++◌, OnOk, decimal, string_bytes};
+ghost use Rattle.std.specs.Prelude.{◌≡◌, ◌++◌, ◌∷◌, OnOk, decimal, string_bytes};
 ghost use Rattle.lift_base.specs.declared.command.Reply.TheVariants.{Car, Refused};
 ghost use Rattle.lift_base.specs.Text.{letter_text, terminal_text, next_text, reply_text};
 ghost use Rattle.lift_replay.specs.Report.{status_text, party_text, row_text, rows_text, car_text};
@@ -8,82 +8,81 @@ ghost use Rattle.lift_replay.specs.Report.{register_text, halt_text, heard_text,
 ghost use Rattle.lift_replay.specs.Report.{spent_text, cut_text, turn_text, cost_text, bad_text};
 ghost use Rattle.lift_replay.specs.Report.{fault_text, refused_text, building_text, detour_text};
 
+use crate::refused::{NoMemory, add, add_char};
 use itoa::Buffer;
 use lift_base::{Dir, Floor, Halt, Letter, Number, Party, Reason, Reply, Row, Stop, Terminal};
 use lift_building::BuildingFault;
 use lift_register::Register;
-use std::alloc::AllocError;
-use std::fmt::Write;
 
 /// Adds a number. A turn tells several, so it is done without a formatter, and most of them have
 /// one digit.
-fn push_number(report: &mut String, number: u64) -> Result<(), AllocError>
+fn push_number(report: &mut String, number: u64) -> Result<(), NoMemory>
     ensures { OnOk result (string_bytes report.new ≡ string_bytes report.old ++ decimal number) }
 {
     if number < 10 {
-        return report.push((b'0' + number as u8) as char);
+        return add_char(report, (b'0' + number as u8) as char);
     }
-    report.push_str(Buffer::new().format(number))
+    add(report, Buffer::new().format(number))
 }
 
 /// Adds the name of a terminal.
-fn push_terminal(report: &mut String, terminal: Terminal) -> Result<(), AllocError>
+fn push_terminal(report: &mut String, terminal: Terminal) -> Result<(), NoMemory>
     ensures { OnOk result (string_bytes report.new ≡ string_bytes report.old
         ++ terminal_text terminal) }
 {
     let index = terminal.get();
     if index < 16 {
-        report.push((b'A' + index) as char)
+        add_char(report, (b'A' + index) as char)
     } else {
-        report.push('K')?;
+        add_char(report, 'K')?;
         push_number(report, u64::from(index - 16))
     }
 }
 
 /// Adds the letter of a car.
-fn push_letter(report: &mut String, car: Letter) -> Result<(), AllocError>
+pub(crate) fn push_letter(report: &mut String, car: Letter) -> Result<(), NoMemory>
     ensures { OnOk result (string_bytes report.new ≡ string_bytes report.old ++ letter_text car) }
 {
-    report.push((b'A' + car.get()) as char)
+    add_char(report, (b'A' + car.get()) as char)
 }
 
 /// Adds the car that a call was given, as it is answered.
-fn push_car(report: &mut String, car: Letter) -> Result<(), AllocError>
+fn push_car(report: &mut String, car: Letter) -> Result<(), NoMemory>
     ensures { OnOk result (string_bytes report.new ≡ string_bytes report.old
         ++ reply_text (Car car)) }
 {
-    report.push_str("CAR ")?;
+    add(report, "CAR ")?;
     push_letter(report, car)
 }
 
 /// Adds the next stop of a car, as it is answered.
-fn push_next(report: &mut String, next: Option<Stop>) -> Result<(), AllocError>
+fn push_next(report: &mut String, next: Option<Stop>) -> Result<(), NoMemory>
     ensures { OnOk result (string_bytes report.new ≡ string_bytes report.old ++ next_text next) }
 {
     match next {
-        None => report.push_str("IDLE"),
+        None => add(report, "IDLE"),
         Some(Stop { floor, dir }) => {
-            report.push_str("NEXT ")?;
+            add(report, "NEXT ")?;
             push_number(report, u64::from(floor.get()))?;
             match dir {
-                Dir::Up => report.push_str(" up"),
-                Dir::Down => report.push_str(" down"),
+                Dir::Up => add(report, " up"),
+                Dir::Down => add(report, " down"),
             }
         }
     }
 }
 
 /// Adds why a command is refused, as it is answered.
-fn push_refusal(report: &mut String, reason: Reason) -> Result<(), AllocError>
+fn push_refusal(report: &mut String, reason: Reason) -> Result<(), NoMemory>
     ensures { OnOk result (string_bytes report.new ≡ string_bytes report.old
         ++ reply_text (Refused reason)) }
 {
-    report.push_str("NO ")?;
+    add(report, "NO ")?;
     push_number(report, u64::from(reason.number()))
 }
 
 /// Adds an answer.
-fn push_reply(report: &mut String, reply: Reply) -> Result<(), AllocError>
+fn push_reply(report: &mut String, reply: Reply) -> Result<(), NoMemory>
     ensures { OnOk result (string_bytes report.new ≡ string_bytes report.old ++ reply_text reply) }
 {
     match reply {
@@ -91,7 +90,7 @@ fn push_reply(report: &mut String, reply: Reply) -> Result<(), AllocError>
         Reply::Stopped(next) => push_next(report, next),
         Reply::Placed(next) => push_next(report, next),
         Reply::Refused(reason) => push_refusal(report, reason),
-        Reply::Unknown => report.push_str("UNKNOWN"),
+        Reply::Unknown => add(report, "UNKNOWN"),
     }
 }
 
@@ -102,42 +101,69 @@ fn status_word(aboard: bool) -> &'static str
 }
 
 /// Adds the party, where it is more than one person.
-fn push_party(report: &mut String, party: Party) -> Result<(), AllocError>
+fn push_party(report: &mut String, party: Party) -> Result<(), NoMemory>
     ensures { OnOk result (string_bytes report.new ≡ string_bytes report.old ++ party_text party) }
 {
     let persons = party.get();
     if persons > 1 {
-        write!(report, " x{persons}")
+        add(report, " x")?;
+        push_number(report, u64::from(persons))
     } else {
         Ok(())
     }
 }
 
+/// Adds whose call it is: its car, its kiosk and its number.
+fn push_call(report: &mut String, row: &Row) -> Result<(), NoMemory>
+    ensures { OnOk result (string_bytes report.new ≡ string_bytes report.old
+        ++ (letter_text row.now.car ++ 32 ∷ terminal_text row.now.kiosk ++ 32
+        ∷ decimal row.now.number)) }
+{
+    push_letter(report, row.car)?;
+    add_char(report, ' ')?;
+    push_terminal(report, row.kiosk)?;
+    add_char(report, ' ')?;
+    push_number(report, u64::from(row.number.get()))
+}
+
+/// Adds from where to where it goes, and whether it is aboard.
+fn push_way(report: &mut String, row: &Row) -> Result<(), NoMemory>
+    ensures { OnOk result (string_bytes report.new ≡ string_bytes report.old
+        ++ (32 ∷ decimal row.now.from ++ 32 ∷ decimal row.now.to ++ 32
+        ∷ status_text row.now.aboard)) }
+{
+    add_char(report, ' ')?;
+    push_number(report, u64::from(row.from.get()))?;
+    add_char(report, ' ')?;
+    push_number(report, u64::from(row.to.get()))?;
+    add_char(report, ' ')?;
+    add(report, status_word(row.aboard))
+}
+
 /// Adds the line of an open call.
-pub fn push_row(report: &mut String, row: &Row) -> Result<(), AllocError>
+pub fn push_row(report: &mut String, row: &Row) -> Result<(), NoMemory>
     ensures { OnOk result (string_bytes report.new ≡ string_bytes report.old ++ row_text row.now) }
 {
-    let car = row.car;
-    let kiosk = row.kiosk;
-    let number = row.number.get();
-    let from = row.from.get();
-    let to = row.to.get();
-    let status = status_word(row.aboard);
-    write!(report, "{car} {kiosk} {number} {from} {to} {status}")?;
+    push_call(report, row)?;
+    push_way(report, row)?;
     push_party(report, row.party)?;
-    report.push('\n')
+    add_char(report, '\n')
 }
 
 /// Adds the head of the open calls.
-pub fn push_rows_head(report: &mut String, calls: usize, done: u32) -> Result<(), AllocError>
+pub fn push_rows_head(report: &mut String, calls: usize, done: u32) -> Result<(), NoMemory>
     ensures { OnOk result (string_bytes report.new ≡ string_bytes report.old
         ++ rows_text calls done) }
 {
-    writeln!(report, "rows {calls} {done}")
+    add(report, "rows ")?;
+    push_number(report, calls as u64)?;
+    add_char(report, ' ')?;
+    push_number(report, u64::from(done))?;
+    add_char(report, '\n')
 }
 
 /// Adds the open calls of a car, a line each.
-fn push_rows_of(report: &mut String, register: &Register, car: Letter) -> Result<(), AllocError>
+fn push_rows_of(report: &mut String, register: &Register, car: Letter) -> Result<(), NoMemory>
     ensures { OnOk result (string_bytes report.new ≡ string_bytes report.old
         ++ car_text register.now car) }
 {
@@ -148,7 +174,7 @@ fn push_rows_of(report: &mut String, register: &Register, car: Letter) -> Result
 }
 
 /// Adds the open calls by rising car, with their number and that of the done ones before them.
-pub fn push_rows(report: &mut String, register: &Register) -> Result<(), AllocError>
+pub fn push_rows(report: &mut String, register: &Register) -> Result<(), NoMemory>
     ensures { OnOk result (string_bytes report.new ≡ string_bytes report.old
         ++ register_text register.now) }
 {
@@ -163,13 +189,14 @@ pub fn push_rows(report: &mut String, register: &Register) -> Result<(), AllocEr
 }
 
 /// Adds a halt to the line of a stop list.
-pub fn push_halt(report: &mut String, halt: &Halt) -> Result<(), AllocError>
+pub fn push_halt(report: &mut String, halt: &Halt) -> Result<(), NoMemory>
     ensures { OnOk result (string_bytes report.new ≡ string_bytes report.old
         ++ halt_text halt.now) }
 {
-    let pass = halt.pass.number();
-    let floor = halt.floor.get();
-    write!(report, " {pass}:{floor}")
+    add_char(report, ' ')?;
+    push_number(report, u64::from(halt.pass.number()))?;
+    add_char(report, ':')?;
+    push_number(report, u64::from(halt.floor.get()))
 }
 
 /// Adds what a terminal heard.
@@ -178,116 +205,123 @@ pub fn push_heard(
     terminal: Terminal,
     number: Number,
     reply: Reply,
-) -> Result<(), AllocError>
+) -> Result<(), NoMemory>
     ensures { OnOk result (string_bytes report.new ≡ string_bytes report.old
         ++ heard_text terminal number reply) }
 {
     push_terminal(report, terminal)?;
-    report.push(' ')?;
+    add_char(report, ' ')?;
     push_number(report, u64::from(number.get()))?;
-    report.push(' ')?;
+    add_char(report, ' ')?;
     push_reply(report, reply)?;
-    report.push('\n')
+    add_char(report, '\n')
 }
 
 /// Adds that a terminal still waits.
-pub fn push_waiting(
-    report: &mut String,
-    terminal: Terminal,
-    number: Number,
-) -> Result<(), AllocError>
+pub fn push_waiting(report: &mut String, terminal: Terminal, number: Number) -> Result<(), NoMemory>
     ensures { OnOk result (string_bytes report.new ≡ string_bytes report.old
         ++ waiting_text terminal number) }
 {
     push_terminal(report, terminal)?;
-    report.push(' ')?;
+    add_char(report, ' ')?;
     push_number(report, u64::from(number.get()))?;
-    report.push_str(" WAITING\n")
+    add(report, " WAITING\n")
 }
 
 /// Adds that a terminal has no turn left to ask with.
-pub fn push_spent(report: &mut String, terminal: Terminal, number: Number) -> Result<(), AllocError>
+pub fn push_spent(report: &mut String, terminal: Terminal, number: Number) -> Result<(), NoMemory>
     ensures { OnOk result (string_bytes report.new ≡ string_bytes report.old
         ++ spent_text terminal number) }
 {
-    let number = number.get();
-    writeln!(report, "{terminal} {number} SPENT")
+    push_terminal(report, terminal)?;
+    add_char(report, ' ')?;
+    push_number(report, u64::from(number.get()))?;
+    add(report, " SPENT\n")
 }
 
 /// Adds how many calls are open once the power has come back.
-pub fn push_cut(report: &mut String, calls: u32) -> Result<(), AllocError>
+pub fn push_cut(report: &mut String, calls: u32) -> Result<(), NoMemory>
     ensures { OnOk result (string_bytes report.new ≡ string_bytes report.old ++ cut_text calls) }
 {
-    writeln!(report, "cut {calls}")
+    add(report, "cut ")?;
+    push_number(report, u64::from(calls))?;
+    add_char(report, '\n')
 }
 
 /// Adds what a turn took and accepted.
-pub fn push_turn(report: &mut String, taken: usize, accepted: usize) -> Result<(), AllocError>
+pub fn push_turn(report: &mut String, taken: usize, accepted: usize) -> Result<(), NoMemory>
     ensures { OnOk result (string_bytes report.new ≡ string_bytes report.old
         ++ turn_text taken accepted) }
 {
-    report.push_str("turn ")?;
+    add(report, "turn ")?;
     push_number(report, taken as u64)?;
-    report.push(' ')?;
+    add_char(report, ' ')?;
     push_number(report, accepted as u64)?;
-    report.push('\n')
+    add_char(report, '\n')
 }
 
 /// Adds what a call would cost a car to the line of costs.
-pub fn push_cost(report: &mut String, car: Letter, cost: u64) -> Result<(), AllocError>
+pub fn push_cost(report: &mut String, car: Letter, cost: u64) -> Result<(), NoMemory>
     ensures { OnOk result (string_bytes report.new ≡ string_bytes report.old
         ++ cost_text car cost) }
 {
-    report.push(' ')?;
+    add_char(report, ' ')?;
     push_letter(report, car)?;
-    report.push('=')?;
+    add_char(report, '=')?;
     push_number(report, cost)
 }
 
 /// Adds that a line is malformed.
-pub fn push_bad(report: &mut String, line: usize) -> Result<(), AllocError>
+pub fn push_bad(report: &mut String, line: usize) -> Result<(), NoMemory>
     ensures { OnOk result (string_bytes report.new ≡ string_bytes report.old ++ bad_text line) }
 {
-    writeln!(report, "BAD {line}")
+    add(report, "BAD ")?;
+    push_number(report, line as u64)?;
+    add_char(report, '\n')
 }
 
 /// Adds the fault in place of what a line shows: of a turn, or of one that would show what isn't
 /// safe.
-pub fn push_fault(report: &mut String, line: &str, fault: u8) -> Result<(), AllocError>
+pub fn push_fault(report: &mut String, line: &str, fault: u8) -> Result<(), NoMemory>
     ensures { OnOk result (string_bytes report.new ≡ string_bytes report.old
         ++ fault_text line.now fault) }
 {
-    writeln!(report, "{line} FAULT {fault}")
+    add(report, line)?;
+    add(report, " FAULT ")?;
+    push_number(report, u64::from(fault))?;
+    add_char(report, '\n')
 }
 
 /// Adds to the line of costs why there are none.
-pub fn push_refused(report: &mut String, reason: Reason) -> Result<(), AllocError>
+pub fn push_refused(report: &mut String, reason: Reason) -> Result<(), NoMemory>
     ensures { OnOk result (string_bytes report.new ≡ string_bytes report.old
         ++ refused_text reason) }
 {
-    let reason = reason.number();
-    write!(report, " NO {reason}")
+    add(report, " NO ")?;
+    push_number(report, u64::from(reason.number()))
 }
 
 /// Adds why a text is no building.
-pub fn push_building_fault(report: &mut String, fault: &BuildingFault) -> Result<(), AllocError>
+pub fn push_building_fault(report: &mut String, fault: &BuildingFault) -> Result<(), NoMemory>
     ensures { OnOk result (string_bytes report.new ≡ string_bytes report.old
         ++ building_text fault.now) }
 {
-    let number = fault.number();
-    write!(report, "BUILDING {number}")?;
+    add(report, "BUILDING ")?;
+    push_number(report, u64::from(fault.number()))?;
     if let BuildingFault::Detour(from, by, to) = fault {
         push_detour(report, *from, *by, *to)?;
     }
-    report.push('\n')
+    add_char(report, '\n')
 }
 
-fn push_detour(report: &mut String, from: Floor, by: Floor, to: Floor) -> Result<(), AllocError>
+fn push_detour(report: &mut String, from: Floor, by: Floor, to: Floor) -> Result<(), NoMemory>
     ensures { OnOk result (string_bytes report.new ≡ string_bytes report.old
         ++ detour_text from by to) }
 {
-    let from = from.get();
-    let by = by.get();
-    let to = to.get();
-    write!(report, " {from} {by} {to}")
+    add_char(report, ' ')?;
+    push_number(report, u64::from(from.get()))?;
+    add_char(report, ' ')?;
+    push_number(report, u64::from(by.get()))?;
+    add_char(report, ' ')?;
+    push_number(report, u64::from(to.get()))
 }

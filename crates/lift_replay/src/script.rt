@@ -10,47 +10,50 @@ ghost use Rattle.lift_replay.specs.Running.{TellsLines, TellsPart};
 ghost use Rattle.lift_replay.specs.Replaying.{IsTextReport, ReportsFront, ReportsInput, Writes};
 ghost use Rattle.lift_replay.specs.Replaying.{WritesFront};
 ghost use Rattle.lift_replay.specs.Source.{lines_in};
-ghost use Rattle.lift_replay.specs.Writing.{IsCalled, WritesPieces};
-ghost use Rattle.lift_replay.specs.declared.script.ReplayFault.TheVariants.{Memory as NoMemory};
+ghost use Rattle.lift_replay.specs.Writing.{IsCalled, WritesPieces, of_input};
+ghost use Rattle.lift_replay.specs.declared.script.ReplayFault.TheVariants.{Memory as Wanting};
 ghost use Rattle.lift_replay.specs.declared.script.ReplayFault.TheVariants.{Write as NoOutput};
 
 use crate::input::{InputFault, read_all};
 use crate::lines::Verdict;
-use crate::piece::{ROOM_BYTES, put_piece};
+use crate::piece::put_piece;
+use crate::refused::{NoMemory, empty_piece};
 use crate::report::push_building_fault;
 use crate::segment::{SegmentEnd, add_segment};
 use crate::source::{Lines, split_script};
 use crate::station::first_keeper;
-use lift_base::Memory;
 use lift_base::text::{Counted, Outlet, WriteFault, put_all};
 use lift_building::{Building, BuildingFault};
-use std::alloc::{AllocError, Global};
+use std::alloc::Global;
 use std::io::Read;
 
 /// Why a script was not carried out to its end.
 #[derive(Clone, Copy, PartialEq, Eq)]
 pub enum ReplayFault {
     /// A growth was refused.
-    Memory,
+    Memory(NoMemory),
     /// A call of the reader failed, or all 2,097,152 were used and the end was not found.
     Read,
     /// The writer took no more.
     Write,
 }
 
-impl From<AllocError> for ReplayFault {
-    ghost from_gives = { λ _ fault. fault ≡ NoMemory };
+impl From<NoMemory> for ReplayFault {
+    ghost from_gives = { λ _ fault. fault ≡ Wanting tt };
 
-    fn from(_error: AllocError) -> ReplayFault {
-        ReplayFault::Memory
+    fn from(no_memory: NoMemory) -> ReplayFault {
+        ReplayFault::Memory(no_memory)
     }
 }
 
-impl From<Memory> for ReplayFault {
-    ghost from_gives = { λ _ fault. fault ≡ NoMemory };
+impl From<InputFault> for ReplayFault {
+    ghost from_gives = { λ input fault. fault ≡ of_input input };
 
-    fn from(_error: Memory) -> ReplayFault {
-        ReplayFault::Memory
+    fn from(fault: InputFault) -> ReplayFault {
+        match fault {
+            InputFault::Memory(no_memory) => ReplayFault::Memory(no_memory),
+            InputFault::Read => ReplayFault::Read,
+        }
     }
 }
 
@@ -72,7 +75,7 @@ const MOST_CALLS: u32 = 2_097_152;
 fn refuse<W: Outlet>(writer: &mut W, report: &str) -> Result<Verdict, ReplayFault>
     ensures output { result ≢ Err ReplayFault.Read }
     ensures calls { IsCalled W.gives writer.old writer.new result }
-    ensures cause { result ≢ Err ReplayFault.Memory }
+    ensures cause { result ≢ Err (ReplayFault.Memory tt) }
     ensures not_good { result ≢ Ok Verdict.Good }
     ensures bad { OnOk result (Appends (W.contents writer.old) (W.contents writer.new) report.now) }
     ensures front { OnErr result
@@ -91,8 +94,8 @@ fn refuse_building<W: Outlet>(
     ensures output { result ≢ Err ReplayFault.Read }
     ensures calls { IsCalled W.gives writer.old writer.new result }
     ensures not_good { result ≢ Ok Verdict.Good }
-    ensures memory { fault ≡ BuildingFault.Memory tt → result ≡ Err ReplayFault.Memory }
-    ensures silent { result ≡ Err ReplayFault.Memory
+    ensures memory { fault ≡ BuildingFault.Memory tt → result ≡ Err (ReplayFault.Memory tt) }
+    ensures silent { result ≡ Err (ReplayFault.Memory tt)
         → W.contents writer.new ≡ W.contents writer.old }
     ensures bad { OnOk result ((fault ≢ BuildingFault.Memory tt)
         × Appends (W.contents writer.old) (W.contents writer.new) (building_text fault)) }
@@ -100,8 +103,8 @@ fn refuse_building<W: Outlet>(
         ⊎ ((fault ≢ BuildingFault.Memory tt)
         × AppendsFront (W.contents writer.old) (W.contents writer.new) (building_text fault))) }
 {
-    if matches!(fault, BuildingFault::Memory(_)) {
-        return Err(ReplayFault::Memory);
+    if let BuildingFault::Memory(no_memory) = fault {
+        return Err(ReplayFault::Memory(NoMemory::for_building(no_memory)));
     }
     let mut report = String::new(alloc);
     push_building_fault(&mut report, &fault)?;
@@ -158,7 +161,7 @@ fn run_lines<W: Outlet>(
         (WritesFront (TellsLines building.now 0 (first_group building.now) (lines_in lines.now))
         (W.contents writer.old) (W.contents writer.new)) }
 {
-    let mut piece = String::with_capacity(alloc, ROOM_BYTES)?;
+    let mut piece = empty_piece(alloc)?;
     let end = add_segments(alloc, building, lines, &mut piece, writer);
     put_piece(writer, &mut piece)?;
     end
@@ -222,8 +225,7 @@ pub fn run<R: Read + Drop, W: Outlet>(
 {
     let bytes = match read_all(alloc, input, MOST_BYTES, MOST_CALLS) {
         Ok(bytes) => bytes,
-        Err(InputFault::Read) => return Err(ReplayFault::Read),
-        Err(InputFault::Memory) => return Err(ReplayFault::Memory),
+        Err(fault) => return Err(ReplayFault::from(fault)),
     };
     if bytes.len() > MOST_BYTES {
         return refuse(writer, "TOO LONG\n");

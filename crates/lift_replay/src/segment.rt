@@ -12,13 +12,14 @@ ghost use Rattle.lift_replay.specs.Writing.{WritesPieces};
 
 use crate::lines::{End, Verdict, push_line};
 use crate::piece::put_large_piece;
+use crate::refused::{add, new_desk};
 use crate::report::push_cut;
 use crate::script::ReplayFault;
 use crate::source::Lines;
 use crate::station::Station;
 use lift_base::text::Outlet;
 use lift_building::Building;
-use lift_desk::{Desk, DeskParts};
+use lift_desk::DeskParts;
 use lift_disk::FuseDisk;
 use lift_keeper::Keeper;
 use lift_policy::decisions_are_computed;
@@ -73,7 +74,7 @@ fn add_lines<W: Outlet>(
         };
         report.clear();
         let end = push_line(&mut report, station, line, number)?;
-        piece.push_str(&report)?;
+        add(piece, &report)?;
         if let Some(end) = end {
             return Ok(end);
         }
@@ -100,7 +101,7 @@ fn add_cut<W: Outlet>(
 {
     let mut report = String::new(alloc);
     push_cut(&mut report, calls)?;
-    piece.push_str(&report)?;
+    add(piece, &report)?;
     put_large_piece(writer, piece)?;
     Ok(())
 }
@@ -139,7 +140,7 @@ pub fn add_segment<'b, W: Outlet>(
         length (string_bytes piece.new) < 32768)) }
 {
     let terminals = 16 + usize::from(building.kiosks());
-    let DeskParts { desk, seats, clerk } = Desk::open(alloc, terminals)?;
+    let DeskParts { desk, seats, clerk } = new_desk(alloc, terminals)?;
     let mut station = Station::new(building, keeper, &desk, seats, clerk);
     match add_lines(alloc, &mut station, lines, piece, writer)? {
         End::Run(verdict) => Ok(SegmentEnd::Run(verdict)),

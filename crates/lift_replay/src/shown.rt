@@ -8,21 +8,20 @@ ghost use Rattle.lift_replay.specs.Report.{cost_text};
 ghost use Rattle.lift_replay.specs.Shown.{halts_text, stops_text, prices_text, between_text};
 ghost use Rattle.lift_replay.specs.Shown.{costs_text};
 
-use crate::report::{push_cost, push_halt, push_refused};
+use crate::refused::{NoMemory, add, add_char};
+use crate::report::{push_cost, push_halt, push_letter, push_refused};
 use lift_base::{Halt, Letter, Reason};
 use lift_building::Building;
 use lift_cost::NewCall;
 use lift_policy::{Eligible, Etd, View};
-use std::alloc::AllocError;
-use std::fmt::Write;
 
 /// Halts in their order, or that there are none.
-fn push_halts(report: &mut String, halts: &[Halt]) -> Result<(), AllocError>
+fn push_halts(report: &mut String, halts: &[Halt]) -> Result<(), NoMemory>
     ensures { OnOk result (string_bytes report.new ≡ string_bytes report.old
         ++ halts_text halts.now) }
 {
     if halts.is_empty() {
-        return report.push_str(" -");
+        return add(report, " -");
     }
     for halt in halts {
         push_halt(report, halt)?;
@@ -31,16 +30,17 @@ fn push_halts(report: &mut String, halts: &[Halt]) -> Result<(), AllocError>
 }
 
 /// The stop list of a car, if it has told where it is.
-pub fn push_stops(report: &mut String, view: &View, car: Letter) -> Result<(), AllocError>
+pub fn push_stops(report: &mut String, view: &View, car: Letter) -> Result<(), NoMemory>
     ensures { OnOk result (string_bytes report.new ≡ string_bytes report.old
         ++ stops_text view.now car) }
 {
-    write!(report, "stops {car}")?;
+    add(report, "stops ")?;
+    push_letter(report, car)?;
     match view.schedule(car) {
-        None => report.push_str(" unplaced")?,
+        None => add(report, " unplaced")?,
         Some(schedule) => push_halts(report, schedule.halts())?,
     }
-    report.push('\n')
+    add_char(report, '\n')
 }
 
 /// A call from a floor of the building, and the view by which the building's cars may take it.
@@ -54,7 +54,7 @@ pub struct Offer<'a> {
 
 impl<'a> Offer<'a> {
     /// What the call would cost a car that may take it.
-    fn push_cost_of(&self, report: &mut String, car: Letter) -> Result<(), AllocError>
+    fn push_cost_of(&self, report: &mut String, car: Letter) -> Result<(), NoMemory>
         requires possible { IsViewIn self.now.building.now self.now.view.now }
         requires to { self.now.call.now.to < self.now.building.now.floors }
         requires eligible { is_eligible self.now.building.now self.now.view.now self.now.call.now car
@@ -69,7 +69,7 @@ impl<'a> Offer<'a> {
     }
 
     /// What the call would cost each car that may take it, or that there is none.
-    fn push_costs(&self, report: &mut String) -> Result<(), AllocError>
+    fn push_costs(&self, report: &mut String) -> Result<(), NoMemory>
         requires possible { IsViewIn self.now.building.now self.now.view.now }
         requires to { self.now.call.now.to < self.now.building.now.floors }
         ensures { OnOk result (string_bytes report.new ≡ string_bytes report.old ++ prices_text
@@ -77,7 +77,7 @@ impl<'a> Offer<'a> {
             (eligible_cars self.now.building.now self.now.view.now self.now.call.now)) }
     {
         match Eligible::among(self.building, self.view, *self.call) {
-            None => report.push_str(" -"),
+            None => add(report, " -"),
             Some(eligible) => {
                 for car in eligible.letters() {
                     self.push_cost_of(report, *car)?;
@@ -88,7 +88,7 @@ impl<'a> Offer<'a> {
     }
 
     /// The costs, or the cause for which the call would be refused wherever the cars are.
-    fn push_between(&self, report: &mut String) -> Result<(), AllocError>
+    fn push_between(&self, report: &mut String) -> Result<(), NoMemory>
         requires { IsViewIn self.now.building.now self.now.view.now }
         ensures { OnOk result (string_bytes report.new ≡ string_bytes report.old
             ++ between_text self.now.building.now self.now.view.now self.now.call.now) }
@@ -103,13 +103,13 @@ impl<'a> Offer<'a> {
     }
 
     /// The line of what the call would cost.
-    pub fn push_line(&self, report: &mut String) -> Result<(), AllocError>
+    pub fn push_line(&self, report: &mut String) -> Result<(), NoMemory>
         requires { IsViewIn self.now.building.now self.now.view.now }
         ensures { OnOk result (string_bytes report.new ≡ string_bytes report.old
             ++ costs_text self.now.building.now self.now.view.now self.now.call.now) }
     {
-        report.push_str("cost")?;
+        add(report, "cost")?;
         self.push_between(report)?;
-        report.push('\n')
+        add_char(report, '\n')
     }
 }

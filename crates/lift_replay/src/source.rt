@@ -5,8 +5,9 @@ ghost use Rattle.std.specs.Prelude.{IfNone, IfOk};
 ghost use Rattle.std.specs.Str.Lines.{lines};
 ghost use Rattle.lift_replay.specs.Source.{IsScript, LacksDivider};
 
+use crate::refused::{NoMemory, add, add_char};
 use lift_base::text::split_at_byte;
-use std::alloc::{AllocError, Global};
+use std::alloc::Global;
 
 /// A line without its end (a line feed, with a carriage return before it or none), and what stands
 /// behind it; none where the text is at its end. The last line may lack its end.
@@ -29,10 +30,7 @@ fn next_line(text: &str) -> Option<(&str, &str)>
 
 /// The lines before the first that is `---`, each with its end, and the text behind that one; none
 /// where there is no such line.
-pub fn split_script<'a>(
-    alloc: Global,
-    text: &'a str,
-) -> Result<Option<(String, &'a str)>, AllocError>
+pub fn split_script<'a>(alloc: Global, text: &'a str) -> Result<Option<(String, &'a str)>, NoMemory>
     ensures found { IfOk result (λ found.
         IfSome found (λ parts. IsScript text.now (string_bytes parts.0) (lines parts.1.now))) }
     ensures none { IfOk result (λ found. IfNone found (LacksDivider text.now)) }
@@ -46,8 +44,8 @@ pub fn split_script<'a>(
         if line == "---" {
             return Ok(Some((building, behind)));
         }
-        building.push_str(line)?;
-        building.push('\n')?;
+        add(&mut building, line)?;
+        add_char(&mut building, '\n')?;
         rest = behind;
     }
     unreachable!()

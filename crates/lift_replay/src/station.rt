@@ -13,12 +13,12 @@ ghost use Rattle.lift_replay.specs.Group.{GroupState, first_group, left_by, reco
 ghost use Rattle.lift_replay.specs.Recovering.{Recovers};
 ghost use Rattle.lift_replay.specs.Shows.{Shows, IsKept};
 
+use crate::refused::{NoMemory, empty_disk};
 use crate::terminals::Terminals;
-use lift_base::Memory;
 use lift_building::Building;
 use lift_clerk::Clerk;
 use lift_desk::{ClerkSeat, Desk, Seat};
-use lift_disk::{FuseDisk, MemDisk, Outcome};
+use lift_disk::{FuseDisk, Outcome};
 use lift_journal::format;
 use lift_keeper::Keeper;
 use lift_policy::Etd;
@@ -63,7 +63,7 @@ fn keeper_over(disk: FuseDisk, building: &Building) -> Keeper<'_, FuseDisk>
 
 /// The keeper over a formatted device in memory, of two halves and the two sectors before them:
 /// nobody has called. It is refused only where the device takes its memory.
-pub fn first_keeper(alloc: Global, building: &Building) -> Result<Keeper<'_, FuseDisk>, Memory>
+pub fn first_keeper(alloc: Global, building: &Building) -> Result<Keeper<'_, FuseDisk>, NoMemory>
     ensures empty { IfOk result (λ keeper. keeper.writer.register ≡ empty) }
     ensures unarmed { IfOk result (λ keeper. IsUnarmed (fuse_state_of keeper.writer.device)) }
     ensures state { IfOk result (λ keeper. keeper.state ≡ starting keeper.writer.register) }
@@ -74,7 +74,7 @@ pub fn first_keeper(alloc: Global, building: &Building) -> Result<Keeper<'_, Fus
         × (keeper.writer.doubt ≡ [])) }
     ensures kept { IfOk result (λ keeper. IsKept building.now (first_group building.now) keeper) }
 {
-    let mut disk = FuseDisk::new(MemDisk::new(alloc, 2 * HALF + 2)?);
+    let mut disk = FuseDisk::new(empty_disk(alloc, 2 * HALF + 2)?);
     match format(&mut disk, building.shape(HALF)) {
         Ok(()) => Ok(keeper_over(disk, building)),
         Err(_) => unreachable!(),

@@ -10,13 +10,13 @@ ghost use Rattle.lift_clerk.specs.Clerk.{IsToldAt};
 ghost use Rattle.lift_replay.specs.Terminals.{AreTerminalsOf, IsSpanned, AllHear, AreTold, Hears};
 ghost use Rattle.lift_replay.specs.Terminals.{having_asked, seat_at, told_seat};
 
+use crate::refused::NoMemory;
 use crate::report::push_heard;
 use lift_base::{Body, Number, Terminal};
 use lift_clerk::Clerk;
 use lift_desk::{AskRefusal, Desk, Seat};
 use lift_disk::FuseDisk;
 use lift_policy::Etd;
-use std::alloc::AllocError;
 
 /// The seats of a desk's terminals, in order.
 #[derive(Drop)]
@@ -105,7 +105,7 @@ impl<'d> Terminals<'d> {
 
     /// A terminal that waits looks for its answer, and the report shows what it hears. The answer
     /// is whether it waits on.
-    fn push_heard_at(&mut self, report: &mut String, index: u8) -> Result<bool, AllocError>
+    fn push_heard_at(&mut self, report: &mut String, index: u8) -> Result<bool, NoMemory>
         requires { index < length self.old.seats.items }
         ensures hears { OnOk result ((line : List ℕ)
             × Hears (seat_at self.old.seats.items index) (seat_at self.new.seats.items index) line
@@ -130,7 +130,7 @@ impl<'d> Terminals<'d> {
 
     /// All terminals that wait for an answer look for it, by rising terminal, and the report shows
     /// what each hears.
-    pub fn push_all_heard(&mut self, report: &mut String) -> Result<(), AllocError>
+    pub fn push_all_heard(&mut self, report: &mut String) -> Result<(), NoMemory>
         ensures hears { OnOk result ((lines : List ℕ)
             × AllHear self.old.seats.items self.new.seats.items lines
             × (string_bytes report.new ≡ string_bytes report.old ++ lines)) }
@@ -144,6 +144,7 @@ impl<'d> Terminals<'d> {
         if !waits {
             self.first = 63;
             self.end = 0;
+            return Ok(());
         }
         Ok(())
     }

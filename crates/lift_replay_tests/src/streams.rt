@@ -50,7 +50,7 @@ fn comes_to(alloc: Global, script: &[u8], report: &[u8], room: usize) -> Result<
     Ok(match end {
         Ok(Verdict::Bad) => taken == report,
         Err(ReplayFault::Write) => room < report.len() && taken == &report[..room],
-        Err(ReplayFault::Memory) => report.starts_with(taken),
+        Err(ReplayFault::Memory(_)) => report.starts_with(taken),
         _ => false,
     })
 }

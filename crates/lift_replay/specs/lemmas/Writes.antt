@@ -25,7 +25,7 @@ pub fails_more : {W : Type 0} (gives : W → List ℕ → Option ℕ → W → T
 fails_more gives before between after first (last, given, takes, some, fails) = (last, given, takes_more gives before between last first takes, some, fails)
 
 pub till_more : {W : Type 0} (gives : W → List ℕ → Option ℕ → W → Type 0) (before between after : W) (fault : ReplayFault) → (fault ≡ Read → ⊥) → TakesEach gives before between → IsCalledTill gives between after fault → IsCalledTill gives before after fault
-till_more gives before between after Memory other first second = takes_more gives before between after first second
+till_more gives before between after (Memory m) other first second = takes_more gives before between after first second
 till_more gives before between after Read other first second = absurd (other refl)
 till_more gives before between after Write other first second = fails_more gives before between after first second
 
@@ -77,7 +77,7 @@ none_taken gives bytes before after (Err fault) none within told = absurd (omega
 pub called_behind : {W T : Type 0} (gives : W → List ℕ → Option ℕ → W → Type 0) (before between after : W) (end : Result T ReplayFault) (piece : List ℕ) → (end ≡ Err Read → ⊥) → IsCalled gives before between end
     → (end ≡ Err Write → piece ≡ []) → (piece ≡ [] → after ≡ between) → TakesEach gives between after → IsCalled gives before after end
 called_behind gives before between after (Ok value) piece other first empty idle takes = takes_more gives before between after first takes
-called_behind gives before between after (Err Memory) piece other first empty idle takes = takes_more gives before between after first takes
+called_behind gives before between after (Err (Memory m)) piece other first empty idle takes = takes_more gives before between after first takes
 called_behind gives before between after (Err Read) piece other first empty idle takes = absurd (other refl)
 called_behind gives before between after (Err Write) piece other first empty idle takes = subst (FailsAtLast gives before) (sym (idle (empty refl))) first
 
@@ -85,7 +85,7 @@ called_behind gives before between after (Err Write) piece other first empty idl
 pub fails_behind : {W T : Type 0} (gives : W → List ℕ → Option ℕ → W → Type 0) (before between after : W) (end : Result T ReplayFault) (piece : List ℕ) → (end ≡ Err Read → ⊥) → IsCalled gives before between end
     → (end ≡ Err Write → piece ≡ []) → (piece ≡ [] → after ≡ between) → FailsAtLast gives between after → FailsAtLast gives before after
 fails_behind gives before between after (Ok value) piece other first empty idle fails = fails_more gives before between after first fails
-fails_behind gives before between after (Err Memory) piece other first empty idle fails = fails_more gives before between after first fails
+fails_behind gives before between after (Err (Memory m)) piece other first empty idle fails = fails_more gives before between after first fails
 fails_behind gives before between after (Err Read) piece other first empty idle fails = absurd (other refl)
 fails_behind gives before between after (Err Write) piece other first empty idle fails = subst (FailsAtLast gives before) (sym (idle (empty refl))) first
 
@@ -103,8 +103,8 @@ pieces_err gives before after piece (Err told) fault is other called empty = rec
   emptied = λ write. empty (let same : told ≡ fault = is in cc);
 }
 
-pub pieces_memory : {W T : Type 0} (gives : W → List ℕ → Option ℕ → W → Type 0) (before after : W) (piece : List ℕ) (result : Result T ReplayFault) → IsErrAnd result (λ told. told ≡ Memory) → TakesEach gives before after → WritesPieces gives before after piece result
-pieces_memory gives before after piece result is takes = pieces_err gives before after piece result Memory is (λ read. cc) takes (λ write. absurd cc)
+pub pieces_memory : {W T : Type 0} (gives : W → List ℕ → Option ℕ → W → Type 0) (before after : W) (piece : List ℕ) (result : Result T ReplayFault) → IsErrAnd result (λ told. told ≡ Memory tt) → TakesEach gives before after → WritesPieces gives before after piece result
+pieces_memory gives before after piece result is takes = pieces_err gives before after piece result (Memory tt) is (λ read. cc) takes (λ write. absurd cc)
 
 pub pieces_failed : {W T : Type 0} (gives : W → List ℕ → Option ℕ → W → Type 0) (before after : W) (piece : List ℕ) (result : Result T ReplayFault) → IsErrAnd result (λ told. told ≡ Write) → FailsAtLast gives before after → piece ≡ [] → WritesPieces gives before after piece result
 pieces_failed gives before after piece result is fails empty = pieces_err gives before after piece result Write is (λ read. cc) fails (λ write. empty)

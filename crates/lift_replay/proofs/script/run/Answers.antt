@@ -9,11 +9,8 @@ use Rattle.lift_replay.proofs.Taken.{long_input, whole_input}
 use Rattle.lift_replay.proofs.Told.{if_bad, on_ok}
 use Rattle.lift_replay.proofs.script.run.Goals as goal
 
-pub returns-in-Err-Read-clause-front : goal.returns-in-Err-Read-clause-front
-returns-in-Err-Read-clause-front g c = input_unwritten _ _
-
-pub returns-in-Err-Memory-clause-front : goal.returns-in-Err-Memory-clause-front
-returns-in-Err-Memory-clause-front g c = input_unwritten _ _
+pub returns-in-Err-clause-front : goal.returns-in-Err-clause-front
+returns-in-Err-clause-front g c = input_unwritten _ _
 
 pub returns-then-len-gt-MOST_BYTES-clause-report : goal.returns-then-len-gt-MOST_BYTES-clause-report
 returns-then-len-gt-MOST_BYTES-clause-report g c =
@@ -41,14 +38,14 @@ pub returns-clause-report : goal.returns-clause-report
 returns-clause-report g c =
     let few : length c.in-Ok.bytes.items ≤ most_bytes = search rules in
     let input : IsInput (g.R.Read.remaining c.args.input.now.reader) c.in-Ok.bytes.items = whole_input _ _ (search rules) in
-    let no_text : ¬ IsUtf8 c.in-Ok.bytes.items = λ text. c.in-Err.ensures.cases.0 (subst IsUtf8 (sym c.deref.ensures.value) text) in
-    if_bad (λ verdict. ReportsInput (g.R.Read.remaining c.args.input.now.reader) (g.W.Write.contents c.args.writer.now) (g.W.Write.contents c.refuse-in-Err.new.writer) verdict)
-    c.refuse-in-Err.result c.refuse-in-Err.ensures.not_good
-    (on_ok c.refuse-in-Err.result (λ wrote. (c.in-Ok.bytes.items, input, (codes "NOT TEXT\n", inr (inl (few, no_text, refl, refl)), wrote))) c.refuse-in-Err.ensures.bad)
+    let no_text : ¬ IsUtf8 c.in-Ok.bytes.items = λ text. c.in-Err-from_utf8.ensures.cases.0 (subst IsUtf8 (sym c.deref.ensures.value) text) in
+    if_bad (λ verdict. ReportsInput (g.R.Read.remaining c.args.input.now.reader) (g.W.Write.contents c.args.writer.now) (g.W.Write.contents c.refuse-in-Err-from_utf8.new.writer) verdict)
+    c.refuse-in-Err-from_utf8.result c.refuse-in-Err-from_utf8.ensures.not_good
+    (on_ok c.refuse-in-Err-from_utf8.result (λ wrote. (c.in-Ok.bytes.items, input, (codes "NOT TEXT\n", inr (inl (few, no_text, refl, refl)), wrote))) c.refuse-in-Err-from_utf8.ensures.bad)
 
 pub returns-clause-front : goal.returns-clause-front
 returns-clause-front g c =
     let few : length c.in-Ok.bytes.items ≤ most_bytes = search rules in
     let input : IsInput (g.R.Read.remaining c.args.input.now.reader) c.in-Ok.bytes.items = whole_input _ _ (search rules) in
-    let no_text : ¬ IsUtf8 c.in-Ok.bytes.items = λ text. c.in-Err.ensures.cases.0 (subst IsUtf8 (sym c.deref.ensures.value) text) in
-    on_err c.refuse-in-Err.result (λ front. (c.in-Ok.bytes.items, input, (codes "NOT TEXT\n", Bad, inr (inl (few, no_text, refl, refl)), front))) c.refuse-in-Err.ensures.front
+    let no_text : ¬ IsUtf8 c.in-Ok.bytes.items = λ text. c.in-Err-from_utf8.ensures.cases.0 (subst IsUtf8 (sym c.deref.ensures.value) text) in
+    on_err c.refuse-in-Err-from_utf8.result (λ front. (c.in-Ok.bytes.items, input, (codes "NOT TEXT\n", Bad, inr (inl (few, no_text, refl, refl)), front))) c.refuse-in-Err-from_utf8.ensures.front

@@ -7,9 +7,9 @@ use Rattle.lift_replay.proofs.segment.add_cut.Goals as goal
 pub returns-in_err-put_large_piece-clause-front : goal.returns-in_err-put_large_piece-clause-front
 returns-in_err-put_large_piece-clause-front g c =
     let told_is : c.deref.result.now ≡ cut_text c.args.calls = c.deref.ensures ∙ c.in_ok-push_cut.ensures ∙ ap (λ bytes. bytes ++ cut_text c.args.calls) c.new-report.ensures.bytes in
-    let piece_is : string_bytes c.push_str.new.self ≡ string_bytes c.args.piece.now ++ cut_text c.args.calls = c.in_ok-push_str.ensures.bytes ∙ ap (λ bytes. string_bytes c.args.piece.now ++ bytes) told_is in
+    let piece_is : string_bytes c.add.new.text ≡ string_bytes c.args.piece.now ++ cut_text c.args.calls = c.in_ok-add.ensures ∙ ap (λ bytes. string_bytes c.args.piece.now ++ bytes) told_is in
     err_so c.from_residual-in_err-put_large_piece.result
-    (torn_told _ _ _ (string_bytes c.args.piece.now) (string_bytes c.push_str.new.self) (string_bytes c.put_large_piece.new.piece) (cut_text c.args.calls) piece_is
+    (torn_told _ _ _ (string_bytes c.args.piece.now) (string_bytes c.add.new.text) (string_bytes c.put_large_piece.new.piece) (cut_text c.args.calls) piece_is
     c.in_err-put_large_piece.ensures.front c.in_err-put_large_piece.ensures.emptied)
 
 pub returns-clause-writes : goal.returns-clause-writes
@@ -18,8 +18,8 @@ returns-clause-writes g c = pieces_ok g.W.Outlet.gives _ _ _ _ c.in_ok-put_large
 pub returns-in_err-push_cut-clause-writes : goal.returns-in_err-push_cut-clause-writes
 returns-in_err-push_cut-clause-writes g c = pieces_memory g.W.Outlet.gives _ _ _ c.from_residual.result c.from_residual.ensures.1 (0, refl)
 
-pub returns-in_err-push_str-clause-writes : goal.returns-in_err-push_str-clause-writes
-returns-in_err-push_str-clause-writes g c = pieces_memory g.W.Outlet.gives _ _ _ c.from_residual-in_err-push_str.result c.from_residual-in_err-push_str.ensures.1 (0, refl)
+pub returns-in_err-add-clause-writes : goal.returns-in_err-add-clause-writes
+returns-in_err-add-clause-writes g c = pieces_memory g.W.Outlet.gives _ _ _ c.from_residual-in_err-add.result c.from_residual-in_err-add.ensures.1 (0, refl)
 
 pub returns-in_err-put_large_piece-clause-writes : goal.returns-in_err-put_large_piece-clause-writes
 returns-in_err-put_large_piece-clause-writes g c = pieces_failed g.W.Outlet.gives _ _ _ c.from_residual-in_err-put_large_piece.result c.from_residual-in_err-put_large_piece.ensures.1

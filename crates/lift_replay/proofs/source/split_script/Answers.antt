@@ -8,9 +8,8 @@ use Rattle.lift_replay.proofs.source.split_script.Goals as goal
 pub loop-preserved : goal.loop-preserved
 loop-preserved c = record {
   text = search rules;
-  above = one_above c.args.text.now c.loop.rest.now c.in-Some.behind.now c.in-Some.line.now (string_bytes c.loop.building) (string_bytes c.push.new.self) c.loop.invariant.above c.in-Some.ensures.first
+  above = one_above c.args.text.now c.loop.rest.now c.in-Some.behind.now c.in-Some.line.now (string_bytes c.loop.building) (string_bytes c.add_char.new.text) c.loop.invariant.above c.in-Some.ensures.first
       (other_text c.in-Some.line.now divider (sym c.eq.ensures ∙ c.if-eq.false))
-      (c.in_ok-push.ensures.bytes ∙ ap (λ bytes. string_bytes c.push_str.new.self ++ bytes) (c.in_ok-push.ensures.ascii (omega arith))
-      ∙ ap (λ bytes. bytes ++ 10 ∷ []) c.in_ok-push_str.ensures.bytes ∙ append_assoc (string_bytes c.loop.building) c.in-Some.line.now (10 ∷ []));
+      (c.in_ok-add_char.ensures ∙ ap (λ bytes. bytes ++ 10 ∷ []) c.in_ok-add.ensures ∙ append_assoc (string_bytes c.loop.building) c.in-Some.line.now (10 ∷ []));
   left = omega (arith, c.in-Some.ensures.shorter, c.loop.invariant.left);
 }

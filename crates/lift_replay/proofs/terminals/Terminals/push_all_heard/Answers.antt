@@ -23,8 +23,8 @@ returns-then-not-waits-clause-hears c =
       inv.heard.2,
     )
 
-pub returns-else-not-waits-clause-hears : goal.returns-else-not-waits-clause-hears
-returns-else-not-waits-clause-hears c =
+pub returns-clause-hears : goal.returns-clause-hears
+returns-clause-hears c =
     let inv = c.loop-index.invariant in (
       inv.heard.0,
       others_rest c.args.self.now.seats.items c.loop-index.self.seats.items c.loop-index.index inv.heard.0 inv.count inv.heard.1 inv.rest

@@ -1,0 +1,119 @@
+//! What takes memory, and the evidence that none was left.
+
+ghost use Rattle.std.specs.Prelude.{◌≡◌, ◌≤◌, ◌<◌, ◌+◌, ◌++◌, ◌∷◌, [], length, vec_len, string_bytes};
+ghost use Rattle.std.specs.Prelude.{is_ok, if◌then◌else◌, false, replicate, IfOk, OnOk};
+ghost use Rattle.lift_desk.specs.Seats.{AreSeatsOf, IsClerkOf, OwesNothing, clerk_of, seats_from};
+ghost use Rattle.lift_disk.specs.Disk.{IsSynced, IsUnarmed};
+ghost use Rattle.lift_disk.specs.Outcomes.{state_of};
+
+use lift_desk::{Desk, DeskParts};
+use lift_disk::MemDisk;
+use std::alloc::Global;
+use std::marker::Model;
+
+/// That no memory was left. Only the calls below make one, each where a growth was refused it.
+#[derive(Clone, Copy, PartialEq, Eq)]
+pub struct NoMemory {
+    made: (),
+}
+
+impl Model for NoMemory {
+    ghost Value = { Unit {0} };
+
+    ghost view = { λ _. tt };
+
+    ghost inverse = { λ _. record { made = tt } };
+}
+
+impl NoMemory {
+    /// None was left for a building's text.
+    pub(crate) fn for_building(_no_memory: lift_building::NoMemory) -> Self {
+        NoMemory { made: () }
+    }
+}
+
+/// The room for a piece of a report: its last line, the longest of which shows 512 calls in less
+/// than 20,000 bytes, goes beyond what a piece is written at.
+const ROOM_BYTES: usize = 65_536;
+
+/// Adds a text to another.
+pub(crate) fn add(text: &mut String, more: &str) -> Result<(), NoMemory>
+    ensures { string_bytes text.new ≡ (if is_ok result
+        then string_bytes text.old ++ more.now else string_bytes text.old) }
+{
+    match text.push_str(more) {
+        Ok(()) => Ok(()),
+        Err(_) => Err(NoMemory { made: () }),
+    }
+}
+
+/// Adds a letter, a digit or a sign to a text.
+pub(crate) fn add_char(text: &mut String, letter: char) -> Result<(), NoMemory>
+    requires { letter < 128 }
+    ensures { OnOk result (string_bytes text.new ≡ string_bytes text.old ++ letter ∷ []) }
+{
+    match text.push(letter) {
+        Ok(()) => Ok(()),
+        Err(_) => Err(NoMemory { made: () }),
+    }
+}
+
+/// Adds bytes to others.
+pub(crate) fn add_bytes(bytes: &mut Vec<u8>, more: &[u8]) -> Result<(), NoMemory>
+    ensures items { OnOk result (bytes.new.items ≡ bytes.old.items ++ more.now) }
+    ensures len { OnOk result (vec_len bytes.new ≡ vec_len bytes.old + length more.now) }
+{
+    match bytes.extend_from_slice(more) {
+        Ok(()) => Ok(()),
+        Err(_) => Err(NoMemory { made: () }),
+    }
+}
+
+/// An empty piece, with its room.
+pub(crate) fn empty_piece(alloc: Global) -> Result<String, NoMemory>
+    ensures bytes { IfOk result (λ piece. string_bytes piece ≡ []) }
+{
+    match String::with_capacity(alloc, ROOM_BYTES) {
+        Ok(piece) => Ok(piece),
+        Err(_) => Err(NoMemory { made: () }),
+    }
+}
+
+/// A device in memory of so many sectors of zeros.
+pub(crate) fn empty_disk(alloc: Global, sectors: u32) -> Result<MemDisk, NoMemory>
+    requires { sectors ≤ 130 }
+    ensures zeros { IfOk result (λ disk.
+        (state_of disk).image ≡ replicate sectors (replicate 512 0)) }
+    ensures synced { IfOk result (λ disk. IsSynced (state_of disk)) }
+    ensures same { IfOk result (λ disk. (state_of disk).synced ≡ (state_of disk).image) }
+    ensures honest { IfOk result (λ disk. (state_of disk).is_honest) }
+    ensures inert { IfOk result (λ disk. (state_of disk).is_inert) }
+    ensures unarmed { IfOk result (λ disk. IsUnarmed (state_of disk)) }
+    ensures short { IfOk result (λ disk. (state_of disk).is_short ≡ false) }
+    ensures failures { IfOk result (λ disk. (state_of disk).failures ≡ 0) }
+    ensures calls { IfOk result (λ disk. (state_of disk).calls ≡ 0) }
+    ensures writes { IfOk result (λ disk. (state_of disk).writes ≡ 0) }
+    ensures trace { IfOk result (λ disk. (state_of disk).trace ≡ []) }
+{
+    match MemDisk::new(alloc, sectors) {
+        Ok(disk) => Ok(disk),
+        Err(_) => Err(NoMemory { made: () }),
+    }
+}
+
+/// A desk of so many terminals, with all its seats.
+pub(crate) fn new_desk(alloc: Global, terminals: usize) -> Result<DeskParts, NoMemory>
+    requires { (1 ≤ terminals) × (terminals ≤ 63) }
+    ensures count { IfOk result (λ parts. (length parts.desk ≡ terminals)
+        × (vec_len parts.seats ≡ terminals)) }
+    ensures seats { IfOk result (λ parts. parts.seats.items ≡ seats_from 0 parts.desk) }
+    ensures clerk { IfOk result (λ parts. parts.clerk ≡ clerk_of parts.desk) }
+    ensures seats_at { IfOk result (λ parts. AreSeatsOf parts.desk parts.seats.items) }
+    ensures clerk_at { IfOk result (λ parts. IsClerkOf parts.desk parts.clerk) }
+    ensures owes { IfOk result (λ parts. OwesNothing parts.clerk) }
+{
+    match Desk::open(alloc, terminals) {
+        Ok(parts) => Ok(parts),
+        Err(_) => Err(NoMemory { made: () }),
+    }
+}
