@@ -64,18 +64,6 @@ pub data History {D : Type 0} (base : RegisterState) : GroupState D → List Ent
       → BeginsOver before.keeper.writer.plan image after
       → History base after (kept_of safe batch doubt) given
 
--- The clerk goes on with what has happened to any earlier group of the building, whose power was
--- cut and left this image, at whatever moment that was.
-pub record GoesOnOver {D : Type 0} (plan : Plan) (image : Image)
-    (clerk : GroupState D) : Type 0 where
-  pub begins : BeginsOver plan image clerk
-  pub history : (base : RegisterState) (before : GroupState D) (safe batch : List Entry)
-      (given : List Taken)
-      → History base before safe given → before.keeper.writer.plan ≡ plan
-      → MayAdd before.keeper batch
-      → (doubt : IsInDoubt before.keeper.writer.plan before.keeper.writer.register batch image)
-      → History base clerk (kept_of safe batch doubt) given
-
 -- Some run of the machine over this register leads to a world of this clerk's. No ask waits there, just these entries
 -- are safe, and just these commands were answered.
 pub record IsRunOf {D P : Type 0} (base : RegisterState) (clerk : ClerkState D P)
