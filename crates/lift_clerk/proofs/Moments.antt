@@ -8,6 +8,7 @@ use Rattle.lift_disk.specs.Disk.{DiskState, LeavesNow, LeavesOnly}
 use Rattle.lift_register.specs.Register.{RegisterState, register_of}
 use Rattle.lift_policy.specs.Eligible.{Choice}
 use Rattle.lift_policy.specs.Step.{State}
+use Rattle.lift_policy.specs.Run.{unknowns}
 use Rattle.lift_journal.specs.declared.fault.JournalFault.TheVariants.{Disk, Broken}
 use Rattle.lift_keeper.specs.Images.{IsImageOf, IsInDoubt}
 use Rattle.lift_keeper.specs.Commits.{CommitsTo}
@@ -111,19 +112,19 @@ module _ {D P : Type 0} (state : D → DiskState) (law : CrashesKeep D) (before 
 
   -- the device fails it
   failed_advances : (t : Fails choice before after)
-      → Advances (group_of before) (group_of after) after.keeper.state.batch [] (with_replies (commands_of 0 t.turn.visits) t.turn.replies) first last
+      → Advances (group_of before) (group_of after) after.keeper.state.batch [] (with_replies (commands_of 0 t.turn.visits) (unknowns (commands_of 0 t.turn.visits))) first last
   failed_advances t base safe given h =
       let s : LeavesInDoubt before after = leaves_in_doubt choice any before after t in
-      advances after.keeper.state.batch [] (with_replies (commands_of 0 t.turn.visits) t.turn.replies) base safe given
-      (inr (record { commands = s.commands; replies = s.decided_so; decided = s.decided; apart = s.answers.apart; decides = s.decides; is = refl }))
+      advances after.keeper.state.batch [] (with_replies (commands_of 0 t.turn.visits) (unknowns (commands_of 0 t.turn.visits))) base safe given
+      (inr (record { commands = s.may.commands; replies = s.may.replies; decided = s.may.decided; apart = s.may.apart; decides = s.may.decides; is = refl }))
       (while_whole t.was_whole after.keeper.state.batch t.turn.register) h
       (nothing_more base safe _ (Failed h (grouped_doubt before after s)))
 
   -- it was broken
   broken_advances : before.keeper.writer.is_broken ≡ true → (t : IsBrokenTurn before after)
-      → Advances (group_of before) (group_of after) before.keeper.writer.doubt [] (with_replies (commands_of 0 t.visits) t.replies) first last
+      → Advances (group_of before) (group_of after) before.keeper.writer.doubt [] (with_replies (commands_of 0 t.visits) (unknowns (commands_of 0 t.visits))) first last
   broken_advances is t base safe given h =
-      advances before.keeper.writer.doubt [] (with_replies (commands_of 0 t.visits) t.replies) base safe given (inl refl) (while_broken is) h
+      advances before.keeper.writer.doubt [] (with_replies (commands_of 0 t.visits) (unknowns (commands_of 0 t.visits))) base safe given (inl refl) (while_broken is) h
       (nothing_more base safe _ (TurnedWhileBroken h (grouped_unknown before after (answers_unknown before after t is))))
 
   pub turn_advances : (result : Result Counts KeeperFault) → CommitsTo state before.keeper.writer (entries_in result after.keeper) after.keeper.state.register after.keeper.writer result → TurnAdvances state choice before after result

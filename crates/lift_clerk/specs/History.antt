@@ -6,6 +6,7 @@ use Rattle.lift_base.specs.declared.history.Entry.{Entry}
 use Rattle.lift_building.specs.Plan.{Plan, IsBuilding}
 use Rattle.lift_disk.specs.Disk.{Image}
 use Rattle.lift_register.specs.Register.{RegisterState, register_of}
+use Rattle.lift_policy.specs.Run.{unknowns}
 use Rattle.lift_keeper.specs.Images.{IsImageOf, IsInDoubt}
 use Rattle.lift_world.specs.declared.event.Taken.{Taken}
 use Rattle.lift_world.specs.World.{World, safe_list, told_in}
@@ -43,11 +44,12 @@ pub data History {D : Type 0} (base : RegisterState) : GroupState D → List Ent
   -- The device fails it: nothing more is safe, and its commands were answered Unknown.
   Failed : {before after : GroupState D} {safe : List Entry} {given : List Taken}
       → History base before safe given → (t : LeavesInDoubt before after)
-      → History base after safe (given ++ with_replies t.commands t.replies)
+      → History base after safe
+      (given ++ with_replies t.may.commands (unknowns t.may.commands))
   -- So were those that came behind the fault.
   TurnedWhileBroken : {before after : GroupState D} {safe : List Entry} {given : List Taken}
       → History base before safe given → (t : AnswersUnknown before after)
-      → History base after safe (given ++ with_replies t.commands t.replies)
+      → History base after safe (given ++ with_replies t.commands (unknowns t.commands))
   -- A reopening keeps what was safe, or that and the batch in doubt.
   Reopened : {before after : GroupState D} {safe : List Entry} {given : List Taken}
       → History base before safe given → (r : Reopens before after)

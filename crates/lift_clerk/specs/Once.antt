@@ -3,6 +3,7 @@ use Rattle.std.specs.Prelude.{◌≡◌, ◌⊎◌, true, List, [], Result, Ok, 
 use Rattle.lift_base.specs.declared.history.Entry.{Entry}
 use Rattle.lift_disk.specs.Disk.{DiskState}
 use Rattle.lift_policy.specs.Eligible.{Choice}
+use Rattle.lift_policy.specs.Run.{unknowns}
 use Rattle.lift_decider.specs.Decider.{starting}
 use Rattle.lift_journal.specs.declared.fault.JournalFault.TheVariants.{Disk, Broken}
 use Rattle.lift_keeper.specs.declared.fault.KeeperFault.{KeeperFault}
@@ -56,11 +57,11 @@ pub data TurnAdds {D P : Type 0} (choice : Choice) (before after : ClerkState D 
   -- The device fails it: its batch is in doubt, and nothing more is safe.
   InDoubt : (t : IsFailedTurn choice before after)
       → TurnAdds choice before after (Err (Journal Disk)) after.keeper.state.batch []
-      (with_replies (commands_of 0 t.visits) t.replies)
+      (with_replies (commands_of 0 t.visits) (unknowns (commands_of 0 t.visits)))
   -- Behind a fault there is what is in doubt.
   Unknown : (t : IsBrokenTurn before after)
       → TurnAdds choice before after (Err (Journal Broken)) before.keeper.writer.doubt []
-      (with_replies (commands_of 0 t.visits) t.replies)
+      (with_replies (commands_of 0 t.visits) (unknowns (commands_of 0 t.visits)))
 
 -- By that the group's history goes on, and what was given is kept.
 abbrev pub TurnAdvances : {D P : Type 0} → (D → DiskState) → Choice → (before after : ClerkState D P)
