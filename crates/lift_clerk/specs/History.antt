@@ -1,6 +1,6 @@
 -- What can have happened to a group, at most, over all its clerks and their parts, faults,
 -- reopenings and power cuts.
-use Rattle.std.specs.Prelude.{◌≡◌, List, [], ◌++◌, All, Contains}
+use Rattle.std.specs.Prelude.{◌≡◌, List, [], ◌++◌, All}
 use Rattle.std.specs.List.{flat_map}
 use Rattle.lift_base.specs.declared.history.Entry.{Entry}
 use Rattle.lift_building.specs.Plan.{Plan, IsBuilding}
