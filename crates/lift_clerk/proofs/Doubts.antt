@@ -1,5 +1,5 @@
 -- Turns that fail, and turns of a broken clerk.
-use Rattle.std.proofs.Common.{ℕ, ◌≡◌, ◌-◌, ◌<◌, true, List, [], ◌∷◌, ◌++◌, length, map, take, drop, Option, Some, refl, sym, ap, subst, ◌∙◌, arith}
+use Rattle.std.proofs.Common.{ℕ, ◌≡◌, ◌-◌, ◌<◌, true, List, [], ◌∷◌, ◌++◌, length, map, take, drop, Option, Some, refl, sym, ap, ◌∙◌, arith}
 use Rattle.std.specs.Prelude.{IsTrue}
 use Rattle.std.specs.List.{AllByRecursion}
 use Rattle.std.proofs.Math.Seq.{take-length, drop-length, take-append_seam, drop-append_seam}
@@ -179,26 +179,25 @@ module _ (laws : Laws) (w : World) where
       by_run r = by_replies r.0 r.1 r.2
 
 -- A batch that the device fails is a failed turn of the machine.
-pub failed_batches_are_failures : {D P : Type 0} → Laws → (w : World) (before after : ClerkState D P) → (t : LeavesInDoubt before after) → IsMachineOf w before → LooksAgree w t.commands
-    → (letters : List (Option ℕ)) × ((folds : ℕ) → Follows w (failed_events t.commands letters folds GateWritten (length t.decided.batch)) (with_replies t.commands t.replies) (safe_list w) after)
+pub failed_batches_are_failures : {D P : Type 0} → Laws → (w : World) (before after : ClerkState D P) → (t : LeavesInDoubt before after) → IsMachineOf w before → LooksAgree w t.may.commands
+    → (letters : List (Option ℕ)) × ((folds : ℕ) → Follows w (failed_events t.may.commands letters folds GateWritten (length t.may.decided.batch)) (with_replies t.may.commands (unknowns t.may.commands)) (safe_list w) after)
 failed_batches_are_failures laws w before after t m agree =
-    let cs : List Command = t.commands in
-    let state : State = t.decided in
-    let wh : ShowsWhole w before.keeper = m.whole t.decides.was_whole in
+    let cs : List Command = t.may.commands in
+    let state : State = t.may.decided in
+    let wh : ShowsWhole w before.keeper = m.whole t.may.decides.was_whole in
     let a : Asked w cs = ask laws w m.reached (splits laws w before after m) (rests w wh.at_rest) cs agree t.answers.apart in
-    let run : Run w.building any_eligible (state_of w) cs t.decided_so state = decided_in w before m.building wh.state cs t.decided_so state t.decides in
-    let e = ends_in_doubt laws w wh.at_rest cs t.decided_so state a run t.some in (
+    let run : Run w.building any_eligible (state_of w) cs t.may.replies state = decided_in w before m.building wh.state cs t.may.replies state t.may.decides in
+    let e = ends_in_doubt laws w wh.at_rest cs t.may.replies state a run t.some in (
       e.0,
       λ folds.
           let k = e.1 folds in
-          let ends : Ends w cs t.replies k.0 = subst (λ (xs : List Reply). Ends w cs xs k.0) (sym t.unknown) k.1.ends in
-          follows laws w before after m cs t.replies t.answers agree t.same_plan (failed_events cs e.0 folds GateWritten (length state.batch)) k.0
-          (record { first = k.1.first; theirs = k.1.theirs; possible = k.1.possible; ends = ends; alone = k.1.alone }) (safe_list w) k.2.safe_is
+          follows laws w before after m cs (unknowns cs) t.answers agree t.same_plan (failed_events cs e.0 folds GateWritten (length state.batch)) k.0
+          (record { first = k.1.first; theirs = k.1.theirs; possible = k.1.possible; ends = k.1.ends; alone = k.1.alone }) (safe_list w) k.2.safe_is
           (λ whole. not_both after.keeper.writer.is_broken whole t.breaks)
           (λ broken. record {
             at_rest = k.2.rest;
             safe = ap (λ (r : RegisterState). register_of r (safe_list k.0)) k.1.ends.base ∙ ap (register_of w.base) k.2.safe_is ∙ wh.safe ∙ sym t.same_register;
-            doubt = k.2.batch_is ∙ sym t.doubt;
+            doubt = k.2.batch_is ∙ t.may.is;
             may_be_kept = λ some. k.3;
           }),
     )
@@ -206,20 +205,21 @@ failed_batches_are_failures laws w before after t m agree =
 -- what a clerk's failed turn leaves in doubt
 abbrev pub leaves_in_doubt : {D P : Type 0} → (choice : Choice) → RunsAreAny choice → (before after : ClerkState D P) → Fails choice before after → LeavesInDoubt before after
 leaves_in_doubt choice any before after t = record {
-  commands = commands_of 0 t.turn.visits;
-  decided_so = t.turn.run.0.0;
-  replies = t.turn.replies;
-  decided = after.keeper.state;
-  desk = t.turn.desk;
-  decides = record {
-    was_whole = t.was_whole;
-    run = any before.keeper.writer.plan before.keeper.state (commands_of 0 t.turn.visits) t.turn.run.0.0 after.keeper.state t.turn.run.0.1;
-    shows = t.turn.register;
+  may = record {
+    commands = commands_of 0 t.turn.visits;
+    replies = t.turn.decided_so;
+    decided = after.keeper.state;
+    apart = (answers_of before.seat after.seat t.turn.visits (unknowns (commands_of 0 t.turn.visits)) t.turn.serves).apart;
+    decides = record {
+      was_whole = t.was_whole;
+      run = any before.keeper.writer.plan before.keeper.state (commands_of 0 t.turn.visits) t.turn.decided_so after.keeper.state t.turn.run;
+      shows = t.turn.register;
+    };
+    is = sym t.turn.doubt;
   };
-  unknown = t.turn.run.1;
-  answers = answers_of before.seat after.seat t.turn.visits t.turn.replies t.turn.serves;
+  desk = t.turn.desk;
+  answers = answers_of before.seat after.seat t.turn.visits (unknowns (commands_of 0 t.turn.visits)) t.turn.serves;
   some = t.turn.some;
-  doubt = t.turn.doubt;
   breaks = t.breaks;
   same_register = t.same_register;
   same_plan = t.same_plan;
@@ -230,16 +230,15 @@ failures_are_failures laws choice any w before after t m agree = failed_batches_
 
 -- What is answered behind a fault is a turn of the broken machine.
 pub unknowns_are_broken_turns : {D P : Type 0} → Laws → (w : World) (before after : ClerkState D P) → (t : AnswersUnknown before after) → IsMachineOf w before → LooksAgree w t.commands
-    → (letters : List (Option ℕ)) × Follows w (events_while_broken t.commands letters) (with_replies t.commands t.replies) (safe_list w) after
+    → (letters : List (Option ℕ)) × Follows w (events_while_broken t.commands letters) (with_replies t.commands (unknowns t.commands)) (safe_list w) after
 unknowns_are_broken_turns {D} laws w before after t m agree =
     let cs : List Command = t.commands in
     let br : ShowsBroken w before.keeper = m.broken t.was_broken in
     let a : Asked w cs = ask laws w m.reached (splits laws w before after m) (rests_broken w br.at_rest) cs agree t.answers.apart in
-    let k = ends_still_broken laws w br.at_rest cs a in
-    let ends : Ends w cs t.replies k.1 = subst (λ (xs : List Reply). Ends w cs xs k.1) (sym t.unknown) k.2.ends in (
+    let k = ends_still_broken laws w br.at_rest cs a in (
       k.0,
-      follows laws w before after m cs t.replies t.answers agree (ap (λ (x : WriterView D). x.plan) t.rests) (events_while_broken cs k.0) k.1
-          (record { first = k.2.first; theirs = k.2.theirs; possible = k.2.possible; ends = ends; alone = k.2.alone }) (safe_list w) k.3.safe_is
+      follows laws w before after m cs (unknowns cs) t.answers agree (ap (λ (x : WriterView D). x.plan) t.rests) (events_while_broken cs k.0) k.1
+          (record { first = k.2.first; theirs = k.2.theirs; possible = k.2.possible; ends = k.2.ends; alone = k.2.alone }) (safe_list w) k.3.safe_is
           (λ whole. not_both before.keeper.writer.is_broken (ap (λ (x : WriterView D). x.is_broken) (sym t.rests) ∙ whole) t.was_broken)
           (λ broken. record {
             at_rest = k.3.rest;
@@ -253,10 +252,8 @@ unknowns_are_broken_turns {D} laws w before after t m agree =
 abbrev pub answers_unknown : {D P : Type 0} → (before after : ClerkState D P) → IsBrokenTurn before after → before.keeper.writer.is_broken ≡ true → AnswersUnknown before after
 answers_unknown {D} before after t was = record {
   commands = commands_of 0 t.visits;
-  replies = t.replies;
   desk = t.desk;
-  unknown = t.run.0;
-  answers = answers_of before.seat after.seat t.visits t.replies t.serves;
+  answers = answers_of before.seat after.seat t.visits (unknowns (commands_of 0 t.visits)) t.serves;
   was_broken = was;
   rests = ap (λ (x : KeeperView D). x.writer) t.rests;
 }

@@ -7,6 +7,7 @@ use Rattle.lift_disk.specs.Disk.{Image, DiskState, LeavesOnly}
 use Rattle.lift_disk.specs.lemmas.Moments.{leaves_weaker}
 use Rattle.lift_register.specs.Register.{RegisterState}
 use Rattle.lift_policy.specs.declared.command.Command.{Command}
+use Rattle.lift_policy.specs.Run.{unknowns}
 use Rattle.lift_keeper.specs.Images.{IsInDoubt}
 use Rattle.lift_world.specs.declared.event.Event.{Event}
 use Rattle.lift_world.specs.declared.event.Taken.{Taken}
@@ -83,12 +84,12 @@ module _ {D : Type 0} (laws : Laws) where
           let k = batches_are_turns laws r.world before after t r.shows (agree t.commands) in
           go_on _ _ (λ (xs : List Entry). xs ++ t.decided.batch) (k.1 0) t.same_plan
 
-      failure_run : (t : LeavesInDoubt before after) → IsRunOf base after safe (given ++ with_replies t.commands t.replies)
+      failure_run : (t : LeavesInDoubt before after) → IsRunOf base after safe (given ++ with_replies t.may.commands (unknowns t.may.commands))
       failure_run t =
-          let k = failed_batches_are_failures laws r.world before after t r.shows (agree t.commands) in
+          let k = failed_batches_are_failures laws r.world before after t r.shows (agree t.may.commands) in
           go_on _ _ (λ (xs : List Entry). xs) (k.1 0) t.same_plan
 
-      broken_run : (t : AnswersUnknown before after) → IsRunOf base after safe (given ++ with_replies t.commands t.replies)
+      broken_run : (t : AnswersUnknown before after) → IsRunOf base after safe (given ++ with_replies t.commands (unknowns t.commands))
       broken_run t =
           let k = unknowns_are_broken_turns laws r.world before after t r.shows (agree t.commands) in
           go_on _ _ (λ (xs : List Entry). xs) k.1 (ap (λ x. x.plan) t.rests)

@@ -1,15 +1,17 @@
 -- What a crash at any moment of a running call shows.
 use Rattle.std.proofs.Common.{◌≡◌, inl, inr, Bool, true, false, List, [], ◌++◌, refl, sym, ap, subst, ◌∙◌}
 use Rattle.std.proofs.lemmas.List.{append-nil}
-use Rattle.std.specs.Prelude.{Result, Err}
+use Rattle.std.specs.Prelude.{Result, Ok, Err}
 use Rattle.lift_base.specs.declared.history.Entry.{Entry}
 use Rattle.lift_building.specs.Plan.{Plan}
 use Rattle.lift_disk.specs.Disk.{DiskState, LeavesNow, LeavesOnly}
 use Rattle.lift_register.specs.Register.{RegisterState, register_of}
 use Rattle.lift_policy.specs.Eligible.{Choice}
 use Rattle.lift_policy.specs.Step.{State}
-use Rattle.lift_journal.specs.declared.fault.JournalFault.TheVariants.{Broken}
+use Rattle.lift_policy.specs.Run.{unknowns}
+use Rattle.lift_journal.specs.declared.fault.JournalFault.TheVariants.{Disk}
 use Rattle.lift_keeper.specs.Images.{IsImageOf, IsInDoubt}
+use Rattle.lift_keeper.specs.Commits.{CommitsTo}
 use Rattle.lift_keeper.specs.Keeper.{KeeperView}
 use Rattle.lift_keeper.specs.declared.fault.KeeperFault.{KeeperFault}
 use Rattle.lift_keeper.specs.declared.fault.KeeperFault.TheVariants.{Journal}
@@ -18,9 +20,10 @@ use Rattle.lift_world.specs.Policies.{RunsAreAny}
 use Rattle.lift_world.specs.Turns.{with_replies}
 use Rattle.lift_clerk.specs.declared.counts.Counts.{Counts}
 use Rattle.lift_clerk.specs.Clerk.{ClerkState}
-use Rattle.lift_clerk.specs.Turn.{IsBrokenTurn}
+use Rattle.lift_clerk.specs.Turn.{IsBrokenTurn, entries_in}
 use Rattle.lift_clerk.specs.Visits.{commands_of}
 use Rattle.lift_clerk.specs.Machine.{Turns, Fails}
+use Rattle.lift_clerk.specs.lemmas.Committed.{turns_of, fails_of}
 use Rattle.lift_clerk.specs.Steps.{group_of, MakesSafe, LeavesInDoubt, MayAdd}
 use Rattle.lift_clerk.specs.History.{History, Turned, Failed, TurnedWhileBroken}
 use Rattle.lift_clerk.specs.Keeping.{Keeps, CrashesKeep, LeavesSafe, Advances, AdvancesFrom}
@@ -109,22 +112,22 @@ module _ {D P : Type 0} (state : D → DiskState) (law : CrashesKeep D) (before 
 
   -- the device fails it
   failed_advances : (t : Fails choice before after)
-      → Advances (group_of before) (group_of after) after.keeper.state.batch [] (with_replies (commands_of 0 t.turn.visits) t.turn.replies) first last
+      → Advances (group_of before) (group_of after) after.keeper.state.batch [] (with_replies (commands_of 0 t.turn.visits) (unknowns (commands_of 0 t.turn.visits))) first last
   failed_advances t base safe given h =
       let s : LeavesInDoubt before after = leaves_in_doubt choice any before after t in
-      advances after.keeper.state.batch [] (with_replies (commands_of 0 t.turn.visits) t.turn.replies) base safe given
-      (inr (record { commands = s.commands; replies = s.decided_so; decided = s.decided; apart = s.answers.apart; decides = s.decides; is = refl }))
+      advances after.keeper.state.batch [] (with_replies (commands_of 0 t.turn.visits) (unknowns (commands_of 0 t.turn.visits))) base safe given
+      (inr (record { commands = s.may.commands; replies = s.may.replies; decided = s.may.decided; apart = s.may.apart; decides = s.may.decides; is = refl }))
       (while_whole t.was_whole after.keeper.state.batch t.turn.register) h
       (nothing_more base safe _ (Failed h (grouped_doubt before after s)))
 
   -- it was broken
   broken_advances : before.keeper.writer.is_broken ≡ true → (t : IsBrokenTurn before after)
-      → Advances (group_of before) (group_of after) before.keeper.writer.doubt [] (with_replies (commands_of 0 t.visits) t.replies) first last
+      → Advances (group_of before) (group_of after) before.keeper.writer.doubt [] (with_replies (commands_of 0 t.visits) (unknowns (commands_of 0 t.visits))) first last
   broken_advances is t base safe given h =
-      advances before.keeper.writer.doubt [] (with_replies (commands_of 0 t.visits) t.replies) base safe given (inl refl) (while_broken is) h
+      advances before.keeper.writer.doubt [] (with_replies (commands_of 0 t.visits) (unknowns (commands_of 0 t.visits))) base safe given (inl refl) (while_broken is) h
       (nothing_more base safe _ (TurnedWhileBroken h (grouped_unknown before after (answers_unknown before after t is))))
 
-  pub turn_advances : (result : Result Counts KeeperFault) → (result ≡ Err (Journal Broken) → before.keeper.writer.is_broken ≡ true) → TurnAdvances state choice before after result
-  turn_advances result is batch more told (Safe {counts = counts} t) = safe_advances counts t
-  turn_advances result is batch more told (InDoubt t) = failed_advances t
-  turn_advances result is batch more told (Unknown t) = broken_advances (is refl) t
+  pub turn_advances : (result : Result Counts KeeperFault) → CommitsTo state before.keeper.writer (entries_in result after.keeper) after.keeper.state.register after.keeper.writer result → TurnAdvances state choice before after result
+  turn_advances result commits batch more told (Safe {counts = counts} t) = safe_advances counts (turns_of state choice before after (Ok counts) commits t)
+  turn_advances result commits batch more told (InDoubt t) = failed_advances (fails_of state choice before after (Err (Journal Disk)) commits refl t)
+  turn_advances result commits batch more told (Unknown t) = broken_advances (commits.is.broken.0 refl) t

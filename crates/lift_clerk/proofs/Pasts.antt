@@ -26,6 +26,7 @@ use Rattle.lift_clerk.specs.Answered.{Answers, answer_words, ask_of}
 use Rattle.lift_clerk.specs.Steps.{GroupState, MayAdd}
 use Rattle.lift_clerk.specs.Machine.{IsReached, IsMachineOf, ShowsWords, Follows, WaitsNowhere, waiting_in, Begins, kept_of}
 use Rattle.lift_clerk.specs.Laws.{Laws}
+use Rattle.lift_policy.specs.Run.{unknowns as all_unknown}
 use Rattle.lift_clerk.specs.History.{History, Began, Turned, Failed, TurnedWhileBroken, Reopened, Rested, Cut, BeginsOver}
 use Rattle.lift_clerk.specs.Group.{Terminals, ShowsTerminal, IsGroup, TakesAsks}
 use Rattle.lift_clerk.specs.Past.{IsPastOf, GoesOn, PastsBegin, AsksAreAsks, HearsAreHears, ReadsAreNoEvents, BatchesAreTurns, DoubtsAreFailures, UnknownsAreBroken, ReopeningsAreReopenings}
@@ -177,20 +178,20 @@ module _ {D : Type 0} (laws : Laws) where
 
   doubts : DoubtsAreFailures D
   doubts before after t w terminals safe given p takes =
-      let stand = stood w before after terminals t.commands t.replies p.shows t.answers takes in
-      let k = failed_batches_are_failures laws w before after t p.shows.machine (stand_agree w t.commands stand) in (
+      let stand = stood w before after terminals t.may.commands (all_unknown t.may.commands) p.shows t.answers takes in
+      let k = failed_batches_are_failures laws w before after t p.shows.machine (stand_agree w t.may.commands stand) in (
         k.0,
         λ folds. none_safe w _ _ safe after terminals
-            (follow w _ given _ (λ (xs : List Entry). xs) safe after terminals p.shows.theirs p.safe_is p.given_is (stand_waits w t.commands t.replies stand) (Failed p.history t) (k.1 folds)),
+            (follow w _ given _ (λ (xs : List Entry). xs) safe after terminals p.shows.theirs p.safe_is p.given_is (stand_waits w t.may.commands (all_unknown t.may.commands) stand) (Failed p.history t) (k.1 folds)),
       )
 
   unknowns : UnknownsAreBroken D
   unknowns before after t w terminals safe given p takes =
-      let stand = stood w before after terminals t.commands t.replies p.shows t.answers takes in
+      let stand = stood w before after terminals t.commands (all_unknown t.commands) p.shows t.answers takes in
       let k = unknowns_are_broken_turns laws w before after t p.shows.machine (stand_agree w t.commands stand) in (
         k.0,
         λ folds. none_safe w _ _ safe after terminals
-            (follow w _ given _ (λ (xs : List Entry). xs) safe after terminals p.shows.theirs p.safe_is p.given_is (stand_waits w t.commands t.replies stand) (TurnedWhileBroken p.history t) k.1),
+            (follow w _ given _ (λ (xs : List Entry). xs) safe after terminals p.shows.theirs p.safe_is p.given_is (stand_waits w t.commands (all_unknown t.commands) stand) (TurnedWhileBroken p.history t) k.1),
       )
 
   reopenings : ReopeningsAreReopenings D

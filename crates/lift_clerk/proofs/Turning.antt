@@ -86,18 +86,12 @@ failed_turn desk choice old new seat decided answers seated scans stored in_rang
     let many = many-commands answers commands scans.scanned.terminals in
     record {
       visits = scans.visits;
-      replies = replies_told false answers;
+      decided_so = replies_in answers;
       desk = same_desk;
-      serves = serves_all desk old.seat seat new.seat scans.visits answers false scans.count seated scans.scanned stored in_range;
+      serves = subst (Serves old.seat new.seat scans.visits) (told_unknown answers commands many) (serves_all desk old.seat seat new.seat scans.visits answers false scans.count seated scans.scanned stored in_range);
       begins = nothing_waits old.keeper.state.batch old.keeper.writer.is_broken settled whole;
-      run = (
-        (
-          replies_in answers,
-          subst (Run old.keeper.writer.plan choice old.keeper.state commands (replies_in answers)) (sym same)
-              (run_of choice old.keeper.writer.plan old.keeper.writer.is_broken old.keeper.state decided commands (replies_in answers) whole scans.decides),
-        ),
-        told_unknown answers commands many,
-      );
+      run = subst (Run old.keeper.writer.plan choice old.keeper.state commands (replies_in answers)) (sym same)
+          (run_of choice old.keeper.writer.plan old.keeper.writer.is_broken old.keeper.state decided commands (replies_in answers) whole scans.decides);
       some = subst (λ (s : State). 0 < length s.batch) (sym same) (not_empty decided.batch some);
       doubt = doubt ∙ ap (λ (s : State). s.batch) (sym same);
       register = subst (λ (s : State). s.register ≡ register_of old.keeper.writer.register s.batch) (sym same) register;
@@ -117,10 +111,8 @@ broken_turn desk choice old new seat answers between seated scans stored in_rang
     let rests = rest_of choice old.keeper.writer.plan old.keeper.writer.is_broken old.keeper.state between.state commands (replies_in answers) broken scans.decides in
     record {
       visits = scans.visits;
-      replies = replies_told false answers;
       desk = same_desk;
-      serves = serves_all desk old.seat seat new.seat scans.visits answers false scans.count seated scans.scanned stored in_range;
-      run = (told_unknown answers commands many, ap (λ k. k.state) same ∙ rests);
+      serves = subst (Serves old.seat new.seat scans.visits) (told_unknown answers commands many) (serves_all desk old.seat seat new.seat scans.visits answers false scans.count seated scans.scanned stored in_range);
       rests = same ∙ same_keeper between old.keeper rests writer;
     }
 

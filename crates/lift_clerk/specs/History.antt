@@ -1,11 +1,12 @@
 -- What can have happened to a group, at most, over all its clerks and their parts, faults,
 -- reopenings and power cuts.
-use Rattle.std.specs.Prelude.{◌≡◌, List, [], ◌++◌, All, Contains}
+use Rattle.std.specs.Prelude.{◌≡◌, List, [], ◌++◌, All}
 use Rattle.std.specs.List.{flat_map}
 use Rattle.lift_base.specs.declared.history.Entry.{Entry}
 use Rattle.lift_building.specs.Plan.{Plan, IsBuilding}
 use Rattle.lift_disk.specs.Disk.{Image}
 use Rattle.lift_register.specs.Register.{RegisterState, register_of}
+use Rattle.lift_policy.specs.Run.{unknowns}
 use Rattle.lift_keeper.specs.Images.{IsImageOf, IsInDoubt}
 use Rattle.lift_world.specs.declared.event.Taken.{Taken}
 use Rattle.lift_world.specs.World.{World, safe_list, told_in}
@@ -43,11 +44,12 @@ pub data History {D : Type 0} (base : RegisterState) : GroupState D → List Ent
   -- The device fails it: nothing more is safe, and its commands were answered Unknown.
   Failed : {before after : GroupState D} {safe : List Entry} {given : List Taken}
       → History base before safe given → (t : LeavesInDoubt before after)
-      → History base after safe (given ++ with_replies t.commands t.replies)
+      → History base after safe
+      (given ++ with_replies t.may.commands (unknowns t.may.commands))
   -- So were those that came behind the fault.
   TurnedWhileBroken : {before after : GroupState D} {safe : List Entry} {given : List Taken}
       → History base before safe given → (t : AnswersUnknown before after)
-      → History base after safe (given ++ with_replies t.commands t.replies)
+      → History base after safe (given ++ with_replies t.commands (unknowns t.commands))
   -- A reopening keeps what was safe, or that and the batch in doubt.
   Reopened : {before after : GroupState D} {safe : List Entry} {given : List Taken}
       → History base before safe given → (r : Reopens before after)
@@ -63,18 +65,6 @@ pub data History {D : Type 0} (base : RegisterState) : GroupState D → List Ent
       → (doubt : IsInDoubt before.keeper.writer.plan before.keeper.writer.register batch image)
       → BeginsOver before.keeper.writer.plan image after
       → History base after (kept_of safe batch doubt) given
-
--- The clerk goes on with what has happened to any earlier group of the building, whose power was
--- cut and left this image, at whatever moment that was.
-pub record GoesOnOver {D : Type 0} (plan : Plan) (image : Image)
-    (clerk : GroupState D) : Type 0 where
-  pub begins : BeginsOver plan image clerk
-  pub history : (base : RegisterState) (before : GroupState D) (safe batch : List Entry)
-      (given : List Taken)
-      → History base before safe given → before.keeper.writer.plan ≡ plan
-      → MayAdd before.keeper batch
-      → (doubt : IsInDoubt before.keeper.writer.plan before.keeper.writer.register batch image)
-      → History base clerk (kept_of safe batch doubt) given
 
 -- Some run of the machine over this register leads to a world of this clerk's. No ask waits there, just these entries
 -- are safe, and just these commands were answered.

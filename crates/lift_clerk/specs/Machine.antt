@@ -11,6 +11,7 @@ use Rattle.lift_desk.specs.Spelled.{ask_words}
 use Rattle.lift_desk.specs.Seats.{view_at, clerk_of}
 use Rattle.lift_policy.specs.Eligible.{Choice}
 use Rattle.lift_policy.specs.declared.command.Command.{Command}
+use Rattle.lift_policy.specs.Run.{unknowns}
 use Rattle.lift_decider.specs.Decider.{starting}
 use Rattle.lift_keeper.specs.Keeper.{KeeperView}
 use Rattle.lift_world.specs.declared.event.Event.{Event}
@@ -158,7 +159,8 @@ FailuresAreFailures D P choice =
     × ((folds : ℕ) → Follows w
     (failed_events (commands_of 0 t.turn.visits) letters folds GateWritten
     (length after.keeper.state.batch))
-    (with_replies (commands_of 0 t.turn.visits) t.turn.replies) (safe_list w) after)
+    (with_replies (commands_of 0 t.turn.visits) (unknowns (commands_of 0 t.turn.visits)))
+    (safe_list w) after)
 
 -- A turn of a broken clerk is one of the broken machine.
 abbrev pub BrokenTurnsAreBroken : (D P : Type 0) → Type 0
@@ -168,7 +170,7 @@ BrokenTurnsAreBroken D P =
     → IsMachineOf w before → LooksAgree w (commands_of 0 t.visits)
     → (letters : List (Option ℕ))
     × Follows w (events_while_broken (commands_of 0 t.visits) letters)
-    (with_replies (commands_of 0 t.visits) t.replies) (safe_list w) after
+    (with_replies (commands_of 0 t.visits) (unknowns (commands_of 0 t.visits))) (safe_list w) after
 
 -- what `reopen` gives where it answers Ok, on an honest device
 pub record Reopens {D P : Type 0} (before after : ClerkState D P) : Type 0 where

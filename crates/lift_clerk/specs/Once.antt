@@ -3,6 +3,7 @@ use Rattle.std.specs.Prelude.{◌≡◌, ◌⊎◌, true, List, [], Result, Ok, 
 use Rattle.lift_base.specs.declared.history.Entry.{Entry}
 use Rattle.lift_disk.specs.Disk.{DiskState}
 use Rattle.lift_policy.specs.Eligible.{Choice}
+use Rattle.lift_policy.specs.Run.{unknowns}
 use Rattle.lift_decider.specs.Decider.{starting}
 use Rattle.lift_journal.specs.declared.fault.JournalFault.TheVariants.{Disk, Broken}
 use Rattle.lift_keeper.specs.declared.fault.KeeperFault.{KeeperFault}
@@ -11,22 +12,22 @@ use Rattle.lift_keeper.specs.Commits.{CommitsTo}
 use Rattle.lift_keeper.specs.Recovers.{Recovers}
 use Rattle.lift_clerk.specs.declared.counts.Counts.{Counts}
 use Rattle.lift_clerk.specs.Clerk.{ClerkState}
-use Rattle.lift_clerk.specs.Turn.{IsBrokenTurn, entries_in}
+use Rattle.lift_clerk.specs.Turn.{IsTurn, IsFailedTurn, IsBrokenTurn, entries_in}
 use Rattle.lift_world.specs.declared.event.Taken.{Taken}
 use Rattle.lift_world.specs.Turns.{with_replies}
 use Rattle.lift_clerk.specs.Visits.{commands_of}
 use Rattle.lift_clerk.specs.Steps.{group_of}
-use Rattle.lift_clerk.specs.Machine.{Turns, Fails, Reopens, Stays}
+use Rattle.lift_clerk.specs.Machine.{Reopens, Stays}
 use Rattle.lift_clerk.specs.Keeping.{Advances}
 
 -- A turn of the machine, or one that the device failed, or one while broken.
 pub record TurnsOnce {D P : Type 0} (state : D → DiskState) (choice : Choice)
     (before after : ClerkState D P) (result : Result Counts KeeperFault) : Type 0 where
-  pub turns : IfOk result (Turns choice before after)
-  pub fails : result ≡ Err (Journal Disk) → Fails choice before after
+  pub turns : IfOk result (IsTurn choice before after)
+  pub fails : result ≡ Err (Journal Disk) → IsFailedTurn choice before after
   pub rests : result ≡ Err (Journal Broken) → IsBrokenTurn before after
   -- What its commit leaves, which faults there are, and that a clerk which answers that it is broken
-  -- was broken before.
+  -- was broken before. So it is one of the machine (`turns_of`, `fails_of` of the lemmas).
   pub commits : CommitsTo state before.keeper.writer (entries_in result after.keeper)
       after.keeper.state.register after.keeper.writer result
   pub kept : (after.desk ≡ before.desk) × (after.policy ≡ before.policy)
@@ -50,17 +51,17 @@ pub record ReopensOnce {D P T : Type 0} (state : D → DiskState) (before after 
 pub data TurnAdds {D P : Type 0} (choice : Choice) (before after : ClerkState D P)
     : Result Counts KeeperFault → (batch more : List Entry) → List Taken → Type 0 where
   -- It makes its batch safe, and then gives its replies.
-  Safe : {counts : Counts} → (t : Turns choice before after counts)
-      → TurnAdds choice before after (Ok counts) t.turn.decided.batch t.turn.decided.batch
-      (with_replies (commands_of 0 t.turn.visits) t.turn.replies)
+  Safe : {counts : Counts} → (t : IsTurn choice before after counts)
+      → TurnAdds choice before after (Ok counts) t.decided.batch t.decided.batch
+      (with_replies (commands_of 0 t.visits) t.replies)
   -- The device fails it: its batch is in doubt, and nothing more is safe.
-  InDoubt : (t : Fails choice before after)
+  InDoubt : (t : IsFailedTurn choice before after)
       → TurnAdds choice before after (Err (Journal Disk)) after.keeper.state.batch []
-      (with_replies (commands_of 0 t.turn.visits) t.turn.replies)
+      (with_replies (commands_of 0 t.visits) (unknowns (commands_of 0 t.visits)))
   -- Behind a fault there is what is in doubt.
   Unknown : (t : IsBrokenTurn before after)
       → TurnAdds choice before after (Err (Journal Broken)) before.keeper.writer.doubt []
-      (with_replies (commands_of 0 t.visits) t.replies)
+      (with_replies (commands_of 0 t.visits) (unknowns (commands_of 0 t.visits)))
 
 -- By that the group's history goes on, and what was given is kept.
 abbrev pub TurnAdvances : {D P : Type 0} → (D → DiskState) → Choice → (before after : ClerkState D P)

@@ -9,6 +9,7 @@ use Rattle.lift_disk.specs.Disk.{Image}
 use Rattle.lift_desk.specs.declared.view.TerminalView.{TerminalView}
 use Rattle.lift_desk.specs.declared.words.Ask.{Ask}
 use Rattle.lift_desk.specs.Rule.{no_asks}
+use Rattle.lift_policy.specs.Run.{unknowns}
 use Rattle.lift_policy.specs.Eligible.{Choice}
 use Rattle.lift_keeper.specs.Images.{IsInDoubt}
 use Rattle.lift_keeper.specs.Keeper.{KeeperView}
@@ -113,14 +114,14 @@ BatchesAreTurns D = (before after : GroupState D) (t : MakesSafe before after)
 abbrev pub DoubtsAreFailures : Type 0 → Type 0
 DoubtsAreFailures D = (before after : GroupState D) (t : LeavesInDoubt before after)
     → IsDoneBy before after (λ letters folds.
-    failed_events t.commands letters folds GateWritten (length t.decided.batch)) []
-    (with_replies t.commands t.replies)
+    failed_events t.may.commands letters folds GateWritten (length t.may.decided.batch)) []
+    (with_replies t.may.commands (unknowns t.may.commands))
 
 -- What is answered behind a fault is a turn of the broken machine.
 abbrev pub UnknownsAreBroken : Type 0 → Type 0
 UnknownsAreBroken D = (before after : GroupState D) (t : AnswersUnknown before after)
     → IsDoneBy before after (λ letters folds. events_while_broken t.commands letters) []
-    (with_replies t.commands t.replies)
+    (with_replies t.commands (unknowns t.commands))
 
 -- A reopening is one of the machine, which keeps what the register tells that it kept.
 abbrev pub ReopeningsAreReopenings : Type 0 → Type 0
@@ -212,11 +213,11 @@ FailureGoesOn choice before after = (t : Fails choice before after)
     → IsDoneBy (group_of before) (group_of after) (λ letters folds.
     failed_events (commands_of 0 t.turn.visits) letters folds GateWritten
     (length after.keeper.state.batch)) []
-    (with_replies (commands_of 0 t.turn.visits) t.turn.replies)
+    (with_replies (commands_of 0 t.turn.visits) (unknowns (commands_of 0 t.turn.visits)))
 
 -- And one of a broken clerk.
 abbrev pub BrokenTurnGoesOn : {D P : Type 0} → ClerkState D P → ClerkState D P → Type 0
 BrokenTurnGoesOn before after = (t : IsBrokenTurn before after)
     → IsDoneBy (group_of before) (group_of after)
     (λ letters folds. events_while_broken (commands_of 0 t.visits) letters) []
-    (with_replies (commands_of 0 t.visits) t.replies)
+    (with_replies (commands_of 0 t.visits) (unknowns (commands_of 0 t.visits)))

@@ -47,19 +47,23 @@ pub record MakesSafe {D P : Type 0} (old new : ClerkState D P) : Type 0 where
   pub no_doubt : new.keeper.writer.doubt ≡ []
   pub same_plan : new.keeper.writer.plan ≡ old.keeper.writer.plan
 
--- Commands are decided, and the device fails their batch, which is in doubt. Each is answered
--- Unknown.
-pub record LeavesInDoubt {D P : Type 0} (old new : ClerkState D P) : Type 0 where
+-- The rules accept this batch on what the keeper shows, of commands that may have been asked. Whether
+-- they were is not said: what a crash leaves is shown of all of them.
+pub record MayAccept {D : Type 0} (keeper : KeeperView D) (batch : List Entry) : Type 0 where
   pub commands : List Command
-  pub decided_so : List Reply
   pub replies : List Reply
   pub decided : State
+  pub apart : AreApart commands
+  pub decides : DecidesOn keeper commands replies decided
+  pub is : decided.batch ≡ batch
+
+-- The rules accept a batch of some commands, and the device fails it, so that it is in doubt. Each
+-- command is answered Unknown.
+pub record LeavesInDoubt {D P : Type 0} (old new : ClerkState D P) : Type 0 where
+  pub may : MayAccept old.keeper new.keeper.writer.doubt
   pub desk : new.desk ≡ old.desk
-  pub decides : DecidesOn old.keeper commands decided_so decided
-  pub unknown : replies ≡ unknowns commands
-  pub answers : Answers old.seat new.seat commands replies
-  pub some : 0 < length decided.batch
-  pub doubt : new.keeper.writer.doubt ≡ decided.batch
+  pub answers : Answers old.seat new.seat may.commands (unknowns may.commands)
+  pub some : 0 < length may.decided.batch
   pub breaks : new.keeper.writer.is_broken ≡ true
   pub same_register : new.keeper.writer.register ≡ old.keeper.writer.register
   pub same_plan : new.keeper.writer.plan ≡ old.keeper.writer.plan
@@ -67,10 +71,8 @@ pub record LeavesInDoubt {D P : Type 0} (old new : ClerkState D P) : Type 0 wher
 -- Behind a fault each is answered Unknown, and what is safe or in doubt stays so.
 pub record AnswersUnknown {D P : Type 0} (old new : ClerkState D P) : Type 0 where
   pub commands : List Command
-  pub replies : List Reply
   pub desk : new.desk ≡ old.desk
-  pub unknown : replies ≡ unknowns commands
-  pub answers : Answers old.seat new.seat commands replies
+  pub answers : Answers old.seat new.seat commands (unknowns commands)
   pub was_broken : old.keeper.writer.is_broken ≡ true
   pub rests : new.keeper.writer ≡ old.keeper.writer
 
@@ -86,16 +88,6 @@ pub record Rests {D P : Type 0} (old new : ClerkState D P) : Type 0 where
   pub plan : new.keeper.writer.plan ≡ old.keeper.writer.plan
   pub broken : (new.keeper.writer.is_broken ≡ true)
       ⊎ (new.keeper.writer.is_broken ≡ old.keeper.writer.is_broken)
-
--- The rules accept this batch on what the keeper shows, of commands that may have been asked. Whether
--- they were is not said: what a crash leaves is shown of all of them.
-pub record MayAccept {D : Type 0} (keeper : KeeperView D) (batch : List Entry) : Type 0 where
-  pub commands : List Command
-  pub replies : List Reply
-  pub decided : State
-  pub apart : AreApart commands
-  pub decides : DecidesOn keeper commands replies decided
-  pub is : decided.batch ≡ batch
 
 -- At most this batch is on its way to the device: the one in doubt, or one that the rules accept of
 -- commands that may have been asked.

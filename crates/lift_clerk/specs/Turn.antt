@@ -4,7 +4,7 @@ use Rattle.lift_base.specs.declared.command.Reply.{Reply}
 use Rattle.lift_register.specs.Register.{register_of}
 use Rattle.lift_policy.specs.Eligible.{Choice}
 use Rattle.lift_policy.specs.Step.{State}
-use Rattle.lift_policy.specs.Run.{Run, FailedRun, RunWhileBroken}
+use Rattle.lift_policy.specs.Run.{Run, unknowns}
 use Rattle.lift_keeper.specs.declared.fault.KeeperFault.{KeeperFault}
 use Rattle.lift_keeper.specs.Keeper.{KeeperView}
 use Rattle.lift_clerk.specs.declared.counts.Counts.{Counts}
@@ -36,12 +36,12 @@ pub record IsTurn {D P : Type 0} (choice : Choice) (old new : ClerkState D P)
 -- answered Unknown. The batch is not empty, and in doubt.
 pub record IsFailedTurn {D P : Type 0} (choice : Choice) (old new : ClerkState D P) : Type 0 where
   pub visits : List Visit
-  pub replies : List Reply
+  pub decided_so : List Reply
   pub desk : new.desk ≡ old.desk
-  pub serves : Serves old.seat new.seat visits replies
+  pub serves : Serves old.seat new.seat visits (unknowns (commands_of 0 visits))
   pub begins : old.keeper.state.batch ≡ []
-  pub run : FailedRun old.keeper.writer.plan choice old.keeper.state
-      (commands_of 0 visits) replies new.keeper.state
+  pub run : Run old.keeper.writer.plan choice old.keeper.state
+      (commands_of 0 visits) decided_so new.keeper.state
   pub some : 0 < length new.keeper.state.batch
   pub doubt : new.keeper.writer.doubt ≡ new.keeper.state.batch
   pub register : new.keeper.state.register
@@ -51,10 +51,8 @@ pub record IsFailedTurn {D P : Type 0} (choice : Choice) (old new : ClerkState D
 -- changes.
 pub record IsBrokenTurn {D P : Type 0} (old new : ClerkState D P) : Type 0 where
   pub visits : List Visit
-  pub replies : List Reply
   pub desk : new.desk ≡ old.desk
-  pub serves : Serves old.seat new.seat visits replies
-  pub run : RunWhileBroken old.keeper.state (commands_of 0 visits) replies new.keeper.state
+  pub serves : Serves old.seat new.seat visits (unknowns (commands_of 0 visits))
   pub rests : new.keeper ≡ old.keeper
 
 -- how many entries a turn's batch had: all are safe, or all are in doubt

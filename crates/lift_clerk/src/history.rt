@@ -1,23 +1,22 @@
 //! What every history of a group leads to, and what every crash then shows.
 
-ghost use Rattle.std.specs.Prelude.{◌≡◌, false, List, [], IfOk, IfErr};
+ghost use Rattle.std.specs.Prelude.{◌≡◌, false, List, []};
 ghost use Rattle.lift_base.specs.declared.history.Entry.{Entry};
-ghost use Rattle.lift_disk.specs.Disk.{MayLeave, LeavesNow};
+ghost use Rattle.lift_disk.specs.Disk.{Image, LeavesNow};
 ghost use Rattle.lift_register.specs.Register.{RegisterState};
 ghost use Rattle.lift_desk.specs.Seats.{IsClerkOf, OwesNothing, clerk_of};
 ghost use Rattle.lift_decider.specs.Decider.{starting};
-ghost use Rattle.lift_keeper.specs.Prelude.{Opens, RefusesReopening, OpensByCalls, RefusedCalls};
+ghost use Rattle.lift_keeper.specs.Images.{IsImageOf};
 ghost use Rattle.lift_keeper.specs.Prelude.{ReopeningCalls};
 ghost use Rattle.lift_world.specs.declared.event.Taken.{Taken};
 ghost use Rattle.lift_clerk.specs.Steps.{group_of};
 ghost use Rattle.lift_clerk.specs.Once.{TurnsOnce, TurnAdvances, ReopensOnce};
-ghost use Rattle.lift_clerk.specs.History.{History, HistoriesAreRuns, GoesOnOver};
+ghost use Rattle.lift_clerk.specs.History.{History, HistoriesAreRuns, BeginsOver};
 ghost use Rattle.lift_clerk.specs.Keeping.{Keeps, KeepsNow, CrashesKeep, MomentsStand, MomentsKeep};
 
 use crate::clerk::Clerk;
 use crate::counts::Counts;
 use crate::machine::{laws, reopen_once, turn_once};
-use lift_building::Building;
 use lift_desk::{ClerkSeat, Desk};
 use lift_disk::Disk;
 use lift_keeper::{Keeper, KeeperFault};
@@ -38,45 +37,38 @@ pub fn histories_are_runs<D: Disk>()
     laws();
 }
 
-/// A clerk at a new desk, over a device that a crash may have left: the recovery. It writes
-/// nothing. Over whatever register the journal holds a history begins; where its image is one that a
-/// crash of an earlier clerk left, that clerk's goes on.
-///
-/// An `Err` is that of `Keeper::open`, and hands the device back.
+/// A clerk at a new desk, over a keeper that has just opened (`Keeper::open`, the recovery, which says
+/// of a refusal too what it was and which calls were made). It calls the device no more. Over
+/// whatever register the journal holds a history begins; where its image is one that a crash of an
+/// earlier clerk left, that clerk's goes on.
 pub fn begin_over<'d, 'b, D: Disk, P: Policy + Drop>(
     desk: &'d Desk,
     seat: ClerkSeat,
-    disk: D,
-    building: &'b Building,
+    keeper: Keeper<'b, D>,
     policy: P,
-) -> Result<Clerk<'d, 'b, D, P>, (D, KeeperFault)>
+) -> Clerk<'d, 'b, D, P>
     requires seated { IsClerkOf desk.now seat }
     requires answered { OwesNothing seat }
     requires unused { seat ≡ clerk_of desk.now }
-    ensures parts { IfOk result (λ clerk. (clerk.desk ≡ desk.now) × (clerk.seat ≡ seat)
-        × (clerk.policy ≡ policy)) }
-    // Of the keeper nothing is in doubt, no car has told where it is, and nothing is in the batch.
-    ensures opens { IfOk result (λ clerk.
-        Opens D.state building.now (D.state disk) clerk.keeper.writer) }
-    ensures state { IfOk result (λ clerk.
-        clerk.keeper.state ≡ starting clerk.keeper.writer.register) }
-    ensures first { IfOk result (λ clerk.
-        History clerk.keeper.writer.register (group_of clerk) [] []) }
-    ensures again { IfOk result (λ clerk. (D.state disk).is_honest
-        → GoesOnOver building.now (D.state clerk.keeper.writer.device).image
-        (group_of clerk)) }
-    ensures seen { IfOk result (λ clerk. (D.state disk).is_honest
-        → MayLeave (D.state disk) (D.state clerk.keeper.writer.device).image) }
-    ensures refused { IfErr result (λ err.
-        RefusesReopening building.now (D.state disk) (D.state err.0) err.1) }
-    // The opening of its journal, and no other call; where it is refused, as far as that came.
-    ensures calls { IfOk result (λ clerk. OpensByCalls D.state (D.state disk) clerk.keeper.writer) }
-    ensures calls_before { IfErr result (λ err.
-        RefusedCalls (D.state disk) (D.state err.0) err.1) }
+    // As `Keeper::open` hands it up, and `Keeper::reopen`.
+    requires opened { keeper.state ≡ starting keeper.writer.register }
+    requires whole { (keeper.writer.is_broken ≡ false) × (keeper.writer.doubt ≡ []) }
+    ensures parts { result ≡ record {
+      desk = desk.now;
+      seat = seat;
+      keeper = keeper.entry;
+      policy = policy;
+    } }
+    ensures first { History result.keeper.writer.register (group_of result) [] [] }
+    // An image that reads as the keeper's register and as no other, as that of the device does.
+    ensures again { (left : Image)
+        → IsImageOf keeper.entry.writer.plan keeper.entry.writer.register left
+        → ((other : RegisterState) → IsImageOf keeper.entry.writer.plan other left
+        → other ≡ keeper.entry.writer.register)
+        → BeginsOver keeper.entry.writer.plan left (group_of result) }
 {
-    let keeper = Keeper::open(disk, building)?;
     let _shown = keeper.register();
-    Ok(Clerk::new(desk, seat, keeper, policy))
+    Clerk::new(desk, seat, keeper, policy)
 }
 
 /// Whatever has happened by now, each image that a crash now may leave keeps it: it shows each letter

@@ -334,16 +334,10 @@ module _ {D : Type 0} (state : D → DiskState) (crashes : CrashesKeep D) (law :
       leaves_in_doubt whole e =
           let is_disk : Err fault ≡ Err (Journal Disk) = ap (λ (x : KeeperFault). Err x) e in
           record {
-            commands = cs;
-            decided_so = replies_in batch.commands;
-            replies = replies_of false batch.commands;
-            decided = decided batch;
+            may = record { commands = cs; replies = replies_in batch.commands; decided = decided batch; apart = t.apart; decides = decides (Err fault) t whole; is = sym (t.fails is_disk).0 };
             desk = same_desk;
-            decides = decides (Err fault) t whole;
-            unknown = refl;
             answers = answers (Err fault) t false refl;
             some = some_long batch.entries (t.fails is_disk).1;
-            doubt = (t.fails is_disk).0;
             breaks = c.is.breaks;
             same_register = c.is.unmoved;
             same_plan = c.is.same.0;
@@ -352,9 +346,7 @@ module _ {D : Type 0} (state : D → DiskState) (crashes : CrashesKeep D) (law :
       abbrev answers_unknown : f.writer.is_broken ≡ true → AnswersUnknown (group_behind f) (group_behind g)
       answers_unknown broken = record {
         commands = cs;
-        replies = replies_of false batch.commands;
         desk = same_desk;
-        unknown = refl;
         answers = answers (Err fault) t false refl;
         was_broken = broken;
         rests = c.is.rests broken;

@@ -292,10 +292,10 @@ module _ (computed : StepsAreDecisions IsEtdChoice etd_pick) (plan : Plan) (g : 
   was_stopped : (s : Option Stopped) → Stands s plan g old.keeper → IsFailedTurn IsEtdChoice old now → WasStopped old now → outcome.head ≡ fault_text (codes "turn") 1 → Result s
   was_stopped (Some s) stands turn stop head = absurd (is_broken_not old.keeper.writer.is_broken stands.0 stop.was_whole)
   was_stopped None stands turn stop head =
-      let takes = takes_all g.terminals seats outcome.told after old.seat now.seat new.seat turn.visits turn.replies outcome.heard shows.terminals turn.serves outcome.knows outcome.hear in
-      let run = subst (λ cs. Run old.keeper.writer.plan IsEtdChoice old.keeper.state cs turn.run.0.0 now.keeper.state) takes.commands turn.run.0.1 in
-      let run_here = subst (λ (p : Plan). Run p IsEtdChoice old.keeper.state (commands_of g) turn.run.0.0 now.keeper.state) shows.keeper.same_plan run in
-      let is = run_is computed plan (beginning g) (commands_of g) turn.run.0.0 now.keeper.state (subst (λ s. Run plan IsEtdChoice s (commands_of g) turn.run.0.0 now.keeper.state) stands.1 run_here) in
+      let takes = takes_all g.terminals seats outcome.told after old.seat now.seat new.seat turn.visits (unknowns (commands_at 0 turn.visits)) outcome.heard shows.terminals turn.serves outcome.knows outcome.hear in
+      let run = subst (λ cs. Run old.keeper.writer.plan IsEtdChoice old.keeper.state cs turn.decided_so now.keeper.state) takes.commands turn.run in
+      let run_here = subst (λ (p : Plan). Run p IsEtdChoice old.keeper.state (commands_of g) turn.decided_so now.keeper.state) shows.keeper.same_plan run in
+      let is = run_is computed plan (beginning g) (commands_of g) turn.decided_so now.keeper.state (subst (λ s. Run plan IsEtdChoice s (commands_of g) turn.decided_so now.keeper.state) stands.1 run_here) in
       let batch : now.keeper.state.batch ≡ (decided plan g).batch = ap (λ (s : State). s.batch) is.1 in
       let doubt : now.keeper.writer.doubt ≡ (decided plan g).batch = turn.doubt ∙ batch in
       let need : (device_of now).calls ≤ (device_of old).calls + calls_for g (decided plan g) =
@@ -323,7 +323,7 @@ module _ (computed : StepsAreDecisions IsEtdChoice etd_pick) (plan : Plan) (g : 
       } in
       let told : text ≡ commit_text false plan g (decided plan g) =
       outcome.shown ∙ ap (λ l. l ++ outcome.heard) head
-      ∙ ap (λ l. fault_text (codes "turn") 1 ++ l) (takes.text ∙ ap (answers_text (commands_of g)) (turn.run.1 ∙ ap unknowns takes.commands)) in (
+      ∙ ap (λ l. fault_text (codes "turn") 1 ++ l) (takes.text ∙ ap (answers_text (commands_of g)) (ap unknowns takes.commands)) in (
         told ∙ ap (λ b. commit_text b plan g (decided plan g)) (sym fuse.stopped),
         subst (λ b. IsKept plan (after_commit b g (decided plan g)) now.keeper) (sym fuse.stopped) kept,
         subst (λ b. AreInStep (after_commit b g (decided plan g)).terminals after new.seat) (sym fuse.stopped) takes.in_step,
@@ -332,14 +332,14 @@ module _ (computed : StepsAreDecisions IsEtdChoice etd_pick) (plan : Plan) (g : 
   was_broken : (s : Option Stopped) → Stands s plan g old.keeper → old.keeper.writer.is_broken ≡ true → IsBrokenTurn old now → outcome.head ≡ fault_text (codes "turn") 5 → g.stopped ≡ s → Result s
   was_broken None stands broken turn head is = absurd (is_broken_not old.keeper.writer.is_broken broken stands.0)
   was_broken (Some s) stands broken turn head is =
-      let takes = takes_all g.terminals seats outcome.told after old.seat now.seat new.seat turn.visits turn.replies outcome.heard shows.terminals turn.serves outcome.knows outcome.hear in
+      let takes = takes_all g.terminals seats outcome.told after old.seat now.seat new.seat turn.visits (unknowns (commands_at 0 turn.visits)) outcome.heard shows.terminals turn.serves outcome.knows outcome.hear in
       let kept : IsKept plan (record g { terminals = having_heard g.terminals }) old.keeper = record {
         same_plan = shows.keeper.same_plan;
         half_is = shows.keeper.half_is;
         register = shows.keeper.register;
         stands = with_terminals plan g old.keeper (having_heard g.terminals) g.stopped shows.keeper.stands;
       } in (
-        outcome.shown ∙ ap (λ l. l ++ outcome.heard) head ∙ ap (λ l. fault_text (codes "turn") 5 ++ l) (takes.text ∙ ap (answers_text (commands_of g)) (turn.run.0 ∙ ap unknowns takes.commands)),
+        outcome.shown ∙ ap (λ l. l ++ outcome.heard) head ∙ ap (λ l. fault_text (codes "turn") 5 ++ l) (takes.text ∙ ap (answers_text (commands_of g)) (ap unknowns takes.commands)),
         subst (IsKept plan (record g { terminals = having_heard g.terminals })) (sym turn.rests) kept,
         takes.in_step,
       )

@@ -30,14 +30,23 @@ moment_of state old count register new result c whole batch same =
 
 -- what a turn's contract gives of the machine's turns
 module _ {D P : Type 0} (state : D → DiskState) (choice : Choice) (before after : ClerkState D P) where
-  pub turns_of : (result : Result Counts KeeperFault)
-      → CommitsTo state before.keeper.writer (entries_in result after.keeper)
+  abbrev pub Committed : Result Counts KeeperFault → Type 0
+  Committed result = CommitsTo state before.keeper.writer (entries_in result after.keeper)
       after.keeper.state.register after.keeper.writer result
+
+  abbrev pub the_answer : Result Counts KeeperFault → Result Counts KeeperFault
+  the_answer result = result
+
+  pub safe_was_whole : (counts : Counts) → Committed (Ok counts) → before.keeper.writer.is_broken ≡ false
+  safe_was_whole counts c =
+      whole_before state before.keeper.writer c.batch after.keeper.writer (Ok counts) c.is
+      (λ is. absurd (cc))
+
+  abbrev pub turns_of : (result : Result Counts KeeperFault) → Committed result
       → IfOk result (IsTurn choice before after) → IfOk result (Turns choice before after)
   turns_of (Ok counts) c turn = record {
     turn = turn;
-    was_whole = whole_before state before.keeper.writer c.batch after.keeper.writer (Ok counts) c.is
-        (λ is. absurd (cc));
+    was_whole = safe_was_whole counts c;
     is_whole = c.is.stays.0;
     no_doubt = c.is.stays.1;
     safe = safe_register state before.keeper.writer counts.accepted after.keeper.state.register
@@ -46,15 +55,21 @@ module _ {D P : Type 0} (state : D → DiskState) (choice : Choice) (before afte
   }
   turns_of (Err fault) c turn = tt
 
-  pub fails_of : (result : Result Counts KeeperFault)
-      → CommitsTo state before.keeper.writer (entries_in result after.keeper)
-      after.keeper.state.register after.keeper.writer result
+  pub failed_was_whole : (fault : KeeperFault) → Committed (Err fault) → the_answer (Err fault) ≡ Err (Journal Disk)
+      → before.keeper.writer.is_broken ≡ false
+  failed_was_whole fault c is =
+      whole_before state before.keeper.writer c.batch after.keeper.writer (Err fault) c.is
+      (λ other. absurd (cc))
+
+  pub never_failed : (counts : Counts) → the_answer (Ok counts) ≡ Err (Journal Disk) → Fails choice before after
+  never_failed counts is = absurd (cc)
+
+  abbrev pub fails_of : (result : Result Counts KeeperFault) → Committed result
       → result ≡ Err (Journal Disk) → IsFailedTurn choice before after → Fails choice before after
-  fails_of (Ok counts) c is turn = absurd (cc)
+  fails_of (Ok counts) c is turn = never_failed counts is
   fails_of (Err fault) c is turn = record {
     turn = turn;
-    was_whole = whole_before state before.keeper.writer c.batch after.keeper.writer (Err fault) c.is
-        (λ other. absurd (cc));
+    was_whole = failed_was_whole fault c is;
     breaks = c.is.breaks;
     same_register = c.is.unmoved;
     same_plan = c.is.same.0;

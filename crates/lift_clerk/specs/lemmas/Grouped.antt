@@ -26,16 +26,10 @@ module _ {D P : Type 0} (before after : ClerkState D P) where
   abbrev pub grouped_doubt : LeavesInDoubt before after
       → LeavesInDoubt (group_of before) (group_of after)
   grouped_doubt t = record {
-    commands = t.commands;
-    decided_so = t.decided_so;
-    replies = t.replies;
-    decided = t.decided;
+    may = t.may;
     desk = t.desk;
-    decides = t.decides;
-    unknown = t.unknown;
     answers = t.answers;
     some = t.some;
-    doubt = t.doubt;
     breaks = t.breaks;
     same_register = t.same_register;
     same_plan = t.same_plan;
@@ -45,9 +39,7 @@ module _ {D P : Type 0} (before after : ClerkState D P) where
       → AnswersUnknown (group_of before) (group_of after)
   grouped_unknown t = record {
     commands = t.commands;
-    replies = t.replies;
     desk = t.desk;
-    unknown = t.unknown;
     answers = t.answers;
     was_broken = t.was_broken;
     rests = t.rests;

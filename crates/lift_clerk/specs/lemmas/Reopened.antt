@@ -6,9 +6,8 @@ use Rattle.std.specs.Prelude.{IsTrue, filter, option_and_then, count_by}
 use Rattle.std.proofs.lemmas.List.{append-nil}
 use Rattle.atomic_table.specs.Seated.{TableId}
 use Rattle.lift_base.specs.declared.history.Entry.{Entry}
-use Rattle.lift_register.specs.Register.{RegisterState, register_of, empty}
+use Rattle.lift_register.specs.Register.{RegisterState, register_of}
 use Rattle.lift_register.specs.Joins.{RegistersJoin}
-use Rattle.lift_register.specs.Register as Registers
 use Rattle.lift_desk.specs.declared.view.ClerkView.{ClerkView}
 use Rattle.lift_desk.specs.Rule.{no_answers}
 use Rattle.lift_desk.specs.Seats.{ClerkPlace, view_at, clerk_of}

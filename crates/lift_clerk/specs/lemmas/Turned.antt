@@ -8,7 +8,7 @@ use Rattle.std.proofs.lemmas.List.{append-nil}
 use Rattle.lift_base.specs.declared.command.Reply.{Reply}
 use Rattle.lift_base.specs.declared.history.Entry.{Entry}
 use Rattle.lift_base.specs.declared.travel.Position.{Position}
-use Rattle.lift_register.specs.Register.{RegisterState, register_of, empty}
+use Rattle.lift_register.specs.Register.{RegisterState, register_of}
 use Rattle.lift_register.specs.Joins.{RegistersJoin}
 use Rattle.lift_desk.specs.Seats.{view_at}
 use Rattle.lift_policy.specs.Eligible.{Choice, any_eligible}

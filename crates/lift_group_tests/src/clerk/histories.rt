@@ -12,7 +12,7 @@ use lift_clerk::{
 };
 use lift_desk::{ClerkSeat, Desk, DeskParts};
 use lift_disk::{MemDisk, Outcome};
-use lift_keeper::KeeperFault;
+use lift_keeper::{Keeper, KeeperFault};
 use lift_policy::Etd;
 use std::alloc::Global;
 use std::process::Abort;
@@ -28,9 +28,8 @@ fn begun<'d, 'b>(
     requires owes { OwesNothing seat }
     requires unused { seat ≡ new_seats desk.now }
 {
-    begin_over(desk, seat, disk, building, Etd)
-        .ok()
-        .expect(rt, "refused")
+    let keeper = Keeper::open(disk, building).ok().expect(rt, "refused");
+    begin_over(desk, seat, keeper, Etd)
 }
 
 fn turns(clerk: &mut Clerk<MemDisk, Etd>) -> bool {

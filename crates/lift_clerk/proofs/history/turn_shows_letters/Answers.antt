@@ -19,4 +19,4 @@ returns-clause-advances g c =
     (safe_of state c.keeper.result.now own c.safe_register-safe.result.now c.keeper.ensures.value c.safe_register-safe.ensures.value c.safe_register-safe.ensures.safe)
     (in_doubt_of state c.keeper.result.now own c.safe_register-safe.result.now c.keeper.ensures.value c.safe_register-safe.ensures.value c.safe_register-safe.ensures.in_doubt)
     own.writer.is_broken refl)
-    result commits.is.broken.0
+    result commits
