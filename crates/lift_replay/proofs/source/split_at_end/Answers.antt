@@ -3,7 +3,6 @@ use Rattle.std.proofs.lemmas.Bool.{eqb-true, eq-eqb}
 use Rattle.std.proofs.lemmas.Grind.{common_steps}
 use Rattle.std.proofs.lemmas.List.{get_or-take, get_or_default}
 use Rattle.std.proofs.lemmas.Str.{lead_after_ascii}
-use Rattle.memchr.specs.Find.{NoneBefore}
 use Rattle.lift_replay.proofs.source.split_at_end.Goals as goal
 
 pub range_from-requires : goal.range_from-requires
