@@ -1,10 +1,11 @@
 /* Clients that ask and wait for the answer, all in one thread, for tools/bench/serve.
 
-   bench-load PORT lift KIOSKS CARS SECONDS FLOORS    kiosks call, cars go where they are sent; prints two rows, letters and stops
+   bench-load PORT lift KIOSKS CARS SECONDS FLOORS    kiosks call, cars go where they are sent; prints three rows: both, letters, stops
+   bench-load PORT alone KIOSKS CARS SECONDS FLOORS   the cars tell where they are and ask no more: ends once all are full; prints letters
    bench-load PORT redis CLIENTS SECONDS              clients set a key each; prints one row
    bench-load PORT greet COUNT KIOSKS                 connections one after another, each greeted; prints nothing
 
-   A row: how many answers, how many refusals among the rest, p50 and p99 of the waiting times in microseconds.
+   A row: how many answers, how many refusals among the rest, p50 and p99 of the waiting times in microseconds, and the seconds it took.
    An answer that is none of those that may come ends it with status 1. */
 #define _GNU_SOURCE
 #include <arpa/inet.h>
@@ -19,7 +20,7 @@
 #include <unistd.h>
 
 enum { IDLE_US = 10000, MOST = 1 << 24 };
-enum role { KIOSK, CAR, SETTER };
+enum role { KIOSK, CAR, SETTER, BOTH };
 
 struct client {
     int socket;
@@ -38,8 +39,8 @@ struct row {
     size_t count, refused;
 };
 
-static struct row rows[3];
-static int floors = 1;
+static struct row rows[4];
+static int floors = 1, is_alone, is_over;
 
 static double now(void) {
     struct timespec time;
@@ -73,9 +74,13 @@ static void greeted(int handle, char *line, size_t room) {
     if (strncmp(line, "READY ", 6) != 0) fail("a greeting:", line);
 }
 
-static void record(enum role role, double took) {
-    struct row *row = &rows[role];
+static void keep(struct row *row, double took) {
     if (row->count < MOST) row->delays[row->count++] = took;
+}
+
+static void record(enum role role, double took) {
+    keep(&rows[role], took);
+    if (role != SETTER) keep(&rows[BOTH], took);
 }
 
 static void ask(struct client *client) {
@@ -107,7 +112,7 @@ static void go_on(struct client *car, const char *line, double time) {
         car->up = way[0] == 'u';
         ask(car);
     } else if (strcmp(line, "IDLE") == 0) {
-        car->wakes = time + IDLE_US;
+        car->wakes = is_alone ? 0 : time + IDLE_US;
     } else {
         fail("a car's answer:", line);
     }
@@ -124,6 +129,7 @@ static void answered(struct client *client, const char *line) {
         client->number++;
     } else if (client->role == KIOSK && strcmp(line, "NO 3") == 0) {
         rows[KIOSK].refused++;
+        is_over = is_alone && rows[KIOSK].count > 0;
         client->wakes = time + IDLE_US;
         return;
     } else {
@@ -156,18 +162,21 @@ static void begin(struct client *client, int epoll, int port, enum role role, in
     epoll_ctl(epoll, EPOLL_CTL_ADD, client->socket, &event);
 }
 
-static void run(struct client *clients, int count, int epoll, double seconds) {
+/* The answer is how many seconds it took. */
+static double run(struct client *clients, int count, int epoll, double seconds) {
     struct epoll_event events[64];
-    double end = now() + seconds * 1e6;
+    double start = now(), end = start + seconds * 1e6;
     for (int i = 0; i < count; i++) ask(&clients[i]);
-    for (double time = now(); time < end; time = now()) {
+    for (double time = now(); time < end && !is_over; time = now()) {
         int ready = epoll_wait(epoll, events, 64, 1);
         for (int i = 0; i < ready; i++) hear(events[i].data.ptr);
         time = now();
         for (int i = 0; i < count; i++)
             if (clients[i].wakes && clients[i].wakes <= time) ask(&clients[i]);
     }
+    double took = (now() - start) / 1e6;
     for (int i = 0; i < count; i++) close(clients[i].socket);
+    return took;
 }
 
 static int is_above(const void *a, const void *b) {
@@ -175,11 +184,11 @@ static int is_above(const void *a, const void *b) {
     return (x > y) - (x < y);
 }
 
-static void print(enum role role) {
+static void print(enum role role, double took) {
     struct row *row = &rows[role];
     qsort(row->delays, row->count, sizeof *row->delays, is_above);
-    printf("%zu %zu %.1f %.1f\n", row->count, row->refused, row->count ? row->delays[row->count / 2] : 0,
-           row->count ? row->delays[row->count * 99 / 100] : 0);
+    printf("%zu %zu %.1f %.1f %.3f\n", row->count, row->refused, row->count ? row->delays[row->count / 2] : 0,
+           row->count ? row->delays[row->count * 99 / 100] : 0, took);
 }
 
 static void greet(int port, int count, int kiosks) {
@@ -196,23 +205,25 @@ static void greet(int port, int count, int kiosks) {
 }
 
 int main(int count, char **words) {
-    if (count < 5) fail("words:", "PORT lift|redis|greet ..");
+    if (count < 5) fail("words:", "PORT lift|alone|redis|greet ..");
     int port = atoi(words[1]), first = atoi(words[3]);
     if (strcmp(words[2], "greet") == 0) {
         greet(port, first, atoi(words[4]));
         return 0;
     }
-    int is_lift = strcmp(words[2], "lift") == 0, cars = is_lift ? atoi(words[4]) : 0, epoll = epoll_create1(0);
+    is_alone = strcmp(words[2], "alone") == 0;
+    int is_lift = is_alone || strcmp(words[2], "lift") == 0, cars = is_lift ? atoi(words[4]) : 0, epoll = epoll_create1(0);
     if (is_lift) {
-        if (count < 7) fail("words:", "PORT lift KIOSKS CARS SECONDS FLOORS");
+        if (count < 7) fail("words:", "PORT lift|alone KIOSKS CARS SECONDS FLOORS");
         floors = atoi(words[6]);
     }
     struct client *clients = calloc(first + cars, sizeof *clients);
-    for (int i = 0; i < 3; i++) rows[i].delays = malloc(MOST * sizeof(float));
+    for (int i = 0; i < 4; i++) rows[i].delays = malloc(MOST * sizeof(float));
     for (int i = 0; i < cars; i++) begin(&clients[i], epoll, port, CAR, i);
     for (int i = 0; i < first; i++) begin(&clients[cars + i], epoll, port, is_lift ? KIOSK : SETTER, i);
-    run(clients, first + cars, epoll, atof(words[is_lift ? 5 : 4]));
-    print(is_lift ? KIOSK : SETTER);
-    if (is_lift) print(CAR);
+    double took = run(clients, first + cars, epoll, atof(words[is_lift ? 5 : 4]));
+    if (is_lift && !is_alone) print(BOTH, took);
+    print(is_lift ? KIOSK : SETTER, took);
+    if (is_lift && !is_alone) print(CAR, took);
     return 0;
 }

@@ -19,12 +19,14 @@ pub enum InputFault {
     Memory(NoMemory),
 }
 
-const CHUNK: usize = 4096;
+/// A call of the reader is for so many bytes at most.
+const CHUNK: usize = 16_384;
 
 /// One call of the reader, which adds what it gives to the bytes, as long as these are no more than
 /// `most` and one. The answer is whether anything came.
 fn read_some<R: Read + Drop>(
     input: &mut Counted<R>,
+    buffer: &mut [u8; CHUNK],
     bytes: &mut Vec<u8>,
     most: usize,
 ) -> Result<bool, InputFault>
@@ -47,7 +49,6 @@ fn read_some<R: Read + Drop>(
     ensures refused { result ≡ Err (InputFault.Memory tt) → input.new.failed ≡ input.old.failed }
     ensures bound { OnOk result (vec_len bytes.new ≤ most + 1) }
 {
-    let mut buffer = [0u8; CHUNK];
     let room = CHUNK.min(most - bytes.len() + 1);
     let part = &mut buffer[..room];
     match input.read(part) {
@@ -90,9 +91,10 @@ pub fn read_all<R: Read + Drop>(
         → (input.new.failed ≡ true) ⊎ ((input.new.calls ≡ calls) × (input.new.ended ≡ false)) }
     ensures refused { result ≡ Err (InputFault.Memory tt) → input.new.failed ≡ false }
 {
+    let mut buffer = [0u8; CHUNK];
     let mut bytes = Vec::new(alloc);
     for _ in 0..calls {
-        if !read_some(input, &mut bytes, most)? || bytes.len() > most {
+        if !read_some(input, &mut buffer, &mut bytes, most)? || bytes.len() > most {
             return Ok(bytes);
         }
     }

@@ -1,13 +1,23 @@
 //! The text of a script: its building, and its lines.
 
-ghost use Rattle.std.specs.Prelude.{◌≡◌, ◌<◌, ◌≤◌, ◌+◌, ◌^◌, ◌∷◌, [], length, string_bytes, IfSome};
-ghost use Rattle.std.specs.Prelude.{IfNone, IfOk};
+ghost use Rattle.std.specs.Prelude.{◌≡◌, ◌≢◌, ◌<◌, ◌≤◌, ◌+◌, ◌^◌, ◌∷◌, ◌++◌, [], All, length};
+ghost use Rattle.std.specs.Prelude.{string_bytes, IfSome, IfNone, IfOk};
 ghost use Rattle.std.specs.Str.Lines.{lines};
 ghost use Rattle.lift_replay.specs.Source.{IsScript, LacksDivider};
 
 use crate::refused::{NoMemory, add, add_char};
-use lift_base::text::split_at_byte;
+use memchr::memchr;
 use std::alloc::Global;
+
+/// The text before the first line feed and the text behind it, none where there is no line feed.
+fn split_at_end(text: &str) -> Option<(&str, &str)>
+    ensures cut { IfSome result (λ parts. text.now ≡ parts.0.now ++ 10 ∷ parts.1.now) }
+    ensures first { IfSome result (λ parts. All (λ other. other ≢ 10) parts.0.now) }
+    ensures none { IfNone result (All (λ other. other ≢ 10) text.now) }
+{
+    let place = memchr(b'\n', text.as_bytes())?;
+    Some((&text[..place], &text[place + 1..]))
+}
 
 /// A line without its end (a line feed, with a carriage return before it or none), and what stands
 /// behind it; none where the text is at its end. The last line may lack its end.
@@ -19,7 +29,7 @@ fn next_line(text: &str) -> Option<(&str, &str)>
     if text.is_empty() {
         return None;
     }
-    match split_at_byte(text, b'\n') {
+    match split_at_end(text) {
         None => Some((text, "")),
         Some((line, behind)) => match line.strip_suffix('\r') {
             None => Some((line, behind)),
