@@ -66,10 +66,10 @@ impl From<WriteFault> for ReplayFault {
 }
 
 /// A script has so many bytes at most.
-const MOST_BYTES: usize = 1_048_576;
+pub const MOST_BYTES: usize = 1_048_576;
 
 /// The reader is called so often at most.
-const MOST_CALLS: u32 = 2_097_152;
+pub const MOST_CALLS: u32 = 2_097_152;
 
 /// A report of one line, for a script of which nothing is carried out.
 fn refuse<W: Outlet>(writer: &mut W, report: &str) -> Result<Verdict, ReplayFault>
