@@ -98,22 +98,22 @@ abbrev pub image_files : {F : Type 0} {told : Told F} {runs : RunGhosts (SectorF
     → (Buffered (UnwrittenFile F told) shown_runs shown_disk → DiskState) → ImageFiles
 image_files {F} {told} {runs} {disk} {shown_runs} {shown_disk} stands opens names unnamed gives fails
     holds served shown = record {
-  File = F;
-  is_unmade = λ path sectors.
-      IsUnhad (stands path) (opens to_be_made path) (stops_making (unnamed path) gives fails sectors);
-  is_unserved = λ path.
-      IsUnhad (stands path) (opens to_be_used path) (stops_opening gives fails (Lock ∷ []));
-  is_unshown = λ path. IsUnhad (stands path) (opens to_be_read path) (stops_opening gives fails []);
-  Made = SectorFile F told;
-  made_state = sector_file_state_of holds;
-  is_just_made = IsJustMade opens names gives holds;
-  Served = Buffered (SectorFile F told) runs disk;
-  served_state = served;
-  is_to_be_served = λ path d.
-      IsOpened opens gives holds to_be_used (Lock ∷ []) path (served d) (below d);
-  Shown = Buffered (UnwrittenFile F told) shown_runs shown_disk;
-  shown_state = shown;
-  is_to_be_shown = λ path d.
-      IsOpened opens gives holds to_be_read [] path (shown d) (unwritten_file_of (below d));
-  is_only_read = λ d. IsOnlyRead (sector_file_state_of holds (unwritten_file_of (below d)));
-}
+      File = F;
+      is_unmade = λ path sectors.
+          IsUnhad (stands path) (opens to_be_made path) (stops_making (unnamed path) gives fails sectors);
+      is_unserved = λ path.
+          IsUnhad (stands path) (opens to_be_used path) (stops_opening gives fails (Lock ∷ []));
+      is_unshown = λ path. IsUnhad (stands path) (opens to_be_read path) (stops_opening gives fails []);
+      Made = SectorFile F told;
+      made_state = sector_file_state_of holds;
+      is_just_made = IsJustMade opens names gives holds;
+      Served = Buffered (SectorFile F told) runs disk;
+      served_state = served;
+      is_to_be_served = λ path d.
+          IsOpened opens gives holds to_be_used (Lock ∷ []) path (served d) (below d);
+      Shown = Buffered (UnwrittenFile F told) shown_runs shown_disk;
+      shown_state = shown;
+      is_to_be_shown = λ path d.
+          IsOpened opens gives holds to_be_read [] path (shown d) (unwritten_file_of (below d));
+      is_only_read = λ d. IsOnlyRead (sector_file_state_of holds (unwritten_file_of (below d)));
+    }

@@ -173,10 +173,7 @@ pub fn image_at<F: ToldFiles>(
 }
 
 /// The file of a journal that is there, if its lock is to be had. It is not made anew.
-pub fn image_in<F: ToldFiles>(
-    rt: &F,
-    path: &str,
-) -> Result<SectorFile<F::Told>, Refused<F::Told>>
+pub fn image_in<F: ToldFiles>(rt: &F, path: &str) -> Result<SectorFile<F::Told>, Refused<F::Told>>
     ensures failures { IfOk result (λ disk. (sector_file_state_of F.Told.holds disk).failures ≡ 0) }
     ensures calls { IfOk result (λ disk. (sector_file_state_of F.Told.holds disk).calls ≡ 0) }
     ensures writes { IfOk result (λ disk. (sector_file_state_of F.Told.holds disk).writes ≡ 0) }
@@ -193,10 +190,7 @@ pub fn image_in<F: ToldFiles>(
 }
 
 /// The file of a journal that is there, to be read alone.
-fn image_to_read<F: ToldFiles>(
-    rt: &F,
-    path: &str,
-) -> Result<SectorFile<F::Told>, Refused<F::Told>>
+fn image_to_read<F: ToldFiles>(rt: &F, path: &str) -> Result<SectorFile<F::Told>, Refused<F::Told>>
     ensures failures { IfOk result (λ disk. (sector_file_state_of F.Told.holds disk).failures ≡ 0) }
     ensures calls { IfOk result (λ disk. (sector_file_state_of F.Told.holds disk).calls ≡ 0) }
     ensures writes { IfOk result (λ disk. (sector_file_state_of F.Told.holds disk).writes ≡ 0) }

@@ -1,9 +1,11 @@
 //! Commits that are stopped, with and without a checkpoint before the batch, and the openings
 //! behind them.
-use crate::groups::{call, floor, formatted, group_of_one_car, kiosk, number};
 use crate::faults::failing::{CUTS, Failing, Failures, NEVER, cut};
 use crate::faults::tally::Tally;
-use crate::faults::work::{APPENDED, BROKEN, CHECKPOINTED, DISK, Work, car, next_stop, stand, stop};
+use crate::faults::work::{
+    APPENDED, BROKEN, CHECKPOINTED, DISK, Work, car, next_stop, stand, stop,
+};
+use crate::groups::{call, floor, formatted, group_of_one_car, kiosk, number};
 use lift_base::{Body, Letter, Reply, Row, Terminal};
 use lift_building::Building;
 use lift_disk::{FlakyDisk, FuseDisk, Outcome};

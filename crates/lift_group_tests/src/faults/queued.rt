@@ -1,11 +1,11 @@
 //! A flusher with three batches in the line: each device call of theirs fails in turn. What was
 //! safe before is answered, and is there; all later batches are answered Unknown, and aren't.
-use crate::groups::{call, car, formatted, group_of_one_car};
-use crate::relays::Relay;
 use crate::faults::failing::{CUTS, Failing, Failures, NEVER, cut};
 use crate::faults::tally::Tally;
 use crate::faults::turns::{ONE, ONE_FLUSHED, again, asks, begin, into_disk, reopen};
 use crate::faults::work::{BROKEN, DISK, car as car_a, next_stop, stop};
+use crate::groups::{call, car, formatted, group_of_one_car};
+use crate::relays::Relay;
 use crate::terminals::{Terminals, Who, clerk_of, open};
 use lift_base::Reply;
 use lift_clerk::Clerk;

@@ -1,12 +1,12 @@
 //! Turns that are stopped, of a clerk and of its two parts, with and without a checkpoint before
 //! the batch, and the recoveries behind them: by reopening at the same desk, or behind a power cut
 //! at a new one.
-use crate::groups::{call, car, formatted, group_of_one_car};
-use crate::relays::Relay;
 use crate::faults::commits::open_failing;
 use crate::faults::failing::{Failing, Failures, NEVER, cut};
 use crate::faults::tally::Tally;
 use crate::faults::work::{APPENDED, BROKEN, CHECKPOINTED, DISK, Work, next_stop, stand, stop};
+use crate::groups::{call, car, formatted, group_of_one_car};
+use crate::relays::Relay;
 use crate::terminals::{Terminals, Who, clerk_of, open};
 use lift_base::{Body, Reason, Reply};
 use lift_building::Building;

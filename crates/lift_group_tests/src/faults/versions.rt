@@ -1,10 +1,10 @@
 //! The commit that moves a journal of version 1 to version 2, by a checkpoint: each device call of
 //! it fails in turn.
-use crate::groups::{formatted, group_of_one_car};
 use crate::faults::commits::{ask, commit, commit_failing, keeper_of, opened};
 use crate::faults::failing::{CUTS, Failing, Failures, NEVER};
 use crate::faults::tally::Tally;
 use crate::faults::work::{CHECKPOINTED, DISK, car, stop};
+use crate::groups::{formatted, group_of_one_car};
 use lift_base::Reply;
 use lift_building::Building;
 use lift_disk::{Disk, FlakyDisk, FuseDisk, MemDisk, Outcome};

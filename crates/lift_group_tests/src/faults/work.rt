@@ -1,6 +1,6 @@
 //! The work that is stopped: kiosk 0's calls and car A's stops, in batches.
-use crate::groups::floor;
 use crate::faults::failing::Failures;
+use crate::groups::floor;
 use lift_base::{Body, Dir, Letter, Stop, Terminal};
 use lift_journal::JournalFault;
 use lift_keeper::KeeperFault;
