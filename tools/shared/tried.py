@@ -12,6 +12,7 @@ import sys
 
 TOP = pathlib.Path(__file__).resolve().parent.parent.parent
 BUILT = TOP / "crates/liftd/out/liftd"
+RELAY = TOP / "crates/lift_relay_cases/out/lift_relay_cases"
 sys.path.append(str(TOP / "tools/judge"))
 
 
@@ -25,6 +26,16 @@ def program(path=BUILT):
     if not os.access(path, os.X_OK):
         sys.exit(f"{pathlib.Path(sys.argv[0]).name}: there is no program {path}: build it, (cd crates/liftd && rt run < stdin), or name one")
     return path
+
+
+def relay():
+    """The program that carries out scripts as `liftd replay` does, but drives both parts of a clerk by hand; none where it isn't built."""
+    return str(RELAY) if os.access(RELAY, os.X_OK) else None
+
+
+def in_relay(count):
+    """What a last line tells of the scripts that were carried out by both parts too."""
+    return f"{count} scripts by both parts of a clerk too" if relay() else f"none by both parts of a clerk, for want of {RELAY.relative_to(TOP)}"
 
 
 def loaded(path):

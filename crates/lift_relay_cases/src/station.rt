@@ -1,0 +1,179 @@
+//! What a line of a script does to the terminals and the group at a desk.
+ghost use Rattle.std.specs.Prelude.{◌≡◌, ◌+◌, length};
+
+use crate::group::Group;
+use crate::shows::{show_costs, show_rows, show_stops};
+use crate::trouble::Trouble;
+use lift_base::{Body, Number, Terminal};
+use lift_building::Building;
+use lift_clerk::Clerk;
+use lift_desk::AskRefusal;
+use lift_disk::{FuseDisk, MemDisk};
+use lift_policy::Etd;
+use lift_replay::report::{push_bad, push_fault, push_spent, push_turn, push_waiting};
+use lift_replay::{ScriptLine, Terminals, Verdict, parse};
+use std::alloc::Global;
+use std::sync::Wait;
+
+/// What comes behind a line.
+#[derive(Drop)]
+pub(crate) enum Next<'d, 'b> {
+    /// Further lines, of this group.
+    Lines(Group<'d, 'b>),
+    /// The end of the run.
+    End(Verdict),
+    /// What a power cut has left.
+    Cut(MemDisk),
+}
+
+/// The terminals of a building, at one desk.
+#[derive(Drop)]
+pub(crate) struct Station<'d, 'b> {
+    building: &'b Building,
+    terminals: Terminals<'d>,
+    ghost count: { length terminals.seats.items ≡ 16 + length building.now.kiosks },
+}
+
+/// Whether the building has the car or the kiosk that a line names, if it names one.
+fn is_known(building: &Building, line: &ScriptLine) -> bool {
+    match *line {
+        ScriptLine::Place { car, .. } => car.get() < building.cars(),
+        ScriptLine::Stop { car, .. } => car.get() < building.cars(),
+        ScriptLine::Stops { car } => car.get() < building.cars(),
+        ScriptLine::Call { kiosk, .. } => kiosk < building.kiosks(),
+        ScriptLine::Cost { kiosk, .. } => kiosk < building.kiosks(),
+        _ => true,
+    }
+}
+
+/// Carries out a line that shows, arms or cuts: it works on the whole clerk.
+fn carry_out_on<'d, 'b>(
+    report: &mut String,
+    mut clerk: Clerk<'d, 'b, FuseDisk, Etd>,
+    line: &ScriptLine,
+) -> Result<Next<'d, 'b>, Trouble> {
+    match *line {
+        ScriptLine::Rows => show_rows(report, &clerk)?,
+        ScriptLine::Stops { car } => show_stops(report, &clerk, car)?,
+        ScriptLine::Cost {
+            kiosk,
+            floor,
+            party,
+        } => show_costs(report, &clerk, kiosk, floor, party)?,
+        ScriptLine::Fuse { calls } => clerk.arm(calls),
+        ScriptLine::Cut { outcome } => {
+            let (_seat, keeper, _policy) = clerk.into_parts();
+            let left = keeper.into_disk().into_inner().cut(outcome);
+            return Ok(Next::Cut(left));
+        }
+        _ => {}
+    }
+    Ok(Next::Lines(Group::Whole(clerk)))
+}
+
+impl<'d, 'b> Station<'d, 'b> {
+    /// The building's terminals at a desk.
+    pub(crate) fn new(building: &'b Building, terminals: Terminals<'d>) -> Self
+        requires { length terminals.seats.items ≡ 16 + length building.now.kiosks }
+    {
+        Station {
+            building,
+            terminals,
+        }
+    }
+
+    /// A terminal asks, or the report tells why it can't.
+    fn ask(
+        &mut self,
+        report: &mut String,
+        terminal: Terminal,
+        number: Number,
+        body: Body,
+    ) -> Result<(), Trouble> {
+        if terminal.get() >= 16 + self.building.kiosks() {
+            return Err(Trouble::Lacking);
+        }
+        match self.terminals.ask(terminal, number, body) {
+            Ok(()) => {}
+            Err(AskRefusal::Waiting) => push_waiting(report, terminal, number)?,
+            Err(AskRefusal::Spent) => push_spent(report, terminal, number)?,
+        }
+        Ok(())
+    }
+
+    /// One turn of both parts, and then what each terminal hears.
+    fn turn<R: Wait>(
+        &mut self,
+        rt: &R,
+        alloc: Global,
+        report: &mut String,
+        group: Group<'d, 'b>,
+    ) -> Result<Group<'d, 'b>, Trouble> {
+        let mut relay = group.parted(alloc)?;
+        match relay.turn(rt)? {
+            Ok(counts) => push_turn(report, counts.taken, counts.accepted)?,
+            Err(fault) => push_fault(report, "turn", fault.number())?,
+        }
+        self.terminals.push_all_heard(report)?;
+        Ok(Group::Split(relay))
+    }
+
+    fn carry_out<R: Wait>(
+        &mut self,
+        rt: &R,
+        alloc: Global,
+        report: &mut String,
+        group: Group<'d, 'b>,
+        line: &ScriptLine,
+    ) -> Result<Next<'d, 'b>, Trouble> {
+        match *line {
+            ScriptLine::Place { car, position } => {
+                let body = Body::Place(position.floor, position.dir);
+                self.ask(report, Terminal::of_car(car), Number::default(), body)?;
+            }
+            ScriptLine::Stop { car, number, stop } => {
+                let body = Body::Stop(stop.floor, stop.dir);
+                self.ask(report, Terminal::of_car(car), number, body)?;
+            }
+            ScriptLine::Call {
+                kiosk,
+                number,
+                floor,
+                party,
+            } => {
+                let terminal = Terminal::of_kiosk(kiosk).ok_or(Trouble::Lacking)?;
+                self.ask(report, terminal, number, Body::Call(floor, party))?;
+            }
+            ScriptLine::Turn => {
+                let group = self.turn(rt, alloc, report, group)?;
+                return Ok(Next::Lines(group));
+            }
+            _ => return carry_out_on(report, group.joined()?, line),
+        }
+        Ok(Next::Lines(group))
+    }
+
+    /// Carries out the line with this number, counted from 1, and adds what it reports.
+    pub(crate) fn next<R: Wait>(
+        &mut self,
+        rt: &R,
+        alloc: Global,
+        report: &mut String,
+        group: Group<'d, 'b>,
+        numbered: (usize, &str),
+    ) -> Result<Next<'d, 'b>, Trouble> {
+        let (number, text) = numbered;
+        if text.is_empty() || text.starts_with('#') {
+            return Ok(Next::Lines(group));
+        }
+        match parse(text) {
+            Some(line) if is_known(self.building, &line) => {
+                self.carry_out(rt, alloc, report, group, &line)
+            }
+            _ => {
+                push_bad(report, number)?;
+                Ok(Next::End(Verdict::Bad))
+            }
+        }
+    }
+}
