@@ -109,6 +109,10 @@ stops_making unnamed gives fails sectors opened left =
     FailsIn gives fails (making_calls sectors) opened left
     ⊎ (LeadsBy gives (making_calls sectors) opened left × unnamed left)
 
+-- It was told that no plain file stands there. That nothing was told is no reason to make none.
+abbrev pub stands_in_the_way : (stands : Option Bool → Type 0) → Option Bool → Type 0
+stands_in_the_way stands told = stands told × (told ≡ Some false)
+
 -- Why no device is had of what stands at a path. The system didn't tell what stands there, or didn't
 -- open it; no plain file stands there; or a file was opened, and stopped so.
 abbrev pub IsRefused : {F : Type 0} → (stands : Option Bool → Type 0)

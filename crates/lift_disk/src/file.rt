@@ -46,7 +46,7 @@ pub type BufferedFile<F> = Buffered<SectorFile<F>>;
 
 impl<F: ToldFile + Drop> SectorFile<F> {
     ghost use Rattle.lift_disk.specs.Files.{IsMeasured, IsMadeDevice, sector_file_state_of};
-    ghost use Rattle.lift_disk.specs.Files.{IsRefused, stops_making, stops_opening};
+    ghost use Rattle.lift_disk.specs.Files.{IsRefused, stands_in_the_way, stops_making, stops_opening};
     ghost use Rattle.lift_disk.specs.Files.{calls_below, making_below};
     ghost use Rattle.lift_disk.specs.Traced.{making_calls, to_be_made, to_be_read, to_be_used};
 
@@ -119,7 +119,7 @@ impl<F: ToldFile + Drop> SectorFile<F> {
     ) -> Result<SectorFile<F>, FileFault<F>>
         ensures made { IfOk result (λ disk. IsMadeDevice (R.opens rt.now to_be_made path.now)
             (R.names rt.now path.now) F.gives F.holds sectors disk) }
-        ensures refused { IfErr result (IsRefused (R.stands rt.now path.now)
+        ensures refused { IfErr result (IsRefused (stands_in_the_way (R.stands rt.now path.now))
             (R.opens rt.now to_be_made path.now)
             (stops_making (R.unnamed rt.now path.now) F.gives F.fails sectors)) }
         ensures making { IfOk result (λ disk. making_below disk ≡ making_calls sectors) }

@@ -9,7 +9,7 @@ use Rattle.lift_replay.specs.lemmas.Writes.{fails_of, takes_of}
 use Rattle.lift_building.specs.Plan.{Plan}
 use Rattle.lift_program.specs.Ends.{IsFileFault, IsServingFault, IsShowingFault}
 use Rattle.lift_program.specs.Output.{HasFailed}
-use Rattle.lift_program.specs.Images.{ImageFiles}
+use Rattle.lift_disk.specs.Disk.{DiskState}
 use Rattle.lift_program.specs.Stages.{IsBuildingFault, IsUnkept, fault_in}
 use Rattle.lift_program.specs.declared.left.Undone.{Undone}
 use Rattle.lift_program.specs.declared.left.Undone.TheVariants.{NoBuilding, NoImage, Opened}
@@ -38,17 +38,17 @@ pub image_no_output : (plan : Plan) (fault : Fault) → IsFileFault OfImage faul
 image_no_output plan fault (inl is) same = absurd (let other = sym is ∙ same in cc)
 image_no_output plan fault (inr is) same = subst IsBuildingFault (sym is ∙ same) tt
 
-pub unkept_no_output : (files : ImageFiles) (path : List ℕ) (plan : Plan) (undone : Undone files.Served files.File) → IsUnkept files path plan undone → fault_in undone ≡ File Output → ⊥
-unkept_no_output files path plan (NoBuilding fault) never same = absurd never
-unkept_no_output files path plan (NoImage refused) (inl is, unhad) same = absurd (let other = sym is ∙ same in cc)
-unkept_no_output files path plan (NoImage refused) (inr is, unhad) same = subst IsBuildingFault (sym is ∙ same) tt
-unkept_no_output files path plan (Opened fault left) is same = absurd (let other = sym is.is_refusal ∙ same in cc)
+pub unkept_no_output : {D F : Type 0} (is_fresh : D → Type 0) (state : D → DiskState) (is_unhad : Option F → Type 0) (plan : Plan) (undone : Undone D F) → IsUnkept is_fresh state is_unhad plan undone → fault_in undone ≡ File Output → ⊥
+unkept_no_output is_fresh state is_unhad plan (NoBuilding fault) never same = absurd never
+unkept_no_output is_fresh state is_unhad plan (NoImage refused) (inl is, unhad) same = absurd (let other = sym is ∙ same in cc)
+unkept_no_output is_fresh state is_unhad plan (NoImage refused) (inr is, unhad) same = subst IsBuildingFault (sym is ∙ same) tt
+unkept_no_output is_fresh state is_unhad plan (Opened fault left) is same = absurd (let other = sym is.is_refusal ∙ same in cc)
 
-pub unkept_no_network : (files : ImageFiles) (path : List ℕ) (plan : Plan) (undone : Undone files.Served files.File) → IsUnkept files path plan undone → fault_in undone ≡ Network → ⊥
-unkept_no_network files path plan (NoBuilding fault) never same = absurd never
-unkept_no_network files path plan (NoImage refused) (inl is, unhad) same = absurd (let other = sym is ∙ same in cc)
-unkept_no_network files path plan (NoImage refused) (inr is, unhad) same = subst IsBuildingFault (sym is ∙ same) tt
-unkept_no_network files path plan (Opened fault left) is same = absurd (let other = sym is.is_refusal ∙ same in cc)
+pub unkept_no_network : {D F : Type 0} (is_fresh : D → Type 0) (state : D → DiskState) (is_unhad : Option F → Type 0) (plan : Plan) (undone : Undone D F) → IsUnkept is_fresh state is_unhad plan undone → fault_in undone ≡ Network → ⊥
+unkept_no_network is_fresh state is_unhad plan (NoBuilding fault) never same = absurd never
+unkept_no_network is_fresh state is_unhad plan (NoImage refused) (inl is, unhad) same = absurd (let other = sym is ∙ same in cc)
+unkept_no_network is_fresh state is_unhad plan (NoImage refused) (inr is, unhad) same = subst IsBuildingFault (sym is ∙ same) tt
+unkept_no_network is_fresh state is_unhad plan (Opened fault left) is same = absurd (let other = sym is.is_refusal ∙ same in cc)
 
 pub output_no_network : (fault : Fault) → IsFileFault Output fault → fault ≡ Network → ⊥
 output_no_network fault (inl is) same = subst IsShowingFault (sym is ∙ same) tt

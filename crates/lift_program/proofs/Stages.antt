@@ -1,5 +1,5 @@
 -- What the faults of each stage are to a whole command.
-use Rattle.std.proofs.Common.{◌≡◌, ◌≢◌, ◌<◌, ◌≤◌, ◌+◌, ◌*◌, ◌∙◌, ℕ, List, [], Option, length, false, refl, sym, subst, inl, inr, arith}
+use Rattle.std.proofs.Common.{◌≡◌, ◌≢◌, ◌<◌, ◌≤◌, ◌+◌, ◌*◌, ◌∙◌, ℕ, List, [], Option, Bool, length, false, refl, sym, subst, inl, inr, arith}
 use Rattle.lift_building.specs.Describes.{IsTextOf}
 use Rattle.lift_building.specs.Gives.{IsFirstFault}
 use Rattle.lift_building.specs.Plan.{Plan, IsBuilding, shape_of}
@@ -17,14 +17,16 @@ use Rattle.lift_keeper.specs.declared.fault.KeeperFault.{KeeperFault}
 use Rattle.lift_keeper.specs.declared.fault.KeeperFault.TheVariants.{Journal as OfJournal, OtherBuilding, BadEntry}
 use Rattle.std.specs.declared.fs.options.OpenOptions.{OpenOptions}
 use Rattle.lift_disk.specs.FileCalls.{FileCall}
-use Rattle.lift_disk.specs.Files.{IsMeasured, sector_file_state_of}
+use Rattle.lift_disk.specs.Files.{IsMeasured, IsRefused, sector_file_state_of}
+use Rattle.lift_disk.specs.declared.file.FileFault.{FileFault}
+use Rattle.lift_disk.specs.declared.file.FileFault.TheVariants.{Unopened, NotAFile, Stopped}
 use Rattle.lift_disk.specs.declared.told.ToldFile.{Ghosts as Told}
 use Rattle.lift_disk.specs.declared.sectors.SectorFile.{SectorFile}
-use Rattle.lift_program.specs.Images.{ImageFiles, IsOpened}
+use Rattle.lift_program.specs.Images.{ImageFiles, IsOpened, IsUnhad, file_in}
 use Rattle.lift_program.specs.Ends.{IsFileFault, IsMadeWith, IsUnformatted, IsReplayFault, IsReportOfFault, IsShowingFault}
 use Rattle.lift_program.specs.Faults.{of_building}
 use Rattle.lift_program.specs.Showing.{IsOpeningFault, ShowsFront, ShowsPart}
-use Rattle.lift_program.specs.Stages.{HasBuilding, HasKeeperOf, HasNoKeeperOf, HasRecovered, IsBuildingFault, IsLeftAs, IsNoImage, IsUndoneServing, IsUnkept, ReadsBuilding, StopsOver, most_text}
+use Rattle.lift_program.specs.Stages.{HasBuilding, HasKeeperOf, HasNoKeeperOf, HasRecovered, IsBuildingFault, IsLeftAs, IsNoImage, IsUndone, IsUnkept, ReadsBuilding, StopsOver, most_text}
 use Rattle.lift_program.specs.declared.left.Undone.{Undone}
 use Rattle.lift_program.specs.declared.left.Undone.TheVariants.{NoBuilding, NoImage, Opened}
 use Rattle.lift_program.proofs.Writing.{part_shown}
@@ -114,20 +116,26 @@ opening_fault plan old new (OfJournal Broken) refuses = refuses.cause
 opening_fault plan old new OtherBuilding refuses = tt
 opening_fault plan old new (BadEntry place) refuses = tt
 
+-- a file that is refused gives no image
+pub unhad_of : {F : Type 0} (stands : Option Bool → Type 0) (opens : Option F → Type 0) (stops : F → F → Type 0) (fault : FileFault F) (left : Option F) → left ≡ file_in fault → IsRefused stands opens stops fault → IsUnhad stands opens stops left
+unhad_of stands opens stops (Unopened error) left is refused = subst (IsUnhad stands opens stops) (sym is) (inl refused)
+unhad_of stands opens stops NotAFile left is refused = subst (IsUnhad stands opens stops) (sym is) (inr refused)
+unhad_of stands opens stops (Stopped stopped) left is refused = subst (IsUnhad stands opens stops) (sym is) refused
+
 -- no image was had for a building that was read
 pub no_image : {F : Type 0} (is_unhad : Option F → Type 0) (plan : Plan) (fault : Fault) (left : Option F) → HasBuilding plan → IsFileFault OfImage fault → is_unhad left → IsNoImage is_unhad fault left
 no_image is_unhad plan fault left has is unhad = record { building = (plan, has); is_fault = is; unhad = unhad }
 
 -- the recovery was refused, or no image could be opened
-pub keeper_undone : (files : ImageFiles) (path : List ℕ) (plan : Plan) (undone : Undone files.Served files.File) → HasBuilding plan → IsUnkept files path plan undone → IsUndoneServing files path undone
-keeper_undone files path plan (NoBuilding fault) has never = absurd never
-keeper_undone files path plan (NoImage refused) has is = record { building = (plan, has); is_fault = is.0; unhad = is.1 }
-keeper_undone files path plan (Opened fault left) has is = record {
+pub keeper_undone : {D F : Type 0} (is_fresh : D → Type 0) (state : D → DiskState) (is_unhad : Option F → Type 0) (plan : Plan) (undone : Undone D F) → HasBuilding plan → IsUnkept is_fresh state is_unhad plan undone → IsUndone is_fresh state is_unhad undone
+keeper_undone is_fresh state is_unhad plan (NoBuilding fault) has never = absurd never
+keeper_undone is_fresh state is_unhad plan (NoImage refused) has is = record { building = (plan, has); is_fault = is.0; unhad = is.1 }
+keeper_undone is_fresh state is_unhad plan (Opened fault left) has is = record {
   plan = plan;
   building = has;
   opened = is.opened;
   fresh = is.fresh;
-  stops = subst (StopsOver plan (files.served_state is.opened) (files.served_state left)) (sym is.is_refusal) (opening_fault plan _ _ is.refusal is.refused, is.refused);
+  stops = subst (StopsOver plan (state is.opened) (state left)) (sym is.is_refusal) (opening_fault plan _ _ is.refusal is.refused, is.refused);
   moments = is.refused.moments;
   unwritten = is.refused.writes;
 }

@@ -6,7 +6,7 @@ use Rattle.lift_disk.specs.Disk.{DiskState}
 use Rattle.lift_disk.specs.FileCalls.{FileCall}
 use Rattle.lift_disk.specs.FileCalls.FileCall.{Lock}
 use Rattle.lift_disk.specs.Files.{IsMadeDevice, IsMeasured, sector_file_state_of}
-use Rattle.lift_disk.specs.Files.{stops_making, stops_opening}
+use Rattle.lift_disk.specs.Files.{stands_in_the_way, stops_making, stops_opening}
 use Rattle.lift_disk.specs.Traced.{to_be_made, to_be_read, to_be_used}
 use Rattle.lift_disk.specs.declared.buffered.Buffered.{Buffered}
 use Rattle.lift_disk.specs.declared.file.FileFault.{FileFault}
@@ -100,7 +100,8 @@ image_files {F} {told} {runs} {disk} {shown_runs} {shown_disk} stands opens name
     holds served shown = record {
       File = F;
       is_unmade = λ path sectors.
-          IsUnhad (stands path) (opens to_be_made path) (stops_making (unnamed path) gives fails sectors);
+          IsUnhad (stands_in_the_way (stands path)) (opens to_be_made path)
+          (stops_making (unnamed path) gives fails sectors);
       is_unserved = λ path.
           IsUnhad (stands path) (opens to_be_used path) (stops_opening gives fails (Lock ∷ []));
       is_unshown = λ path. IsUnhad (stands path) (opens to_be_read path) (stops_opening gives fails []);

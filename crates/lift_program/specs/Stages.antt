@@ -149,11 +149,16 @@ IsUndoneShowing files path =
     IsUndone (files.is_to_be_shown path) files.shown_state (files.is_unshown path)
 
 -- What no keeper of this building is had for: no image was had, or the recovery was refused.
-abbrev pub IsUnkept : (files : ImageFiles) → (path : List ℕ) → Plan
+abbrev pub IsUnkept : {D F : Type 0} → (is_fresh : D → Type 0) → (state : D → DiskState)
+    → (is_unhad : Option F → Type 0) → Plan → Undone D F → Type 0
+IsUnkept is_fresh state is_unhad plan (NoBuilding fault) = ⊥
+IsUnkept is_fresh state is_unhad plan (NoImage refused) =
+    ((refused.fault ≡ File OfImage) ⊎ (refused.fault ≡ Memory)) × is_unhad refused.left
+IsUnkept {D} is_fresh state is_unhad plan (Opened fault left) =
+    HasNoKeeperOf D is_fresh state plan fault left
+
+-- so it is of an image that was to be served
+abbrev pub IsUnkeptServing : (files : ImageFiles) → (path : List ℕ) → Plan
     → Undone files.Served files.File → Type 0
-IsUnkept files path plan (NoBuilding fault) = ⊥
-IsUnkept files path plan (NoImage refused) =
-    ((refused.fault ≡ File OfImage) ⊎ (refused.fault ≡ Memory))
-    × files.is_unserved path refused.left
-IsUnkept files path plan (Opened fault left) =
-    HasNoKeeperOf files.Served (files.is_to_be_served path) files.served_state plan fault left
+IsUnkeptServing files path =
+    IsUnkept (files.is_to_be_served path) files.served_state (files.is_unserved path)

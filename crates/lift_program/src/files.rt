@@ -5,7 +5,7 @@ ghost use Rattle.std.specs.Prelude.{Err, false, length, vec_len};
 ghost use Rattle.std.specs.Str.{IsUtf8};
 ghost use Rattle.lift_disk.specs.FileCalls.FileCall.{Lock};
 ghost use Rattle.lift_disk.specs.Files.{IsMeasured, making_below, sector_file_state_of};
-ghost use Rattle.lift_disk.specs.Files.{stops_making, stops_opening};
+ghost use Rattle.lift_disk.specs.Files.{stands_in_the_way, stops_making, stops_opening};
 ghost use Rattle.lift_disk.specs.Traced.{making_calls, to_be_made, to_be_read, to_be_used};
 ghost use Rattle.lift_replay.specs.Reading.{TakesUpTo};
 ghost use Rattle.lift_program.specs.Ends.{IsFileFault, IsImageFault, IsUncalled, IsUnread};
@@ -162,7 +162,7 @@ pub fn image_at<F: ToldFiles>(
         F.Told.holds path.now sectors disk) }
     ensures making { IfOk result (λ disk. making_below disk ≡ making_calls sectors) }
     ensures fault { IfErr result (λ no. IsFileFault OfImage no.fault) }
-    ensures unhad { IfErr result (λ no. IsUnhad (F.stands rt.now path.now)
+    ensures unhad { IfErr result (λ no. IsUnhad (stands_in_the_way (F.stands rt.now path.now))
         (F.opens rt.now to_be_made path.now) (stops_making (F.unnamed rt.now path.now)
         F.Told.gives F.Told.fails sectors) no.left) }
 {

@@ -2,7 +2,7 @@
 
 ghost use Rattle.std.specs.Prelude.{◌≡◌, [], IfOk, IfErr};
 ghost use Rattle.lift_program.specs.Images.{image_files};
-ghost use Rattle.lift_program.specs.Stages.{HasKeeperOf, IsUnkept};
+ghost use Rattle.lift_program.specs.Stages.{HasKeeperOf, IsUnkeptServing};
 
 use crate::fault::Fault;
 use crate::files::image_in;
@@ -30,7 +30,7 @@ pub fn keeper_in<'b, F: ToldFiles>(
         ⟦<BufferedFile<F::Told> as Disk>⟧.state ⟦<ShownImage<F::Told> as Disk>⟧.state) path.now
         building.now) }
     ensures settled { IfOk result (λ keeper. keeper.state.batch ≡ []) }
-    ensures undone { IfErr result (IsUnkept (image_files (F.stands rt.now) (F.opens rt.now) (F.names rt.now) (F.unnamed rt.now) F.Told.gives F.Told.fails F.Told.holds
+    ensures undone { IfErr result (IsUnkeptServing (image_files (F.stands rt.now) (F.opens rt.now) (F.names rt.now) (F.unnamed rt.now) F.Told.gives F.Told.fails F.Told.holds
         ⟦<BufferedFile<F::Told> as Disk>⟧.state ⟦<ShownImage<F::Told> as Disk>⟧.state) path.now building.now) }
 {
     let file = match image_in(rt, path) {

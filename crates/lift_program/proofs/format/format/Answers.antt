@@ -1,11 +1,15 @@
-use Rattle.std.proofs.Common.{[], rules, sym, subst}
+use Rattle.std.proofs.Common.{[], refl, rules, sym, subst}
 use Rattle.lift_disk.specs.Below.{buffered_state_of}
 use Rattle.lift_disk.specs.Files.{sector_file_state_of}
 use Rattle.lift_journal.specs.Journal.{ReadsAs}
 use Rattle.lift_program.specs.Ends.{IsMadeWith}
 use Rattle.lift_program.specs.Images.{ImageFiles, image_files}
 use Rattle.lift_program.specs.Unwritten.{unwritten_state_of}
-use Rattle.lift_program.proofs.Stages.{is_made}
+use Rattle.lift_journal.specs.Calls.{StopsIn, format_calls}
+use Rattle.lift_journal.specs.declared.fault.JournalFault.TheVariants.{Disk}
+use Rattle.lift_keeper.specs.declared.fault.KeeperFault.TheVariants.{Journal as OfJournal}
+use Rattle.lift_program.specs.declared.fault.Fault.TheVariants.{Journal}
+use Rattle.lift_program.proofs.Stages.{is_made, is_unformatted}
 use Rattle.lift_program.proofs.format.format.Goals as goal
 
 pub returns-in-Ok-format-clause-made : goal.returns-in-Ok-format-clause-made
@@ -19,4 +23,11 @@ returns-in-Ok-format-clause-made g c =
     c.in-Ok-format.ensures.synced)
 
 pub returns-in-Err-format-clause-undone : goal.returns-in-Err-format-clause-undone
-returns-in-Err-format-clause-undone g c = ?
+returns-in-Err-format-clause-undone g c =
+    let files : ImageFiles = image_files (g.F.ToldFiles.stands c.args.rt.now) (g.F.ToldFiles.opens c.args.rt.now) (g.F.ToldFiles.names c.args.rt.now) (g.F.ToldFiles.unnamed c.args.rt.now) g.F.Told.ToldFile.gives g.F.Told.ToldFile.fails g.F.Told.ToldFile.holds (buffered_state_of (sector_file_state_of g.F.Told.ToldFile.holds)) (buffered_state_of (unwritten_state_of g.F.Told.ToldFile.holds)) in
+    let image = c.in-Ok-image_at.disk in
+    let left = c.format.new.disk in
+    let here = c.in-Err-format.ensures in
+    let stops = subst (λ s. StopsIn (format_calls s) (sector_file_state_of g.F.Told.ToldFile.holds image) (sector_file_state_of g.F.Told.ToldFile.holds left)) c.shape-shape.ensures.value here.follows.front in
+    is_unformatted files c.args.image.now c.in-Ok.building c.args.half image left c.new-in-Err-format.result (Journal (OfJournal Disk)) c.new-in-Err-format.ensures c.in-Ok.ensures.found
+    c.in-Ok-image_at.ensures.made refl stops here.runs here.cause.err

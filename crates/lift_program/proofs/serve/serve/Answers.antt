@@ -44,13 +44,13 @@ pub returns-in-Err-clause-refused : goal.returns-in-Err-clause-refused
 returns-in-Err-clause-refused g c = λ same. absurd (subst IsBuildingFault same c.in-Err.ensures.fault)
 
 pub returns-in-Err-keeper_in-clause-failed : goal.returns-in-Err-keeper_in-clause-failed
-returns-in-Err-keeper_in-clause-failed g c = λ same. absurd (unkept_no_output _ c.args.image.now c.in-Ok.building _ c.in-Err-keeper_in.ensures.undone same)
+returns-in-Err-keeper_in-clause-failed g c = λ same. absurd (unkept_no_output _ _ _ c.in-Ok.building _ c.in-Err-keeper_in.ensures.undone same)
 
 pub returns-in-Err-keeper_in-clause-refused : goal.returns-in-Err-keeper_in-clause-refused
-returns-in-Err-keeper_in-clause-refused g c = λ same. absurd (unkept_no_network _ c.args.image.now c.in-Ok.building _ c.in-Err-keeper_in.ensures.undone same)
+returns-in-Err-keeper_in-clause-refused g c = λ same. absurd (unkept_no_network _ _ _ c.in-Ok.building _ c.in-Err-keeper_in.ensures.undone same)
 
 pub returns-in-Err-keeper_in-clause-undone : goal.returns-in-Err-keeper_in-clause-undone
-returns-in-Err-keeper_in-clause-undone g c = keeper_undone _ c.args.image.now c.in-Ok.building c.in-Err-keeper_in.undone c.in-Ok.ensures.found c.in-Err-keeper_in.ensures.undone
+returns-in-Err-keeper_in-clause-undone g c = keeper_undone _ _ _ c.in-Ok.building c.in-Err-keeper_in.undone c.in-Ok.ensures.found c.in-Err-keeper_in.ensures.undone
 
 pub returns-in-Err-keeper_in-clause-report : goal.returns-in-Err-keeper_in-clause-report
 returns-in-Err-keeper_in-clause-report g c = nothing_written _ _

@@ -1,4 +1,4 @@
-use Rattle.std.proofs.Common.{ap, Err, refl}
+use Rattle.std.proofs.Common.{rules, ap, Err, refl}
 use Rattle.lift_program.specs.Ends.{WritesFor}
 use Rattle.lift_program.proofs.Stages.{replay_report}
 use Rattle.lift_program.proofs.Writing.{report_front}
@@ -19,3 +19,6 @@ returns-in-Ok-serve-clause-end g c = rw c.in-Serve.is ((refl, c.in-Ok-serve.ensu
 
 pub returns-in-Ok-format-clause-end : goal.returns-in-Ok-format-clause-end
 returns-in-Ok-format-clause-end g c = rw c.in-Format.is c.in-Ok-format.ensures.made
+
+pub returns-in-Err-Opened-clause-end : goal.returns-in-Err-Opened-clause-end
+returns-in-Err-Opened-clause-end g c = rw c.in-Format.is (search rules)
