@@ -1,7 +1,7 @@
 //! Why a script came to no report.
 use lift_base::Memory;
 use lift_keeper::KeeperFault;
-use lift_replay::InputFault;
+use lift_replay::{InputFault, NoMemory};
 use std::alloc::AllocError;
 use std::io;
 
@@ -46,6 +46,12 @@ impl From<Memory> for Trouble {
     }
 }
 
+impl From<NoMemory> for Trouble {
+    fn from(_error: NoMemory) -> Trouble {
+        Trouble::Memory
+    }
+}
+
 impl From<io::Error> for Trouble {
     fn from(_error: io::Error) -> Trouble {
         Trouble::Stream
@@ -56,7 +62,7 @@ impl From<InputFault> for Trouble {
     fn from(fault: InputFault) -> Trouble {
         match fault {
             InputFault::Read => Trouble::Stream,
-            InputFault::Memory => Trouble::Memory,
+            InputFault::Memory(_) => Trouble::Memory,
         }
     }
 }
