@@ -23,10 +23,7 @@ pub(crate) struct Relay<'d, 'b> {
 
 impl<'d, 'b> Relay<'d, 'b> {
     /// A turn of the allocator, and turns of the flusher until it finds no batch, or has a fault.
-    pub(crate) fn turn<R: Wait>(
-        &mut self,
-        rt: &R,
-    ) -> Result<Result<Counts, KeeperFault>, Trouble> {
+    pub(crate) fn turn<R: Wait>(&mut self, rt: &R) -> Result<Result<Counts, KeeperFault>, Trouble> {
         let counts = self.allocator.turn(rt);
         for _ in 0..MOST_FLUSHES {
             match self.flusher.turn(rt) {

@@ -2,6 +2,8 @@
 //! which it drives by hand. The report has to be the same.
 #![tactic(auto)]
 
+ghost use Rattle.std.specs.Prelude.{◌≡◌, []};
+
 mod group;
 mod shows;
 mod station;
@@ -42,7 +44,9 @@ fn run_segment<'b, R: Wait>(
     keeper: Keeper<'b, FuseDisk>,
     lines: &mut Lines,
     report: &mut String,
-) -> Result<SegmentEnd, Trouble> {
+) -> Result<SegmentEnd, Trouble>
+    requires settled { keeper.state.batch ≡ [] }
+{
     let building = keeper.building();
     let DeskParts { desk, seats, clerk } = Desk::open(alloc, 16 + usize::from(building.kiosks()))?;
     let mut station = Station::new(building, Terminals::new(&desk, seats));
