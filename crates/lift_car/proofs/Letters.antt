@@ -11,7 +11,7 @@ use Rattle.lift_kiosk.specs.declared.outcome.Opening.{Opening}
 use Rattle.lift_kiosk.specs.declared.outcome.Opening.TheVariants.{Free, BroughtIn, StillWaits}
 use Rattle.lift_kiosk.specs.declared.outcome.Outcome.{Outcome}
 use Rattle.lift_kiosk.specs.declared.outcome.Outcome.TheVariants.{Malformed, OffFloors, Answered, NotAnswered, Refused as NotTaken}
-use Rattle.lift_kiosk.specs.Session.{Standing, Run, LastStep, EndsAtOnce, EndsLines, IsSession, last_after, last_opened}
+use Rattle.lift_kiosk.specs.Session.{Standing, AnswersLines, LastStep, EndsAtOnce, EndsLines, IsSession, last_after, last_opened}
 use Rattle.lift_car.specs.Lines.{WantsMove, keeps_stop, stop_numbered}
 
 abbrev HasNone : LastLetter → Type 0
@@ -43,7 +43,7 @@ after_opening last StillWaits none = none
 follows : (last new : LastLetter) → last ≡ new → HasNone new → HasNone last
 follows last new same none = subst HasNone (sym same) none
 
-after_run : (limits : Limits) (xs : List (List ℕ × Outcome)) (before after : Standing) → Run WantsMove keeps_stop limits xs before after → HasNone before.last → HasNone after.last
+after_run : (limits : Limits) (xs : List (List ℕ × Outcome)) (before after : Standing) → AnswersLines WantsMove keeps_stop limits xs before after → HasNone before.last → HasNone after.last
 after_run limits [] before after run none = subst (λ (s : Standing). HasNone s.last) (sym run) none
 after_run limits (x ∷ xs) before after run none =
     after_run limits xs run.0 after run.3 (follows run.0.last _ run.1.exchange.last (after_line before.last x.1 none))

@@ -62,15 +62,16 @@ has_stop None = false
 has_stop (Some stop) = true
 
 -- It goes to this stop, once, and is there; or it stays.
-abbrev pub Moves : {C : Type 0} → (told : C → Position) → (goes : C → StopAt → C → Type 0)
+abbrev pub GoesToStop : {C : Type 0} → (told : C → Position) → (goes : C → StopAt → C → Type 0)
     → (before : C) → Option StopAt → (after : C) → Type 0
-Moves told goes before None after = after ≡ before
-Moves told goes before (Some stop) after = goes before stop after × (told after ≡ position_at stop)
+GoesToStop told goes before None after = after ≡ before
+GoesToStop told goes before (Some stop) after = goes before stop after
+    × (told after ≡ position_at stop)
 
 -- Where no stop was heard the port rests once.
-abbrev pub Rests : Option StopAt → (before after : PortView) → Type 0
-Rests None before after = after ≡ rested before
-Rests (Some stop) before after = after ≡ before
+abbrev pub RestsWithoutStop : Option StopAt → (before after : PortView) → Type 0
+RestsWithoutStop None before after = after ≡ rested before
+RestsWithoutStop (Some stop) before after = after ≡ before
 
 -- a refusal and Unknown end the drive
 abbrev pub GoesOn : Reply → Type 0
@@ -95,19 +96,19 @@ pub record Errand {C : Type 0} (told : C → Position) (goes : C → StopAt → 
   pub answered : PortView
   pub port : PortDid looks before.port
       (Answered (ask_at before.arrived before.last (told before.car)) reply) answered
-  pub rests : Rests (stop_in reply) answered after.port
+  pub rests : RestsWithoutStop (stop_in reply) answered after.port
   pub last : after.last ≡ last_after before.last
       (ask_at before.arrived before.last (told before.car)).number reply
-  pub moves : Moves told goes before.car (stop_in reply) after.car
+  pub moves : GoesToStop told goes before.car (stop_in reply) after.car
   pub arrived : after.arrived ≡ has_stop (stop_in reply)
 
 -- one errand after another
-abbrev pub Run : {C : Type 0} → (told : C → Position) → (goes : C → StopAt → C → Type 0)
+abbrev pub DoesErrands : {C : Type 0} → (told : C → Position) → (goes : C → StopAt → C → Type 0)
     → (looks : ℕ) → List Reply → Standing C → Standing C → Type 0
-Run told goes looks [] before after = after ≡ before
-Run told goes looks (reply ∷ replies) before after =
+DoesErrands told goes looks [] before after = after ≡ before
+DoesErrands told goes looks (reply ∷ replies) before after =
     (mid : Standing _) × Errand told goes looks reply before mid × GoesOn reply
-    × Run told goes looks replies mid after
+    × DoesErrands told goes looks replies mid after
 
 -- Why it asks no more, or what came of its last ask; the car stays.
 abbrev pub LastAsk : {C : Type 0} → (told : C → Position) → (looks : ℕ) → Ending
@@ -143,10 +144,11 @@ last_stop [] = None
 last_stop (reply ∷ replies) = later_stop (last_stop replies) (stop_in reply)
 
 -- the car tells this stop, or it is where it was
-abbrev pub Tells : {C : Type 0} → (told : C → Position) → (before : C) → Option StopAt → (after : C)
+abbrev pub TellsStop : {C : Type 0} → (told : C → Position) → (before : C) → Option StopAt
+    → (after : C)
     → Type 0
-Tells told before None after = after ≡ before
-Tells told before (Some stop) after = told after ≡ position_at stop
+TellsStop told before None after = after ≡ before
+TellsStop told before (Some stop) after = told after ≡ position_at stop
 
 -- A drive that brought an earlier answer in, if one was pending: it heard these answers to its own
 -- asks, and ended since it may ask no more, or by its last ask.
@@ -161,12 +163,12 @@ pub record Drives {C : Type 0} (told : C → Position) (goes : C → StopAt → 
   pub first : begun.last ≡ last_opened before.last opening
   pub placing : begun.arrived ≡ false
   pub parked : begun.car ≡ before.car
-  pub runs : Run told goes limits.looks replies begun stood
+  pub runs : DoesErrands told goes limits.looks replies begun stood
   pub ends : ((length replies ≡ limits.lines) × (end ≡ Limit) × (after ≡ stood))
       ⊎ ((length replies < limits.lines) × LastAsk told limits.looks end stood after)
   pub number : after.last ≡ stood.last
   pub stays : after.car ≡ stood.car
-  pub tells : Tells told before.car (last_stop replies) after.car
+  pub tells : TellsStop told before.car (last_stop replies) after.car
 
 -- The answer to an earlier ask was not heard.
 pub record WaitsStill {C : Type 0} (limits : Limits) (end : Ending)

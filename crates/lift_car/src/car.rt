@@ -32,9 +32,9 @@ pub struct ModelCar {
 }
 
 impl Car for ModelCar {
-    ghost use Rattle.lift_car.specs.Model.{place_of, IsSentTo};
+    ghost use Rattle.lift_car.specs.Model.{position_of_car, IsSentTo};
 
-    ghost told = { place_of };
+    ghost told = { position_of_car };
 
     ghost goes = { IsSentTo };
 

@@ -2,8 +2,9 @@
 
 ghost use Rattle.std.specs.Prelude.{◌≡◌, ◌≢◌, ◌+◌, ◌<◌, ◌≤◌, OnOk, IfOk, IfErr, IfSome, IfNone};
 ghost use Rattle.std.specs.Prelude.{Err, Bool, None, false, true};
-ghost use Rattle.lift_car.specs.Drive.{ask_at, stop_in, last_after, last_opened, Moves, Rests};
-ghost use Rattle.lift_car.specs.Drive.{GoesOn, EndsWith, Errand, LastAsk, IsDrive, standing};
+ghost use Rattle.lift_car.specs.Drive.{ask_at, stop_in, last_after, last_opened, GoesToStop};
+ghost use Rattle.lift_car.specs.Drive.{RestsWithoutStop, GoesOn, EndsWith, Errand, LastAsk};
+ghost use Rattle.lift_car.specs.Drive.{IsDrive, standing};
 ghost use Rattle.lift_base.specs.declared.command.Reply.{Reply as ReplyValue};
 
 use crate::car::Car;
@@ -76,8 +77,8 @@ fn stop_of(reply: &Reply) -> Result<Option<Stop>, Ending>
 
 /// Goes to a stop that was heard; rests where none was.
 fn move_on<C: Car, P: Port>(car: &mut C, port: &mut P, stop: &Option<Stop>)
-    ensures moves { Moves C.told C.goes car.old stop.now car.new }
-    ensures rests { Rests stop.now (P.view port.old) (P.view port.new) }
+    ensures moves { GoesToStop C.told C.goes car.old stop.now car.new }
+    ensures rests { RestsWithoutStop stop.now (P.view port.old) (P.view port.new) }
     ensures pending { (P.view port.new).pending ≡ (P.view port.old).pending }
     ensures stays { P.place port.new ≡ P.place port.old }
 {

@@ -13,7 +13,7 @@ use Rattle.lift_keeper.specs.Images.{IsImageOf}
 use Rattle.lift_keeper.specs.Keeper.{KeeperView}
 use Rattle.lift_world.specs.Headline.{IsOfBuilding}
 use Rattle.lift_clerk.specs.Clerk.{ClerkState}
-use Rattle.lift_clerk.specs.Machine.{Begins}
+use Rattle.lift_clerk.specs.Machine.{IsNewClerk}
 use Rattle.lift_clerk.specs.Steps.{group_of}
 use Rattle.lift_clerk.specs.History.{History, Began, BeginsOver}
 use Rattle.lift_clerk.specs.lemmas.Grouped.{grouped_begins}
@@ -21,8 +21,8 @@ use Rattle.lift_clerk.specs.lemmas.Grouped.{grouped_begins}
 module _ {D P : Type 0} (desk : List TableId) (seat : List ClerkPlace) (keeper : KeeperView D) (policy : P) (clerk : ClerkState D P)
     (is : clerk ≡ record { desk = desk; seat = seat; keeper = keeper; policy = policy }) (unused : seat ≡ clerk_of desk) (state : keeper.state ≡ starting keeper.writer.register)
     (is_whole : keeper.writer.is_broken ≡ false) (no_doubt : keeper.writer.doubt ≡ []) where
-  begins : Begins clerk
-  begins = subst (λ (c : ClerkState D P). Begins c) (sym is) (record { seat = unused; state = state; is_whole = is_whole; no_doubt = no_doubt })
+  begins : IsNewClerk clerk
+  begins = subst (λ (c : ClerkState D P). IsNewClerk c) (sym is) (record { seat = unused; state = state; is_whole = is_whole; no_doubt = no_doubt })
 
   -- as every register is that a writer shows
   of_building : IsWellFormed keeper.writer.register → BelongsTo keeper.writer.plan keeper.writer.register → IsOfBuilding keeper.writer.plan keeper.writer.register

@@ -16,7 +16,7 @@ use Rattle.lift_world.specs.Policies.{RunsAreAny}
 use Rattle.lift_clerk.specs.declared.counts.Counts.{Counts}
 use Rattle.lift_clerk.specs.Clerk.{ClerkState}
 use Rattle.lift_clerk.specs.Steps.{GroupState, group_of}
-use Rattle.lift_clerk.specs.Group.{AtSeat, Asks, Hears, HearsAnswers, HeardNothing}
+use Rattle.lift_clerk.specs.Group.{AtSeat, TerminalAsks, TerminalHears, HearsAnswers, HeardNothing}
 use Rattle.lift_clerk.specs.Past.{IsEvent, IsNoEvent, PastsGoOn, TurnGoesOn, FailureGoesOn, BrokenTurnGoesOn}
 use Rattle.lift_clerk.specs.lemmas.Turned.{makes_safe}
 use Rattle.lift_clerk.specs.lemmas.Grouped.{grouped_safe, grouped_doubt, grouped_unknown}
@@ -39,7 +39,7 @@ module _ {D P : Type 0} (law : PastsGoOn D) (choice : Choice) (any : RunsAreAny 
 
 -- a terminal's call
 module _ {D : Type 0} (law : PastsGoOn D) (old new : TerminalSeat) where
-  asked : (number : ℕ) (body : Body) → ¬ Waits old.view → StoresAsk old number body new → AtSeat old new (λ before after terminal. Asks before after terminal (record { number = number; body = body }))
+  asked : (number : ℕ) (body : Body) → ¬ Waits old.view → StoresAsk old number body new → AtSeat old new (λ before after terminal. TerminalAsks before after terminal (record { number = number; body = body }))
   asked number body heard s before after was changes = record {
     heard_all = subst (λ (v : TerminalView). ¬ Waits v) (sym was) heard;
     in_range = s.in_range;
@@ -58,7 +58,7 @@ module _ {D : Type 0} (law : PastsGoOn D) (old new : TerminalSeat) where
   abbrev Looked : Option Reply → Type 0
   Looked result = (word : ℕ) × (new ≡ seat_with old (with_hearing old.view word)) × HearsOf old.view word result
 
-  heard : (word : ℕ) (result : Option Reply) → new ≡ seat_with old (with_hearing old.view word) → HearsOf old.view word result → AtSeat old new (λ before after terminal. Hears before after terminal word result)
+  heard : (word : ℕ) (result : Option Reply) → new ≡ seat_with old (with_hearing old.view word) → HearsOf old.view word result → AtSeat old new (λ before after terminal. TerminalHears before after terminal word result)
   heard word result is hears before after was changes = record {
     hears = subst (λ (v : TerminalView). HearsOf v word result) (sym was) hears;
     looked = record {

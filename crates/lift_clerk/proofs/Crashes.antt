@@ -23,15 +23,15 @@ use Rattle.lift_world.specs.declared.event.Phase.TheVariants.{Writing, Synced, G
 use Rattle.lift_world.specs.declared.event.Power.{Power}
 use Rattle.lift_world.specs.declared.event.Power.TheVariants.{Running, Broken, Off}
 use Rattle.lift_world.specs.declared.event.Taken.{Taken}
-use Rattle.lift_world.specs.World.{World, Batch, is_running, is_off, state_of, safe_list, batch_of, may_keep, outcome, acknowledged}
-use Rattle.lift_world.specs.Next.{next, goes, in_phase, writes_of, bodies}
+use Rattle.lift_world.specs.World.{World, SealedBatch, is_running, is_off, state_of, safe_list, batch_in_flight, may_keep, outcome, acknowledged}
+use Rattle.lift_world.specs.Next.{next, goes, in_phase, writes_before_sync, sectors_for_body}
 use Rattle.lift_world.specs.Asking.{asked_on}
 use Rattle.lift_world.specs.Headline.{StillNames, RecoversAcknowledged, RecoversLetters}
 use Rattle.lift_world.specs.Turns.{IsAtRest, scanned, take_events, calls_to, with_replies}
 use Rattle.lift_world.specs.Headline.{IsHeld}
 use Rattle.lift_world.specs.Headline.{IsOfBuilding}
 use Rattle.lift_clerk.specs.Clerk.{ClerkState}
-use Rattle.lift_clerk.specs.Machine.{LooksAgree, IsMachineOf, IsReached, ShowsWhole, ShowsBroken, WaitsNowhere, kept_of}
+use Rattle.lift_clerk.specs.Machine.{LooksAgree, IsMachineOf, IsReached, ShowsWhole, ShowsBroken, WaitsNowhere, kept_after}
 use Rattle.lift_clerk.specs.History.{BeginsOver, ShowsGiven}
 use Rattle.lift_clerk.specs.Laws.{Laws}
 use Rattle.lift_clerk.specs.Answered.{AreApart}
@@ -65,7 +65,7 @@ cut_now w entries left reached k = record { before = []; there = w; possible = r
 
 -- the events of a turn up to the write of its gate
 abbrev events_to_gate : List Command → List (Option ℕ) → ℕ → List Event
-events_to_gate commands letters count = take_events commands letters ++ (Seal ∷ Pull ∷ calls_to (bodies count + 1) GateWritten)
+events_to_gate commands letters count = take_events commands letters ++ (Seal ∷ Pull ∷ calls_to (sectors_for_body count + 1) GateWritten)
 
 kept_safe : (w : World) (plan : Plan) (register : RegisterState) (left : Image) → w.building ≡ plan → register_of w.base (safe_list w) ≡ register → IsImageOf plan register left → IsKept w (safe_list w) left
 kept_safe w plan register left b r reads = record {
@@ -75,13 +75,13 @@ kept_safe w plan register left b r reads = record {
   reads = subst (λ (p : Plan). IsImageOf p (register_of w.base (safe_list w)) left) (sym b) (subst (λ (x : RegisterState). IsImageOf plan x left) (sym r) reads);
 }
 
-kept_with_batch : (w : World) (plan : Plan) (register : RegisterState) (left : Image) → w.building ≡ plan → IsTrue (may_keep w WithBatch) → register_of w.base (safe_list w ++ batch_of w) ≡ register
-    → IsImageOf plan register left → IsKept w (safe_list w ++ batch_of w) left
+kept_with_batch : (w : World) (plan : Plan) (register : RegisterState) (left : Image) → w.building ≡ plan → IsTrue (may_keep w WithBatch) → register_of w.base (safe_list w ++ batch_in_flight w) ≡ register
+    → IsImageOf plan register left → IsKept w (safe_list w ++ batch_in_flight w) left
 kept_with_batch w plan register left b may r reads = record {
   kept = WithBatch;
   may_be_kept = may;
   outcome_is = refl;
-  reads = subst (λ (p : Plan). IsImageOf p (register_of w.base (safe_list w ++ batch_of w)) left) (sym b) (subst (λ (x : RegisterState). IsImageOf plan x left) (sym r) reads);
+  reads = subst (λ (p : Plan). IsImageOf p (register_of w.base (safe_list w ++ batch_in_flight w)) left) (sym b) (subst (λ (x : RegisterState). IsImageOf plan x left) (sym r) reads);
 }
 
 -- with no batch it is the register of what is safe
@@ -106,7 +106,7 @@ module _ {D P : Type 0} (laws : Laws) (w : World) (clerk : ClerkState D P) (left
       (br.may_be_kept (λ none. let wrong : x ∷ xs ≡ [] = sym d ∙ none in cc))
       (ap (λ (ys : List Entry). register_of w.base (safe_list w ++ ys)) br.doubt ∙ register_with laws.registers w doubt clerk.keeper.writer.register br.safe) reads)
 
-  by_state : (b : Bool) → clerk.keeper.writer.is_broken ≡ b → (either : IsInDoubt plan clerk.keeper.writer.register doubt left) → IsKept w (kept_of (safe_list w) doubt either) left
+  by_state : (b : Bool) → clerk.keeper.writer.is_broken ≡ b → (either : IsInDoubt plan clerk.keeper.writer.register doubt left) → IsKept w (kept_after (safe_list w) doubt either) left
   by_state false e (inl reads) = kept_safe w plan clerk.keeper.writer.register left m.building (m.whole e).safe reads
   by_state false e (inr reads) = kept_without laws.registers w plan clerk.keeper.writer.register doubt left m.building (m.whole e).safe (m.whole e).no_doubt reads
   by_state true e (inl reads) = kept_safe w plan clerk.keeper.writer.register left m.building (m.broken e).safe reads
@@ -114,9 +114,9 @@ module _ {D P : Type 0} (laws : Laws) (w : World) (clerk : ClerkState D P) (left
 
 -- with nothing on its way but what is in doubt
 pub crashes_are_cuts : {D P : Type 0} → Laws → (w : World) (clerk : ClerkState D P) (batch : List Entry) (left : Image) → IsMachineOf w clerk → batch ≡ clerk.keeper.writer.doubt
-    → (doubt : IsInDoubt clerk.keeper.writer.plan clerk.keeper.writer.register batch left) → IsKept w (kept_of (safe_list w) batch doubt) left
+    → (doubt : IsInDoubt clerk.keeper.writer.plan clerk.keeper.writer.register batch left) → IsKept w (kept_after (safe_list w) batch doubt) left
 crashes_are_cuts laws w clerk batch left m same =
-    subst (λ (xs : List Entry). (doubt : IsInDoubt clerk.keeper.writer.plan clerk.keeper.writer.register xs left) → IsKept w (kept_of (safe_list w) xs doubt) left) (sym same)
+    subst (λ (xs : List Entry). (doubt : IsInDoubt clerk.keeper.writer.plan clerk.keeper.writer.register xs left) → IsKept w (kept_after (safe_list w) xs doubt) left) (sym same)
     (λ doubt. by_state laws w clerk left m clerk.keeper.writer.is_broken refl doubt)
 
 -- a batch on its way to its gate
@@ -129,17 +129,17 @@ runs Broken h = absurd (false≢true h)
 runs (Off kept) h = absurd (false≢true h)
 
 module _ (laws : Laws) (v : World) (on : v.power ≡ Running) where
-  writes : (n m : ℕ) (events : List Event) → m + n ≤ writes_of v → goes (replicate n BodyWrite ++ events) (in_phase v (Writing m)) ≡ goes events (in_phase v (Writing (m + n)))
+  writes : (n m : ℕ) (events : List Event) → m + n ≤ writes_before_sync v → goes (replicate n BodyWrite ++ events) (in_phase v (Writing m)) ≡ goes events (in_phase v (Writing (m + n)))
   writes zero m events le = ap (λ (k : ℕ). goes events (in_phase v (Writing k))) (omega arith)
   writes (suc n) m events le =
       once (in_phase v (Writing m)) (in_phase v (Writing (m + 1))) BodyWrite (replicate n BodyWrite ++ events) ((laws.calls (in_phase v (Writing m))).writes m on refl (omega arith))
       ∙ writes n (m + 1) events (omega arith) ∙ ap (λ (k : ℕ). goes events (in_phase v (Writing k))) (omega arith)
 
-  to_gate : goes (replicate (writes_of v) BodyWrite ++ FirstSync ∷ Gate ∷ []) (in_phase v (Writing 0)) ≡ Some (in_phase v GateWritten)
+  to_gate : goes (replicate (writes_before_sync v) BodyWrite ++ FirstSync ∷ Gate ∷ []) (in_phase v (Writing 0)) ≡ Some (in_phase v GateWritten)
   to_gate =
-      writes (writes_of v) 0 (FirstSync ∷ Gate ∷ []) (omega arith)
-      ∙ ap (λ (k : ℕ). goes (FirstSync ∷ Gate ∷ []) (in_phase v (Writing k))) (let n : ℕ = writes_of v in let same : 0 + n ≡ n = omega arith in same)
-      ∙ once (in_phase v (Writing (writes_of v))) (in_phase v Synced) FirstSync (Gate ∷ []) ((laws.calls (in_phase v (Writing (writes_of v)))).syncs on refl)
+      writes (writes_before_sync v) 0 (FirstSync ∷ Gate ∷ []) (omega arith)
+      ∙ ap (λ (k : ℕ). goes (FirstSync ∷ Gate ∷ []) (in_phase v (Writing k))) (let n : ℕ = writes_before_sync v in let same : 0 + n ≡ n = omega arith in same)
+      ∙ once (in_phase v (Writing (writes_before_sync v))) (in_phase v Synced) FirstSync (Gate ∷ []) ((laws.calls (in_phase v (Writing (writes_before_sync v)))).syncs on refl)
       ∙ once (in_phase v Synced) (in_phase v GateWritten) Gate [] ((laws.calls (in_phase v Synced)).writes_gate on refl)
 
 module _ (laws : Laws) (w : World) (reached : IsReached w) (rest : IsAtRest w) (c : Command) (cs : List Command) (reply : Reply) (rs : List Reply) (state : State)
@@ -153,7 +153,7 @@ module _ (laws : Laws) (w : World) (reached : IsReached w) (rest : IsAtRest w) (
   abbrev w2 : World
   w2 = scanned w1 (c ∷ cs) (reply ∷ rs) state
 
-  abbrev batch : Batch
+  abbrev batch : SealedBatch
   batch = record { commands = w2.taken; upto = length w2.accepted }
 
   abbrev w3 : World
@@ -178,9 +178,9 @@ module _ (laws : Laws) (w : World) (reached : IsReached w) (rest : IsAtRest w) (
       let l : length w2.accepted ≡ length (w.accepted ++ state.batch) = ap length accepted in
       let both = length-append w.accepted state.batch in
       let safe = rest.all_safe in
-      (laws.pulls w3).flies batch [] running rest.idle (ap (λ (q : List Batch). q ++ batch ∷ []) rest.nothing_queued) (omega arith)
+      (laws.pulls w3).flies batch [] running rest.idle (ap (λ (q : List SealedBatch). q ++ batch ∷ []) rest.nothing_queued) (omega arith)
 
-  batch_is : batch_of w4 ≡ state.batch
+  batch_is : batch_in_flight w4 ≡ state.batch
   batch_is = ap (λ (xs : List Entry). take (length xs - w.safe) (drop w.safe xs)) accepted ∙ in_doubt w state.batch rest
 
   safe_is : safe_list w4 ≡ w.accepted
@@ -189,18 +189,18 @@ module _ (laws : Laws) (w : World) (reached : IsReached w) (rest : IsAtRest w) (
   abbrev there : World
   there = in_phase w4 GateWritten
 
-  kept_is : safe_list there ++ batch_of there ≡ w.accepted ++ state.batch
-  kept_is = ap (λ (xs : List Entry). xs ++ batch_of w4) safe_is ∙ ap (λ (xs : List Entry). w.accepted ++ xs) batch_is
+  kept_is : safe_list there ++ batch_in_flight there ≡ w.accepted ++ state.batch
+  kept_is = ap (λ (xs : List Entry). xs ++ batch_in_flight w4) safe_is ∙ ap (λ (xs : List Entry). w.accepted ++ xs) batch_is
 
-  count : writes_of w4 ≡ bodies (length state.batch) + 1
-  count = ap (λ (xs : List Entry). bodies (length xs) + 1) batch_is
+  count : writes_before_sync w4 ≡ sectors_for_body (length state.batch) + 1
+  count = ap (λ (xs : List Entry). sectors_for_body (length xs) + 1) batch_is
 
-  written : goes (replicate (bodies (length state.batch) + 1) BodyWrite ++ FirstSync ∷ Gate ∷ []) w4 ≡ Some there
+  written : goes (replicate (sectors_for_body (length state.batch) + 1) BodyWrite ++ FirstSync ∷ Gate ∷ []) w4 ≡ Some there
   written = subst (λ (n : ℕ). goes (replicate n BodyWrite ++ FirstSync ∷ Gate ∷ []) w4 ≡ Some there) count (to_gate laws w4 running)
 
   possible : goes (a.events ++ events_to_gate (c ∷ cs) scan.0 (length state.batch)) w ≡ Some there
   possible =
-      let calls : List Event = replicate (bodies (length state.batch) + 1) BodyWrite ++ FirstSync ∷ Gate ∷ [] in
+      let calls : List Event = replicate (sectors_for_body (length state.batch) + 1) BodyWrite ++ FirstSync ∷ Gate ∷ [] in
       goes_behind a.events (take_events (c ∷ cs) scan.0 ++ (Seal ∷ Pull ∷ calls)) w w1 a.possible
       ∙ goes_behind (take_events (c ∷ cs) scan.0) (Seal ∷ Pull ∷ calls) w1 w2 scan.1
       ∙ once w2 w3 Seal (Pull ∷ calls) sealed ∙ once w3 w4 Pull calls pulled ∙ written
@@ -237,14 +237,14 @@ module _ (laws : Laws) (w : World) (reached : IsReached w) (rest : IsAtRest w) (
       (ap (λ (ys : List Entry). register_of w.base (ys ++ state.batch)) all ∙ register_with laws.registers w state.batch old safe) reads)
 
   within : (cs : List Command) (rs : List Reply) (state : State) → Asked w cs → Run w.building any_eligible (state_of w) cs rs state
-      → (doubt : IsInDoubt plan old state.batch left) → IsCutAt w (kept_of (safe_list w) state.batch doubt) left
+      → (doubt : IsInDoubt plan old state.batch left) → IsCutAt w (kept_after (safe_list w) state.batch doubt) left
   within cs rs state a r (inl reads) = cut_now w (safe_list w) left reached (kept_safe w plan old left building safe reads)
   within cs rs state a r (inr reads) = by_batch cs rs state a r state.batch refl reads
 
 -- with a batch that the rules accept
 pub crashes_within : {D P : Type 0} → Laws → (w : World) (clerk : ClerkState D P) (commands : List Command) (replies : List Reply) (decided : State) (left : Image)
     → AreApart commands → DecidesOn clerk.keeper commands replies decided → IsMachineOf w clerk → LooksAgree w commands
-    → (doubt : IsInDoubt clerk.keeper.writer.plan clerk.keeper.writer.register decided.batch left) → IsCutAt w (kept_of (safe_list w) decided.batch doubt) left
+    → (doubt : IsInDoubt clerk.keeper.writer.plan clerk.keeper.writer.register decided.batch left) → IsCutAt w (kept_after (safe_list w) decided.batch doubt) left
 crashes_within laws w clerk cs rs state left apart d m agree doubt =
     let wh : ShowsWhole w clerk.keeper = m.whole d.was_whole in
     let a : Asked w cs = ask laws w m.reached (splits laws w clerk clerk m) (rests w wh.at_rest) cs agree apart in
@@ -256,10 +256,10 @@ Agrees w clerk waits (inl same) = Unit {0}
 Agrees w clerk waits (inr a) = LooksAgree w a.commands
 
 pub cuts_at : {D P : Type 0} → Laws → (w : World) (clerk : ClerkState D P) (batch : List Entry) (left : Image) → IsMachineOf w clerk → (may : MayAdd clerk.keeper batch) → Agrees w clerk batch may
-    → (doubt : IsInDoubt clerk.keeper.writer.plan clerk.keeper.writer.register batch left) → IsCutAt w (kept_of (safe_list w) batch doubt) left
-cuts_at laws w clerk waits left m (inl same) agrees = λ doubt. cut_now w (kept_of (safe_list w) waits doubt) left m.reached (crashes_are_cuts laws w clerk waits left m same doubt)
+    → (doubt : IsInDoubt clerk.keeper.writer.plan clerk.keeper.writer.register batch left) → IsCutAt w (kept_after (safe_list w) batch doubt) left
+cuts_at laws w clerk waits left m (inl same) agrees = λ doubt. cut_now w (kept_after (safe_list w) waits doubt) left m.reached (crashes_are_cuts laws w clerk waits left m same doubt)
 cuts_at laws w clerk waits left m (inr a) agrees =
-    subst (λ (xs : List Entry). (doubt : IsInDoubt clerk.keeper.writer.plan clerk.keeper.writer.register xs left) → IsCutAt w (kept_of (safe_list w) xs doubt) left) a.is
+    subst (λ (xs : List Entry). (doubt : IsInDoubt clerk.keeper.writer.plan clerk.keeper.writer.register xs left) → IsCutAt w (kept_after (safe_list w) xs doubt) left) a.is
     (λ doubt. crashes_within laws w clerk a.commands a.replies a.decided left a.apart a.decides m agrees doubt)
 
 -- each letter

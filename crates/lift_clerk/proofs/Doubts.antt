@@ -18,14 +18,14 @@ use Rattle.lift_world.specs.declared.event.Event.{Event}
 use Rattle.lift_world.specs.declared.event.Kept.TheVariants.{WithBatch}
 use Rattle.lift_world.specs.declared.event.Phase.TheVariants.{GateWritten}
 use Rattle.lift_world.specs.declared.event.Taken.{Taken}
-use Rattle.lift_world.specs.World.{World, state_of, safe_list, batch_of, may_keep}
+use Rattle.lift_world.specs.World.{World, state_of, safe_list, batch_in_flight, may_keep}
 use Rattle.lift_world.specs.Next.{goes, answer_of, unknown_to}
 use Rattle.lift_world.specs.Asking.{asked_on}
 use Rattle.lift_world.specs.Beside.{is_of_terminals}
 use Rattle.lift_world.specs.Policies.{RunsAreAny}
 use Rattle.lift_world.specs.Turns.{IsAtRest, IsBrokenAtRest, with_replies, failed, failed_events, turned_broken, broken_events, HasRun}
 use Rattle.lift_clerk.specs.Visits.{commands_of}
-use Rattle.lift_clerk.specs.Machine.{IsMachineOf, LooksAgree, Follows, Fails, ShowsWhole, ShowsBroken, events_while_broken, FailuresAreFailures, BrokenTurnsAreBroken}
+use Rattle.lift_clerk.specs.Machine.{IsMachineOf, LooksAgree, LeadsToClerk, TurnFails, ShowsWhole, ShowsBroken, events_while_broken, FailuresAreFailures, BrokenTurnsAreBroken}
 use Rattle.lift_clerk.specs.Clerk.{ClerkState}
 use Rattle.lift_clerk.specs.Turn.{IsBrokenTurn}
 use Rattle.lift_clerk.specs.Steps.{LeavesInDoubt, AnswersUnknown}
@@ -57,7 +57,7 @@ pub record EndsBroken (w : World) (own : List Event) (cs : List Command) (end : 
 pub record Doubts (end : World) (safe batch : List Entry) : Type 0 where
   pub rest : IsBrokenAtRest end
   pub safe_is : safe_list end ≡ safe
-  pub batch_is : batch_of end ≡ batch
+  pub batch_is : batch_in_flight end ≡ batch
 
 module _ (w : World) (batch : List Entry) (rest : IsAtRest w) where
   abbrev pub now : List Entry
@@ -138,7 +138,7 @@ module _ (laws : Laws) (w : World) where
   }
 
   ends_still_broken : IsBrokenAtRest w → (cs : List Command) → Asked w cs
-      → (letters : List (Option ℕ)) × (end : World) × EndsBroken w (events_while_broken cs letters) cs end × Doubts end (safe_list w) (batch_of w) × (may_keep end WithBatch ≡ may_keep w WithBatch)
+      → (letters : List (Option ℕ)) × (end : World) × EndsBroken w (events_while_broken cs letters) cs end × Doubts end (safe_list w) (batch_in_flight w) × (may_keep end WithBatch ≡ may_keep w WithBatch)
   ends_still_broken rest [] a = (
     [],
     w,
@@ -155,7 +155,7 @@ module _ (laws : Laws) (w : World) where
   ends_still_broken rest (c ∷ cs) a = by_run (laws.decided w.building (state_of w) (c ∷ cs))
     where
       by_replies : (rs : List Reply) (state : State) → Run w.building any_eligible (state_of w) (c ∷ cs) rs state
-          → (letters : List (Option ℕ)) × (end : World) × EndsBroken w (events_while_broken (c ∷ cs) letters) (c ∷ cs) end × Doubts end (safe_list w) (batch_of w) × (may_keep end WithBatch ≡ may_keep w WithBatch)
+          → (letters : List (Option ℕ)) × (end : World) × EndsBroken w (events_while_broken (c ∷ cs) letters) (c ∷ cs) end × Doubts end (safe_list w) (batch_in_flight w) × (may_keep end WithBatch ≡ may_keep w WithBatch)
       by_replies [] state r = absurd r
       by_replies (reply ∷ rs) state r =
           let w1 : World = asked_on w (fresh w (c ∷ cs)) a.heard in
@@ -175,12 +175,12 @@ module _ (laws : Laws) (w : World) where
           )
 
       by_run : HasRun w.building (state_of w) (c ∷ cs)
-          → (letters : List (Option ℕ)) × (end : World) × EndsBroken w (events_while_broken (c ∷ cs) letters) (c ∷ cs) end × Doubts end (safe_list w) (batch_of w) × (may_keep end WithBatch ≡ may_keep w WithBatch)
+          → (letters : List (Option ℕ)) × (end : World) × EndsBroken w (events_while_broken (c ∷ cs) letters) (c ∷ cs) end × Doubts end (safe_list w) (batch_in_flight w) × (may_keep end WithBatch ≡ may_keep w WithBatch)
       by_run r = by_replies r.0 r.1 r.2
 
 -- A batch that the device fails is a failed turn of the machine.
 pub failed_batches_are_failures : {D P : Type 0} → Laws → (w : World) (before after : ClerkState D P) → (t : LeavesInDoubt before after) → IsMachineOf w before → LooksAgree w t.may.commands
-    → (letters : List (Option ℕ)) × ((folds : ℕ) → Follows w (failed_events t.may.commands letters folds GateWritten (length t.may.decided.batch)) (with_replies t.may.commands (unknowns t.may.commands)) (safe_list w) after)
+    → (letters : List (Option ℕ)) × ((folds : ℕ) → LeadsToClerk w (failed_events t.may.commands letters folds GateWritten (length t.may.decided.batch)) (with_replies t.may.commands (unknowns t.may.commands)) (safe_list w) after)
 failed_batches_are_failures laws w before after t m agree =
     let cs : List Command = t.may.commands in
     let state : State = t.may.decided in
@@ -203,7 +203,7 @@ failed_batches_are_failures laws w before after t m agree =
     )
 
 -- what a clerk's failed turn leaves in doubt
-abbrev pub leaves_in_doubt : {D P : Type 0} → (choice : Choice) → RunsAreAny choice → (before after : ClerkState D P) → Fails choice before after → LeavesInDoubt before after
+abbrev pub leaves_in_doubt : {D P : Type 0} → (choice : Choice) → RunsAreAny choice → (before after : ClerkState D P) → TurnFails choice before after → LeavesInDoubt before after
 leaves_in_doubt choice any before after t = record {
   may = record {
     commands = commands_of 0 t.turn.visits;
@@ -230,7 +230,7 @@ failures_are_failures laws choice any w before after t m agree = failed_batches_
 
 -- What is answered behind a fault is a turn of the broken machine.
 pub unknowns_are_broken_turns : {D P : Type 0} → Laws → (w : World) (before after : ClerkState D P) → (t : AnswersUnknown before after) → IsMachineOf w before → LooksAgree w t.commands
-    → (letters : List (Option ℕ)) × Follows w (events_while_broken t.commands letters) (with_replies t.commands (unknowns t.commands)) (safe_list w) after
+    → (letters : List (Option ℕ)) × LeadsToClerk w (events_while_broken t.commands letters) (with_replies t.commands (unknowns t.commands)) (safe_list w) after
 unknowns_are_broken_turns {D} laws w before after t m agree =
     let cs : List Command = t.commands in
     let br : ShowsBroken w before.keeper = m.broken t.was_broken in

@@ -28,7 +28,7 @@ use Rattle.lift_clerk.specs.Clerk.{ClerkState}
 use Rattle.lift_clerk.specs.Steps.{GroupState}
 use Rattle.lift_clerk.specs.Laws.{Laws}
 use Rattle.lift_clerk.specs.Machine.{IsReached, IsMachineOf}
-use Rattle.lift_clerk.specs.Group.{Terminals, ShowsTerminal, IsGroup, ChangesAt, Asks, Hears, HearsAnswers}
+use Rattle.lift_clerk.specs.Group.{Terminals, ShowsTerminal, IsGroup, ChangesAt, TerminalAsks, TerminalHears, HearsAnswers}
 use Rattle.lift_clerk.specs.Group.{ToldAnswersAreHeard, IsRead, HeardNothing, Met, ToldAnswers}
 use Rattle.lift_clerk.specs.lemmas.Asked.{rests, rests_broken}
 use Rattle.lift_clerk.specs.lemmas.Reopened.{goes_once}
@@ -104,7 +104,7 @@ module _ {D : Type 0} (laws : Laws) (w : World) (clerk : GroupState D) (before a
       × (filter (is_answer_to t) w.heard ++ rest ≡ filter (is_answer_to t) w.answered)
   order = hears laws w g.machine.reached t
 
-  module _ (ask : Ask) (a : Asks before after t ask) where
+  module _ (ask : Ask) (a : TerminalAsks before after t ask) where
     abbrev command : Command
     command = record { terminal = t; number = ask.number; body = ask.body }
 
@@ -193,7 +193,7 @@ module _ {D : Type 0} (laws : Laws) (w : World) (clerk : GroupState D) (before a
       refl,
     )
 
-  module _ (word : ℕ) (reply : Reply) (h : Hears before after t word (Some reply))
+  module _ (word : ℕ) (reply : Reply) (h : TerminalHears before after t word (Some reply))
       (front : HearsAnswers clerk after t) where
     abbrev old : List Answer
     old = filter (is_answer_to t) w.heard

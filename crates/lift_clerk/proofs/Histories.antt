@@ -14,8 +14,8 @@ use Rattle.lift_world.specs.declared.event.Taken.{Taken}
 use Rattle.lift_world.specs.World.{World, start, safe_list}
 use Rattle.lift_world.specs.Headline.{IsOfBuilding}
 use Rattle.lift_world.specs.Turns.{with_replies}
-use Rattle.lift_clerk.specs.Steps.{GroupState, MakesSafe, LeavesInDoubt, AnswersUnknown, Rests, MayAdd}
-use Rattle.lift_clerk.specs.Machine.{LooksAgree, WaitsNowhere, Follows, Reopens, Begins, kept_of}
+use Rattle.lift_clerk.specs.Steps.{GroupState, TurnMakesSafe, LeavesInDoubt, AnswersUnknown, ClerkRests, MayAdd}
+use Rattle.lift_clerk.specs.Machine.{LooksAgree, WaitsNowhere, LeadsToClerk, ClerkReopens, IsNewClerk, kept_after}
 use Rattle.lift_clerk.specs.Laws.{Laws}
 use Rattle.lift_clerk.specs.History.{History, Began, Turned, Failed, TurnedWhileBroken, Reopened, Rested, Cut}
 use Rattle.lift_clerk.specs.History.{BeginsOver, IsRunOf, HistoriesAreRuns, ShowsGiven}
@@ -49,7 +49,7 @@ module _ (laws : Laws) (w : World) (plan : Plan) (base : RegisterState) (given :
       record { world = k.0; base_is = k.3 ∙ (c.same_base ∙ based); shows = k.4; waits = k.6; safe_is = k.5; given_is = k.2 ∙ (c.given_is ∙ same); building = subst (λ (p : Plan). IsBuilding p) (sym b.same_plan) sound; of_building = subst (λ (p : Plan). IsOfBuilding p base) (sym b.same_plan) of }
 
 module _ {D : Type 0} (laws : Laws) where
-  start_run : (base : RegisterState) (clerk : GroupState D) → IsBuilding clerk.keeper.writer.plan → IsOfBuilding clerk.keeper.writer.plan base → Begins clerk → clerk.keeper.writer.register ≡ base → IsRunOf base clerk [] []
+  start_run : (base : RegisterState) (clerk : GroupState D) → IsBuilding clerk.keeper.writer.plan → IsOfBuilding clerk.keeper.writer.plan base → IsNewClerk clerk → clerk.keeper.writer.register ≡ base → IsRunOf base clerk [] []
   start_run base clerk sound of b same =
       let k = begins_at_start laws clerk b (subst (λ (r : RegisterState). IsOfBuilding clerk.keeper.writer.plan r) (sym same) of) in
       record { world = start clerk.keeper.writer.plan clerk.keeper.writer.register; base_is = same; shows = k.0; waits = k.1; safe_is = refl; given_is = refl; building = sound; of_building = of }
@@ -63,7 +63,7 @@ module _ {D : Type 0} (laws : Laws) where
 
     module _ (after : GroupState D) where
       -- from the world of the one clerk to that of the other
-      go_on : (events : List Event) (more : List Taken) (keep : List Entry → List Entry) → Follows r.world events more (keep (safe_list r.world)) after
+      go_on : (events : List Event) (more : List Taken) (keep : List Entry → List Entry) → LeadsToClerk r.world events more (keep (safe_list r.world)) after
           → after.keeper.writer.plan ≡ plan → IsRunOf base after (keep safe) (given ++ more)
       go_on events more keep k same_plan = record {
         world = k.end;
@@ -79,7 +79,7 @@ module _ {D : Type 0} (laws : Laws) where
       with_nothing : (entries : List Entry) → IsRunOf base after entries (given ++ []) → IsRunOf base after entries given
       with_nothing entries k = subst (λ (ts : List Taken). IsRunOf base after entries ts) (append-nil given) k
 
-      turn_run : (t : MakesSafe before after) → IsRunOf base after (safe ++ t.decided.batch) (given ++ with_replies t.commands t.replies)
+      turn_run : (t : TurnMakesSafe before after) → IsRunOf base after (safe ++ t.decided.batch) (given ++ with_replies t.commands t.replies)
       turn_run t =
           let k = batches_are_turns laws r.world before after t r.shows (agree t.commands) in
           go_on _ _ (λ (xs : List Entry). xs ++ t.decided.batch) (k.1 0) t.same_plan
@@ -94,13 +94,13 @@ module _ {D : Type 0} (laws : Laws) where
           let k = unknowns_are_broken_turns laws r.world before after t r.shows (agree t.commands) in
           go_on _ _ (λ (xs : List Entry). xs) k.1 (ap (λ x. x.plan) t.rests)
 
-      reopening_run : (o : Reopens before after) → IsRunOf base after (kept_of safe before.keeper.writer.doubt o.one_of) given
+      reopening_run : (o : ClerkReopens before after) → IsRunOf base after (kept_after safe before.keeper.writer.doubt o.one_of) given
       reopening_run o =
           let k = reopenings_are_reopenings laws r.world before after o r.shows in
-          with_nothing (kept_of safe before.keeper.writer.doubt o.one_of)
-          (go_on _ _ (λ (xs : List Entry). kept_of xs before.keeper.writer.doubt o.one_of) k.3 o.same_plan)
+          with_nothing (kept_after safe before.keeper.writer.doubt o.one_of)
+          (go_on _ _ (λ (xs : List Entry). kept_after xs before.keeper.writer.doubt o.one_of) k.3 o.same_plan)
 
-      same_run : Rests before after → after.keeper.writer.is_broken ≡ before.keeper.writer.is_broken → IsRunOf base after safe given
+      same_run : ClerkRests before after → after.keeper.writer.is_broken ≡ before.keeper.writer.is_broken → IsRunOf base after safe given
       same_run s same = record {
         world = r.world;
         base_is = r.base_is;
@@ -112,11 +112,11 @@ module _ {D : Type 0} (laws : Laws) where
         of_building = subst (λ (p : Plan). IsOfBuilding p base) (sym s.plan) r.of_building;
       }
 
-      fault_run : (was : Bool) → before.keeper.writer.is_broken ≡ was → Rests before after → after.keeper.writer.is_broken ≡ true → IsRunOf base after safe given
+      fault_run : (was : Bool) → before.keeper.writer.is_broken ≡ was → ClerkRests before after → after.keeper.writer.is_broken ≡ true → IsRunOf base after safe given
       fault_run true e s is = same_run s (is ∙ sym e)
       fault_run false e s is = with_nothing safe (go_on _ _ (λ (xs : List Entry). xs) (faults_are_events laws r.world before after s e is r.shows) s.plan)
 
-      rest_run : Rests before after → (after.keeper.writer.is_broken ≡ true) ⊎ (after.keeper.writer.is_broken ≡ before.keeper.writer.is_broken) → IsRunOf base after safe given
+      rest_run : ClerkRests before after → (after.keeper.writer.is_broken ≡ true) ⊎ (after.keeper.writer.is_broken ≡ before.keeper.writer.is_broken) → IsRunOf base after safe given
       rest_run s (inl is) = fault_run before.keeper.writer.is_broken refl s is
       rest_run s (inr same) = same_run s same
 
@@ -125,9 +125,9 @@ module _ {D : Type 0} (laws : Laws) where
     agrees batch (inl same) = tt
     agrees batch (inr a) = agree a.commands
 
-    cut_with : (left : Image) (batch : List Entry) → MayAdd before.keeper batch → (doubt : IsInDoubt plan before.keeper.writer.register batch left) → IsCutAt r.world (kept_of safe batch doubt) left
+    cut_with : (left : Image) (batch : List Entry) → MayAdd before.keeper batch → (doubt : IsInDoubt plan before.keeper.writer.register batch left) → IsCutAt r.world (kept_after safe batch doubt) left
     cut_with left batch may doubt =
-        subst (λ (xs : List Entry). IsCutAt r.world (kept_of xs batch doubt) left) r.safe_is (cuts_at laws r.world before batch left r.shows may (agrees batch may) doubt)
+        subst (λ (xs : List Entry). IsCutAt r.world (kept_after xs batch doubt) left) r.safe_is (cuts_at laws r.world before batch left r.shows may (agrees batch may) doubt)
 
   run_of : (base : RegisterState) (clerk : GroupState D) (safe : List Entry) (given : List Taken) → History base clerk safe given → IsRunOf base clerk safe given
   run_of base clerk safe given (Began sound of b same) = start_run base clerk sound of b same

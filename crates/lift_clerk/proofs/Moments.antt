@@ -22,11 +22,11 @@ use Rattle.lift_clerk.specs.declared.counts.Counts.{Counts}
 use Rattle.lift_clerk.specs.Clerk.{ClerkState}
 use Rattle.lift_clerk.specs.Turn.{IsBrokenTurn, entries_in}
 use Rattle.lift_clerk.specs.Visits.{commands_of}
-use Rattle.lift_clerk.specs.Machine.{Turns, Fails}
+use Rattle.lift_clerk.specs.Machine.{Turns, TurnFails}
 use Rattle.lift_clerk.specs.lemmas.Committed.{turns_of, fails_of}
-use Rattle.lift_clerk.specs.Steps.{group_of, MakesSafe, LeavesInDoubt, MayAdd}
+use Rattle.lift_clerk.specs.Steps.{group_of, TurnMakesSafe, LeavesInDoubt, MayAdd}
 use Rattle.lift_clerk.specs.History.{History, Turned, Failed, TurnedWhileBroken}
-use Rattle.lift_clerk.specs.Keeping.{Keeps, CrashesKeep, LeavesSafe, Advances, AdvancesFrom}
+use Rattle.lift_clerk.specs.Keeping.{ImageKeeps, CrashesKeep, LeavesSafe, Advances, AdvancesFrom}
 use Rattle.lift_clerk.specs.Once.{TurnAdvances, Safe, InDoubt, Unknown}
 use Rattle.lift_clerk.specs.lemmas.Turned.{makes_safe}
 use Rattle.lift_clerk.specs.lemmas.Grouped.{grouped_safe, grouped_doubt, grouped_unknown}
@@ -67,7 +67,7 @@ module _ {D P : Type 0} (state : D → DiskState) (law : CrashesKeep D) (before 
   old = state before.keeper.writer.device
 
   pub keeps_whole : (before.keeper.writer.is_broken ≡ false → LeavesNow old (IsImageOf plan register)) → before.keeper.writer.is_broken ≡ false
-      → (base : RegisterState) (safe : List Entry) (given : List Taken) → History base (group_of before) safe given → LeavesNow old (Keeps D plan base safe given)
+      → (base : RegisterState) (safe : List Entry) (given : List Taken) → History base (group_of before) safe given → LeavesNow old (ImageKeeps D plan base safe given)
   keeps_whole whole e base safe given h = λ honest left may. law base (group_of before) safe before.keeper.writer.doubt given left h (inl refl) (inl (whole e honest left may))
 
 -- One turn, with what a crash may leave at each moment of it and from its end on.
@@ -104,14 +104,14 @@ module _ {D P : Type 0} (state : D → DiskState) (law : CrashesKeep D) (before 
   safe_advances : (counts : Counts) (t : Turns choice before after counts)
       → Advances (group_of before) (group_of after) t.turn.decided.batch t.turn.decided.batch (with_replies (commands_of 0 t.turn.visits) t.turn.replies) first last
   safe_advances counts t base safe given h =
-      let s : MakesSafe before after = makes_safe choice any before after counts t in
+      let s : TurnMakesSafe before after = makes_safe choice any before after counts t in
       advances t.turn.decided.batch t.turn.decided.batch (with_replies (commands_of 0 t.turn.visits) t.turn.replies) base safe given
       (inr (record { commands = s.commands; replies = s.replies; decided = s.decided; apart = s.answers.apart; decides = s.decides; is = refl }))
       (while_whole t.was_whole t.turn.decided.batch (ap (λ (x : State). x.register) t.turn.after ∙ t.turn.safe)) h
       (Turned h (grouped_safe before after s))
 
   -- the device fails it
-  failed_advances : (t : Fails choice before after)
+  failed_advances : (t : TurnFails choice before after)
       → Advances (group_of before) (group_of after) after.keeper.state.batch [] (with_replies (commands_of 0 t.turn.visits) (unknowns (commands_of 0 t.turn.visits))) first last
   failed_advances t base safe given h =
       let s : LeavesInDoubt before after = leaves_in_doubt choice any before after t in

@@ -24,12 +24,12 @@ use Rattle.lift_world.specs.World.{World, start, asks, is_answer_to, safe_list}
 use Rattle.lift_world.specs.Next.{goes}
 use Rattle.lift_clerk.specs.Answered.{Answers, answer_words, ask_of}
 use Rattle.lift_clerk.specs.Steps.{GroupState, MayAdd}
-use Rattle.lift_clerk.specs.Machine.{IsReached, IsMachineOf, ShowsWords, Follows, WaitsNowhere, waiting_in, Begins, kept_of}
+use Rattle.lift_clerk.specs.Machine.{IsReached, IsMachineOf, ShowsWords, LeadsToClerk, WaitsNowhere, waiting_in, IsNewClerk, kept_after}
 use Rattle.lift_clerk.specs.Laws.{Laws}
 use Rattle.lift_policy.specs.Run.{unknowns as all_unknown}
 use Rattle.lift_clerk.specs.History.{History, Began, Turned, Failed, TurnedWhileBroken, Reopened, Rested, Cut, BeginsOver}
 use Rattle.lift_clerk.specs.Group.{Terminals, ShowsTerminal, IsGroup, TakesAsks}
-use Rattle.lift_clerk.specs.Past.{IsPastOf, GoesOn, PastsBegin, AsksAreAsks, HearsAreHears, ReadsAreNoEvents, BatchesAreTurns, DoubtsAreFailures, UnknownsAreBroken, ReopeningsAreReopenings}
+use Rattle.lift_clerk.specs.Past.{IsPastOf, LeadsToPast, PastsBegin, AsksAreAsks, HearsAreHears, ReadsAreNoEvents, BatchesAreTurns, DoubtsAreFailures, UnknownsAreBroken, ReopeningsAreReopenings}
 use Rattle.lift_clerk.specs.Past.{RestsAreNoEvents, FirstFaultsAreFaults, CutsAreCuts, PastsGoOn}
 use Rattle.lift_clerk.specs.lemmas.Asked.{goes_behind}
 use Rattle.lift_clerk.specs.lemmas.Turned.{batches_are_turns}
@@ -70,7 +70,7 @@ module _ (laws : Laws) where
 
 module _ {D : Type 0} (laws : Laws) where
   -- at a new desk nothing was asked
-  module _ (w : World) (clerk : GroupState D) (m : IsMachineOf w clerk) (b : Begins clerk) (none : WaitsNowhere w) (t : ℕ) where
+  module _ (w : World) (clerk : GroupState D) (m : IsMachineOf w clerk) (b : IsNewClerk clerk) (none : WaitsNowhere w) (t : ℕ) where
     no_words : view_at clerk.seat t ≡ no_answers
     no_words = ap (λ (s : List ClerkPlace). view_at s t) b.seat ∙ new_view clerk.desk t
 
@@ -102,7 +102,7 @@ module _ {D : Type 0} (laws : Laws) where
       in_range = subst (λ (cs : List Command). All IsAsk (map ask_of cs)) (sym nothing_asked) (All-nil IsAsk);
     })
 
-  new_group : (w : World) (clerk : GroupState D) (fresh : Terminals) → IsMachineOf w clerk → Begins clerk → WaitsNowhere w → ((t : ℕ) → fresh t ≡ no_asks) → IsGroup w clerk fresh
+  new_group : (w : World) (clerk : GroupState D) (fresh : Terminals) → IsMachineOf w clerk → IsNewClerk clerk → WaitsNowhere w → ((t : ℕ) → fresh t ≡ no_asks) → IsGroup w clerk fresh
   new_group w clerk fresh m b none new = record { machine = m; theirs = λ t. new_terminal w clerk m b none t (fresh t) (new t) }
 
   -- terminals of whom nothing changed
@@ -116,7 +116,7 @@ module _ {D : Type 0} (laws : Laws) where
   -- from where a step follows
   follow : (w : World) (own : List Event) (given more : List Taken) (keep : List Entry → List Entry) (safe : List Entry) (after : GroupState D) (terminals : Terminals)
       → ((t : ℕ) → ShowsTerminal w t (terminals t)) → safe_list w ≡ safe → w.given ≡ given → AllByRecursion (λ (c : Taken). waiting_in w c.terminal ≢ []) more
-      → History w.base after (keep safe) (given ++ more) → Follows w own more (keep (safe_list w)) after → GoesOn w own after terminals (keep safe) (given ++ more)
+      → History w.base after (keep safe) (given ++ more) → LeadsToClerk w own more (keep (safe_list w)) after → LeadsToPast w own after terminals (keep safe) (given ++ more)
   follow w own given more keep safe after terminals theirs s g stands h k =
       let still = k.alone stands in
       record {
@@ -132,15 +132,15 @@ module _ {D : Type 0} (laws : Laws) where
 
   -- where nothing more was given, or is safe
   none_given : (w : World) (own : List Event) (given : List Taken) (keep : List Entry → List Entry) (safe : List Entry) (after : GroupState D) (terminals : Terminals)
-      → ((t : ℕ) → ShowsTerminal w t (terminals t)) → safe_list w ≡ safe → w.given ≡ given → History w.base after (keep safe) given → Follows w own [] (keep (safe_list w)) after
-      → GoesOn w own after terminals (keep safe) given
+      → ((t : ℕ) → ShowsTerminal w t (terminals t)) → safe_list w ≡ safe → w.given ≡ given → History w.base after (keep safe) given → LeadsToClerk w own [] (keep (safe_list w)) after
+      → LeadsToPast w own after terminals (keep safe) given
   none_given w own given keep safe after terminals theirs s g h k =
-      subst (λ (ts : List Taken). GoesOn w own after terminals (keep safe) ts) (append-nil given)
+      subst (λ (ts : List Taken). LeadsToPast w own after terminals (keep safe) ts) (append-nil given)
       (follow w own given [] keep safe after terminals theirs s g tt (subst (λ (ts : List Taken). History w.base after (keep safe) ts) (sym (append-nil given)) h) k)
 
   none_safe : (w : World) (own : List Event) (given : List Taken) (safe : List Entry) (after : GroupState D) (terminals : Terminals)
-      → GoesOn w own after terminals safe given → GoesOn w own after terminals (safe ++ []) given
-  none_safe w own given safe after terminals k = subst (λ (xs : List Entry). GoesOn w own after terminals xs given) (sym (append-nil safe)) k
+      → LeadsToPast w own after terminals safe given → LeadsToPast w own after terminals (safe ++ []) given
+  none_safe w own given safe after terminals k = subst (λ (xs : List Entry). LeadsToPast w own after terminals xs given) (sym (append-nil safe)) k
 
   -- what a step takes stands
   stood : (w : World) (before after : GroupState D) (terminals : Terminals) (cs : List Command) (rs : List Reply) → IsGroup w before terminals → Answers before.seat after.seat cs rs
@@ -197,7 +197,7 @@ module _ {D : Type 0} (laws : Laws) where
   reopenings : ReopeningsAreReopenings D
   reopenings w before after terminals safe given p r =
       let k = reopenings_are_reopenings laws w before after r p.shows.machine in
-      (k.0, none_given w _ given (λ xs. kept_of xs before.keeper.writer.doubt r.one_of) safe after terminals p.shows.theirs p.safe_is p.given_is (Reopened p.history r) k.3)
+      (k.0, none_given w _ given (λ xs. kept_after xs before.keeper.writer.doubt r.one_of) safe after terminals p.shows.theirs p.safe_is p.given_is (Reopened p.history r) k.3)
 
   no_events : RestsAreNoEvents D
   no_events w before after terminals safe given p s same = record {
@@ -216,17 +216,17 @@ module _ {D : Type 0} (laws : Laws) where
       → (p : IsPastOf w before terminals safe given) → (may : MayAdd before.keeper batch)
       → (doubt : IsInDoubt before.keeper.writer.plan before.keeper.writer.register batch image)
       → (b : BeginsOver before.keeper.writer.plan image after) → ((t : ℕ) → fresh t ≡ no_asks)
-      → goes events w ≡ Some there → there.building ≡ w.building → there.base ≡ w.base → there.given ≡ w.given → IsReached there → (k : IsKept there (kept_of (safe_list w) batch doubt) image)
-      → GoesOn w (events ++ CutEvent k.kept ∷ Reopen k.kept ∷ []) after fresh (kept_of safe batch doubt) given
+      → goes events w ≡ Some there → there.building ≡ w.building → there.base ≡ w.base → there.given ≡ w.given → IsReached there → (k : IsKept there (kept_after (safe_list w) batch doubt) image)
+      → LeadsToPast w (events ++ CutEvent k.kept ∷ Reopen k.kept ∷ []) after fresh (kept_after safe batch doubt) given
   over w there events before after terminals fresh safe batch given image p may doubt b new possible building same_base same_given reached k =
-      let c = begins_after_crash laws there after before.keeper.writer.plan (kept_of (safe_list w) batch doubt) image reached (building ∙ p.shows.machine.building) k b in
+      let c = begins_after_crash laws there after before.keeper.writer.plan (kept_after (safe_list w) batch doubt) image reached (building ∙ p.shows.machine.building) k b in
       record {
         end = c.0;
         possible = goes_behind events (CutEvent k.kept ∷ Reopen k.kept ∷ []) w there possible ∙ c.1;
         past = record {
           shows = new_group c.0 after fresh c.4 b.begins c.6 new;
-          history = subst (λ (x : RegisterState). History x after (kept_of safe batch doubt) given) (sym (c.3 ∙ same_base)) (Cut p.history may doubt b);
-          safe_is = c.5 ∙ ap (λ (xs : List Entry). kept_of xs batch doubt) p.safe_is;
+          history = subst (λ (x : RegisterState). History x after (kept_after safe batch doubt) given) (sym (c.3 ∙ same_base)) (Cut p.history may doubt b);
+          safe_is = c.5 ∙ ap (λ (xs : List Entry). kept_after xs batch doubt) p.safe_is;
           given_is = c.2 ∙ same_given ∙ p.given_is;
         };
       }
@@ -234,12 +234,12 @@ module _ {D : Type 0} (laws : Laws) where
   cuts : CutsAreCuts D
   cuts w before after terminals fresh safe batch given image p (inl same) asked doubt b new =
       let m = p.shows.machine in
-      let k : IsKept w (kept_of (safe_list w) batch doubt) image = crashes_are_cuts laws w before batch image m same doubt in
+      let k : IsKept w (kept_after (safe_list w) batch doubt) image = crashes_are_cuts laws w before batch image m same doubt in
       ([], refl, k.kept, over w w [] before after terminals fresh safe batch given image p (inl same) doubt b new refl refl refl refl m.reached k)
   cuts w before after terminals fresh safe batch given image p (inr a) asked doubt b new =
       let m = p.shows.machine in
       let stand : Stand w a.commands = asked_stand w before terminals p.shows (few laws w m.reached) a.commands a.apart asked in
-      let c : IsCutAt w (kept_of (safe_list w) batch doubt) image = cuts_at laws w before batch image m (inr a) (stand_agree w a.commands stand) doubt in
+      let c : IsCutAt w (kept_after (safe_list w) batch doubt) image = cuts_at laws w before batch image m (inr a) (stand_agree w a.commands stand) doubt in
       (c.before, tt, c.keeps.kept, over w c.there c.before before after terminals fresh safe batch given image p (inr a) doubt b new c.possible c.same_building c.same_base c.given_is c.reached c.keeps)
 
   pub pasts_go_on : PastsGoOn D

@@ -40,7 +40,7 @@ pub record ChangesAt (before after : Terminals) (terminal : ℕ)
   pub others : (other : ℕ) → other ≢ terminal → after other ≡ before other
 
 -- what `ask` gives where it answers Ok
-pub record Asks (before after : Terminals) (terminal : ℕ) (ask : Ask) : Type 0 where
+pub record TerminalAsks (before after : Terminals) (terminal : ℕ) (ask : Ask) : Type 0 where
   pub heard_all : ¬ Waits (before terminal)
   pub in_range : IsAsk ask
   pub stored : ChangesAt before after terminal
@@ -48,7 +48,7 @@ pub record Asks (before after : Terminals) (terminal : ℕ) (ask : Ask) : Type 0
       (ask_word (suc (length (before terminal).asked)) ask.number ask.body))
 
 -- what `hear` gives
-pub record Hears (before after : Terminals) (terminal : ℕ) (word : ℕ)
+pub record TerminalHears (before after : Terminals) (terminal : ℕ) (word : ℕ)
     (result : Option Reply) : Type 0 where
   pub hears : HearsOf (before terminal) word result
   pub looked : ChangesAt before after terminal (with_hearing (before terminal) word)
@@ -83,7 +83,7 @@ pub record WereAsked {D : Type 0} (group : GroupState D) (terminals : Terminals)
 abbrev pub ToldAnswersAreHeard : Type 0 → Type 0
 ToldAnswersAreHeard D =
     (group : GroupState D) (before after : Terminals) (terminal word : ℕ) (result : Option Reply)
-    → Hears before after terminal word result
+    → TerminalHears before after terminal word result
     → (before terminal).told ≡ (view_at group.seat terminal).answered
     → length (before terminal).heard < length (view_at group.seat terminal).answered
     → IsPrefix (before terminal).told (after terminal).heard → HearsAnswers group after terminal

@@ -13,15 +13,16 @@ use Rattle.lift_world.specs.World.{World, safe_list, told_in}
 use Rattle.lift_world.specs.Headline.{IsOfBuilding, IsHeld, StillNames}
 use Rattle.lift_world.specs.Turns.{with_replies}
 use Rattle.lift_clerk.specs.Clerk.{ClerkState}
-use Rattle.lift_clerk.specs.Steps.{GroupState, MakesSafe, LeavesInDoubt, AnswersUnknown, Rests}
-use Rattle.lift_clerk.specs.Steps.{MayAdd}
-use Rattle.lift_clerk.specs.Machine.{IsMachineOf, WaitsNowhere, Reopens, Begins, kept_of}
+use Rattle.lift_clerk.specs.Steps.{GroupState, TurnMakesSafe, LeavesInDoubt, AnswersUnknown}
+use Rattle.lift_clerk.specs.Steps.{ClerkRests, MayAdd}
+use Rattle.lift_clerk.specs.Machine.{IsMachineOf, WaitsNowhere, ClerkReopens, IsNewClerk}
+use Rattle.lift_clerk.specs.Machine.{kept_after}
 
 -- a clerk at a new desk, over a keeper of this building that has opened a device with this image,
 -- which reads as the keeper's register and as no other
 pub record BeginsOver {D P : Type 0} (plan : Plan) (image : Image)
     (clerk : ClerkState D P) : Type 0 where
-  pub begins : Begins clerk
+  pub begins : IsNewClerk clerk
   pub same_plan : clerk.keeper.writer.plan ≡ plan
   pub reads : IsImageOf plan clerk.keeper.writer.register image
   pub only : (other : RegisterState) → IsImageOf plan other image
@@ -35,11 +36,11 @@ pub data History {D : Type 0} (base : RegisterState) : GroupState D → List Ent
     → Type 0 where
   -- It begins at a new desk, over a journal that holds a register of the building.
   Began : {group : GroupState D} → IsBuilding group.keeper.writer.plan
-      → IsOfBuilding group.keeper.writer.plan base → Begins group
+      → IsOfBuilding group.keeper.writer.plan base → IsNewClerk group
       → group.keeper.writer.register ≡ base → History base group [] []
   -- A batch is made safe behind the rest, and its commands have their replies.
   Turned : {before after : GroupState D} {safe : List Entry} {given : List Taken}
-      → History base before safe given → (t : MakesSafe before after)
+      → History base before safe given → (t : TurnMakesSafe before after)
       → History base after (safe ++ t.decided.batch) (given ++ with_replies t.commands t.replies)
   -- The device fails it: nothing more is safe, and its commands were answered Unknown.
   Failed : {before after : GroupState D} {safe : List Entry} {given : List Taken}
@@ -52,19 +53,19 @@ pub data History {D : Type 0} (base : RegisterState) : GroupState D → List Ent
       → History base after safe (given ++ with_replies t.commands (unknowns t.commands))
   -- A reopening keeps what was safe, or that and the batch in doubt.
   Reopened : {before after : GroupState D} {safe : List Entry} {given : List Taken}
-      → History base before safe given → (r : Reopens before after)
-      → History base after (kept_of safe before.keeper.writer.doubt r.one_of) given
+      → History base before safe given → (r : ClerkReopens before after)
+      → History base after (kept_after safe before.keeper.writer.doubt r.one_of) given
   -- Nothing happens to it: a reopening is refused or fails, the device or the clerk is told
   -- something, a clerk is split, or is made of parts again.
   Rested : {before after : GroupState D} {safe : List Entry} {given : List Taken}
-      → History base before safe given → Rests before after → History base after safe given
+      → History base before safe given → ClerkRests before after → History base after safe given
   -- The power is cut at any moment, with at most this batch on its way, of commands that may have
   -- been asked, which leaves this image. A clerk begins over it.
   Cut : {before after : GroupState D} {safe batch : List Entry} {given : List Taken}
       {image : Image} → History base before safe given → MayAdd before.keeper batch
       → (doubt : IsInDoubt before.keeper.writer.plan before.keeper.writer.register batch image)
       → BeginsOver before.keeper.writer.plan image after
-      → History base after (kept_of safe batch doubt) given
+      → History base after (kept_after safe batch doubt) given
 
 -- Some run of the machine over this register leads to a world of this clerk's. No ask waits there, just these entries
 -- are safe, and just these commands were answered.

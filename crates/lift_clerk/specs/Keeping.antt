@@ -9,13 +9,13 @@ use Rattle.lift_keeper.specs.Images.{IsInDoubt}
 use Rattle.lift_keeper.specs.Writer.{WriterView}
 use Rattle.lift_world.specs.declared.event.Taken.{Taken}
 use Rattle.lift_clerk.specs.Steps.{GroupState, MayAdd}
-use Rattle.lift_clerk.specs.Machine.{kept_of}
+use Rattle.lift_clerk.specs.Machine.{kept_after}
 use Rattle.lift_clerk.specs.History.{History, BeginsOver, ShowsGiven}
 
 -- The image keeps these entries and answers. It reads as the register of the entries over what the
 -- journal began with, which holds each one that was acknowledged and still names the car of each
 -- letter given; and whoever begins over it goes on with a history of just these.
-pub record Keeps (D : Type 0) (plan : Plan) (base : RegisterState) (entries : List Entry)
+pub record ImageKeeps (D : Type 0) (plan : Plan) (base : RegisterState) (entries : List Entry)
     (given : List Taken) (left : Image) : Type 0 where
   pub shows : ShowsGiven plan base entries given left
   pub goes_on : (clerk : GroupState D) → BeginsOver plan left clerk
@@ -23,13 +23,13 @@ pub record Keeps (D : Type 0) (plan : Plan) (base : RegisterState) (entries : Li
 
 -- It keeps what is safe, or that with the batch on its way.
 abbrev pub KeepsEither : Type 0 → Plan → RegisterState → (safe batch : List Entry) → List Taken → Image → Type 0
-KeepsEither D plan base safe batch given left = Keeps D plan base safe given left
-    ⊎ Keeps D plan base (safe ++ batch) given left
+KeepsEither D plan base safe batch given left = ImageKeeps D plan base safe given left
+    ⊎ ImageKeeps D plan base (safe ++ batch) given left
 
 -- It keeps some front of what was accepted.
 abbrev pub KeepsFront : Type 0 → Plan → RegisterState → (accepted : List Entry) → List Taken → Image → Type 0
 KeepsFront D plan base accepted given left = (entries : List Entry) × IsPrefix entries accepted
-    × Keeps D plan base entries given left
+    × ImageKeeps D plan base entries given left
 
 -- Each image that a crash now may leave reads as the register that is safe, or as that with the
 -- batch in doubt. Every writer promises that of itself.
@@ -49,20 +49,20 @@ CrashesKeep D =
     (base : RegisterState) (group : GroupState D) (safe batch : List Entry) (given : List Taken) (left : Image)
     → History base group safe given → MayAdd group.keeper batch
     → (doubt : IsInDoubt group.keeper.writer.plan group.keeper.writer.register batch left)
-    → Keeps D group.keeper.writer.plan base (kept_of safe batch doubt) given left
+    → ImageKeeps D group.keeper.writer.plan base (kept_after safe batch doubt) given left
 
 -- One call, whose device was so before it and is so behind it, with at most this batch on its way.
 -- Each image that a crash at any moment of it may leave keeps what was safe before it, or that with
 -- the batch, and all that was given before.
-abbrev pub Stands : {D : Type 0} → (base : RegisterState) → (before : GroupState D) (safe : List Entry) (given : List Taken)
+abbrev pub KeepsThroughout : {D : Type 0} → (base : RegisterState) → (before : GroupState D) (safe : List Entry) (given : List Taken)
     (batch : List Entry) (old new : DiskState) → Type 0
-Stands {D} base before safe given batch old new =
+KeepsThroughout {D} base before safe given batch old new =
     LeavesOnly old new (KeepsEither D before.keeper.writer.plan base safe batch given)
 
 -- So it stands whatever had happened before it.
 abbrev pub MomentsStand : {D : Type 0} → GroupState D → List Entry → DiskState → DiskState → Type 0
 MomentsStand before batch old new = (base : RegisterState) (safe : List Entry)
-    (given : List Taken) → History base before safe given → Stands base before safe given batch old new
+    (given : List Taken) → History base before safe given → KeepsThroughout base before safe given batch old new
 
 -- It does wherever each image that may be left reads as the register that was safe, or as that with
 -- the batch.
@@ -80,7 +80,7 @@ pub record AdvancesFrom {D : Type 0} (base : RegisterState) (before : GroupState
     (given : List Taken) (after : GroupState D) (batch more : List Entry) (told : List Taken)
     (old new : DiskState) : Type 0 where
   pub history : History base after (safe ++ more) (given ++ told)
-  pub stands : Stands base before safe given batch old new
+  pub stands : KeepsThroughout base before safe given batch old new
   pub now : KeepsNow base after (safe ++ more) (given ++ told) new
 
 -- So it is whatever had happened before.

@@ -11,7 +11,7 @@ use Rattle.lift_world.specs.World.{World, start}
 use Rattle.lift_world.specs.Next.{run}
 use Rattle.lift_world.specs.Among.{LooksFindAsks}
 use Rattle.lift_world.specs.Asking.{AsksStand}
-use Rattle.lift_world.specs.Beside.{GoesAreRuns, RunsJoin}
+use Rattle.lift_world.specs.Beside.{GoesAreRuns, EventsJoin}
 use Rattle.lift_world.specs.Headline.{HearsInOrder, AllAskOneByOne, RecoversAcknowledged}
 use Rattle.lift_world.specs.Headline.{RecoversLetters}
 use Rattle.lift_world.specs.Possible.{ReopensAfterCut, Seals, PullsInTurn, CallsInOrder}
@@ -55,7 +55,7 @@ pub record Laws : Type 0 where
       → IsBuilding building → IsOfBuilding building base
       → RecoversLetters (run events (start building base))
   pub possible : (w : World) → GoesAreRuns w
-  pub joined : (w : World) → RunsJoin w
+  pub joined : (w : World) → EventsJoin w
   pub registers : RegistersJoin
 
 -- A clerk's group is in some world of the machine between any two calls. Each turn is a list of

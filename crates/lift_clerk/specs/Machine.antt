@@ -19,7 +19,7 @@ use Rattle.lift_world.specs.declared.event.Kept.TheVariants.{WithBatch}
 use Rattle.lift_world.specs.declared.event.Phase.TheVariants.{GateWritten}
 use Rattle.lift_world.specs.declared.event.Taken.{Taken}
 use Rattle.lift_world.specs.World.{World, start, asks, is_answer_to, state_of}
-use Rattle.lift_world.specs.World.{safe_list, batch_of, may_keep}
+use Rattle.lift_world.specs.World.{safe_list, batch_in_flight, may_keep}
 use Rattle.lift_world.specs.Next.{next, run, goes}
 use Rattle.lift_world.specs.Beside.{is_of_terminals}
 use Rattle.lift_world.specs.Turns.{IsAtRest, IsBrokenAtRest, with_replies}
@@ -55,7 +55,7 @@ pub record ShowsWhole {D : Type 0} (w : World) (keeper : KeeperView D) : Type 0 
 pub record ShowsBroken {D : Type 0} (w : World) (keeper : KeeperView D) : Type 0 where
   pub at_rest : IsBrokenAtRest w
   pub safe : register_of w.base (safe_list w) ≡ keeper.writer.register
-  pub doubt : batch_of w ≡ keeper.writer.doubt
+  pub doubt : batch_in_flight w ≡ keeper.writer.doubt
   pub may_be_kept : keeper.writer.doubt ≢ [] → IsTrue (may_keep w WithBatch)
 
 -- Some run of the machine leads to this world, from what its journal began with.
@@ -94,7 +94,7 @@ WaitsNowhere w = (terminal : ℕ) → waiting_in w terminal ≡ []
 -- is this clerk's. These commands were given their answers meanwhile, and these entries are safe
 -- then. Where no ask waited none waits then. Where one waited at each terminal that was answered,
 -- terminals do nothing, and what they asked and heard is as before.
-pub record Follows {D P : Type 0} (w : World) (events : List Event) (given : List Taken)
+pub record LeadsToClerk {D P : Type 0} (w : World) (events : List Event) (given : List Taken)
     (safe : List Entry) (after : ClerkState D P) : Type 0 where
   pub before : List Event
   pub of_terminals : AllByRecursion (λ (e : Event). IsTrue (is_of_terminals e)) before
@@ -135,13 +135,13 @@ TurnsAreTurns D P choice =
     (t : Turns choice before after counts)
     → IsMachineOf w before → LooksAgree w (commands_of 0 t.turn.visits)
     → (letters : List (Option ℕ))
-    × ((folds : ℕ) → Follows w
+    × ((folds : ℕ) → LeadsToClerk w
     (events_of_turn (commands_of 0 t.turn.visits) letters folds (length t.turn.decided.batch))
     (with_replies (commands_of 0 t.turn.visits) t.turn.replies)
     (safe_list w ++ t.turn.decided.batch) after)
 
 -- what `turn` gives where the device failed it
-pub record Fails {D P : Type 0} (choice : Choice) (before after : ClerkState D P) : Type 0 where
+pub record TurnFails {D P : Type 0} (choice : Choice) (before after : ClerkState D P) : Type 0 where
   pub turn : IsFailedTurn choice before after
   pub was_whole : before.keeper.writer.is_broken ≡ false
   pub breaks : after.keeper.writer.is_broken ≡ true
@@ -153,10 +153,10 @@ pub record Fails {D P : Type 0} (choice : Choice) (before after : ClerkState D P
 -- that phase.
 abbrev pub FailuresAreFailures : (D P : Type 0) → Choice → Type 0
 FailuresAreFailures D P choice =
-    (w : World) (before after : ClerkState D P) (t : Fails choice before after)
+    (w : World) (before after : ClerkState D P) (t : TurnFails choice before after)
     → IsMachineOf w before → LooksAgree w (commands_of 0 t.turn.visits)
     → (letters : List (Option ℕ))
-    × ((folds : ℕ) → Follows w
+    × ((folds : ℕ) → LeadsToClerk w
     (failed_events (commands_of 0 t.turn.visits) letters folds GateWritten
     (length after.keeper.state.batch))
     (with_replies (commands_of 0 t.turn.visits) (unknowns (commands_of 0 t.turn.visits)))
@@ -169,11 +169,11 @@ BrokenTurnsAreBroken D P =
     → before.keeper.writer.is_broken ≡ true
     → IsMachineOf w before → LooksAgree w (commands_of 0 t.visits)
     → (letters : List (Option ℕ))
-    × Follows w (events_while_broken (commands_of 0 t.visits) letters)
+    × LeadsToClerk w (events_while_broken (commands_of 0 t.visits) letters)
     (with_replies (commands_of 0 t.visits) (unknowns (commands_of 0 t.visits))) (safe_list w) after
 
 -- what `reopen` gives where it answers Ok, on an honest device
-pub record Reopens {D P : Type 0} (before after : ClerkState D P) : Type 0 where
+pub record ClerkReopens {D P : Type 0} (before after : ClerkState D P) : Type 0 where
   pub desk : after.desk ≡ before.desk
   pub same_seat : after.seat ≡ before.seat
   pub state : after.keeper.state ≡ starting after.keeper.writer.register
@@ -185,9 +185,9 @@ pub record Reopens {D P : Type 0} (before after : ClerkState D P) : Type 0 where
   pub same_plan : after.keeper.writer.plan ≡ before.keeper.writer.plan
 
 -- what is kept of a batch behind what is safe: nothing of it, or all
-abbrev pub kept_of : {A B : Type 0} → List Entry → List Entry → A ⊎ B → List Entry
-kept_of safe batch (inl without) = safe
-kept_of safe batch (inr whole) = safe ++ batch
+abbrev pub kept_after : {A B : Type 0} → List Entry → List Entry → A ⊎ B → List Entry
+kept_after safe batch (inl without) = safe
+kept_after safe batch (inr whole) = safe ++ batch
 
 -- The desk, the seats, what the keeper shows, what is safe of it and what is in doubt are as before,
 -- whatever the device is.
@@ -200,7 +200,7 @@ pub record Stays {D P : Type 0} (before after : ClerkState D P) : Type 0 where
   pub same_plan : after.keeper.writer.plan ≡ before.keeper.writer.plan
 
 -- a clerk at a new desk, over a keeper that has just opened
-pub record Begins {D P : Type 0} (clerk : ClerkState D P) : Type 0 where
+pub record IsNewClerk {D P : Type 0} (clerk : ClerkState D P) : Type 0 where
   pub seat : clerk.seat ≡ clerk_of clerk.desk
   pub state : clerk.keeper.state ≡ starting clerk.keeper.writer.register
   pub is_whole : clerk.keeper.writer.is_broken ≡ false

@@ -17,7 +17,7 @@ use Rattle.lift_world.specs.declared.event.Taken.{Taken}
 use Rattle.lift_world.specs.Turns.{with_replies}
 use Rattle.lift_clerk.specs.Visits.{commands_of}
 use Rattle.lift_clerk.specs.Steps.{group_of}
-use Rattle.lift_clerk.specs.Machine.{Reopens, Stays}
+use Rattle.lift_clerk.specs.Machine.{ClerkReopens, Stays}
 use Rattle.lift_clerk.specs.Keeping.{Advances}
 
 -- A turn of the machine, or one that the device failed, or one while broken.
@@ -36,7 +36,8 @@ pub record TurnsOnce {D P : Type 0} (state : D → DiskState) (choice : Choice)
 -- call, which leaves it broken, nothing of it has changed.
 pub record ReopensOnce {D P T : Type 0} (state : D → DiskState) (before after : ClerkState D P)
     (result : Result T KeeperFault) : Type 0 where
-  pub opens : OnOk result ((state before.keeper.writer.device).is_honest → Reopens before after)
+  pub opens : OnOk result
+      ((state before.keeper.writer.device).is_honest → ClerkReopens before after)
   pub stays : OnErr result (Stays before after)
   pub same : OnErr result ((after.keeper.writer.is_broken ≡ true)
       ⊎ (after.keeper.writer.is_broken ≡ before.keeper.writer.is_broken))

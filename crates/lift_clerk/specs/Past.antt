@@ -26,13 +26,13 @@ use Rattle.lift_clerk.specs.declared.counts.Counts.{Counts}
 use Rattle.lift_clerk.specs.Clerk.{ClerkState, IsToldAt}
 use Rattle.lift_clerk.specs.Turn.{IsBrokenTurn}
 use Rattle.lift_clerk.specs.Visits.{commands_of}
-use Rattle.lift_clerk.specs.Machine.{Turns, Fails, Reopens, Stays, Begins, kept_of}
+use Rattle.lift_clerk.specs.Machine.{Turns, TurnFails, ClerkReopens, Stays, IsNewClerk, kept_after}
 use Rattle.lift_clerk.specs.Machine.{events_of_turn, events_while_broken}
-use Rattle.lift_clerk.specs.Steps.{GroupState, group_of, MakesSafe, LeavesInDoubt, AnswersUnknown}
-use Rattle.lift_clerk.specs.Steps.{Rests, MayAdd}
+use Rattle.lift_clerk.specs.Steps.{GroupState, group_of, TurnMakesSafe, LeavesInDoubt}
+use Rattle.lift_clerk.specs.Steps.{AnswersUnknown, ClerkRests, MayAdd}
 use Rattle.lift_clerk.specs.History.{History, BeginsOver}
-use Rattle.lift_clerk.specs.Group.{Terminals, IsGroup, ChangesAt, Asks, Hears, IsRead}
-use Rattle.lift_clerk.specs.Group.{HearsAnswers, TakesAsks, WereAsked, ToldAnswersAreHeard}
+use Rattle.lift_clerk.specs.Group.{Terminals, IsGroup, ChangesAt, TerminalAsks, TerminalHears}
+use Rattle.lift_clerk.specs.Group.{IsRead, HearsAnswers, TakesAsks, WereAsked, ToldAnswersAreHeard}
 
 -- The world is the group's and its terminals'. Its journal began with what the group's did, and just
 -- what is safe and was given there is safe and was given in the group's history. Asks and answers may wait.
@@ -44,7 +44,7 @@ pub record IsPastOf {D : Type 0} (w : World) (group : GroupState D) (terminals :
   pub given_is : w.given ≡ given
 
 -- These events, each possible in its place, lead to such a world.
-pub record GoesOn {D : Type 0} (w : World) (events : List Event) (group : GroupState D)
+pub record LeadsToPast {D : Type 0} (w : World) (events : List Event) (group : GroupState D)
     (terminals : Terminals) (safe : List Entry) (given : List Taken) : Type 0 where
   pub end : World
   pub possible : goes events w ≡ Some end
@@ -53,7 +53,7 @@ pub record GoesOn {D : Type 0} (w : World) (events : List Event) (group : GroupS
 -- What a terminal does is this event, in each world that the group may be in.
 abbrev pub IsEvent : {D : Type 0} → GroupState D → Terminals → Terminals → Event → Type 0
 IsEvent group before after event = (w : World) (safe : List Entry) (given : List Taken)
-    → IsPastOf w group before safe given → GoesOn w (event ∷ []) group after safe given
+    → IsPastOf w group before safe given → LeadsToPast w (event ∷ []) group after safe given
 
 -- It is none.
 abbrev pub IsNoEvent : {D : Type 0} → GroupState D → Terminals → Terminals → Type 0
@@ -70,21 +70,21 @@ IsDoneBy before after events batch told =
     (w : World) (terminals : Terminals) (safe : List Entry) (given : List Taken)
     → IsPastOf w before terminals safe given → TakesAsks after terminals
     → (letters : List (Option ℕ))
-    × ((folds : ℕ) → GoesOn w (events letters folds) after terminals (safe ++ batch)
+    × ((folds : ℕ) → LeadsToPast w (events letters folds) after terminals (safe ++ batch)
     (given ++ told))
 
 -- A group begins at a new desk, over a journal that holds a register of the building.
 abbrev pub PastsBegin : Type 0 → Type 0
 PastsBegin D = (group : GroupState D) (terminals : Terminals)
     → IsBuilding group.keeper.writer.plan
-    → IsOfBuilding group.keeper.writer.plan group.keeper.writer.register → Begins group
+    → IsOfBuilding group.keeper.writer.plan group.keeper.writer.register → IsNewClerk group
     → ((terminal : ℕ) → terminals terminal ≡ no_asks)
     → IsPastOf (start group.keeper.writer.plan group.keeper.writer.register) group terminals [] []
 
 -- An ask that is stored is an ask of the machine, on whatever thread it is made.
 abbrev pub AsksAreAsks : Type 0 → Type 0
 AsksAreAsks D = (group : GroupState D) (before after : Terminals) (terminal : ℕ) (ask : Ask)
-    → Asks before after terminal ask
+    → TerminalAsks before after terminal ask
     → IsEvent group before after (Asking terminal ask.number ask.body)
 
 -- An answer that is heard is one that the machine's terminal hears: the next that was stored for
@@ -92,7 +92,7 @@ AsksAreAsks D = (group : GroupState D) (before after : Terminals) (terminal : �
 abbrev pub HearsAreHears : Type 0 → Type 0
 HearsAreHears D =
     (group : GroupState D) (before after : Terminals) (terminal word : ℕ) (reply : Reply)
-    → Hears before after terminal word (Some reply) → HearsAnswers group after terminal
+    → TerminalHears before after terminal word (Some reply) → HearsAnswers group after terminal
     → IsEvent group before after (Hear terminal)
 
 -- All else that a terminal reads or is told is no event.
@@ -104,7 +104,7 @@ ReadsAreNoEvents D =
 
 -- A batch that is made safe is a turn of the machine.
 abbrev pub BatchesAreTurns : Type 0 → Type 0
-BatchesAreTurns D = (before after : GroupState D) (t : MakesSafe before after)
+BatchesAreTurns D = (before after : GroupState D) (t : TurnMakesSafe before after)
     → IsDoneBy before after
     (λ letters folds. events_of_turn t.commands letters folds (length t.decided.batch))
     t.decided.batch (with_replies t.commands t.replies)
@@ -127,15 +127,15 @@ UnknownsAreBroken D = (before after : GroupState D) (t : AnswersUnknown before a
 abbrev pub ReopeningsAreReopenings : Type 0 → Type 0
 ReopeningsAreReopenings D = (w : World) (before after : GroupState D) (terminals : Terminals)
     (safe : List Entry) (given : List Taken)
-    → IsPastOf w before terminals safe given → (r : Reopens before after)
-    → (kept : Kept) × GoesOn w (Reopen kept ∷ []) after terminals
-    (kept_of safe before.keeper.writer.doubt r.one_of) given
+    → IsPastOf w before terminals safe given → (r : ClerkReopens before after)
+    → (kept : Kept) × LeadsToPast w (Reopen kept ∷ []) after terminals
+    (kept_after safe before.keeper.writer.doubt r.one_of) given
 
 -- Nothing that happens is no event: a telling, a refusal, a split of a clerk, a rejoining.
 abbrev pub RestsAreNoEvents : Type 0 → Type 0
 RestsAreNoEvents D = (w : World) (before after : GroupState D) (terminals : Terminals)
     (safe : List Entry) (given : List Taken)
-    → IsPastOf w before terminals safe given → Rests before after
+    → IsPastOf w before terminals safe given → ClerkRests before after
     → after.keeper.writer.is_broken ≡ before.keeper.writer.is_broken
     → IsPastOf w after terminals safe given
 
@@ -143,9 +143,9 @@ RestsAreNoEvents D = (w : World) (before after : GroupState D) (terminals : Term
 abbrev pub FirstFaultsAreFaults : Type 0 → Type 0
 FirstFaultsAreFaults D = (w : World) (before after : GroupState D) (terminals : Terminals)
     (safe : List Entry) (given : List Taken)
-    → IsPastOf w before terminals safe given → Rests before after
+    → IsPastOf w before terminals safe given → ClerkRests before after
     → before.keeper.writer.is_broken ≡ false → after.keeper.writer.is_broken ≡ true
-    → GoesOn w (Fault ∷ []) after terminals safe given
+    → LeadsToPast w (Fault ∷ []) after terminals safe given
 
 -- the batch on its way was asked for, or is in doubt
 abbrev pub MayBeAsked : {D : Type 0} (group : GroupState D) (terminals : Terminals)
@@ -171,7 +171,8 @@ CutsAreCuts D = (w : World) (before after : GroupState D) (terminals fresh : Ter
     → BeginsOver before.keeper.writer.plan image after
     → ((terminal : ℕ) → fresh terminal ≡ no_asks)
     → (events : List Event) × MayComeFirst before.keeper batch may events × (kept : Kept)
-    × GoesOn w (events ++ Cut kept ∷ Reopen kept ∷ []) after fresh (kept_of safe batch doubt) given
+    × LeadsToPast w (events ++ Cut kept ∷ Reopen kept ∷ [])
+    after fresh (kept_after safe batch doubt) given
 
 -- A group's past goes on over all that can happen to it and its terminals, in any order.
 pub record PastsGoOn (D : Type 0) : Type 0 where
@@ -192,13 +193,13 @@ pub record PastsGoOn (D : Type 0) : Type 0 where
 -- is a reopening that is refused.
 pub record CallsAreSteps (D P : Type 0) : Type 0 where
   pub tells : (before after : ClerkState D P) (terminal : ℕ) (words : List ℕ)
-      → IsToldAt before after terminal words → Rests (group_of before) (group_of after)
+      → IsToldAt before after terminal words → ClerkRests (group_of before) (group_of after)
   pub refusals : (before after : ClerkState D P) → Stays before after
       → (after.keeper.writer.is_broken ≡ true)
       ⊎ (after.keeper.writer.is_broken ≡ before.keeper.writer.is_broken)
-      → Rests (group_of before) (group_of after)
-  pub reopenings : (before after : ClerkState D P) → Reopens before after
-      → Reopens (group_of before) (group_of after)
+      → ClerkRests (group_of before) (group_of after)
+  pub reopenings : (before after : ClerkState D P) → ClerkReopens before after
+      → ClerkReopens (group_of before) (group_of after)
 
 -- A clerk's turn that answers Ok is such a step, of its own commands and replies.
 abbrev pub TurnGoesOn : {D P : Type 0} → Choice → ClerkState D P → ClerkState D P → Counts → Type 0
@@ -209,7 +210,7 @@ TurnGoesOn choice before after counts = (t : Turns choice before after counts)
 
 -- So is one that the device fails: nothing more is safe.
 abbrev pub FailureGoesOn : {D P : Type 0} → Choice → ClerkState D P → ClerkState D P → Type 0
-FailureGoesOn choice before after = (t : Fails choice before after)
+FailureGoesOn choice before after = (t : TurnFails choice before after)
     → IsDoneBy (group_of before) (group_of after) (λ letters folds.
     failed_events (commands_of 0 t.turn.visits) letters folds GateWritten
     (length after.keeper.state.batch)) []

@@ -21,11 +21,11 @@ abbrev pub terminals_of : List Command → List ℕ
 terminals_of commands = map (λ (c : Command). c.terminal) commands
 
 -- what is answered: what was decided where it is safe, else Unknown
-abbrev pub told : Bool → Reply → Reply
-told is_safe reply = if is_safe then reply else Unknown
+abbrev pub reply_told : Bool → Reply → Reply
+reply_told is_safe reply = if is_safe then reply else Unknown
 
 abbrev pub replies_told : Bool → List Answer → List Reply
-replies_told is_safe answers = map (λ (a : Answer). told is_safe a.reply) answers
+replies_told is_safe answers = map (λ (a : Answer). reply_told is_safe a.reply) answers
 
 -- commands are decided by the rules, or answered Unknown
 abbrev pub Decides : Bool → Plan → Choice → State → List Command → List Reply → State → Type 0

@@ -34,7 +34,7 @@ pub record DecidesOn {D : Type 0} (keeper : KeeperView D) (commands : List Comma
 
 -- Commands are decided, their batch is made safe, and then they have their replies, at the same
 -- desk.
-pub record MakesSafe {D P : Type 0} (old new : ClerkState D P) : Type 0 where
+pub record TurnMakesSafe {D P : Type 0} (old new : ClerkState D P) : Type 0 where
   pub commands : List Command
   pub replies : List Reply
   pub decided : State
@@ -78,7 +78,7 @@ pub record AnswersUnknown {D P : Type 0} (old new : ClerkState D P) : Type 0 whe
 
 -- Nothing is taken, answered or made safe, and the desk is the same. What a keeper shows stays while
 -- nothing has failed; once something has, it is no matter.
-pub record Rests {D P : Type 0} (old new : ClerkState D P) : Type 0 where
+pub record ClerkRests {D P : Type 0} (old new : ClerkState D P) : Type 0 where
   pub desk : new.desk ≡ old.desk
   pub words : (t : ℕ) → ((view_at new.seat t).taken ≡ (view_at old.seat t).taken)
       × ((view_at new.seat t).answered ≡ (view_at old.seat t).answered)

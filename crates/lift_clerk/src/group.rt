@@ -5,7 +5,7 @@ ghost use mathlib.Core.List.{IsPrefix};
 ghost use Rattle.lift_desk.specs.Seats.{IsSeatOf, IsToldAnswer, Waits};
 ghost use Rattle.lift_world.specs.declared.event.Event.TheVariants.{Ask as Asking, Hear};
 ghost use Rattle.lift_clerk.specs.Steps.{GroupState};
-ghost use Rattle.lift_clerk.specs.Group.{AtSeat, Asks, Hears, HearsAnswers};
+ghost use Rattle.lift_clerk.specs.Group.{AtSeat, TerminalAsks, TerminalHears, HearsAnswers};
 ghost use Rattle.lift_clerk.specs.Past.{IsEvent, IsNoEvent, PastsGoOn, CallsAreSteps};
 ghost use Rattle.lift_clerk.specs.Past.{TurnGoesOn, FailureGoesOn, BrokenTurnGoesOn};
 ghost use Rattle.lift_clerk.specs.Once.{TurnsOnce};
@@ -70,7 +70,7 @@ pub fn ask_once<D: Disk>(
 ) -> Result<(), AskRefusal>
     requires { IsSeatOf desk.now seat.old }
     ensures asks { OnOk result (AtSeat seat.old seat.new (λ before after terminal.
-        Asks before after terminal (record { number = number; body = body }))) }
+        TerminalAsks before after terminal (record { number = number; body = body }))) }
     ensures event { OnOk result (AtSeat seat.old seat.new (λ before after terminal.
         (group : GroupState D) → IsEvent group before after (Asking terminal number body))) }
     ensures waiting { (result ≡ Err AskRefusal.Waiting) ↔ Waits seat.old.view }
@@ -88,7 +88,7 @@ pub fn ask_once<D: Disk>(
 pub fn hear_once<D: Disk>(desk: &Desk, seat: &mut Seat) -> Option<Reply>
     requires { IsSeatOf desk.now seat.old }
     ensures hears { (word : ℕ) × AtSeat seat.old seat.new (λ before after terminal.
-        Hears before after terminal word result) }
+        TerminalHears before after terminal word result) }
     ensures event { IfSome result (λ reply. AtSeat seat.old seat.new (λ before after terminal.
         (group : GroupState D) → HearsAnswers group after terminal
         → IsEvent group before after (Hear terminal))) }

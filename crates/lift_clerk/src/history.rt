@@ -12,7 +12,8 @@ ghost use Rattle.lift_world.specs.declared.event.Taken.{Taken};
 ghost use Rattle.lift_clerk.specs.Steps.{group_of};
 ghost use Rattle.lift_clerk.specs.Once.{TurnsOnce, TurnAdvances, ReopensOnce};
 ghost use Rattle.lift_clerk.specs.History.{History, HistoriesAreRuns, BeginsOver};
-ghost use Rattle.lift_clerk.specs.Keeping.{Keeps, KeepsNow, CrashesKeep, MomentsStand, MomentsKeep};
+ghost use Rattle.lift_clerk.specs.Keeping.{ImageKeeps, KeepsNow, CrashesKeep, MomentsStand};
+ghost use Rattle.lift_clerk.specs.Keeping.{MomentsKeep};
 
 use crate::clerk::Clerk;
 use crate::counts::Counts;
@@ -82,7 +83,7 @@ pub fn crash_shows_letters<D: Disk, P: Policy + Drop>(clerk: &Clerk<'_, '_, D, P
         → (base : RegisterState) (safe : List Entry) (given : List Taken)
         → History base (group_of clerk.now) safe given
         → LeavesNow (D.state clerk.now.keeper.writer.device)
-        (Keeps D clerk.now.keeper.writer.plan base safe given) }
+        (ImageKeeps D clerk.now.keeper.writer.plan base safe given) }
 {
     histories_are_runs::<D>();
     let _safe = clerk.keeper().safe_register();

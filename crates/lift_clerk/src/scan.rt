@@ -8,7 +8,7 @@ ghost use Rattle.lift_desk.specs.Words.{IsReply};
 ghost use Rattle.lift_policy.specs.Step.{Step};
 ghost use Rattle.lift_clerk.specs.Visits.{Visit, command_at, served};
 ghost use Rattle.lift_clerk.specs.Scanning.{Decides, IsScanned, Scans, terminals_in, terminals_of};
-ghost use Rattle.lift_clerk.specs.Scanning.{replies_in, replies_told, told};
+ghost use Rattle.lift_clerk.specs.Scanning.{replies_in, replies_told, reply_told};
 
 use arrayvec::ArrayVec;
 use lift_base::{Reply, Terminal, push_some};
@@ -28,7 +28,7 @@ impl Answer {
     /// The reply as it is stored: where nothing is safe, it isn't known what becomes of the
     /// command.
     fn told(self, is_safe: bool) -> Reply
-        ensures { result ≡ told is_safe self.reply }
+        ensures { result ≡ reply_told is_safe self.reply }
     {
         if is_safe { self.reply } else { Reply::Unknown }
     }

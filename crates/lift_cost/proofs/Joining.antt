@@ -12,7 +12,7 @@ use Rattle.lift_stops.specs.Insertion.{rank_of}
 use Rattle.lift_stops.specs.lemmas.Listed.{same_itself, stops_differ}
 use Rattle.lift_cost.specs.Cost.{moment_at, arrival_at, etd}
 use Rattle.lift_cost.specs.Ways.{weighted, floor_behind, leaves_behind}
-use Rattle.lift_cost.specs.Delays.{AreOpen, EndsAt, IsOnWays, Joins, StopsAt, persons_in}
+use Rattle.lift_cost.specs.Delays.{AreOpen, GoesToEnd, IsOnWays, AddsTimes, HaltsAt, persons_in}
 use Rattle.lift_cost.specs.declared.ways.Ways.{Ways}
 use Rattle.lift_cost.proofs.Earlier.{not_here, or_right}
 use Rattle.lift_cost.proofs.Leaving.{AreLow, weighted-by_table, stops_low, total_etd-weighted, others_etd-weighted}
@@ -39,7 +39,7 @@ joins_by : (plan : Plan) (position : Position) (rows : List Row) (row : Row) (ha
     → stop_list (rows ++ row ∷ []) position ≡ with_it → with_it ≡ made_with ++ leaves ∷ behind → leaves ≡ halt_at position row row.to
     → weighted plan (persons_in table) position.floor 0 with_it ≡ weighted plan (persons_in table) position.floor 0 halts + later
     → arrives ≡ leaves_behind plan position.floor 0 made_with + flight_ms plan (floor_behind position.floor made_with) leaves.floor
-    → Joins plan position rows row later arrives
+    → AddsTimes plan position rows row later arrives
 unfolding etd
 joins_by plan position rows row halts with_it made_with behind table leaves later arrives are with-is parts leaves-is sums arrives-is =
     let first = weighted-by_table plan position rows table position.floor 0 halts are.leaving (subst (λ (hs : List Halt). AreLow hs) (sym are.listed) (stops_low rows position)) in
@@ -67,8 +67,8 @@ all_parts halts before rest middle behind own other whole rest-whole =
 -- a call of passengers who ride from one floor to another
 pub apart_joins : (plan : Plan) (position : Position) (rows : List Row) (row : Row) (halts rest : List Halt) (table : List ℕ) (boards leaves : Halt) (ways after : Ways) (boards_at later arrives : ℕ) → IsBuilding plan → AreOpen plan position rows halts table
     → row.aboard ≡ false → row.from ≢ row.to → row.from < 64 → row.to < 64 → boards ≡ halt_at position row row.from → leaves ≡ halt_at position row row.to
-    → IsOnWays plan (persons_in table) position.floor [] [] ways → StopsAt plan (persons_in table) (rank_of position.dir) halts rest boards ways after boards_at → EndsAt plan (persons_in table) (rank_of position.dir) rest leaves after later arrives
-    → Joins plan position rows row later arrives
+    → IsOnWays plan (persons_in table) position.floor [] [] ways → HaltsAt plan (persons_in table) (rank_of position.dir) halts rest boards ways after boards_at → GoesToEnd plan (persons_in table) (rank_of position.dir) rest leaves after later arrives
+    → AddsTimes plan position rows row later arrives
 apart_joins plan position rows row halts rest table boards leaves ways after boards_at later arrives lawful are waits apart from-low to-low boards-is leaves-is sets_out first second =
     let before : List Halt = first.before in
     let own : List Halt = if first.is_there then boards ∷ [] else [] in
@@ -93,8 +93,8 @@ apart_joins plan position rows row halts rest table boards leaves ways after boa
 -- one of passengers who leave where they board
 pub staying_joins : (plan : Plan) (position : Position) (rows : List Row) (row : Row) (halts : List Halt) (table : List ℕ) (leaves : Halt) (ways : Ways) (later arrives : ℕ) → IsBuilding plan → AreOpen plan position rows halts table
     → row.aboard ≡ false → row.from ≡ row.to → row.from < 64 → row.to < 64 → leaves ≡ halt_at position row row.to
-    → IsOnWays plan (persons_in table) position.floor [] [] ways → EndsAt plan (persons_in table) (rank_of position.dir) halts leaves ways later arrives
-    → Joins plan position rows row later arrives
+    → IsOnWays plan (persons_in table) position.floor [] [] ways → GoesToEnd plan (persons_in table) (rank_of position.dir) halts leaves ways later arrives
+    → AddsTimes plan position rows row later arrives
 staying_joins plan position rows row halts table leaves ways later arrives lawful are waits stays from-low to-low leaves-is sets_out ends =
     let before : List Halt = ends.before in
     let leaves-low : leaves.floor < 64 = subst (λ (h : Halt). h.floor < 64) (sym leaves-is) to-low in

@@ -9,6 +9,6 @@ abbrev pub AreWithin : ℕ → List Row → Type 0
 AreWithin floors rows = All (λ row. (row.from < floors) × (row.to < floors)) rows
 
 -- the car's floor and those of a new call are in the building
-abbrev pub IsWithin : ℕ → Position → NewCall → Type 0
-IsWithin floors position call = (position.floor < floors) × (call.from < floors)
+abbrev pub AreFloorsWithin : ℕ → Position → NewCall → Type 0
+AreFloorsWithin floors position call = (position.floor < floors) × (call.from < floors)
     × (call.to < floors)

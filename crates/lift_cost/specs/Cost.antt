@@ -30,8 +30,8 @@ abbrev pub total_etd : Plan → Position → List Row → ℕ
 total_etd plan position rows = sum_by (λ row. row.party * etd plan position rows row) rows
 
 -- a call that nobody has taken yet, as an open one whose passengers wait
-abbrev pub waiting_row : NewCall → Row
-waiting_row call = record {
+abbrev pub new_call_row : NewCall → Row
+new_call_row call = record {
   kiosk = 0;
   number = 0;
   from = call.from;
@@ -42,18 +42,18 @@ waiting_row call = record {
 }
 
 -- the open calls with a new one
-abbrev pub with_call : List Row → NewCall → List Row
-with_call rows call = rows ++ waiting_row call ∷ []
+abbrev pub with_new_call : List Row → NewCall → List Row
+with_new_call rows call = rows ++ new_call_row call ∷ []
 
 -- the time of a new call, once for each of its persons
 abbrev pub own_etd : Plan → Position → List Row → NewCall → ℕ
 own_etd plan position rows call =
-    call.party * etd plan position (with_call rows call) (waiting_row call)
+    call.party * etd plan position (with_new_call rows call) (new_call_row call)
 
 -- what a new call adds to the times of all passengers, its own with them
 abbrev pub total_cost : Plan → Position → List Row → NewCall → ℕ
 total_cost plan position rows call =
-    total_etd plan position (with_call rows call) - total_etd plan position rows
+    total_etd plan position (with_new_call rows call) - total_etd plan position rows
 
 -- what a new call adds to the times of the others
 abbrev pub degradation : Plan → Position → List Row → NewCall → ℕ

@@ -40,7 +40,7 @@ pub record IsShort (ways : Ways) (parts : ℕ) : Type 0 where
 
 -- A car that had made some halts goes on through these up to one, which the way with the new call
 -- makes, and the other one where it is there.
-pub record StopsAt (plan : Plan) (persons : Halt → ℕ) (rank : Halt → ℕ) (halts behind : List Halt)
+pub record HaltsAt (plan : Plan) (persons : Halt → ℕ) (rank : Halt → ℕ) (halts behind : List Halt)
     (halt : Halt) (ways after : Ways) (arrives : ℕ) : Type 0 where
   pub before : List Halt
   pub is_there : Bool
@@ -57,7 +57,7 @@ pub record StopsAt (plan : Plan) (persons : Halt → ℕ) (rank : Halt → ℕ) 
 -- A car that had made some halts goes on through these to their end, and the way with the new call
 -- makes this one among them: `later` is how much later all persons are where they leave, and
 -- `arrives` is when the car with the call is at this one.
-pub record EndsAt (plan : Plan) (persons : Halt → ℕ) (rank : Halt → ℕ) (halts : List Halt)
+pub record GoesToEnd (plan : Plan) (persons : Halt → ℕ) (rank : Halt → ℕ) (halts : List Halt)
     (halt : Halt) (ways : Ways) (later arrives : ℕ) : Type 0 where
   pub before : List Halt
   pub is_there : Bool
@@ -83,7 +83,7 @@ pub record AreOpen (plan : Plan) (position : Position) (rows : List Row) (halts 
 
 -- The times of all passengers with a new call: those without it, the others' delays, and its own
 -- time once for each of its persons.
-pub record Joins (plan : Plan) (position : Position) (rows : List Row) (row : Row)
+pub record AddsTimes (plan : Plan) (position : Position) (rows : List Row) (row : Row)
     (later arrives : ℕ) : Type 0 where
   pub added : total_etd plan position (rows ++ row ∷ [])
       ≡ total_etd plan position rows + later + row.party * arrives

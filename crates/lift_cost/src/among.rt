@@ -3,8 +3,8 @@
 ghost use Rattle.std.specs.Prelude.{◌≡◌, ◌≢◌, ◌+◌, ◌*◌, ◌<◌, ◌≤◌, false, All, List, length};
 ghost use Rattle.lift_base.specs.declared.history.Row.{Row as RowValue};
 ghost use Rattle.lift_stops.specs.StopList.{same_halt, halt_at};
-ghost use Rattle.lift_cost.specs.Cost.{moment_at, arrival_at, total_etd, own_etd, with_call};
-ghost use Rattle.lift_cost.specs.Delays.{AreOpen, Joins};
+ghost use Rattle.lift_cost.specs.Cost.{moment_at, arrival_at, total_etd, own_etd, with_new_call};
+ghost use Rattle.lift_cost.specs.Delays.{AreOpen, AddsTimes};
 
 use crate::call::{NewCall, waiting_row};
 use crate::ways::Ways;
@@ -92,7 +92,7 @@ fn later_by_ride(
         → row.aboard ≡ false → row.from ≢ row.to
         → boards.now ≡ halt_at position.now row row.from
         → goal.now ≡ halt_at position.now row row.to
-        → Joins building.now position.now rows row result.0 result.1 }
+        → AddsTimes building.now position.now rows row result.0 result.1 }
     ensures limit { result.0 ≤ 5 * (66 * (65535 * 4294967295)) }
 {
     let _lawful = building.floors();
@@ -118,7 +118,7 @@ fn later_by_stay(
         → AreOpen building.now position.now rows halts.now leaving.now
         → row.aboard ≡ false → row.from ≡ row.to
         → goal.now ≡ halt_at position.now row row.to
-        → Joins building.now position.now rows row result.0 result.1 }
+        → AddsTimes building.now position.now rows row result.0 result.1 }
     ensures limit { result.0 ≤ 5 * (66 * (65535 * 4294967295)) }
 {
     let _lawful = building.floors();
@@ -143,7 +143,7 @@ pub fn added_among(
     ensures added { (rows : List RowValue)
         → AreOpen building.now position.now rows halts.now leaving.now
         → result.0 + total_etd building.now position.now rows
-        ≡ total_etd building.now position.now (with_call rows call.now) }
+        ≡ total_etd building.now position.now (with_new_call rows call.now) }
     ensures own { (rows : List RowValue)
         → AreOpen building.now position.now rows halts.now leaving.now
         → result.1 ≡ own_etd building.now position.now rows call.now }

@@ -1,6 +1,6 @@
 //! New calls.
 ghost use Rattle.std.specs.Prelude.{◌≡◌};
-ghost use Rattle.lift_cost.specs.Cost.{waiting_row};
+ghost use Rattle.lift_cost.specs.Cost.{new_call_row};
 
 use lift_base::{Floor, Letter, Number, Party, Row, Terminal};
 
@@ -17,7 +17,7 @@ pub struct NewCall {
 
 /// The call as an open one whose passengers wait.
 pub fn waiting_row(call: &NewCall) -> Row
-    ensures { result ≡ waiting_row call.now }
+    ensures { result ≡ new_call_row call.now }
 {
     Row {
         kiosk: Terminal::default(),

@@ -1,8 +1,9 @@
 //! Costs from nothing: the stop list, and the table of who leaves where, are made for each.
 
 ghost use Rattle.std.specs.Prelude.{◌≡◌, ◌+◌, ◌*◌, ◌<◌, ◌≤◌, length};
-ghost use Rattle.lift_cost.specs.Calls.{AreWithin, IsWithin};
-ghost use Rattle.lift_cost.specs.Cost.{etd, total_etd, own_etd, with_call, total_cost, degradation};
+ghost use Rattle.lift_cost.specs.Calls.{AreWithin, AreFloorsWithin};
+ghost use Rattle.lift_cost.specs.Cost.{etd, total_etd, own_etd, with_new_call, total_cost};
+ghost use Rattle.lift_cost.specs.Cost.{degradation};
 
 use crate::among::{added_among, etd_among};
 use crate::call::NewCall;
@@ -26,11 +27,11 @@ pub fn etd(building: &Building, position: Position, rows: &[Row], row: &Row) -> 
 /// What a new call adds to the times of all passengers of a car, its own with them, and the time of
 /// its own.
 fn added(building: &Building, position: &Position, rows: &[Row], call: &NewCall) -> (u64, u64)
-    requires within { IsWithin building.now.floors position.now call.now }
+    requires within { AreFloorsWithin building.now.floors position.now call.now }
     requires calls { AreWithin building.now.floors rows.now }
     requires few { length rows.now ≤ 32 }
     ensures added { result.0 + total_etd building.now position.now rows.now
-        ≡ total_etd building.now position.now (with_call rows.now call.now) }
+        ≡ total_etd building.now position.now (with_new_call rows.now call.now) }
     ensures own { result.1 ≡ own_etd building.now position.now rows.now call.now }
     ensures no_loss { result.1 ≤ result.0 }
 {
@@ -42,14 +43,14 @@ fn added(building: &Building, position: &Position, rows: &[Row], call: &NewCall)
 /// What a new call adds to the times of all passengers of a car, its own with them: each call's
 /// time counts once for each of its persons.
 pub fn total_cost(building: &Building, position: Position, rows: &[Row], call: NewCall) -> u64
-    requires within { IsWithin building.now.floors position call }
+    requires within { AreFloorsWithin building.now.floors position call }
     requires calls { AreWithin building.now.floors rows.now }
     requires few { length rows.now ≤ 32 }
     ensures value { result ≡ total_cost building.now position rows.now call }
 
     // The sum with the new call is the sum without it and this, so nothing is cut off at 0.
     ensures added { result + total_etd building.now position rows.now
-        ≡ total_etd building.now position (with_call rows.now call) }
+        ≡ total_etd building.now position (with_new_call rows.now call) }
 
     // The other passengers lose nothing, so this is no less than the time of the new ones.
     ensures own { own_etd building.now position rows.now call ≤ result }
@@ -60,7 +61,7 @@ pub fn total_cost(building: &Building, position: Position, rows: &[Row], call: N
 
 /// What a new call adds to the times of the other passengers of a car.
 pub fn degradation(building: &Building, position: Position, rows: &[Row], call: NewCall) -> u64
-    requires within { IsWithin building.now.floors position call }
+    requires within { AreFloorsWithin building.now.floors position call }
     requires calls { AreWithin building.now.floors rows.now }
     requires few { length rows.now ≤ 32 }
     ensures value { result ≡ degradation building.now position rows.now call }
@@ -73,7 +74,7 @@ pub fn degradation(building: &Building, position: Position, rows: &[Row], call: 
     // nobody arrives sooner.
     ensures sums { result + own_etd building.now position rows.now call
         + total_etd building.now position rows.now
-        ≡ total_etd building.now position (with_call rows.now call) }
+        ≡ total_etd building.now position (with_new_call rows.now call) }
 {
     let (cost, own) = added(building, &position, rows, &call);
     cost - own

@@ -1,8 +1,9 @@
 //! Costs read from a car's schedule, which keeps its stop list and who leaves where.
 
 ghost use Rattle.std.specs.Prelude.{◌≡◌, ◌+◌, ◌*◌, ◌<◌, ◌≤◌, length};
-ghost use Rattle.lift_cost.specs.Calls.{AreWithin, IsWithin};
-ghost use Rattle.lift_cost.specs.Cost.{etd, total_etd, own_etd, with_call, total_cost, degradation};
+ghost use Rattle.lift_cost.specs.Calls.{AreWithin, AreFloorsWithin};
+ghost use Rattle.lift_cost.specs.Cost.{etd, total_etd, own_etd, with_new_call, total_cost};
+ghost use Rattle.lift_cost.specs.Cost.{degradation};
 
 use crate::among::{added_among, etd_among};
 use crate::call::NewCall;
@@ -22,11 +23,11 @@ pub fn etd_of(building: &Building, schedule: &Schedule, row: &Row) -> u64
 /// What a new call adds to the times of all passengers of a car, its own with them, and the time of
 /// its own.
 fn added(building: &Building, schedule: &Schedule, call: &NewCall) -> (u64, u64)
-    requires within { IsWithin building.now.floors schedule.now.position call.now }
+    requires within { AreFloorsWithin building.now.floors schedule.now.position call.now }
     requires calls { AreWithin building.now.floors schedule.now.rows }
     requires few { length schedule.now.rows ≤ 32 }
     ensures added { result.0 + total_etd building.now schedule.now.position schedule.now.rows
-        ≡ total_etd building.now schedule.now.position (with_call schedule.now.rows call.now) }
+        ≡ total_etd building.now schedule.now.position (with_new_call schedule.now.rows call.now) }
     ensures own { result.1 ≡ own_etd building.now schedule.now.position schedule.now.rows call.now }
     ensures no_loss { result.1 ≤ result.0 }
 {
@@ -43,14 +44,14 @@ fn added(building: &Building, schedule: &Schedule, call: &NewCall) -> (u64, u64)
 /// What a new call adds to the times of all passengers of a car, its own with them: each call's
 /// time counts once for each of its persons.
 pub fn cost_of(building: &Building, schedule: &Schedule, call: NewCall) -> u64
-    requires within { IsWithin building.now.floors schedule.now.position call }
+    requires within { AreFloorsWithin building.now.floors schedule.now.position call }
     requires calls { AreWithin building.now.floors schedule.now.rows }
     requires few { length schedule.now.rows ≤ 32 }
     ensures value { result ≡ total_cost building.now schedule.now.position schedule.now.rows call }
 
     // The sum with the new call is the sum without it and this, so nothing is cut off at 0.
     ensures added { result + total_etd building.now schedule.now.position schedule.now.rows
-        ≡ total_etd building.now schedule.now.position (with_call schedule.now.rows call) }
+        ≡ total_etd building.now schedule.now.position (with_new_call schedule.now.rows call) }
 
     // The other passengers lose nothing, so this is no less than the time of the new ones.
     ensures own { own_etd building.now schedule.now.position schedule.now.rows call ≤ result }
@@ -61,7 +62,7 @@ pub fn cost_of(building: &Building, schedule: &Schedule, call: NewCall) -> u64
 
 /// What a new call adds to the times of the other passengers of a car.
 pub fn degradation_of(building: &Building, schedule: &Schedule, call: NewCall) -> u64
-    requires within { IsWithin building.now.floors schedule.now.position call }
+    requires within { AreFloorsWithin building.now.floors schedule.now.position call }
     requires calls { AreWithin building.now.floors schedule.now.rows }
     requires few { length schedule.now.rows ≤ 32 }
     ensures value { result ≡ degradation building.now schedule.now.position schedule.now.rows call }
@@ -74,7 +75,7 @@ pub fn degradation_of(building: &Building, schedule: &Schedule, call: NewCall) -
     // nobody arrives sooner.
     ensures sums { result + own_etd building.now schedule.now.position schedule.now.rows call
         + total_etd building.now schedule.now.position schedule.now.rows
-        ≡ total_etd building.now schedule.now.position (with_call schedule.now.rows call) }
+        ≡ total_etd building.now schedule.now.position (with_new_call schedule.now.rows call) }
 {
     let (cost, own) = added(building, schedule, &call);
     cost - own

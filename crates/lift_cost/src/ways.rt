@@ -5,7 +5,8 @@ ghost use Rattle.std.specs.Prelude.{◌∷◌, ◌++◌, length};
 ghost use Rattle.lift_base.specs.declared.travel.Halt.{Halt as HaltValue};
 ghost use Rattle.lift_building.specs.Plan.{Plan, flight_ms};
 ghost use Rattle.lift_stops.specs.Insertion.{rank_of};
-ghost use Rattle.lift_cost.specs.Delays.{EndsAt, IsNoSooner, IsOnWays, IsShort, StopsAt, persons_in};
+ghost use Rattle.lift_cost.specs.Delays.{GoesToEnd, IsNoSooner, IsOnWays, IsShort, HaltsAt};
+ghost use Rattle.lift_cost.specs.Delays.{persons_in};
 ghost use Rattle.lift_cost.specs.Ways.{floor_behind, leaves_behind, persons_along, weighted};
 
 use lift_base::{Dir, Floor, Halt};
@@ -236,7 +237,7 @@ impl Ways {
         requires here { self.floor_with < building.now.floors }
         requires sooner { IsNoSooner building.now self.floor self.floor_with self.delay }
         requires short { IsShort self 2 }
-        ensures on { StopsAt building.now (persons_in leaving.now) (rank_of dir) halts.now
+        ensures on { HaltsAt building.now (persons_in leaving.now) (rank_of dir) halts.now
             result.2.now halt.now self result.0 result.1 }
         ensures within { All (λ halt. halt.floor < building.now.floors) result.2.now }
         ensures few { length result.2.now ≤ 66 }
@@ -288,7 +289,8 @@ impl Ways {
         requires here { self.floor_with < building.now.floors }
         requires sooner { IsNoSooner building.now self.floor self.floor_with self.delay }
         requires short { IsShort self 2 }
-        ensures on { EndsAt building.now (persons_in leaving.now) (rank_of dir) halts.now halt.now
+        ensures on { GoesToEnd building.now (persons_in leaving.now) (rank_of dir) halts.now
+            halt.now
             self result.0 result.1 }
         ensures limit { result.0 ≤ 5 * (66 * (65535 * 4294967295)) }
     {

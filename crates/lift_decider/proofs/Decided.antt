@@ -14,7 +14,7 @@ use Rattle.lift_building.specs.lemmas.Getters.{serves_within}
 use Rattle.lift_register.specs.Fits.{Fits}
 use Rattle.lift_policy.specs.Terminals.{kiosk_floor}
 use Rattle.lift_policy.specs.Eligible.{Choice}
-use Rattle.lift_policy.specs.Step.{State, Step, Proceeds, Allots, Repeats, view_of, call_at, cars_for, first_cause, has_cause, is_new, is_same, accepting, standing, stopping, next_from}
+use Rattle.lift_policy.specs.Step.{State, Step, Proceeds, Allots, Repeats, view_of, call_at, cars_for, first_cause, has_cause, is_new, is_same, accepting, with_car_at, stopping, next_from}
 use Rattle.lift_policy.specs.lemmas.Steps.{no_cause}
 use Rattle.lift_policy.specs.lemmas.Joins.{eligible_passes}
 

@@ -18,13 +18,13 @@ use Rattle.lift_register.specs.Belongs.{BelongsTo}
 use Rattle.lift_register.specs.Balanced.{IsBalanced}
 use Rattle.lift_stops.specs.Schedule.{ScheduleState}
 use Rattle.lift_policy.specs.View.{positions_of, position_of, AreSchedulesOf}
-use Rattle.lift_policy.specs.Step.{State, accepting, standing}
+use Rattle.lift_policy.specs.Step.{State, accepting, with_car_at}
 use Rattle.lift_policy.specs.Laws.{IsStateIn}
 use Rattle.lift_decider.specs.Decider.{IsBatch, starting, state_of}
 use Rattle.lift_decider.specs.Schedules.{with_row}
 use Rattle.lift_decider.proofs.Changes.{set_here, positions_at, positions_kept}
 
-pub standing_inside : (plan : Plan) (state : State) (car floor : ℕ) (dir : Dir) → floor < plan.floors → IsStateIn plan state → IsStateIn plan (standing state car floor dir)
+pub standing_inside : (plan : Plan) (state : State) (car floor : ℕ) (dir : Dir) → floor < plan.floors → IsStateIn plan state → IsStateIn plan (with_car_at state car floor dir)
 standing_inside plan state car floor dir lt is = record {
   possible = record {
     register = is.possible.register;
@@ -76,17 +76,17 @@ batch_push entries entry is room written = record {
 
 -- the state after a car stands somewhere, of its parts
 pub stood : (s : State) (r : RegisterState) (schedules : List (Option ScheduleState)) (b : List Entry) (i car : ℕ) (o : Option ScheduleState) (p : Position) (rows : List Row)
-    → state_of r schedules b ≡ s → i ≡ car → o ≡ Some (record { position = p; rows = rows }) → state_of r (set schedules i o) b ≡ standing s car p.floor p.dir
+    → state_of r schedules b ≡ s → i ≡ car → o ≡ Some (record { position = p; rows = rows }) → state_of r (set schedules i o) b ≡ with_car_at s car p.floor p.dir
 stood s r schedules b i car o p rows is at here =
-    subst (λ (x : State). state_of r (set schedules i o) b ≡ standing x car p.floor p.dir) is
+    subst (λ (x : State). state_of r (set schedules i o) b ≡ with_car_at x car p.floor p.dir) is
     (same_state r r (positions_of (set schedules i o)) (set (positions_of schedules) car (Some p)) b b refl (positions_at schedules i car o p rows at here) refl)
 
 -- and after an entry that its car's stop is
 pub accepted_stood : (s : State) (r q : RegisterState) (schedules : List (Option ScheduleState)) (b d : List Entry) (entry : Entry) (i car : ℕ) (o : Option ScheduleState) (p : Position) (rows : List Row)
     → state_of r schedules b ≡ s → q ≡ register_of r (entry ∷ []) → d ≡ b ++ entry ∷ [] → i ≡ car → o ≡ Some (record { position = p; rows = rows })
-    → state_of q (set schedules i o) d ≡ standing (accepting s entry) car p.floor p.dir
+    → state_of q (set schedules i o) d ≡ with_car_at (accepting s entry) car p.floor p.dir
 accepted_stood s r q schedules b d entry i car o p rows is e f at here =
-    subst (λ (x : State). state_of q (set schedules i o) d ≡ standing (accepting x entry) car p.floor p.dir) is
+    subst (λ (x : State). state_of q (set schedules i o) d ≡ with_car_at (accepting x entry) car p.floor p.dir) is
     (same_state q (register_of r (entry ∷ [])) (positions_of (set schedules i o)) (set (positions_of schedules) car (Some p)) d (b ++ entry ∷ []) e (positions_at schedules i car o p rows at here) f)
 
 -- and after one that is a new call

@@ -9,8 +9,8 @@ ghost use Rattle.lift_base.specs.declared.command.Reply.{Reply as ReplyValue};
 ghost use Rattle.lift_register.specs.Prelude.{BelongsTo, IsBalanced, IsWellFormed};
 ghost use Rattle.lift_policy.specs.View.{positions_of, AreSchedulesOf, IsViewIn};
 ghost use Rattle.lift_policy.specs.Eligible.{eligible_cars};
-ghost use Rattle.lift_policy.specs.Step.{Step, Proceeds, first_cause, view_of, standing, stopping};
-ghost use Rattle.lift_policy.specs.Step.{next_from};
+ghost use Rattle.lift_policy.specs.Step.{Step, Proceeds, first_cause, view_of, with_car_at};
+ghost use Rattle.lift_policy.specs.Step.{stopping, next_from};
 ghost use Rattle.lift_decider.specs.Decider.{IsPossible, nothing, starting};
 
 use crate::group::Group;
@@ -186,7 +186,7 @@ impl<'b> Decider<'b> {
             command.now.number (BodyValue.Place floor dir) ≡ None }
         ensures state { self.new ≡ record {
           plan = self.old.plan;
-          state = standing self.old.state command.now.terminal floor dir;
+          state = with_car_at self.old.state command.now.terminal floor dir;
         } }
         ensures reply { result ≡ ReplyValue.Placed
             (next_from self.new.state command.now.terminal floor dir) }

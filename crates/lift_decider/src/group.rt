@@ -7,7 +7,7 @@ ghost use Rattle.lift_base.specs.declared.history.Entry.{Entry as EntryValue};
 ghost use Rattle.lift_base.specs.declared.history.Content.{Content as ContentValue};
 ghost use Rattle.lift_register.specs.Prelude.{last_of, waiting_row, register_of, Fits};
 ghost use Rattle.lift_register.specs.Prelude.{IsWellFormed};
-ghost use Rattle.lift_policy.specs.Step.{view_of, accepting, standing, next_from};
+ghost use Rattle.lift_policy.specs.Step.{view_of, accepting, with_car_at, next_from};
 ghost use Rattle.lift_policy.specs.Laws.{IsStateIn};
 ghost use Rattle.lift_decider.specs.Decider.{IsBatch, IsRegisterIn, starting};
 
@@ -132,7 +132,7 @@ impl Group {
     /// A car stands at a position.
     pub fn stand(&mut self, car: Letter, position: Position) -> Option<Stop>
         requires cars { length self.old.positions ≡ 16 }
-        ensures state { self.new ≡ standing self.old car position.floor position.dir }
+        ensures state { self.new ≡ with_car_at self.old car position.floor position.dir }
         ensures next { result ≡ next_from self.new car position.floor position.dir }
     {
         let place = usize::from(car.get());
@@ -153,7 +153,7 @@ impl Group {
         requires inside { IsStateIn building.now self.old }
         requires room { length self.old.batch < 63 }
         ensures state { self.new
-            ≡ standing (accepting self.old (EntryValue.Stop car number stop.floor stop.dir)) car
+            ≡ with_car_at (accepting self.old (EntryValue.Stop car number stop.floor stop.dir)) car
             stop.floor stop.dir }
         ensures next { result ≡ next_from self.new car stop.floor stop.dir }
         ensures inside { stop.floor < building.now.floors → IsStateIn building.now self.new }

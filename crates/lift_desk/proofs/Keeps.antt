@@ -12,22 +12,22 @@ use Rattle.atomic_table.proofs.Lists.{at_set, at_snoc}
 use Rattle.lift_desk.specs.declared.view.ClerkView.{ClerkView}
 use Rattle.lift_desk.specs.declared.view.View.{View}
 use Rattle.lift_desk.specs.Words.{turn_of, number_of, last_of, IsAskWord, IsReplyWord}
-use Rattle.lift_desk.specs.Rule.{blank, opening_view, united, terminal_part, clerk_part, ahead_part, ahead_of, ahead_note_of, noted_by, stamp_of, CountTurns, Lists, IsInOrder, IsAhead, Fits, IsKept}
-use Rattle.lift_desk.specs.Steps.{with_ask, with_answer, with_hearing, with_look, with_taking, is_new, is_awaited, at_terminal, at_clerk, Asked, Answered, Looked, LookedAhead, Heard, Met, Compared, ComparedAhead}
+use Rattle.lift_desk.specs.Rule.{blank, opening_view, united, terminal_part, clerk_part, ahead_part, ahead_of, ahead_note_of, noted_by, stamp_of, CountTurns, Lists, IsInOrder, IsAhead, ViewFits, IsKept}
+use Rattle.lift_desk.specs.Steps.{with_ask, with_answer, with_hearing, with_look, with_taking, is_new_word, is_awaited, at_terminal, at_clerk, Asked, AnswersPlace, Looked, LookedAhead, Heard, Met, Compared, ComparedAhead}
 use Rattle.lift_desk.specs.lemmas.WordLists.{last_of-push, CountTurns-push, turn_of-last_of, CountTurns-prefix, CountTurns-stamped, prefix_length, stamped_length, prefix_whole, prefix_refl, prefix_nil, prefix_push, prefix_next, stamped_next, stamped_same, All-last_of, IsAhead-push, IsAhead-prefix, IsAhead-take, turn_at_most, turn_is_last}
 
 abbrev M : Type 0
 M = Me (Unit {0}) View
 
 abbrev AllFit : ℕ → ℕ → Lists → List View → Type 0
-AllFit terminal clerk l views = (seat : ℕ) (v : View) → get_elem? views seat ≡ some v → Fits terminal clerk l seat v
+AllFit terminal clerk l views = (seat : ℕ) (v : View) → get_elem? views seat ≡ some v → ViewFits terminal clerk l seat v
 
 -- one view changes, and the lists with it
-fit_set : (terminal clerk : ℕ) (l : Lists) (views : List View) (id : ℕ) (w : View) → Fits terminal clerk l id w
-    → ((j : ℕ) (u : View) → j ≢ id → get_elem? views j ≡ some u → Fits terminal clerk l j u) → AllFit terminal clerk l (set views id w)
+fit_set : (terminal clerk : ℕ) (l : Lists) (views : List View) (id : ℕ) (w : View) → ViewFits terminal clerk l id w
+    → ((j : ℕ) (u : View) → j ≢ id → get_elem? views j ≡ some u → ViewFits terminal clerk l j u) → AllFit terminal clerk l (set views id w)
 fit_set terminal clerk l views id w mine others j u e =
     ⊎_elim
-    (λ (x : (j ≡ id) × (w ≡ u)). subst (λ (y : ℕ × View). Fits terminal clerk l y.0 y.1) (λ i. (sym x.0 i, x.1 i)) mine)
+    (λ (x : (j ≡ id) × (w ≡ u)). subst (λ (y : ℕ × View). ViewFits terminal clerk l y.0 y.1) (λ i. (sym x.0 i, x.1 i)) mine)
     (λ (x : (j ≢ id) × (get_elem? views j ≡ some u)). others j u x.0 x.1)
     (at_set views id j w u e)
 
@@ -57,7 +57,7 @@ asks_keep slots id me word may free turn spelled s r _ at _ =
       answers_spelled = o.answers_spelled;
     } in
     let w = at_terminal v (with_ask v.terminal word) in
-    let fits : Fits r.terminal r.clerk l' id w = record {
+    let fits : ViewFits r.terminal r.clerk l' id w = record {
       asks = λ _. (a.0, ap (λ z. z ++ word ∷ []) a.1, a.2);
       answers = mine.answers;
       looks_ahead = λ k. IsAhead-push l.asked v.clerk.taken word (mine.looks_ahead k);
@@ -143,7 +143,7 @@ looks_so s r id v may not_ahead at false is =
     let below : turn_of n ≤ turn_of (last_of v.clerk.taken) = le_of _ _ is in
     let all : v.clerk.taken ≡ l.asked = a.1 ∙ prefix_whole l.taken l.asked o.taken (omega arith) in
     let w = at_clerk v (record { taken = v.clerk.taken; answered = v.clerk.answered; looks = suc v.clerk.looks; last = get_or s.words 0 0; told = v.clerk.told }) in
-    let mine : Fits r.terminal r.clerk l id w = record { asks = f.asks; answers = f.answers; looks_ahead = f.looks_ahead; told_answers = f.told_answers; told_asks = f.told_asks; noted = f.noted } in (
+    let mine : ViewFits r.terminal r.clerk l id w = record { asks = f.asks; answers = f.answers; looks_ahead = f.looks_ahead; told_answers = f.told_answers; told_asks = f.told_asks; noted = f.noted } in (
       record {
         terminal = r.terminal;
         clerk = r.clerk;
@@ -180,7 +180,7 @@ looks_so s r id v may not_ahead at true is =
       answers_spelled = o.answers_spelled;
     } in
     let w = at_clerk v (record { taken = v.clerk.taken ++ n ∷ []; answered = v.clerk.answered; looks = suc v.clerk.looks; last = n; told = v.clerk.told }) in
-    let mine : Fits r.terminal r.clerk l' id w = record {
+    let mine : ViewFits r.terminal r.clerk l' id w = record {
       asks = f.asks;
       answers = λ _. (a.0, ap (λ z. z ++ n ∷ []) a.1, a.2);
       looks_ahead = λ k. off (sym not_ahead ∙ k);
@@ -224,7 +224,7 @@ looks_keep slots id me may not_ahead s r _ at _ =
     let one_open = c.one_open in
     let heard_le = c.heard_le in
     let answered_le = c.answered_le in
-    let found : is_new me.0.clerk me.0.noted ≡ true → n ≡ me.0.noted = λ new.
+    let found : is_new_word me.0.clerk me.0.noted ≡ true → n ≡ me.0.noted = λ new.
     let above : turn_of (last_of me.0.clerk.taken) < turn_of me.0.noted = lt_of _ _ new in
     let there = f.noted (λ none. let zero : turn_of me.0.noted ≡ 0 = ap turn_of none in omega arith) in
     let at_most = turn_at_most l.asked me.0.noted r.in_order.turns there in
@@ -233,7 +233,7 @@ looks_keep slots id me may not_ahead s r _ at _ =
 
 pub answers_keep : (slots id : ℕ) (me : M) (word : ℕ) → me.0.answers ≡ true → length me.0.clerk.taken ≡ suc (length me.0.clerk.answered)
     → stamp_of word ≡ stamp_of (last_of me.0.clerk.taken) → IsReplyWord word
-    → Allows IsKept slots id me 1 (λ _. word) (λ _. Answered (step slots 1 word 0 none) me word)
+    → Allows IsKept slots id me 1 (λ _. word) (λ _. AnswersPlace (step slots 1 word 0 none) me word)
 answers_keep slots id me word may owed stamp spelled s r _ at _ =
     let v = me.0 in
     let l = r.lists in
@@ -254,7 +254,7 @@ answers_keep slots id me word may owed stamp spelled s r _ at _ =
       answers_spelled = All-push IsReplyWord l.answered word o.answers_spelled spelled;
     } in
     let w = at_clerk v (with_answer v.clerk word) in
-    let mine : Fits r.terminal r.clerk l' id w = record {
+    let mine : ViewFits r.terminal r.clerk l' id w = record {
       asks = f.asks;
       answers = λ _. (a.0, a.1, ap (λ z. z ++ word ∷ []) a.2);
       looks_ahead = f.looks_ahead;
@@ -314,7 +314,7 @@ hears_so s r id v may at false is =
     let below : turn_of n ≤ length v.terminal.heard = heard_all (length v.terminal.heard) (length v.terminal.asked) (turn_of n) is (omega arith) (omega arith) in
     let all : v.terminal.heard ≡ l.answered = a.2 ∙ prefix_whole l.heard l.answered o.heard (omega arith) in
     let w = at_terminal v (with_look v.terminal (get_or s.words 1 0)) in
-    let mine : Fits r.terminal r.clerk l id w = record { asks = f.asks; answers = f.answers; looks_ahead = f.looks_ahead; told_answers = f.told_answers; told_asks = f.told_asks; noted = f.noted } in (
+    let mine : ViewFits r.terminal r.clerk l id w = record { asks = f.asks; answers = f.answers; looks_ahead = f.looks_ahead; told_answers = f.told_answers; told_asks = f.told_asks; noted = f.noted } in (
       record {
         terminal = r.terminal;
         clerk = r.clerk;
@@ -354,7 +354,7 @@ hears_so s r id v may at true is =
       answers_spelled = o.answers_spelled;
     } in
     let w = at_terminal v (record { asked = v.terminal.asked; heard = v.terminal.heard ++ n ∷ []; looks = suc v.terminal.looks; last = n; told = v.terminal.told }) in
-    let mine : Fits r.terminal r.clerk l' id w = record {
+    let mine : ViewFits r.terminal r.clerk l' id w = record {
       asks = λ _. (a.0, a.1, ap (λ z. z ++ n ∷ []) a.2);
       answers = f.answers;
       looks_ahead = f.looks_ahead;
@@ -410,7 +410,7 @@ meets_keep slots id me asks answers s r _ at _ =
     let n : ℕ = get_or s.words 1 0 in
     let n_is : n ≡ last_of l.answered = ap (λ z. get_or z 1 0) r.words in
     let w = at_terminal v (with_look v.terminal n) in
-    let mine : Fits r.terminal r.clerk l id w = record { asks = f.asks; answers = f.answers; looks_ahead = f.looks_ahead; told_answers = f.told_answers; told_asks = f.told_asks; noted = f.noted } in (
+    let mine : ViewFits r.terminal r.clerk l id w = record { asks = f.asks; answers = f.answers; looks_ahead = f.looks_ahead; told_answers = f.told_answers; told_asks = f.told_asks; noted = f.noted } in (
       w,
       keeps,
       tt,
@@ -444,8 +444,8 @@ begins = record {
   views = one;
 }
   where
-    one : (seat : ℕ) (v : View) → get_elem? (opening_view ∷ []) seat ≡ some v → Fits 0 0 (record { asked = []; taken = []; answered = []; heard = [] }) seat v
-    one zero v e = subst (Fits 0 0 (record { asked = []; taken = []; answered = []; heard = [] }) 0) (some-injective opening_view v e) (record { asks = λ _. (refl, refl, refl); answers = λ _. (refl, refl, refl); looks_ahead = λ k. off k; told_answers = prefix_nil []; told_asks = prefix_nil []; noted = λ any. absurd (any refl) })
+    one : (seat : ℕ) (v : View) → get_elem? (opening_view ∷ []) seat ≡ some v → ViewFits 0 0 (record { asked = []; taken = []; answered = []; heard = [] }) seat v
+    one zero v e = subst (ViewFits 0 0 (record { asked = []; taken = []; answered = []; heard = [] }) 0) (some-injective opening_view v e) (record { asks = λ _. (refl, refl, refl); answers = λ _. (refl, refl, refl); looks_ahead = λ k. off k; told_answers = prefix_nil []; told_asks = prefix_nil []; noted = λ any. absurd (any refl) })
     one (suc seat) v e = absurd (some-ne-none v (sym e))
 
 at_end : (l : List View) (a b : View) (j : ℕ) → get_elem? l j ≢ some b → get_elem? (l ++ a ∷ []) j ≡ some b → j ≡ length l
@@ -456,7 +456,7 @@ at_end (x ∷ xs) a b (suc j) n e = ap suc (at_end xs a b j n e)
 
 -- a seat with both rights becomes the terminal's, and the new one is the clerk's; these words were answered and asked
 parts_split : (id : ℕ) (v : View) (told_answers told_asks : List ℕ) → v.asks ≡ true → v.answers ≡ true
-    → ((terminal clerk : ℕ) (l : Lists) → Fits terminal clerk l id v → IsPrefix told_answers l.answered × IsPrefix told_asks l.asked)
+    → ((terminal clerk : ℕ) (l : Lists) → ViewFits terminal clerk l id v → IsPrefix told_answers l.answered × IsPrefix told_asks l.asked)
     → Splits IsKept id v (terminal_part v told_answers) (clerk_part v told_asks)
 parts_split id v told_answers told_asks asks answers told s r at =
     let l = r.lists in
@@ -504,7 +504,7 @@ pub untold_split : (id : ℕ) (v : View) → v.asks ≡ true → v.answers ≡ t
 untold_split id v asks answers = parts_split id v v.terminal.told v.clerk.told asks answers (λ terminal clerk l f. (f.told_answers, f.told_asks))
 
 -- a new seat that may store nothing, beside one that keeps to the rule
-adds : (id : ℕ) (v w : View) (s : State (Unit {0}) View) (r : IsKept s) → Fits r.terminal r.clerk r.lists id v → ((j : ℕ) → Fits r.terminal r.clerk r.lists j w)
+adds : (id : ℕ) (v w : View) (s : State (Unit {0}) View) (r : IsKept s) → ViewFits r.terminal r.clerk r.lists id v → ((j : ℕ) → ViewFits r.terminal r.clerk r.lists j w)
     → IsKept record { words = s.words; homes = s.homes; views = set s.views id v ++ w ∷ [] }
 adds id v w s r old new = record {
   terminal = r.terminal;
@@ -514,7 +514,7 @@ adds id v w s r old new = record {
   in_order = r.in_order;
   views = λ j u e. ⊎_elim
       (λ (x : get_elem? (set s.views id v) j ≡ some u). fit_set r.terminal r.clerk r.lists s.views id v old (λ i y apart e'. r.views i y e') j u x)
-      (λ (is : w ≡ u). subst (Fits r.terminal r.clerk r.lists j) is (new j))
+      (λ (is : w ≡ u). subst (ViewFits r.terminal r.clerk r.lists j) is (new j))
       (at_snoc (set s.views id v) w u j e);
 }
 
@@ -554,7 +554,7 @@ ahead_parts_split id v asks looks s r at =
       noted = λ any. absurd (any refl);
     })
 
-blank_fits : (terminal clerk : ℕ) (l : Lists) (seat : ℕ) → Fits terminal clerk l seat blank
+blank_fits : (terminal clerk : ℕ) (l : Lists) (seat : ℕ) → ViewFits terminal clerk l seat blank
 blank_fits terminal clerk l seat = record {
   asks = λ k. off k;
   answers = λ k. off k;
@@ -565,7 +565,7 @@ blank_fits terminal clerk l seat = record {
 }
 
 -- a seat is spent, and another may have learned what it was told
-spends : (id : ℕ) (v : View) (other : ℕ) (u w : View) (s : State (Unit {0}) View) (r : IsKept s) → Fits r.terminal r.clerk r.lists id w
+spends : (id : ℕ) (v : View) (other : ℕ) (u w : View) (s : State (Unit {0}) View) (r : IsKept s) → ViewFits r.terminal r.clerk r.lists id w
     → IsKept record { words = s.words; homes = s.homes; views = set (set s.views id w) other blank }
 spends id v other u w s r mine = record {
   terminal = r.terminal;
@@ -613,7 +613,7 @@ unites_join id v other c asks answers s r at apart there =
     let g = r.views other c was in
     let a = f.asks asks in
     let b = g.answers answers in
-    let mine : Fits r.terminal id l id w = record {
+    let mine : ViewFits r.terminal id l id w = record {
       asks = λ _. a;
       answers = λ _. (refl, b.1, b.2);
       looks_ahead = g.looks_ahead;
@@ -628,7 +628,7 @@ unites_join id v other c asks answers s r at apart there =
       in_order = r.in_order;
       views = fit_set r.terminal id l (set s.views id w) other blank (blank_fits r.terminal id l other)
           (λ j y not_other e. ⊎_elim
-          (λ (x : (j ≡ id) × (w ≡ y)). subst (λ (z : ℕ × View). Fits r.terminal id l z.0 z.1) (λ i. (sym x.0 i, x.1 i)) mine)
+          (λ (x : (j ≡ id) × (w ≡ y)). subst (λ (z : ℕ × View). ViewFits r.terminal id l z.0 z.1) (λ i. (sym x.0 i, x.1 i)) mine)
           (λ (x : (j ≢ id) × (get_elem? s.views j ≡ some y)). let h = r.views j y x.1 in record {
             asks = h.asks;
             answers = λ k. absurd (not_other ((h.answers k).0 ∙ sym b.0));
@@ -715,7 +715,7 @@ ahead_so s r id v may no_answer at b is =
     let n_is : n ≡ last_of l.asked = ap (λ z. get_or z 0 0) r.words in
     let asked : turn_of n ≡ length l.asked = ap turn_of n_is ∙ c.asked in
     let w = at_clerk v (record { taken = if b then v.clerk.taken ++ n ∷ [] else v.clerk.taken; answered = v.clerk.answered; looks = suc v.clerk.looks; last = n; told = v.clerk.told }) in
-    let mine : Fits r.terminal r.clerk l id w = record {
+    let mine : ViewFits r.terminal r.clerk l id w = record {
       asks = f.asks;
       answers = λ k. off (sym no_answer ∙ k);
       looks_ahead = λ k. taken_more l.asked v.clerk.taken n b n_is asked (f.looks_ahead k) is;
@@ -773,7 +773,7 @@ looks_ahead_keep slots id me may none' s r _ at _ =
 pub lt_true : (m n : ℕ) → m < n → nat_lt m n ≡ true
 lt_true m n h = grind (arith, nat_tests)
 
-pub taken_more : (v : ClerkView) (word : ℕ) → is_new v word ≡ true → (with_taking v word).taken ≡ v.taken ++ word ∷ []
+pub taken_more : (v : ClerkView) (word : ℕ) → is_new_word v word ≡ true → (with_taking v word).taken ≡ v.taken ++ word ∷ []
 taken_more v word e = ap (λ (b : Bool). if b then v.taken ++ word ∷ [] else v.taken) e
 
 pub owes_one : (b : Bool) (taken answered : ℕ) → (b ≡ true → taken ≡ suc answered) → (b ≡ false → taken ≡ answered) → answered < taken → taken ≡ suc answered

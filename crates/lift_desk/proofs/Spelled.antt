@@ -13,20 +13,20 @@ use Rattle.lift_base.specs.declared.command.Reply.{Reply}
 use Rattle.lift_base.specs.declared.command.Reply.TheVariants.{Car, Stopped, Placed, Refused, Unknown}
 use Rattle.lift_base.specs.Command.{reason_number}
 use Rattle.lift_desk.specs.declared.words.Ask.{Ask}
-use Rattle.lift_desk.specs.Words.{turn_of, number_of, dir_bit, body_bits, stop_bits, reply_bits, ask_word, reply_word, IsBody, IsNext, IsReply, IsAskWord, IsReplyWord}
+use Rattle.lift_desk.specs.Words.{turn_of, number_of, dir_bit, body_bits, stop_bits, reply_bits, ask_word, reply_word, IsBodyInRange, IsNextStop, IsReply, IsAskWord, IsReplyWord}
 use Rattle.lift_desk.specs.Rule.{stamp_of, CountTurns, Lists, IsInOrder}
-use Rattle.lift_desk.specs.Spelled.{ask_words, reply_words, IsAsk, IsReadAs}
+use Rattle.lift_desk.specs.Spelled.{ask_words, reply_words, IsAsk, AreWordsOf}
 
 dir_small : (dir : Dir) → dir_bit dir ≤ 1
 dir_small Up = omega arith
 dir_small Down = omega arith
 
-body_small : (body : Body) → IsBody body → body_bits body < 2 ^ 20
+body_small : (body : Body) → IsBodyInRange body → body_bits body < 2 ^ 20
 body_small (Call floor party) h = omega arith
 body_small (Stop floor dir) h = let d = dir_small dir in omega arith
 body_small (Place floor dir) h = let d = dir_small dir in omega arith
 
-stop_small : (next : Option StopAt) → IsNext next → stop_bits next < 2 ^ 12
+stop_small : (next : Option StopAt) → IsNextStop next → stop_bits next < 2 ^ 12
 stop_small None h = omega arith
 stop_small (Some stop) h = let d = dir_small stop.dir in omega arith
 
@@ -110,7 +110,7 @@ replies_of k (a ∷ answers) (w ∷ asked) (ask ∷ asks) is fit p turns all =
     let fewer = rest.2 in
     (h.reply ∷ rest.0, (λ i. word i ∷ same i), omega arith)
 
-pub reads : (l : Lists) → IsInOrder l → (asks : List Ask) × (replies : List Reply) × IsReadAs l asks replies
+pub reads : (l : Lists) → IsInOrder l → (asks : List Ask) × (replies : List Reply) × AreWordsOf l asks replies
 reads l o =
     let a = asks_of 1 l.asked o.turns o.asks_spelled in
     let rest = o.taken.0 in

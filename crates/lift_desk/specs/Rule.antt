@@ -110,7 +110,7 @@ pub record IsAhead (asked taken : List ℕ) : Type 0 where
 
 -- One seat at most stores asks and one answers, and what these know is all that there is. What a
 -- seat was told began all of it, and still does. What it read in a note was asked
-pub record Fits (terminal clerk : ℕ) (l : Lists) (seat : ℕ) (v : View) : Type 0 where
+pub record ViewFits (terminal clerk : ℕ) (l : Lists) (seat : ℕ) (v : View) : Type 0 where
   pub asks : v.asks ≡ true → (seat ≡ terminal) × (v.terminal.asked ≡ l.asked)
       × (v.terminal.heard ≡ l.heard)
   pub answers : v.answers ≡ true
@@ -128,4 +128,4 @@ pub record IsKept (s : State (Unit {0}) View) : Type 0 where
   pub words : s.words ≡ last_of lists.asked ∷ last_of lists.answered ∷ []
   pub in_order : IsInOrder lists
   pub views : (seat : ℕ) (v : View) → get_elem? s.views seat ≡ some v
-      → Fits terminal clerk lists seat v
+      → ViewFits terminal clerk lists seat v

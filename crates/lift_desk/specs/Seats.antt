@@ -13,7 +13,7 @@ use Rattle.lift_desk.specs.Words.{turn_of, number_of, last_of, ask_word, reply_w
 use Rattle.lift_desk.specs.Looker.{LookerState}
 use Rattle.lift_desk.specs.Rule.{no_asks, no_answers, taken_only}
 use Rattle.lift_desk.specs.Spelled.{IsAsk}
-use Rattle.lift_desk.specs.Steps.{is_awaited, is_new, with_ask, with_taking}
+use Rattle.lift_desk.specs.Steps.{is_awaited, is_new_word, with_ask, with_taking}
 
 -- a terminal's seat: its table, its terminal, and what it knows
 pub record TerminalSeat : Type 0 where
@@ -103,9 +103,9 @@ HearsOf v word (Some reply) = (is_awaited v word ≡ true)
 
 -- what the clerk takes of the word loaded
 abbrev pub TakesOf : ClerkView → ℕ → Option Ask → Type 0
-TakesOf v word None = is_new v word ≡ false
+TakesOf v word None = is_new_word v word ≡ false
 TakesOf v word (Some ask) =
-    (is_new v word ≡ true) × (word ≡ ask_word (suc (length v.taken)) ask.number ask.body)
+    (is_new_word v word ≡ true) × (word ≡ ask_word (suc (length v.taken)) ask.number ask.body)
 
 -- the terminal was told of this answer to its last ask, and has not heard it
 abbrev pub IsToldAnswer : TerminalView → Reply → Type 0
@@ -118,7 +118,7 @@ IsToldAsk v ask = IsAsk ask
     × (v.told ≡ v.taken ++ ask_word (suc (length v.taken)) ask.number ask.body ∷ [])
 
 -- what one look of the clerk tells, from what it knew to what it knows then
-pub record Tells (before after : ClerkView) (found : Option Ask) : Type 0 where
+pub record LookTells (before after : ClerkView) (found : Option Ask) : Type 0 where
   pub even : IsSome found → length before.answered ≡ length before.taken
   pub owes : IfSome found (λ ask. Owes after × (number_of (last_of after.taken) ≡ ask.number))
   -- the word loaded is the last that was asked, 0 for none; so all that was asked is taken then
@@ -153,9 +153,9 @@ clerk_of desk = map (λ (table : TableId). placed_at table no_answers) desk
 
 -- what is taken ahead of the answers, of the word loaded
 abbrev pub TakesAheadOf : ClerkView → ℕ → Option Ask → Type 0
-TakesAheadOf v word None = is_new v word ≡ false
+TakesAheadOf v word None = is_new_word v word ≡ false
 TakesAheadOf v word (Some ask) =
-    (is_new v word ≡ true) × (word ≡ ask_word (turn_of word) ask.number ask.body)
+    (is_new_word v word ≡ true) × (word ≡ ask_word (turn_of word) ask.number ask.body)
 
 -- what is seen of a place by its seat
 abbrev pub place_of : LookerState → ClerkPlace

@@ -36,13 +36,13 @@ with_hearing v word = record (with_look v word) {
 }
 
 -- the word's turn is above that of each ask that was taken
-abbrev pub is_new : ClerkView → ℕ → Bool
-is_new v word = nat_lt (turn_of (last_of v.taken)) (turn_of word)
+abbrev pub is_new_word : ClerkView → ℕ → Bool
+is_new_word v word = nat_lt (turn_of (last_of v.taken)) (turn_of word)
 
 -- the clerk has looked at an ask and taken it, if it is new
 abbrev pub with_taking : ClerkView → ℕ → ClerkView
 with_taking v word = record v {
-  taken = if is_new v word then v.taken ++ word ∷ [] else v.taken;
+  taken = if is_new_word v word then v.taken ++ word ∷ [] else v.taken;
   looks = suc v.looks;
   last = word;
 }
@@ -69,8 +69,8 @@ abbrev pub Asked : Step (Unit {0}) → Seated → ℕ → Seated → Type 0
 Asked step before found after =
     after ≡ (at_terminal before.0 (with_ask before.0.terminal step.first), before.1)
 
-abbrev pub Answered : Step (Unit {0}) → Seated → ℕ → Seated → Type 0
-Answered step before found after =
+abbrev pub AnswersPlace : Step (Unit {0}) → Seated → ℕ → Seated → Type 0
+AnswersPlace step before found after =
     after ≡ (at_clerk before.0 (with_answer before.0.clerk step.first), before.1)
 
 -- it is the ask word that is loaded; an ask that is taken is spelled, and all before it was
@@ -80,11 +80,11 @@ abbrev pub Looked : Step (Unit {0}) → Seated → ℕ → Seated → Type 0
 Looked step before found after =
     (step.word ≡ 0)
     × (after ≡ (at_clerk before.0 (with_taking before.0.clerk found), before.1))
-    × (is_new before.0.clerk found ≡ true
+    × (is_new_word before.0.clerk found ≡ true
     → IsAskWord found × (turn_of found ≡ suc (length before.0.clerk.taken))
     × (length before.0.clerk.answered ≡ length before.0.clerk.taken))
     × IsPrefix before.0.clerk.told (with_taking before.0.clerk found).taken
-    × (is_new before.0.clerk before.0.noted ≡ true → found ≡ before.0.noted)
+    × (is_new_word before.0.clerk before.0.noted ≡ true → found ≡ before.0.noted)
     × (found ≡ last_of (with_taking before.0.clerk found).taken)
 
 -- it is the ask word that is loaded; an ask that is taken ahead of the answers is spelled; its turn
@@ -94,7 +94,7 @@ abbrev pub LookedAhead : Step (Unit {0}) → Seated → ℕ → Seated → Type 
 LookedAhead step before found after =
     (step.word ≡ 0)
     × (after ≡ (at_clerk before.0 (with_taking before.0.clerk found), before.1))
-    × (is_new before.0.clerk found ≡ true → IsAskWord found)
+    × (is_new_word before.0.clerk found ≡ true → IsAskWord found)
     × (length before.0.clerk.told ≤ turn_of found)
     × (turn_of found ≡ length before.0.clerk.told → found ≡ last_of before.0.clerk.told)
     × (found ≡ last_of (with_taking before.0.clerk found).taken)

@@ -57,24 +57,24 @@ abbrev pub reply_word : ℕ → ℕ → Reply → ℕ
 reply_word turn number reply = turn * 2 ^ 44 + number * 2 ^ 20 + reply_bits reply
 
 -- What a word spells: the spellings above read back. Of other words they mean nothing.
-abbrev pub dir_of : ℕ → Dir
-dir_of bit = if bit == 0 then Up else Down
+abbrev pub dir_by_bit : ℕ → Dir
+dir_by_bit bit = if bit == 0 then Up else Down
 
 -- the command that these bits spell
 abbrev pub body_of : ℕ → Body
 body_of bits =
     if bits / 2 ^ 18 == 1 then Call (bits % 64) (bits / 128 % 16)
-    else (if bits / 2 ^ 18 == 2 then Stop (bits % 64) (dir_of (bits / 64 % 2)) else Place
-    (bits % 64) (dir_of (bits / 64 % 2)))
+    else (if bits / 2 ^ 18 == 2 then Stop (bits % 64) (dir_by_bit (bits / 64 % 2)) else Place
+    (bits % 64) (dir_by_bit (bits / 64 % 2)))
 
 -- the ask that a word spells
 abbrev pub ask_of : ℕ → Ask
 ask_of word = record { number = number_of word; body = body_of (word % 2 ^ 20) }
 
-abbrev pub stop_of : ℕ → Option StopAt
-stop_of bits = if bits == 0 then None else Some (record {
+abbrev pub stop_by_bits : ℕ → Option StopAt
+stop_by_bits bits = if bits == 0 then None else Some (record {
   floor = bits % 64;
-  dir = dir_of (bits / 64 % 2);
+  dir = dir_by_bit (bits / 64 % 2);
 })
 
 -- the reason that a number names
@@ -94,8 +94,8 @@ reason_of number =
 abbrev pub reply_by : (code argument : ℕ) → Reply
 reply_by code argument =
     if code == 1 then Car argument
-    else (if code == 2 then Stopped (stop_of argument)
-    else (if code == 3 then Placed (stop_of argument)
+    else (if code == 2 then Stopped (stop_by_bits argument)
+    else (if code == 3 then Placed (stop_by_bits argument)
     else (if code == 4 then Refused (reason_of argument)
     else Unknown)))
 
@@ -110,20 +110,20 @@ pub record FitsWord (turn number : ℕ) : Type 0 where
   pub number_range : number < 2 ^ 24
 
 -- the floor and the party that a body names are a floor and a party
-abbrev pub IsBody : Body → Type 0
-IsBody (Call floor party) = (floor < 64) × (1 ≤ party) × (party ≤ 15)
-IsBody (Stop floor dir) = floor < 64
-IsBody (Place floor dir) = floor < 64
+abbrev pub IsBodyInRange : Body → Type 0
+IsBodyInRange (Call floor party) = (floor < 64) × (1 ≤ party) × (party ≤ 15)
+IsBodyInRange (Stop floor dir) = floor < 64
+IsBodyInRange (Place floor dir) = floor < 64
 
-abbrev pub IsNext : Option StopAt → Type 0
-IsNext None = Unit {0}
-IsNext (Some stop) = stop.floor < 64
+abbrev pub IsNextStop : Option StopAt → Type 0
+IsNextStop None = Unit {0}
+IsNextStop (Some stop) = stop.floor < 64
 
 -- the car and the floor that a reply names are a car and a floor
 abbrev pub IsReply : Reply → Type 0
 IsReply (Car car) = car < 16
-IsReply (Stopped next) = IsNext next
-IsReply (Placed next) = IsNext next
+IsReply (Stopped next) = IsNextStop next
+IsReply (Placed next) = IsNextStop next
 IsReply (Refused reason) = Unit {0}
 IsReply Unknown = Unit {0}
 
@@ -139,7 +139,7 @@ pub record IsAskWord (word : ℕ) : Type 0 where
   pub number : ℕ
   pub body : Body
   pub fits : FitsWord turn number
-  pub in_range : IsBody body
+  pub in_range : IsBodyInRange body
   pub spelled : word ≡ ask_word turn number body
 
 -- the word spells an answer

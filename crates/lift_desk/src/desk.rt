@@ -15,7 +15,7 @@ ghost use Rattle.lift_desk.specs.Seats.{IsSeatOf, IsClerkOf, seat_with, clerk_wi
 ghost use Rattle.lift_desk.specs.Seats.{Owes, OwesNothing, HearsOf, TakesOf, IsToldAnswer};
 ghost use Rattle.lift_desk.specs.Seats.{IsToldAhead, IsNoteOf, Says, seats_from};
 ghost use Rattle.lift_desk.specs.Seats.{clerk_of, ahead_from, TakesAheadOf, AreSeatsOf, StoresAsk};
-ghost use Rattle.lift_desk.specs.Seats.{LooksOnce, Tells};
+ghost use Rattle.lift_desk.specs.Seats.{LooksOnce, LookTells};
 
 use crate::ahead::AheadPlace;
 use crate::looker::{DeskTable, Looker};
@@ -193,7 +193,7 @@ impl Desk {
         requires clerk { IsClerkOf self.now clerk.old }
         requires terminal { terminal < length self.now }
         ensures looked { LooksOnce TakesOf clerk.old terminal clerk.new result }
-        ensures tells { Tells (view_at clerk.old terminal) (view_at clerk.new terminal) result }
+        ensures tells { LookTells (view_at clerk.old terminal) (view_at clerk.new terminal) result }
         ensures stays { IsClerkOf self.now clerk.new }
     {
         let at = usize::from(terminal.get());
@@ -209,7 +209,7 @@ impl Desk {
         requires terminal { terminal < length self.now }
         requires note { IsNoteOf self.now terminal note }
         ensures looked { LooksOnce TakesOf clerk.old terminal clerk.new result }
-        ensures tells { Tells (view_at clerk.old terminal) (view_at clerk.new terminal) result }
+        ensures tells { LookTells (view_at clerk.old terminal) (view_at clerk.new terminal) result }
         // The ask that was noted, and no other, where none as late was taken here.
         ensures noted { (ask : Ask) → Says (view_at clerk.old terminal) note.word ask
             → (result ≡ Some ask) × ((view_at clerk.new terminal).taken

@@ -9,7 +9,7 @@ ghost use Rattle.lift_desk.specs.Rule.{IsInOrder};
 ghost use Rattle.lift_desk.specs.Steps.{with_answer, with_look, with_taking, with_told_answers};
 ghost use Rattle.lift_desk.specs.Steps.{with_told_asks, lists_of};
 ghost use Rattle.lift_desk.specs.Seats.{ClerkPlace, placed_at, Owes, TakesOf};
-ghost use Rattle.lift_desk.specs.Seats.{Says, seat_with, Tells};
+ghost use Rattle.lift_desk.specs.Seats.{Says, seat_with, LookTells};
 
 use crate::ahead::AheadPlace;
 use crate::looker::{ANSWER, ASK, DeskTable, Looker};
@@ -96,7 +96,7 @@ impl Place {
         ensures looked { (word : ℕ)
             × (self.new ≡ placed_at self.old.table (with_taking self.old.view word))
             × TakesOf self.old.view word result }
-        ensures tells { Tells self.old.view self.new.view result }
+        ensures tells { LookTells self.old.view self.new.view result }
         ensures noted { IfSome note (λ n. (ask : Ask) → Says self.old.view n.word ask
             → (result ≡ Some ask) × (self.new.view.taken ≡ self.old.view.taken ++ n.word ∷ [])) }
     {

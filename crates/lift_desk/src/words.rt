@@ -6,8 +6,9 @@ ghost use Rattle.lift_base.specs.declared.command.Reply.{Reply};
 ghost use Rattle.lift_base.specs.declared.travel.Dir.{Dir};
 ghost use Rattle.lift_desk.specs.declared.words.Ask.{Ask};
 ghost use Rattle.lift_desk.specs.Words.{turn_of, number_of, dir_bit, body_bits, ask_word};
-ghost use Rattle.lift_desk.specs.Words.{stop_bits, reply_bits, reply_word, IsBody, IsNext, IsReply};
-ghost use Rattle.lift_desk.specs.Words.{IsAskWord, IsReplyWord, IsWordOf, ReadsBack};
+ghost use Rattle.lift_desk.specs.Words.{stop_bits, reply_bits, reply_word, IsBodyInRange};
+ghost use Rattle.lift_desk.specs.Words.{IsNextStop, IsReply, IsAskWord, IsReplyWord, IsWordOf};
+ghost use Rattle.lift_desk.specs.Words.{ReadsBack};
 ghost use Rattle.lift_desk.specs.Spelled.{IsAsk};
 
 use lift_base::{Body, Dir, Floor, Letter, Number, Party, Reason, Reply, Stop};
@@ -52,7 +53,7 @@ fn read_dir(bit: u64) -> Dir
 
 fn body_bits(body: &Body) -> u64
     ensures bits { result ≡ body_bits body.now }
-    ensures in_range { IsBody body.now }
+    ensures in_range { IsBodyInRange body.now }
     ensures small { result < 2 ^ 20 }
 {
     match *body {
@@ -66,7 +67,7 @@ fn body_bits(body: &Body) -> u64
 
 // The body of these bits, which are then spelled in the one way.
 fn read_body(bits: u64) -> Option<Body>
-    ensures { ReadsBack IsBody body_bits bits result }
+    ensures { ReadsBack IsBodyInRange body_bits bits result }
 {
     let floor = Floor::new((bits % 64) as u8)?;
     let dir = read_dir(bits / DIRECTION % 2);
@@ -108,7 +109,7 @@ pub fn read_ask(word: u64) -> Option<Ask>
 
 fn stop_bits(next: &Option<Stop>) -> u64
     ensures bits { result ≡ stop_bits next.now }
-    ensures in_range { IsNext next.now }
+    ensures in_range { IsNextStop next.now }
     ensures small { result < 2 ^ 12 }
 {
     match *next {
@@ -118,7 +119,7 @@ fn stop_bits(next: &Option<Stop>) -> u64
 }
 
 fn read_stop(bits: u64) -> Option<Option<Stop>>
-    ensures { ReadsBack IsNext stop_bits bits result }
+    ensures { ReadsBack IsNextStop stop_bits bits result }
 {
     if bits == 0 {
         return Some(None);

@@ -14,11 +14,11 @@ asked_word old number body = ask_word (suc (length old.asked)) number body
 
 -- heard: the answer's word names this ask, and is the one word heard; late: the ask is pending, and
 -- each look was made
-abbrev pub IsVisit : TerminalView → ℕ → Body → ℕ → Answer → TerminalView → Type 0
-IsVisit old number body looks (Heard reply) new =
+abbrev pub IsAskVisit : TerminalView → ℕ → Body → ℕ → Answer → TerminalView → Type 0
+IsAskVisit old number body looks (Heard reply) new =
     (new.asked ≡ old.asked ++ asked_word old number body ∷ [])
     × (new.heard ≡ old.heard ++ reply_word (suc (length old.asked)) number reply ∷ [])
-IsVisit old number body looks Late new =
+IsAskVisit old number body looks Late new =
     (new.asked ≡ old.asked ++ asked_word old number body ∷ []) × Waits new
     × (new.looks ≡ old.looks + looks)
-IsVisit old number body looks Refused new = new ≡ old
+IsAskVisit old number body looks Refused new = new ≡ old

@@ -2,7 +2,7 @@
 ghost use Rattle.std.specs.Prelude.{◌≡◌, ℕ, ◌+◌, suc, length, [], ◌∷◌, ◌++◌};
 ghost use Rattle.lift_desk.specs.Words.{ask_word, last_of, number_of, reply_word};
 ghost use Rattle.lift_desk.specs.Seats.{IsSeatOf, Waits};
-ghost use Rattle.lift_desk_tests.specs.Visit.{IsVisit};
+ghost use Rattle.lift_desk_tests.specs.Visit.{IsAskVisit};
 
 use lift_base::{Body, Number, Reply};
 use lift_desk::{Desk, Seat};
@@ -23,7 +23,7 @@ pub enum Answer {
 pub fn ask_and_hear(desk: &Desk, seat: &mut Seat, number: Number, body: Body, looks: u32) -> Answer
     requires { IsSeatOf desk.now seat.old }
     ensures stays { IsSeatOf desk.now seat.new }
-    ensures visit { IsVisit seat.old.view number body looks result seat.new.view }
+    ensures visit { IsAskVisit seat.old.view number body looks result seat.new.view }
 {
     if desk.ask(seat, number, body).is_err() {
         return Answer::Refused;

@@ -4,7 +4,7 @@ use Rattle.lift_disk.specs.Disk.{DiskState, CountsNow, TouchesNothing}
 use Rattle.lift_disk.specs.FileCalls.{FailsIn, FileCall, LeadsBy}
 use Rattle.lift_disk.specs.Runs.{KeepsWrites, Rests}
 use Rattle.std.proofs.Math.Logic.{∥∥₁_map}
-use Rattle.lift_disk.specs.Holding.{IsKnownSteady, IsSameFile, MakesSafe}
+use Rattle.lift_disk.specs.Holding.{IsKnownSteady, IsSameFile, SyncMakesSafe}
 use Rattle.lift_disk.specs.Traced.{IsMaking, file_of, making_of, zero_write, zero_writes}
 use Rattle.lift_disk.specs.declared.traced.TracedFile.{TracedFile}
 use Rattle.lift_disk.specs.lemmas.Moments.{changes_more, changes_twice}
@@ -33,7 +33,7 @@ rests_then old mid new first second = record {
 }
 
 -- what is made safe behind a write back
-pub safe_behind : (old mid new : DiskState) → CountsNow old → old.is_honest → Rests old mid → KeepsWrites old mid → MakesSafe mid new → MakesSafe old new
+pub safe_behind : (old mid new : DiskState) → CountsNow old → old.is_honest → Rests old mid → KeepsWrites old mid → SyncMakesSafe mid new → SyncMakesSafe old new
 safe_behind old mid new counts honest rests keeps safe =
     let first = rests.time honest in
     let second = safe.time in

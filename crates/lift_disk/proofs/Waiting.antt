@@ -4,7 +4,7 @@ use Rattle.std.proofs.lemmas.Option.{slice_get-get_or}
 use Rattle.std.proofs.lemmas.List.{length-set}
 use Rattle.lift_disk.specs.Trace.{Access}
 use Rattle.lift_disk.specs.Disk.{DiskState, Image, ChangesWithin, Elapses, GoesOn, Settles, ReadsAsWritten, Touches, TouchesNothing, StaysLoose, KeepsSynced, IsSteadyAt}
-use Rattle.lift_disk.specs.Runs.{IsInRun, with_run, Announces, buffered, waiting, Rests, Opens, KeepsWrites, run_outside, run_loose, left_with}
+use Rattle.lift_disk.specs.Runs.{IsInRun, with_run, Announces, buffered, waiting, Rests, Loosens, KeepsWrites, run_outside, run_loose, left_with}
 use Rattle.lift_disk.specs.lemmas.History.{set_here}
 use Rattle.lift_disk.specs.lemmas.Moments.{changes_nothing, changes_more, changes_twice, changes_both}
 
@@ -87,7 +87,7 @@ none_waits disk from [] none honest i not inside = omega (arith, inside.0, insid
 none_waits disk from (bytes ∷ pending) none honest i not inside = absurd (cc none)
 
 -- a sector is announced
-pub opens_of : (old new : DiskState) (from sector : ℕ) (pending : List (List ℕ)) → Announces sector old new → Waits old from pending → Opens sector (waiting old from pending) (waiting new from pending)
+pub opens_of : (old new : DiskState) (from sector : ℕ) (pending : List (List ℕ)) → Announces sector old new → Waits old from pending → Loosens sector (waiting old from pending) (waiting new from pending)
 opens_of old new from sector pending announced waits =
     let waits2 : Waits new from pending = λ honest i not. waits (announced.honest.0 honest) i (λ was. not ((announced.loose (announced.honest.0 honest) i).1 (inl was))) in record {
       size = announced.size;
@@ -101,8 +101,8 @@ opens_of old new from sector pending announced waits =
     }
 
 -- and then the writes that were held back are made
-pub opens_then : (old mid new : DiskState) (sector from from2 from3 : ℕ) (pending pending2 : List (List ℕ)) → pending2 ≡ [] → Opens sector (waiting old from pending) (waiting mid from pending) → Rests (waiting mid from pending) (waiting new from2 pending2)
-    → Opens sector (waiting old from pending) (waiting new from3 pending2)
+pub opens_then : (old mid new : DiskState) (sector from from2 from3 : ℕ) (pending pending2 : List (List ℕ)) → pending2 ≡ [] → Loosens sector (waiting old from pending) (waiting mid from pending) → Rests (waiting mid from pending) (waiting new from2 pending2)
+    → Loosens sector (waiting old from pending) (waiting new from3 pending2)
 opens_then old mid new sector from from2 from3 pending (bytes ∷ pending2) none opens rests = absurd (cc none)
 opens_then old mid new sector from from2 from3 pending [] none opens rests = record {
   size = rests.size ∙ opens.size;
@@ -151,7 +151,7 @@ get_behind [] bytes = refl
 get_behind (first ∷ run) bytes = get_behind run bytes
 
 module _ (old new : DiskState) (from from2 sector : ℕ) (pending pending2 : List (List ℕ)) (bytes : List ℕ)
-    (opens : Opens sector (waiting old from pending) (waiting new from2 pending2)) (keeps : KeepsWrites (waiting old from pending) (waiting new from2 pending2))
+    (opens : Loosens sector (waiting old from pending) (waiting new from2 pending2)) (keeps : KeepsWrites (waiting old from pending) (waiting new from2 pending2))
     (next : from2 + length pending2 ≡ sector) (waits : Waits new from2 pending2) (calls calls2 writes writes2 : ℕ) (trace trace2 : List Access) where
   abbrev more : List (List ℕ)
   more = pending2 ++ bytes ∷ []

@@ -5,7 +5,7 @@ use Rattle.std.specs.Prelude.{false}
 use Rattle.lift_disk.specs.FileCalls.{FailsIn, FileCall, LeadsBy, sync_calls}
 use Rattle.lift_disk.specs.FileCalls.FileCall.{ReadSectors, GetLength}
 use Rattle.lift_disk.specs.Holding.{on_file, sectors_in}
-use Rattle.lift_disk.specs.Traced.{making_calls, making_of, calls_of, failures_of, file_of}
+use Rattle.lift_disk.specs.Traced.{making_calls, making_of, traced_calls, failures_of, file_of}
 use Rattle.lift_disk.specs.Traced.{IsMadeOf}
 use Rattle.lift_disk.specs.Disk.{DiskState}
 use Rattle.lift_disk.specs.declared.file.FileFault.{FileFault}
@@ -34,7 +34,7 @@ making_below d = making_of d.file
 
 -- the calls of its file that the device has made, but for those that failed
 abbrev pub calls_below : {F : Type 0} {told : Told F} → SectorFile F told → List FileCall
-calls_below d = calls_of d.file
+calls_below d = traced_calls d.file
 
 -- One of these calls gave these bytes for the sector, by itself or among its neighbours.
 pub record HasGiven (calls : List FileCall) (sector : ℕ) (bytes : List ℕ) : Type 0 where

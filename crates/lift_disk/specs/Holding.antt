@@ -75,7 +75,7 @@ pub record WritesRun (sector : ℕ) (run : List (List ℕ)) (old new : DiskState
   pub steady : old.is_steady → IsSteadyAt (with_run sector run old.image) new
 
 -- What was written was made safe: a crash leaves what is read.
-pub record MakesSafe (old new : DiskState) : Type 0 where
+pub record SyncMakesSafe (old new : DiskState) : Type 0 where
   pub time : Elapses old new
   pub settled : ReadsAsWritten old new
   pub touched : TouchesNothing old new
@@ -114,7 +114,7 @@ IsKnownSteady held = ∥ held.is_steady ∥₁
 pub record Syncs {T E : Type 0} (relied : Type 0) (result : Result T E)
     (old new : DiskState) : Type 0 where
   pub same : IsSameFile old new
-  pub made : OnOk result (old.is_honest → relied → MakesSafe old new)
+  pub made : OnOk result (old.is_honest → relied → SyncMakesSafe old new)
   pub failed : OnErr result (old.is_honest → Rests old new)
 
 -- A call that gave the disk what was written. Nothing is safer by it: where an earlier call has

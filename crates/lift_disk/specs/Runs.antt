@@ -126,7 +126,7 @@ pub record Rests (old new : DiskState) : Type 0 where
   pub kept : KeepsSynced old new
 
 -- One sector more is loose, and nothing but loose sectors has changed.
-pub record Opens (sector : ℕ) (old new : DiskState) : Type 0 where
+pub record Loosens (sector : ℕ) (old new : DiskState) : Type 0 where
   pub size : new.size ≡ old.size
   pub honest : new.is_honest ↔ old.is_honest
   pub time : old.is_honest → Elapses old new

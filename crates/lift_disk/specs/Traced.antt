@@ -60,8 +60,8 @@ abbrev pub making_of : {F : Type 0} → TracedFile F → List FileCall
 making_of f = f.making.calls
 
 -- its calls since that have succeeded
-abbrev pub calls_of : {F : Type 0} → TracedFile F → List FileCall
-calls_of f = f.calls.calls
+abbrev pub traced_calls : {F : Type 0} → TracedFile F → List FileCall
+traced_calls f = f.calls.calls
 
 -- how many of its calls since have failed
 abbrev pub failures_of : {F : Type 0} → TracedFile F → ℕ
@@ -71,7 +71,7 @@ failures_of f = f.failures.count
 pub record IsTraced {F T E : Type 0} (gives fails : F → FileCall → F → Type 0)
     (result : Result T E) (call : FileCall) (old new : TracedFile F) : Type 0 where
   pub one : IsOneCall gives fails result call (file_of old) (file_of new)
-  pub made : MakesCalls result (call ∷ []) (calls_of old) (calls_of new) (failures_of old)
+  pub made : MakesCalls result (call ∷ []) (traced_calls old) (traced_calls new) (failures_of old)
       (failures_of new)
   pub making : making_of new ≡ making_of old
 
@@ -79,7 +79,7 @@ pub record IsTraced {F T E : Type 0} (gives fails : F → FileCall → F → Typ
 pub record AreTraced {F T E : Type 0} (gives fails : F → FileCall → F → Type 0)
     (result : Result T E) (calls : List FileCall) (old new : TracedFile F) : Type 0 where
   pub all : AreCalls gives fails result calls (file_of old) (file_of new)
-  pub made : MakesCalls result calls (calls_of old) (calls_of new) (failures_of old)
+  pub made : MakesCalls result calls (traced_calls old) (traced_calls new) (failures_of old)
       (failures_of new)
   pub making : making_of new ≡ making_of old
 
@@ -88,7 +88,7 @@ pub record IsMaking {F : Type 0} (gives : F → FileCall → F → Type 0) (call
     (old new : TracedFile F) : Type 0 where
   pub led : LeadsBy gives calls (file_of old) (file_of new)
   pub listed : making_of new ≡ making_of old ++ calls
-  pub uncalled : calls_of new ≡ calls_of old
+  pub uncalled : traced_calls new ≡ traced_calls old
   pub unfailed : failures_of new ≡ failures_of old
 
 -- A file that was opened and then called just so, in this order, before it is a device: it told so
@@ -97,7 +97,7 @@ pub record IsOpenedBy {F : Type 0} (gives : F → FileCall → F → Type 0) (ho
     (calls : List FileCall) (file : F) (bytes : ℕ) (opened : TracedFile F) : Type 0 where
   pub led : LeadsBy gives calls file (file_of opened)
   pub listed : making_of opened ≡ calls
-  pub uncalled : calls_of opened ≡ []
+  pub uncalled : traced_calls opened ≡ []
   pub unfailed : failures_of opened ≡ 0
   pub same : IsSameFile (holds file) (holds (file_of opened))
   pub size : (holds file).is_honest → (holds file).size ≡ sectors_in bytes

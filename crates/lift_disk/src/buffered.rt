@@ -3,7 +3,7 @@ ghost use Rattle.std.specs.Prelude.{◌≡◌, ◌≤◌, ◌<◌, ◌+◌, ◌+
 ghost use Rattle.std.specs.Prelude.{slice_get, IsTrue, OnOk, IfSome, IfNone, ◌↔◌};
 ghost use Rattle.lift_disk.specs.Disk.{MayLeave};
 ghost use Rattle.lift_disk.specs.Runs.{Announces, CountsFault, GivesRun, HoldsRun, IsInRun};
-ghost use Rattle.lift_disk.specs.Runs.{KeepsWrites, MakesCalls, Opens, Rests};
+ghost use Rattle.lift_disk.specs.Runs.{KeepsWrites, MakesCalls, Loosens, Rests};
 ghost use Rattle.lift_disk.specs.Runs.{left_with, left_without, run_calls, run_loose, run_whole};
 ghost use Rattle.lift_disk.specs.Runs.{with_run};
 ghost use Rattle.lift_disk.specs.Trace.Access.{Sync};
@@ -154,7 +154,7 @@ impl<R: RunDisk + Drop> Buffered<R> {
     /// Makes the sector the next behind those that are held back.
     fn make_room(&mut self, sector: u32) -> Result<(), DiskFault>
         requires { sector < (R.state self.old.device).size }
-        ensures opens { Opens sector (as_written R.state self.old) (as_written R.state self.new) }
+        ensures opens { Loosens sector (as_written R.state self.old) (as_written R.state self.new) }
         ensures keeps { OnOk result
             (KeepsWrites (as_written R.state self.old) (as_written R.state self.new)) }
         ensures waits { CanWait self.old sector

@@ -4,7 +4,7 @@ ghost use Rattle.std.proofs.Common.{◌∙◌};
 ghost use Rattle.lift_disk.specs.FileCalls.FileCall.{Read as ReadBytes};
 ghost use Rattle.lift_disk.specs.FileCalls.{in_bytes, without_given};
 ghost use Rattle.lift_disk.specs.Holding.{IsKnownSteady};
-ghost use Rattle.lift_disk.specs.Traced.{calls_of, failures_of, making_of};
+ghost use Rattle.lift_disk.specs.Traced.{traced_calls, failures_of, making_of};
 
 use crate::runs::{Ahead, RunDisk};
 use crate::told::ToldFile;
@@ -45,7 +45,7 @@ impl<F: ToldFile + Drop> SectorFile<F> {
 
     /// So many sectors of a file that was not called yet. It makes no call of it.
     pub fn over(file: TracedFile<F>, sectors: u32) -> SectorFile<F>
-        requires { calls_of file ≡ [] }
+        requires { traced_calls file ≡ [] }
         ensures same { file_below result ≡ file_of file }
         ensures making { making_below result ≡ making_of file }
         ensures uncalled { calls_below result ≡ [] }

@@ -31,14 +31,14 @@ pub struct TracedFile<F: Drop> {
 
 impl<F: ToldFile + Drop> TracedFile<F> {
     ghost use Rattle.lift_disk.specs.Noted.{file_call_of};
-    ghost use Rattle.lift_disk.specs.Traced.{calls_of, failures_of, making_of, file_of};
+    ghost use Rattle.lift_disk.specs.Traced.{traced_calls, failures_of, making_of, file_of};
     ghost use Rattle.lift_disk.specs.Traced.{AreTraced, IsMaking, IsOpenedBy, IsTraced};
     ghost use Rattle.lift_disk.specs.Traced.{making_calls, zero_writes};
 
     /// A file that was opened to be read and written, and not called yet.
     pub fn over(file: F) -> TracedFile<F>
         ensures making { making_of result ≡ [] }
-        ensures calls { calls_of result ≡ [] }
+        ensures calls { traced_calls result ≡ [] }
         ensures failures { failures_of result ≡ 0 }
         ensures same { file_of result ≡ file }
     {
@@ -145,7 +145,7 @@ impl<F: ToldFile + Drop> TracedFile<F> {
         ensures size { IfOk result (λ made. (F.holds file).is_honest
             → (F.holds (file_of made)).size ≡ sectors_in (sectors * 512)) }
         ensures making { IfOk result (λ made. making_of made ≡ making_calls sectors) }
-        ensures calls { IfOk result (λ made. calls_of made ≡ []) }
+        ensures calls { IfOk result (λ made. traced_calls made ≡ []) }
         ensures failures { IfOk result (λ made. failures_of made ≡ 0) }
         ensures stopped { IfErr result (λ stopped.
             FailsIn F.gives F.fails (making_calls sectors) file stopped.file) }
@@ -244,8 +244,8 @@ impl<F: ToldFile + Drop> TracedFile<F> {
 
     /// Lists a call of the file that succeeded, or counts one that failed.
     fn note(&mut self, outcome: io::Result<()>, called: &Called<'_>) -> Result<(), DiskFault>
-        ensures made { MakesCalls result (file_call_of called.now ∷ []) (calls_of self.old)
-            (calls_of self.new) (failures_of self.old) (failures_of self.new) }
+        ensures made { MakesCalls result (file_call_of called.now ∷ []) (traced_calls self.old)
+            (traced_calls self.new) (failures_of self.old) (failures_of self.new) }
         ensures making { making_of self.new ≡ making_of self.old }
         ensures told { IsOk result ↔ IsOk outcome }
         ensures same { file_of self.new ≡ file_of self.old }
@@ -267,7 +267,7 @@ impl<F: ToldFile + Drop> TracedFile<F> {
         ensures opens { OpensSector sector (F.holds (file_of self.old))
             (F.holds (file_of self.new)) }
         ensures making { making_of self.new ≡ making_of self.old }
-        ensures calls { calls_of self.new ≡ calls_of self.old }
+        ensures calls { traced_calls self.new ≡ traced_calls self.old }
         ensures failures { failures_of self.new ≡ failures_of self.old }
     {
         self.file.announce_told(sector);

@@ -10,7 +10,7 @@ use Rattle.lift_base.specs.declared.history.Row.{Row as CallRow}
 use Rattle.lift_register.specs.Register.{RegisterState, rows_of, last_of, cars, terminals}
 use Rattle.lift_register.specs.Base.{base_records, record_of_last, last_records}
 use Rattle.lift_register.specs.WellFormed.{IsWellFormed}
-use Rattle.lift_journal.specs.Order.{IsOfBase, MayFollow, IsInOrderBehind, IsInOrder, last_behind, MayEnd, IsComplete}
+use Rattle.lift_journal.specs.Order.{IsOfBase, MayFollow, IsInOrderBehind, AreRecordsInOrder, last_behind, MayEnd, IsComplete}
 use Rattle.lift_journal.specs.lemmas.Orders.{order_join, last_join}
 
 -- an open call of this car, or of a later one, may follow
@@ -117,7 +117,7 @@ done_follows terminal (Some (Last other command)) count is = tt
 done_follows terminal (Some (Done other)) count is = absurd is
 
 order_of : (f : ℕ → List CallRow) (g : ℕ → Option LastCommand) (done : ℕ) → ((k : ℕ) → All (λ (row : CallRow). row.car ≡ k) (f k))
-    → IsInOrder ((map Row (flat_map f (range_with_len 0 16)) ++ flat_map (λ k. record_of_last k (g k)) (range_with_len 0 63)) ++ Done done ∷ [])
+    → AreRecordsInOrder ((map Row (flat_map f (range_with_len 0 16)) ++ flat_map (λ k. record_of_last k (g k)) (range_with_len 0 63)) ++ Done done ∷ [])
 order_of f g done own =
     let rows = map Row (flat_map f (range_with_len 0 16)) in
     let lasts = flat_map (λ k. record_of_last k (g k)) (range_with_len 0 63) in
@@ -127,7 +127,7 @@ order_of f g done own =
     let end = subst (BeforeTerminal 63) (sym (last_join None rows lasts)) second.1 in
     order_join None (rows ++ lasts) (Done done ∷ []) both (done_follows 63 (last_behind None (rows ++ lasts)) done end, tt)
 
-pub base_in_order : (register : RegisterState) → IsWellFormed register → IsInOrder (base_records register)
+pub base_in_order : (register : RegisterState) → IsWellFormed register → AreRecordsInOrder (base_records register)
 unfolding cars terminals
 base_in_order register formed = order_of (rows_of register) (last_of register) register.done formed.own_cars
 

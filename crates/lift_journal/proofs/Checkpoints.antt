@@ -15,7 +15,7 @@ use Rattle.lift_record.specs.declared.version.Version.TheVariants.{One, Two}
 use Rattle.lift_record.specs.Version.{version_number}
 use Rattle.lift_disk.specs.Disk.{DiskState, Image, RunsOn, LooseWithin, TouchesOnly, LeavesNoOther, IsSteadyAt, IsWhole}
 use Rattle.lift_disk.specs.lemmas.Moments.{runs_none, runs_then, touches_none, touches_then}
-use Rattle.lift_journal.specs.Order.{IsInOrder, IsComplete}
+use Rattle.lift_journal.specs.Order.{AreRecordsInOrder, IsComplete}
 use Rattle.lift_journal.specs.Layout.{Batch, records_of, bodies, size_of, used, NeverFall, IsSound, IsBody, is_marked, IsOpen, sector_at}
 use Rattle.lift_journal.specs.Steps.{overwritten, marked, IsInRange}
 use Rattle.lift_journal.specs.Walk.{IsFront, IsSoundFront, Reaches}
@@ -23,7 +23,7 @@ use Rattle.lift_journal.specs.Checkpoint.{in_batches, batch_count, checkpoint_of
 use Rattle.lift_journal.specs.Told.{NoneFails}
 use Rattle.lift_disk.specs.Trace.{Access}
 use Rattle.lift_disk.specs.Trace.Access.{Write}
-use Rattle.lift_journal.specs.Calls.{body_of, draft_calls, writes_from, StopsIn}
+use Rattle.lift_journal.specs.Calls.{batch_body, draft_calls, writes_from, StopsIn}
 use Rattle.lift_journal.proofs.Following.{all_then, front_then, front_more}
 use Rattle.lift_journal.specs.lemmas.Telling.{none_made, passes_then}
 use Rattle.lift_journal.proofs.Appends.{overwritten_there, length-overwritten, sector_set}
@@ -113,13 +113,13 @@ never_fall : (version : Version) (count : ℕ) (records : List Record) → versi
 never_fall version zero records low = tt
 never_fall version (suc count) records low = (low, never_fall Two count (drop 63 records) (omega arith))
 
-order_take : (count : ℕ) (records : List Record) → IsInOrder records → IsInOrder (take count records)
-order_take count records order = order_front None (take count records) (drop count records) (subst IsInOrder (sym (take-append-drop count records)) order)
+order_take : (count : ℕ) (records : List Record) → AreRecordsInOrder records → AreRecordsInOrder (take count records)
+order_take count records order = order_front None (take count records) (drop count records) (subst AreRecordsInOrder (sym (take-append-drop count records)) order)
 
-pub sound_front : (count : ℕ) (records : List Record) → IsInOrder records → IsSoundFront (in_batches count records)
+pub sound_front : (count : ℕ) (records : List Record) → AreRecordsInOrder records → IsSoundFront (in_batches count records)
 sound_front count records order = record {
   versions = never_fall One count records (omega arith);
-  ordered = subst IsInOrder (sym (records_in count records)) (order_take (63 * count) records order);
+  ordered = subst AreRecordsInOrder (sym (records_in count records)) (order_take (63 * count) records order);
 }
 
 pub checkpoint_records : (records : List Record) → records_of (checkpoint_of records) ≡ records
@@ -132,7 +132,7 @@ checkpoint_sound register formed =
     let records = base_records register in
     record {
       versions = never_fall One (batch_count (length records)) records (omega arith);
-      ordered = subst IsInOrder (sym (checkpoint_records records)) (base_in_order register formed);
+      ordered = subst AreRecordsInOrder (sym (checkpoint_records records)) (base_in_order register formed);
       complete = subst IsComplete (sym (checkpoint_records records)) (base_complete register);
     }
 
@@ -209,7 +209,7 @@ draft_append gate number [] second =
     ap (λ g. draft_calls g number second) (let same : gate ≡ gate + 0 = omega arith in same)
     ∙ ap (λ n. draft_calls (gate + 0) n second) (let same : number ≡ number + 0 = omega arith in same)
 draft_append gate number (batch ∷ first) second =
-    let calls = writes_from (gate + 1) (body_of number batch) ++ Write gate marked ∷ [] in
+    let calls = writes_from (gate + 1) (batch_body number batch) ++ Write gate marked ∷ [] in
     let next = gate + (1 + size_of batch) in
     let done = draft_calls next (number + 1) first in
     ap (λ (l : List Access). calls ++ l) (draft_append next (number + 1) first second)
@@ -230,7 +230,7 @@ batches_split (suc count) more records =
     ∙ ap (λ (l : List Record). first ∷ (in_batches count (drop 63 records) ++ in_batches more l)) place
 
 -- those of the next batch, whatever stands behind it
-draft_next : (start gate count : ℕ) (records : List Record) (tail : List Batch) (body : Image) → gate ≡ start + used (in_batches count records) → body ≡ body_of (count + 1) (batch_at count records)
+draft_next : (start gate count : ℕ) (records : List Record) (tail : List Batch) (body : Image) → gate ≡ start + used (in_batches count records) → body ≡ batch_body (count + 1) (batch_at count records)
     → draft_calls start 1 (in_batches count records ++ batch_at count records ∷ tail)
     ≡ draft_calls start 1 (in_batches count records) ++ ((writes_from (gate + 1) body ++ Write gate marked ∷ []) ++ draft_calls (gate + (1 + size_of (batch_at count records))) (count + 1 + 1) tail)
 draft_next start gate count records tail body at is =
@@ -243,7 +243,7 @@ draft_next start gate count records tail body at is =
     ∙ ap (λ (b : Image). done ++ ((writes_from (gate + 1) b ++ Write gate marked ∷ []) ++ draft_calls (gate + (1 + size_of batch)) (count + 1 + 1) tail)) (sym is)
 
 -- the calls of all batches, where one of the next fails
-pub draft_stops : (old now new : DiskState) (start gate count end : ℕ) (records : List Record) (body : Image) → gate ≡ start + used (in_batches count records) → body ≡ body_of (count + 1) (batch_at count records)
+pub draft_stops : (old now new : DiskState) (start gate count end : ℕ) (records : List Record) (body : Image) → gate ≡ start + used (in_batches count records) → body ≡ batch_body (count + 1) (batch_at count records)
     → count < end → now.trace ≡ old.trace ++ draft_calls start 1 (in_batches count records) → StopsIn (writes_from (gate + 1) body ++ Write gate marked ∷ []) now new
     → StopsIn (draft_calls start 1 (in_batches end records)) old new
 draft_stops old now new start gate count end records body at is below was front =
@@ -293,9 +293,9 @@ module _ (old now new : DiskState) (start gate count : ℕ) (records : List Reco
       touches_then (IsInRange start (start + 64)) old now new before (touched start (start + 64) (omega (arith, so_far.at)) room before.loose)
 
   pub drafted_more : (body : Image) → gate + 1 + length body < start + 64 → length body ≡ size_of (batch_at count records)
-      → IsBody (count + 1) (batch_at count records) body → IsInOrder records
+      → IsBody (count + 1) (batch_at count records) body → AreRecordsInOrder records
       → RunsOn now new → new.calls ≡ now.calls + (1 + length body) → new.writes ≡ now.writes + (1 + length body) → new.failures ≡ now.failures → NoneFails now new
-      → body ≡ body_of (count + 1) (batch_at count records) → new.trace ≡ now.trace ++ (writes_from (gate + 1) body ++ Write gate marked ∷ [])
+      → body ≡ batch_body (count + 1) (batch_at count records) → new.trace ≡ now.trace ++ (writes_from (gate + 1) body ++ Write gate marked ∷ [])
       → ((low high : ℕ) → low ≤ gate → gate + 1 + length body ≤ high → LooseWithin (IsInRange low high) now → TouchesOnly (IsInRange low high) now new)
       → (now.is_honest → now.is_steady → IsSteadyAt (slice_set (overwritten now.image (gate + 1) body) gate marked) new)
       → IsWhole now
@@ -341,9 +341,9 @@ next_body count size records items sectors is sized body =
     (subst (λ k. IsBody (count + 1) (record { version = Two; records = items }) (take k sectors)) (sym sized) body)
 
 pub next_exact : (count size : ℕ) (records items : List Record) (sectors : Image) → items ≡ take 63 (drop (63 * count) records) → size ≡ bodies (length items)
-    → take (bodies (length items)) sectors ≡ body_of (count + 1) (record { version = Two; records = items }) → take size sectors ≡ body_of (count + 1) (batch_at count records)
+    → take (bodies (length items)) sectors ≡ batch_body (count + 1) (record { version = Two; records = items }) → take size sectors ≡ batch_body (count + 1) (batch_at count records)
 next_exact count size records items sectors is sized exact =
-    ap (λ k. take k sectors) sized ∙ exact ∙ ap (λ (l : List Record). body_of (count + 1) (record { version = Two; records = l })) is
+    ap (λ k. take k sectors) sized ∙ exact ∙ ap (λ (l : List Record). batch_body (count + 1) (record { version = Two; records = l })) is
 
 -- there is room for it
 pub next_room : (start gate count size end : ℕ) (records items : List Record) → gate ≡ start + used (in_batches count records) → count < end → end ≤ 10 → size ≡ bodies (length items) → gate + 1 + size < start + 64

@@ -9,7 +9,7 @@ use Rattle.lift_journal.specs.declared.fault.JournalFault.TheVariants.{Disk, Not
 use Rattle.lift_journal.specs.Walk.{Reaches, IsDamagedAt}
 use Rattle.lift_journal.specs.Steps.{ReadsOnly}
 use Rattle.lift_journal.specs.Calls.{reads_from}
-use Rattle.lift_journal.specs.Behind.{IsHalf, EndsIn, EndsInHalf, StampBehind, RefusedBehind}
+use Rattle.lift_journal.specs.Behind.{IsHalfOf, EndsIn, EndsInHalf, StampBehind, RefusedBehind}
 
 -- other calls stood before
 made_then : (old mid new : DiskState) (first before behind : List Access) → mid.trace ≡ old.trace ++ first → new.trace ≡ mid.trace ++ (before ++ behind)
@@ -65,7 +65,7 @@ half_before : (fault : JournalFault) (old mid new : DiskState) → mid.trace ≡
 half_before fault old mid new was size only known (start, end, half, ends) = (
   start,
   end,
-  subst (λ n. IsHalf n start end) size half,
+  subst (λ n. IsHalfOf n start end) size half,
   ends_then fault (Sync ∷ Read 1 ∷ []) (Read 0 ∷ []) start end (mid.is_honest × IsSynced mid) old.is_honest mid.image new.image old mid new was
       (λ honest. (let k = known honest in (k, image_stays mid new only k.0 k.1))) ends,
 )

@@ -9,7 +9,7 @@ use Rattle.lift_journal.specs.declared.fault.JournalFault.{JournalFault}
 use Rattle.lift_journal.specs.declared.fault.JournalFault.TheVariants.{Disk, NotFormatted, Damaged, Full, Broken}
 use Rattle.lift_journal.specs.Layout.{Batch, records_of, size_of, IsBody, IsChain, IsSound, used, sector_at, start_of, Holds}
 use Rattle.lift_base.specs.declared.history.Record.{Record}
-use Rattle.lift_journal.specs.Order.{IsInOrder, IsComplete}
+use Rattle.lift_journal.specs.Order.{AreRecordsInOrder, IsComplete}
 use Rattle.lift_journal.specs.Opening.{RefusedFor}
 use Rattle.lift_journal.specs.Answers.{RefusesAt}
 use Rattle.lift_journal.specs.Behind.{RefusedBehind}
@@ -52,7 +52,7 @@ records_append (batch ∷ batches) more =
 front_of : (batches more : List Batch) → IsSound (batches ++ more) → IsSoundFront batches
 front_of batches more sound = record {
   versions = fall_front One batches more sound.versions;
-  ordered = order_front None (records_of batches) (records_of more) (subst IsInOrder (records_append batches more) sound.ordered);
+  ordered = order_front None (records_of batches) (records_of more) (subst AreRecordsInOrder (records_append batches more) sound.ordered);
 }
 
 module _ (image : Image) (start end gate : ℕ) (batches : List Batch) (whole : end ≤ length image) (chain : IsChain batches 1 (take (end - start) (drop start image))) (sound : IsSound batches) (damaged : IsDamagedAt image start end gate) where

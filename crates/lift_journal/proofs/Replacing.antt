@@ -12,7 +12,7 @@ use Rattle.lift_disk.specs.lemmas.Moments.{changes_nothing, leaves_weaker, leave
 use Rattle.lift_journal.specs.Order.{IsEntry}
 use Rattle.lift_journal.specs.Layout.{Batch, is_marked, sector_at, Picks, start_of, Holds}
 use Rattle.lift_journal.specs.Steps.{IsInRange}
-use Rattle.lift_journal.specs.Journal.{ReadsAs, StandsFor, HasPlace, StandsAt}
+use Rattle.lift_journal.specs.Journal.{ReadsAs, StandsFor, HasNextPlace, StandsAt}
 use Rattle.lift_journal.specs.Checkpoint.{batch_count, checkpoint_of, sectors_for}
 use Rattle.lift_journal.specs.Stops.{StopsCheckpoint}
 use Rattle.lift_journal.specs.Switch.{IsOtherHalf, HasWritten, StopsWriting}
@@ -34,13 +34,13 @@ checkpoint_reads shape register image holds = record {
 }
 
 -- where the other half begins
-pub other_inside : (size : ℕ) (shape : Shape) (start gate number other : ℕ) (pick : List ℕ) → HasPlace size shape start gate number → IsOtherHalf shape.half start other pick → (2 ≤ other) × (other + shape.half ≤ size) × (other ≤ 1000002)
+pub other_inside : (size : ℕ) (shape : Shape) (start gate number other : ℕ) (pick : List ℕ) → HasNextPlace size shape start gate number → IsOtherHalf shape.half start other pick → (2 ≤ other) × (other + shape.half ≤ size) × (other ≤ 1000002)
 other_inside size shape start gate number other pick place is =
     ⊎_elim (λ a. (omega (arith, a.1), omega (arith, a.1, place.inside), omega (arith, a.1, place.within.half.1)))
     (λ b. (omega (arith, b.1), omega (arith, b.1, place.inside), omega (arith, b.1))) is
 
-pub other_place : (old_size size : ℕ) (shape : Shape) (start gate number other last count : ℕ) (pick : List ℕ) (records : ℕ) → HasPlace old_size shape start gate number → IsOtherHalf shape.half start other pick
-    → size ≡ old_size → last ≡ other + sectors_for records → last < other + 64 → count ≡ batch_count records → 1 ≤ records → HasPlace size shape other last (count + 1)
+pub other_place : (old_size size : ℕ) (shape : Shape) (start gate number other last count : ℕ) (pick : List ℕ) (records : ℕ) → HasNextPlace old_size shape start gate number → IsOtherHalf shape.half start other pick
+    → size ≡ old_size → last ≡ other + sectors_for records → last < other + 64 → count ≡ batch_count records → 1 ≤ records → HasNextPlace size shape other last (count + 1)
 other_place old_size size shape start gate number other last count pick records place is same at below counted some = record {
   within = place.within;
   inside = omega (arith, place.inside, same);
@@ -53,7 +53,7 @@ other_place old_size size shape start gate number other last count pick records 
       omega (arith, low, at, counted, some, bodies_few (records - 63 * (batch_count records - 1)));
 }
 
-module _ (shape : Shape) (start gate number other : ℕ) (pick : List ℕ) (old : DiskState) (register : RegisterState) (place : HasPlace old.size shape start gate number)
+module _ (shape : Shape) (start gate number other : ℕ) (pick : List ℕ) (old : DiskState) (register : RegisterState) (place : HasNextPlace old.size shape start gate number)
     (is_other : IsOtherHalf shape.half start other pick) (formed : IsWellFormed register) where
   halves : (stands : StandsAt shape start gate number old) → ((start_of shape.half old.image ≡ 2) × (other ≡ shape.half + 2)) ⊎ ((start_of shape.half old.image ≡ shape.half + 2) × (other ≡ 2))
   halves stands =

@@ -8,9 +8,9 @@ use Rattle.lift_disk.specs.Disk.{DiskState, Image, ChangesWithin, LeavesNow, Lea
 use Rattle.lift_disk.specs.lemmas.Moments.{leaves_weaker, leaves_if_honest, changes_nothing}
 use Rattle.lift_journal.specs.Order.{IsEntry, IsOfBase}
 use Rattle.lift_journal.specs.Layout.{Batch, records_of, size_of, IsBody, is_marked, picks_second, Picks, start_of, Holds, used}
-use Rattle.lift_journal.specs.Steps.{IsInRange, IsReady, IsSettled, ReadsOnly}
+use Rattle.lift_journal.specs.Steps.{IsInRange, IsReady, HoldsSafely, ReadsOnly}
 use Rattle.lift_journal.specs.declared.place.Place.{Place}
-use Rattle.lift_journal.specs.Journal.{ReadsAs, StandsFor, HasPlace, StandsAt, IsJournal}
+use Rattle.lift_journal.specs.Journal.{ReadsAs, StandsFor, HasNextPlace, StandsAt, IsJournal}
 use Rattle.lift_journal.specs.Opening.{Opens}
 use Rattle.lift_journal.specs.Told.{NoneFails}
 use Rattle.lift_journal.proofs.Unique.{holds_unique, stamp_unique}
@@ -35,7 +35,7 @@ picks_synced shape start gate number disk stands honest left leaves =
     subst (Picks (nat_lt 2 start)) (sym same) (stands_in shape start gate number disk at)
 
 -- the pick stands before every gate
-pub gate_high : (size : ℕ) (shape : Shape) (start gate number : ℕ) → HasPlace size shape start gate number → 2 ≤ gate
+pub gate_high : (size : ℕ) (shape : Shape) (start gate number : ℕ) → HasNextPlace size shape start gate number → 2 ≤ gate
 gate_high size shape start gate number place = ⊎_elim (λ first. omega (arith, first, place.low)) (λ second. omega (arith, second, place.low)) place.halves
 
 -- and so do changes behind it
@@ -157,7 +157,7 @@ module _ (shape : Shape) (start gate number n : ℕ) (old : DiskState) (items : 
 
   -- at the end each crash leaves the batch too
   pub append_stands : (new : DiskState) (from : ℕ) → RunsOn old new → (stands : old.is_honest → StandsAt shape start gate number old) → All IsEntry items
-      → ((honest : old.is_honest) → IsSettled shape ((stands honest).batches ++ (record { version = Two; records = items }) ∷ []) from new)
+      → ((honest : old.is_honest) → HoldsSafely shape ((stands honest).batches ++ (record { version = Two; records = items }) ∷ []) from new)
       → (base entries : List Record) → StandsFor shape base entries old → StandsFor shape base (entries ++ items) new
   append_stands new from same stands kinds settled base entries reads honest_new left leaves =
       let honest = same.honest.0 honest_new in
@@ -186,7 +186,7 @@ module _ (shape : Shape) (start gate number : ℕ) (old : DiskState) (stands : o
         (λ honest. subst (λ (bs : List Batch). LeavesOnly old new (λ left. Holds shape bs left ⊎ Holds shape (bs ++ batch ∷ []) left)) (same_batches honest) (leaves honest))
 
     -- at the end each crash leaves these and the new one
-    pub lists_stand : (from : ℕ) → ((honest : old.is_honest) → IsSettled shape ((stands honest).batches ++ batch ∷ []) from new) → LeavesNow new (Holds shape (batches ++ batch ∷ []))
+    pub lists_stand : (from : ℕ) → ((honest : old.is_honest) → HoldsSafely shape ((stands honest).batches ++ batch ∷ []) from new) → LeavesNow new (Holds shape (batches ++ batch ∷ []))
     lists_stand from settled honest_new left leaves =
         let honest = same.0 honest_new in
         let now = settled honest in
@@ -195,7 +195,7 @@ module _ (shape : Shape) (start gate number : ℕ) (old : DiskState) (stands : o
         (subst (Holds shape ((stands honest).batches ++ batch ∷ [])) (sym same_image) now.holds)
 
 pub stands_then : (shape : Shape) (start gate number n : ℕ) (old new : DiskState) (batch : Batch) → (stands : StandsAt shape start gate number old) → n ≡ size_of batch
-    → IsSettled shape (stands.batches ++ batch ∷ []) (start_of shape.half old.image) new → StandsAt shape start (gate + (n + 1)) (number + 1) new
+    → HoldsSafely shape (stands.batches ++ batch ∷ []) (start_of shape.half old.image) new → StandsAt shape start (gate + (n + 1)) (number + 1) new
 stands_then shape start gate number n old new batch stands is settled = record {
   batches = stands.batches ++ batch ∷ [];
   synced = settled.synced;
@@ -212,7 +212,7 @@ pub stands_again : (at : Place) (now_broken before_broken is_broken : Bool) (ope
     → (now_broken ≡ true → is_broken ≡ true) → (now_broken ≡ false → is_broken ≡ before_broken)
     → IsJournal at is_broken opened new
 stands_again at now_broken before_broken is_broken opened old new was only safe failed breaks stays = record {
-  place = subst (λ n. HasPlace n at.shape at.start at.gate at.number) (sym only.runs.size) was.place;
+  place = subst (λ n. HasNextPlace n at.shape at.start at.gate at.number) (sym only.runs.size) was.place;
   counted = omega (arith, was.counted, only.runs.failures);
   failed = by_state now_broken refl;
   stands = λ whole honest_new. still now_broken refl whole honest_new;

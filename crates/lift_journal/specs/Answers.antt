@@ -28,7 +28,7 @@ pub record RefusesAt (old new : DiskState) (fault : JournalFault) : Type 0 where
 
 -- A journal is open again; or it was refused, and stands where it stood, but that a failed call
 -- leaves it broken.
-pub record Reopens {D T : Type 0} (state : D → DiskState) (old new : JournalView D)
+pub record JournalReopens {D T : Type 0} (state : D → DiskState) (old new : JournalView D)
     (result : Result T JournalFault) : Type 0 where
   pub opens : OnOk result (OpensAs state (state old.device) new)
   pub refused : IfErr result (λ fault. RefusesAt (state old.device) (state new.device) fault)

@@ -13,7 +13,7 @@ use Rattle.lift_journal.specs.Walk.{Reaches, IsDamagedAt}
 use Rattle.lift_journal.specs.Calls.{reads_from, StopsIn}
 
 -- a half of a device of so many sectors, for some shape, from its first sector to its end
-pub record IsHalf (size start end : ℕ) : Type 0 where
+pub record IsHalfOf (size start end : ℕ) : Type 0 where
   pub shape : Shape
   pub within : IsWithinLimits shape
   pub inside : 2 * shape.half + 2 ≤ size
@@ -22,7 +22,7 @@ pub record IsHalf (size start end : ℕ) : Type 0 where
 
 -- Behind those calls a half was read in a row, up to a gate that batches reach, and two sectors
 -- behind it at most. The call for the next one failed.
-pub record FailsIn (before : List Access) (start end : ℕ) (is_known : Type 0) (image : Image)
+pub record FailsInHalf (before : List Access) (start end : ℕ) (is_known : Type 0) (image : Image)
     (old new : DiskState) : Type 0 where
   pub gate : ℕ
   pub more : ℕ
@@ -47,7 +47,7 @@ pub record FindsIn (sector : ℕ) (before : List Access) (start end : ℕ) (is_k
 abbrev pub EndsIn : JournalFault → List Access → ℕ → ℕ → Type 0 → Image → DiskState → DiskState
     → Type 0
 EndsIn Disk before start end is_known image old new =
-    FailsIn before start end is_known image old new
+    FailsInHalf before start end is_known image old new
 EndsIn NotFormatted before start end is_known image old new = ⊥
 EndsIn (Damaged sector) before start end is_known image old new =
     FindsIn sector before start end is_known image old new
@@ -56,7 +56,7 @@ EndsIn Broken before start end is_known image old new = ⊥
 
 -- the same of one of the halves
 abbrev pub EndsInHalf : JournalFault → List Access → Type 0 → Image → DiskState → DiskState → Type 0
-EndsInHalf fault before is_known image old new = (start end : ℕ) × IsHalf old.size start end
+EndsInHalf fault before is_known image old new = (start end : ℕ) × IsHalfOf old.size start end
     × EndsIn fault before start end is_known image old new
 
 -- what was read of a stamp that was refused

@@ -40,15 +40,15 @@ append_calls gate body =
     ++ puts gate marked
 
 -- the sectors of a batch's body
-abbrev pub body_of : ℕ → Batch → Image
-body_of number batch = let text = filled 2 (batch_bytes number batch) in
+abbrev pub batch_body : ℕ → Batch → Image
+batch_body number batch = let text = filled 2 (batch_bytes number batch) in
     take (size_of batch) (take 512 text ∷ drop 512 text ∷ [])
 
 -- Batches are written in a row, from this number on: each its body, and then its gate open.
 abbrev pub draft_calls : (gate number : ℕ) → List Batch → List Access
 draft_calls gate number [] = []
 draft_calls gate number (batch ∷ batches) =
-    (writes_from (gate + 1) (body_of number batch) ++ Write gate marked ∷ [])
+    (writes_from (gate + 1) (batch_body number batch) ++ Write gate marked ∷ [])
     ++ draft_calls (gate + (1 + size_of batch)) (number + 1) batches
 
 -- what is written to pick a half

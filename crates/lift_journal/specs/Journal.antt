@@ -38,8 +38,8 @@ pub record JournalView (D : Type 0) : Type 0 where
   pub is_broken : Bool
 
 -- a journal over this device that stands at this place
-abbrev pub view_at : {D : Type 0} → D → Place → Bool → ℕ → JournalView D
-view_at device place is_broken opened = record {
+abbrev pub view_from : {D : Type 0} → D → Place → Bool → ℕ → JournalView D
+view_from device place is_broken opened = record {
   device = device;
   shape = place.shape;
   is_second = nat_lt 2 place.start;
@@ -50,7 +50,7 @@ view_at device place is_broken opened = record {
 }
 
 -- where the next batch goes, whatever the device holds
-pub record HasPlace (size : ℕ) (shape : Shape) (start gate number : ℕ) : Type 0 where
+pub record HasNextPlace (size : ℕ) (shape : Shape) (start gate number : ℕ) : Type 0 where
   pub within : IsWithinLimits shape
   pub inside : 2 * shape.half + 2 ≤ size
   pub halves : (start ≡ 2) ⊎ (start ≡ shape.half + 2)
@@ -69,7 +69,7 @@ pub record StandsAt (shape : Shape) (start gate number : ℕ) (disk : DiskState)
   pub counts : number ≡ 1 + length batches
 
 pub record IsJournal (at : Place) (is_broken : Bool) (opened : ℕ) (disk : DiskState) : Type 0 where
-  pub place : HasPlace disk.size at.shape at.start at.gate at.number
+  pub place : HasNextPlace disk.size at.shape at.start at.gate at.number
   pub counted : opened ≤ disk.failures
   pub failed : is_broken ≡ true → opened < disk.failures
   pub stands : is_broken ≡ false → disk.is_honest

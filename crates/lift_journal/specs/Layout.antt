@@ -14,7 +14,7 @@ use Rattle.lift_record.specs.declared.version.Version.TheVariants.{One, Two}
 use Rattle.lift_record.specs.Version.{version_number}
 use Rattle.lift_record.specs.Record.{IsSayable, spelling_of}
 use Rattle.lift_record.specs.Header.{header_bytes}
-use Rattle.lift_journal.specs.Order.{IsInOrder, IsComplete}
+use Rattle.lift_journal.specs.Order.{AreRecordsInOrder, IsComplete}
 
 -- the records that were written at once, and the version of their spelling
 pub record Batch : Type 0 where
@@ -121,7 +121,7 @@ pub record IsStamped (shape : Shape) (image : Image) : Type 0 where
 -- none, and then entries
 pub record IsSound (batches : List Batch) : Type 0 where
   pub versions : NeverFall One batches
-  pub ordered : IsInOrder (records_of batches)
+  pub ordered : AreRecordsInOrder (records_of batches)
   pub complete : IsComplete (records_of batches)
 
 -- the image holds these batches

@@ -46,8 +46,8 @@ abbrev pub IsInOrderBehind : Option Record → List Record → Type 0
 IsInOrderBehind last [] = Unit {0}
 IsInOrderBehind last (next ∷ rest) = MayFollow last next × IsInOrderBehind (Some next) rest
 
-abbrev pub IsInOrder : List Record → Type 0
-IsInOrder records = IsInOrderBehind None records
+abbrev pub AreRecordsInOrder : List Record → Type 0
+AreRecordsInOrder records = IsInOrderBehind None records
 
 -- the last of these records, or that one where there are none
 abbrev pub last_behind : Option Record → List Record → Option Record

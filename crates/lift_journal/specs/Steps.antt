@@ -101,7 +101,7 @@ pub record IsReady (shape : Shape) (batches : List Batch) (batch : Batch) (gate 
   pub sound : IsSound (batches ++ batch ∷ [])
 
 -- The image holds these batches, and a crash leaves just that.
-pub record IsSettled (shape : Shape) (batches : List Batch) (start : ℕ)
+pub record HoldsSafely (shape : Shape) (batches : List Batch) (start : ℕ)
     (disk : DiskState) : Type 0 where
   pub synced : IsSynced disk
   pub holds : Holds shape batches disk.image

@@ -3,7 +3,7 @@ use Rattle.std.specs.Prelude.{◌≡◌, ◌⊎◌, ◌<◌, ◌+◌, ◌-◌, �
 use Rattle.lift_record.specs.declared.version.Version.{Version}
 use Rattle.lift_record.specs.declared.version.Version.TheVariants.{One}
 use Rattle.lift_disk.specs.Disk.{Image}
-use Rattle.lift_journal.specs.Order.{IsInOrder, IsComplete}
+use Rattle.lift_journal.specs.Order.{AreRecordsInOrder, IsComplete}
 use Rattle.lift_journal.specs.Layout.{Batch, records_of, sector_at, IsOpen, IsClosed, size_of}
 use Rattle.lift_journal.specs.Layout.{IsBody, IsChain, IsSound, NeverFall, used}
 
@@ -24,7 +24,7 @@ pub record IsBatchAt (image : Image) (gate end number : ℕ) (batch : Batch) : T
 -- these batches may begin a chain
 pub record IsSoundFront (batches : List Batch) : Type 0 where
   pub versions : NeverFall One batches
-  pub ordered : IsInOrder (records_of batches)
+  pub ordered : AreRecordsInOrder (records_of batches)
 
 -- the version of the last of these batches, or that one where there are none
 abbrev pub version_behind : Version → List Batch → Version

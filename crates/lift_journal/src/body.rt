@@ -7,7 +7,7 @@ ghost use Rattle.lift_record.specs.Record.{spelling_of};
 ghost use Rattle.lift_record.specs.Header.{header_bytes};
 ghost use Rattle.lift_record.specs.declared.version.Version.TheVariants.{Two};
 ghost use Rattle.lift_journal.specs.Layout.{IsBody, IsRecordIn, bodies, filled, new_batch};
-ghost use Rattle.lift_journal.specs.Calls.{body_of};
+ghost use Rattle.lift_journal.specs.Calls.{batch_body};
 
 use crate::bytes::put;
 use lift_base::Record;
@@ -61,7 +61,7 @@ pub fn put_body(text: &mut [u8; 1024], batch: &[Record], number: u32)
     ensures spelled { IsBody number (record { version = Two; records = batch.now })
         (take (bodies (length batch.now)) (take 512 text.new ∷ drop 512 text.new ∷ [])) }
     ensures exact { take (bodies (length batch.now)) (take 512 text.new ∷ drop 512 text.new ∷ [])
-        ≡ body_of number (new_batch batch.now) }
+        ≡ batch_body number (new_batch batch.now) }
 {
     put_text(text, batch, number);
 }

@@ -4,7 +4,7 @@ ghost use Rattle.std.specs.Prelude.{OnOk, OnErr, slice_set};
 ghost use Rattle.lift_disk.specs.Disk.{LooseWithin, TouchesOnly, IsSteadyAt, LeavesOnly, IsSynced};
 ghost use Rattle.lift_journal.specs.Layout.{Batch, Holds, start_of};
 ghost use Rattle.lift_journal.specs.Steps.{overwritten, IsInRange, marked, unmarked};
-ghost use Rattle.lift_journal.specs.Steps.{IsReady, IsSettled, IsSyncedAt};
+ghost use Rattle.lift_journal.specs.Steps.{IsReady, HoldsSafely, IsSyncedAt};
 ghost use Rattle.lift_journal.specs.Stops.{Misses, StopsShort};
 ghost use Rattle.lift_disk.specs.Trace.Access.{Write, Sync};
 ghost use Rattle.lift_journal.specs.Calls.{Performs, writes_from, puts, append_calls};
@@ -101,7 +101,7 @@ pub fn write_batch<D: Disk>(disk: &mut D, gate: u32, body: &[[u8; 512]]) -> Resu
     ensures written { OnOk result ((shape : Shape) (batches : List Batch) (batch : Batch)
         → (D.state disk.old).is_honest
         → IsReady shape batches batch gate body.now (D.state disk.old)
-        → IsSettled shape (batches ++ batch ∷ []) (start_of shape.half (D.state disk.old).image)
+        → HoldsSafely shape (batches ++ batch ∷ []) (start_of shape.half (D.state disk.old).image)
         (D.state disk.new)) }
     ensures stops { OnErr result ((shape : Shape) (batches : List Batch) (batch : Batch)
         → (D.state disk.old).is_honest → (D.state disk.old).is_inert

@@ -46,11 +46,11 @@ pub struct Journal<D: Disk> {
 }
 
 impl<D: Disk> Model for Journal<D> {
-    ghost use Rattle.lift_journal.specs.Journal.{JournalView, IsJournal, view_at};
+    ghost use Rattle.lift_journal.specs.Journal.{JournalView, IsJournal, view_from};
 
     ghost Value = { JournalView D };
 
-    ghost view = { λ j. view_at j.device j.place j.is_broken (D.state j.opened.value).failures };
+    ghost view = { λ j. view_from j.device j.place j.is_broken (D.state j.opened.value).failures };
 
     ghost invariant = { λ j.
         IsJournal j.place j.is_broken (D.state j.opened.value).failures (D.state j.device) };
@@ -87,12 +87,12 @@ pub struct FormerPlace<D: Disk> {
 }
 
 impl<D: Disk> Model for FormerPlace<D> {
-    ghost use Rattle.lift_journal.specs.Journal.{JournalView, IsJournal, view_at};
+    ghost use Rattle.lift_journal.specs.Journal.{JournalView, IsJournal, view_from};
 
     ghost Value = { JournalView D };
 
     ghost view = { λ f.
-        view_at f.device.value f.place f.is_broken (D.state f.opened.value).failures };
+        view_from f.device.value f.place f.is_broken (D.state f.opened.value).failures };
 
     ghost invariant = { λ f.
         IsJournal f.place f.is_broken (D.state f.opened.value).failures (D.state f.device.value) };
@@ -101,7 +101,7 @@ impl<D: Disk> Model for FormerPlace<D> {
 impl<D: Disk> Journal<D> {
     ghost use Rattle.lift_journal.specs.Journal.{CursorView, ReadsAs, StandsFor, IsCursorIn};
     ghost use Rattle.lift_journal.specs.Journal.{IsNext};
-    ghost use Rattle.lift_journal.specs.Answers.{OpensAs, RefusesAt, Reopens, BreaksByFault};
+    ghost use Rattle.lift_journal.specs.Answers.{OpensAs, RefusesAt, JournalReopens, BreaksByFault};
 
     /// The installation that the device was formatted for.
     pub fn shape(&self) -> Shape
@@ -448,7 +448,7 @@ impl<D: Disk> Journal<D> {
     /// Opens it again, also after a fault. It writes nothing. A fault of the device leaves it
     /// broken, a refusal for another cause as it was.
     pub fn reopen(&mut self) -> Result<(), JournalFault>
-        ensures reopens { Reopens D.state self.old self.new result }
+        ensures reopens { JournalReopens D.state self.old self.new result }
     {
         match self.reopen_from(&mut Nobody) {
             Ok(_former) => Ok(()),
@@ -464,7 +464,7 @@ impl<D: Disk> Journal<D> {
     ) -> Result<FormerPlace<D>, JournalFault>
         ensures former { IfOk result (λ former. former ≡ self.old) }
         ensures reads { ReadsOnly (D.state self.old.device) (D.state self.new.device) }
-        ensures reopens { Reopens D.state self.old self.new result }
+        ensures reopens { JournalReopens D.state self.old self.new result }
         // Just the batches that are there, each once and in their order.
         ensures shown { OnOk result ((D.state self.old.device).is_honest → (batches : List Batch)
             → Holds self.new.shape batches (D.state self.new.device).image

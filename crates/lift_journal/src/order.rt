@@ -1,7 +1,7 @@
 //! The order of the records in a chain.
 ghost use Rattle.std.specs.Prelude.{◌≡◌, ◌↔◌, IsTrue, Some};
 ghost use Rattle.lift_journal.specs.Order.{IsEntry, MayFollow, MayFollowRow, MayFollowLast};
-ghost use Rattle.lift_journal.specs.Order.{IsInOrder, IsInOrderBehind, last_behind, MayEnd};
+ghost use Rattle.lift_journal.specs.Order.{AreRecordsInOrder, IsInOrderBehind, last_behind, MayEnd};
 
 use lift_base::{Letter, Record, Terminal};
 
@@ -68,7 +68,7 @@ fn may_follow(last: &Option<Record>, next: &Record) -> bool
 /// Whether these records may stand in this order, whatever stands before them.
 #[inline(never)]
 fn is_in_order(records: &[Record]) -> bool
-    ensures { IsTrue result ↔ IsInOrder records.now }
+    ensures { IsTrue result ↔ AreRecordsInOrder records.now }
 {
     for k in 1..records.len() {
         if !may_come_next(&records[k - 1], &records[k]) {

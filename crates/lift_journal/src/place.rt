@@ -5,7 +5,7 @@ ghost use Rattle.lift_base.specs.declared.history.Shape.{Shape as ShapeValue};
 ghost use Rattle.lift_base.specs.History.{IsWithinLimits};
 ghost use Rattle.lift_disk.specs.Disk.{IsSynced, Image, MayLeave};
 ghost use Rattle.lift_journal.specs.Layout.{Batch, Holds, IsStamped, start_of};
-ghost use Rattle.lift_journal.specs.Journal.{HasPlace, StandsAt};
+ghost use Rattle.lift_journal.specs.Journal.{HasNextPlace, StandsAt};
 ghost use Rattle.lift_journal.specs.Steps.{Examines, ReadsOnly, HasItsCause};
 ghost use Rattle.lift_journal.specs.Walk.{IsDamagedAt};
 ghost use Rattle.lift_journal.specs.Opening.{RefusedFor};
@@ -76,7 +76,7 @@ fn place_of<D: Disk, V: Visitor>(
     ensures causes { IfErr result (λ fault. IsOfChain fault) }
     ensures shape { IfOk result (λ place. place.shape ≡ shape) }
     ensures place { IfOk result (λ place.
-        HasPlace (D.state disk.new).size place.shape place.start place.gate place.number) }
+        HasNextPlace (D.state disk.new).size place.shape place.start place.gate place.number) }
     ensures stands { IfOk result (λ place. (D.state disk.old).is_honest
         → IsSynced (D.state disk.old) → IsStamped shape (D.state disk.old).image
         → StandsAt place.shape place.start place.gate place.number (D.state disk.new)) }
@@ -126,7 +126,7 @@ pub fn find_place<D: Disk, V: Visitor>(disk: &mut D, visitor: &mut V) -> Result<
     ensures told { OnOk result (NoneFails (D.state disk.old) (D.state disk.new)) }
     ensures settled { OnOk result ((D.state disk.old).is_honest → IsSynced (D.state disk.new)) }
     ensures place { IfOk result (λ place.
-        HasPlace (D.state disk.new).size place.shape place.start place.gate place.number) }
+        HasNextPlace (D.state disk.new).size place.shape place.start place.gate place.number) }
     ensures stands { IfOk result (λ place. (D.state disk.old).is_honest
         → StandsAt place.shape place.start place.gate place.number (D.state disk.new)) }
     ensures refused { IfErr result (λ fault.

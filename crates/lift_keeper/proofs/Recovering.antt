@@ -13,7 +13,7 @@ use Rattle.lift_journal.specs.Order.{MayFollow, last_behind}
 use Rattle.lift_journal.specs.Visits.{TakesAll}
 use Rattle.lift_journal.specs.lemmas.Chains.{used_below}
 use Rattle.lift_journal.specs.lemmas.Orders.{order_at}
-use Rattle.lift_keeper.specs.Reading.{ReadingState, Reads, reading_from, most_records}
+use Rattle.lift_keeper.specs.Reading.{ReadingState, ReadsBatch, reading_from, most_records}
 use Rattle.lift_keeper.specs.Recovery.{RecordFits, with_all, IsFirstMisfit, MakesRegister, RecoveryState, beginning, AllPass, all_passed, StopsAt, is_unended}
 use Rattle.lift_keeper.proofs.Recoveries.{pass_then, passed_then, register_passed, taken_passed, plan_passed, open_passed, fits_passed, passes_here, ended_closed}
 
@@ -99,20 +99,20 @@ came_on old next new first later pass is came = record {
 }
 
 -- behind a record that can't be taken in nothing is
-rests_over : (old : ReadingState) (batches : List Batch) (new : ReadingState) → old.is_over ≡ true → TakesAll Reads old batches new → new ≡ old
+rests_over : (old : ReadingState) (batches : List Batch) (new : ReadingState) → old.is_over ≡ true → TakesAll ReadsBatch old batches new → new ≡ old
 rests_over old [] new is all = all
 rests_over old (batch ∷ batches) new is all =
     let same = all.1.rests is in
     rests_over all.0 batches new (ap (λ (s : ReadingState). s.is_over) same ∙ is) all.2 ∙ same
 
-pub plan_read : (old : ReadingState) (batches : List Batch) (new : ReadingState) → TakesAll Reads old batches new → new.recovery.plan ≡ old.recovery.plan
+pub plan_read : (old : ReadingState) (batches : List Batch) (new : ReadingState) → TakesAll ReadsBatch old batches new → new.recovery.plan ≡ old.recovery.plan
 plan_read old [] new all = ap (λ (s : ReadingState). s.recovery.plan) all
 plan_read old (batch ∷ batches) new all = plan_read all.0 batches new all.2 ∙ all.1.plan
 
 abbrev IsSmall : Batch → Type 0
 IsSmall batch = length batch.records ≤ 63
 
-came_all : (old : ReadingState) (batches : List Batch) (new : ReadingState) → old.is_over ≡ false → old.recovery.taken + 63 * length batches ≤ most_records → All IsSmall batches → TakesAll Reads old batches new
+came_all : (old : ReadingState) (batches : List Batch) (new : ReadingState) → old.is_over ≡ false → old.recovery.taken + 63 * length batches ≤ most_records → All IsSmall batches → TakesAll ReadsBatch old batches new
     → Came old.recovery new (records_of batches)
 came_all old [] new whole few small all = record {
   passes = λ _. (tt, ap (λ (s : ReadingState). s.recovery) all);
@@ -145,7 +145,7 @@ small_batches (batch ∷ batches) number (gate ∷ rest) chain =
     All-cons IsSmall batch batches chain.1.few (small_batches batches (number + 1) (drop (size_of batch) rest) chain.2)
 
 module _ (plan : Plan) (shape : Shape) (batches : List Batch) (image : Image) (reading : ReadingState) (holds : Holds shape batches image)
-    (all : TakesAll Reads (reading_from plan) batches reading) where
+    (all : TakesAll ReadsBatch (reading_from plan) batches reading) where
   came : Came (beginning plan) reading (records_of batches)
   came =
       let below = used_below shape batches image image (start_of shape.half image + used batches) holds refl (record { size = refl; others = λ i _. refl }) in

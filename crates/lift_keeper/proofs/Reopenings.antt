@@ -26,7 +26,7 @@ use Rattle.lift_keeper.specs.declared.fault.KeeperFault.{KeeperFault}
 use Rattle.lift_keeper.specs.declared.fault.KeeperFault.TheVariants.{Journal, OtherBuilding, BadEntry}
 use Rattle.lift_keeper.specs.Calls.{ReadsAll, StopsOpening, FailsBy, OpeningCalls, RefusedCalls}
 use Rattle.lift_keeper.specs.Images.{IsImageOf, IsImageIn}
-use Rattle.lift_keeper.specs.Reading.{ReadingState, Reads, reading_from, Gives, GivesNone}
+use Rattle.lift_keeper.specs.Reading.{ReadingState, ReadsBatch, reading_from, GivesAtEnd, GivesNone}
 use Rattle.lift_keeper.specs.Recovery.{RecordFits, with_next, with_all, AllFit, IsFirstMisfit, MakesRegister, entries_of, IsRegisterOf}
 use Rattle.lift_keeper.specs.Reopening.{Reopens, ReadsNow, RefusedFor, RefusesReopening}
 use Rattle.lift_keeper.specs.Writer.{Keeps, Guards}
@@ -137,8 +137,8 @@ module _ (plan : Plan) (old new : DiskState) (shape : Shape) (taken : ℕ) (open
   image_shape : old.is_honest → (register : RegisterState) (is : IsImageOf plan register new.image) → shape_of plan is.half ≡ shape
   image_shape honest register is = (opens.found honest (shape_of plan is.half) is.reads.batches is.reads.holds).0
 
-  module _ (reading : ReadingState) (shown : old.is_honest → (batches : List Batch) → Holds shape batches new.image → TakesAll Reads (reading_from plan) batches reading) where
-    module _ (register : RegisterState) (of_building : shape ≡ shape_of plan shape.half) (gives : Gives reading register) (is_second : Bool) (picks : LeavesNow new (Picks is_second)) where
+  module _ (reading : ReadingState) (shown : old.is_honest → (batches : List Batch) → Holds shape batches new.image → TakesAll ReadsBatch (reading_from plan) batches reading) where
+    module _ (register : RegisterState) (of_building : shape ≡ shape_of plan shape.half) (gives : GivesAtEnd reading register) (is_second : Bool) (picks : LeavesNow new (Picks is_second)) where
       was : new.is_honest → old.is_honest
       was honest_new = opens.runs.honest.0 honest_new
 

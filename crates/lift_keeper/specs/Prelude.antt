@@ -3,5 +3,5 @@
 pub use Rattle.lift_keeper.specs.Images.{IsImageOf, IsImageIn, IsInDoubt}
 pub use Rattle.lift_keeper.specs.Commits.{MakesSafe, Commits, CommitsTo}
 pub use Rattle.lift_keeper.specs.Recovers.{Recovers}
-pub use Rattle.lift_keeper.specs.Reopening.{Reopens, Opens, RefusesReopening}
+pub use Rattle.lift_keeper.specs.Reopening.{Reopens, WriterOpens, RefusesReopening}
 pub use Rattle.lift_keeper.specs.Calls.{CommitCalls, OpensByCalls, RefusedCalls, ReopeningCalls}

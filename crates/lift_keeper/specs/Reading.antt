@@ -26,7 +26,8 @@ most_records = 4000000000
 
 -- What one batch makes of it: its records are taken, up to the first that can't be. Once there is
 -- one, nothing more is.
-pub record Reads (old : ReadingState) (records : List Record) (new : ReadingState) : Type 0 where
+pub record ReadsBatch (old : ReadingState) (records : List Record)
+    (new : ReadingState) : Type 0 where
   pub plan : new.recovery.plan ≡ old.recovery.plan
   pub rests : old.is_over ≡ true → new ≡ old
   pub passes : old.is_over ≡ false → new.is_over ≡ false
@@ -35,7 +36,7 @@ pub record Reads (old : ReadingState) (records : List Record) (new : ReadingStat
       → StopsAt old.recovery new.recovery records ⊎ (most_records < old.recovery.taken)
 
 -- what it gives at the end of the chain: no checkpoint is open
-pub record Gives (reading : ReadingState) (register : RegisterState) : Type 0 where
+pub record GivesAtEnd (reading : ReadingState) (register : RegisterState) : Type 0 where
   pub whole : reading.is_over ≡ false
   pub closed : reading.recovery.is_open ≡ false
   pub same : register ≡ reading.recovery.register

@@ -33,7 +33,7 @@ pub record Reopens (plan : Plan) (old new : DiskState) (register : RegisterState
   pub placed : LeavesNow new (IsImageIn plan half is_second taken register)
 
 -- A writer is open over a device that was so before: whole, and with nothing in doubt.
-pub record Opens {D : Type 0} (state : D → DiskState) (building : Plan) (old : DiskState)
+pub record WriterOpens {D : Type 0} (state : D → DiskState) (building : Plan) (old : DiskState)
     (writer : WriterView D) : Type 0 where
   pub reopens : Reopens building old (state writer.device) writer.register writer.half
       writer.is_second writer.used

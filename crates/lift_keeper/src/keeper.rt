@@ -8,8 +8,8 @@ ghost use Rattle.lift_policy.specs.View.{positions_of, AreSchedulesOf};
 ghost use Rattle.lift_policy.specs.Step.{Step, view_of};
 ghost use Rattle.lift_decider.specs.Decider.{starting, IsPossible};
 ghost use Rattle.lift_keeper.specs.Prelude.{IsImageOf, IsImageIn, IsInDoubt, Commits, Recovers};
-ghost use Rattle.lift_keeper.specs.Prelude.{Opens, RefusesReopening, CommitCalls, OpensByCalls};
-ghost use Rattle.lift_keeper.specs.Prelude.{RefusedCalls, ReopeningCalls};
+ghost use Rattle.lift_keeper.specs.Prelude.{WriterOpens, RefusesReopening, CommitCalls};
+ghost use Rattle.lift_keeper.specs.Prelude.{OpensByCalls, RefusedCalls, ReopeningCalls};
 
 use crate::copies::copy_of;
 use crate::fault::KeeperFault;
@@ -50,7 +50,7 @@ impl<'b, D: Disk> Keeper<'b, D> {
     /// `Journal(Disk)` where a call of the device failed: of an inert one that was the last.
     pub fn open(disk: D, building: &'b Building) -> Result<Self, (D, KeeperFault)>
         ensures opens { IfOk result (λ keeper.
-            Opens D.state building.now (D.state disk) keeper.writer) }
+            WriterOpens D.state building.now (D.state disk) keeper.writer) }
         ensures state { IfOk result (λ keeper. keeper.state ≡ starting keeper.writer.register) }
         ensures refused { IfErr result (λ err.
             RefusesReopening building.now (D.state disk) (D.state err.0) err.1) }

@@ -2,7 +2,7 @@
 
 ghost use Rattle.std.specs.Prelude.{◌≡◌, ◌↔◌, IsTrue, IfOk, IfErr, OnOk};
 ghost use Rattle.lift_building.specs.Plan.{shape_of};
-ghost use Rattle.lift_keeper.specs.Reading.{Gives, GivesNone};
+ghost use Rattle.lift_keeper.specs.Reading.{GivesAtEnd, GivesNone};
 
 use crate::fault::KeeperFault;
 use crate::reading::Reading;
@@ -30,7 +30,7 @@ pub fn recovered<D: Disk>(
     building: &Building,
 ) -> Result<Register, KeeperFault>
     ensures shape { OnOk result (journal.now.shape ≡ shape_of building.now journal.now.shape.half) }
-    ensures gives { IfOk result (λ register. Gives reading.entry register) }
+    ensures gives { IfOk result (λ register. GivesAtEnd reading.entry register) }
     ensures refused { IfErr result (λ fault.
         GivesNone fault building.now journal.now.shape reading.entry) }
 {

@@ -1,7 +1,7 @@
 //! What an opening reads of a journal.
 
 ghost use Rattle.std.specs.Prelude.{◌≡◌, ◌⊎◌, true, IfOk, IfErr};
-ghost use Rattle.lift_keeper.specs.Reading.{reading_from, Gives};
+ghost use Rattle.lift_keeper.specs.Reading.{reading_from, GivesAtEnd};
 
 use crate::recovery::Recovery;
 use arrayvec::ArrayVec;
@@ -44,7 +44,7 @@ impl<'b> Reading<'b> {
     /// The register that the records have made, if all were taken and no checkpoint is open; else
     /// how many were taken.
     pub fn register(self) -> Result<Register, u32>
-        ensures gives { IfOk result (λ register. Gives self.entry register) }
+        ensures gives { IfOk result (λ register. GivesAtEnd self.entry register) }
         ensures none { IfErr result (λ place. (place ≡ self.entry.recovery.taken)
             × ((self.entry.is_over ≡ true) ⊎ (self.entry.recovery.is_open ≡ true))) }
     {
@@ -57,9 +57,9 @@ impl<'b> Reading<'b> {
 }
 
 impl<'b> Visitor for Reading<'b> {
-    ghost use Rattle.lift_keeper.specs.Reading.{Reads};
+    ghost use Rattle.lift_keeper.specs.Reading.{ReadsBatch};
 
-    ghost takes = { Reads };
+    ghost takes = { ReadsBatch };
 
     fn visit(&mut self, records: &ArrayVec<Record, 63>) {
         if self.is_over {

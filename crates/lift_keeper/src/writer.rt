@@ -5,7 +5,7 @@ ghost use Rattle.std.specs.Prelude.{IfOk, IfErr, OnOk, OnErr};
 ghost use Rattle.lift_disk.specs.Disk.{LeavesNow};
 ghost use Rattle.lift_register.specs.Prelude.{FitFrom, BelongsTo, IsBalanced, IsWellFormed};
 ghost use Rattle.lift_keeper.specs.Prelude.{IsImageOf, IsImageIn, IsInDoubt, Commits, Recovers};
-ghost use Rattle.lift_keeper.specs.Prelude.{Reopens, Opens, RefusesReopening};
+ghost use Rattle.lift_keeper.specs.Prelude.{Reopens, WriterOpens, RefusesReopening};
 ghost use Rattle.lift_keeper.specs.Calls.{CommitCalls, OpeningCalls, OpensByCalls, RefusedCalls};
 ghost use Rattle.lift_keeper.specs.Calls.{ReopeningCalls};
 ghost use Rattle.lift_keeper.specs.Writer.{Guards};
@@ -69,7 +69,7 @@ impl<'b, D: Disk> Writer<'b, D> {
     /// `Journal(Disk)` where a call of the device failed: of an inert one that was the last.
     pub fn open(disk: D, building: &'b Building) -> Result<Self, (D, KeeperFault)>
         ensures opens { IfOk result (λ writer.
-            Opens D.state building.now (D.state disk) writer) }
+            WriterOpens D.state building.now (D.state disk) writer) }
         ensures refused { IfErr result (λ err.
             RefusesReopening building.now (D.state disk) (D.state err.0) err.1) }
         // The opening of its journal, and no other call; where it is refused, as far as that came.

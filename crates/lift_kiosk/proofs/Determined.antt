@@ -11,8 +11,8 @@ use Rattle.lift_kiosk.specs.declared.outcome.Outcome.TheVariants.{Malformed, Off
 use Rattle.lift_kiosk.specs.declared.terms.LastLetter.{LastLetter}
 use Rattle.lift_kiosk.specs.declared.terms.Limits.{Limits}
 use Rattle.std.proofs.lemmas.List.{append-nil}
-use Rattle.lift_kiosk.specs.Session.{Standing, Means, Run, answer_line}
-use Rattle.lift_kiosk.specs.Determined.{given, lines_of, all_given, answers_text, last_behind}
+use Rattle.lift_kiosk.specs.Session.{Standing, Means, AnswersLines, answer_line}
+use Rattle.lift_kiosk.specs.Determined.{given, lines_of, all_given, answers_text, last_after_lines}
 
 module _ (wants : List ℕ → Wanted → Type 0) (unique : (line : List ℕ) (one other : Wanted) → wants line one → wants line other → one ≡ other) where
   no_floor : (line : List ℕ) (ask : Ask) → wants line NoFloor → wants line (Asks ask) → ⊥
@@ -65,7 +65,7 @@ module _ (wants : List ℕ → Wanted → Type 0) (unique : (line : List ℕ) (o
   outcome_is line one other a b is = (same_outcome line one other [] [] a b (nothing_behind one ∙ is ∙ sym (nothing_behind other))).0
 
   module _ (keeps : LastLetter → ℕ → Reply → LastLetter) (limits : Limits) where
-    pub same_exchanges : (ones others : List (List ℕ × Outcome)) (a after b behind : Standing) → Run wants keeps limits ones a after → Run wants keeps limits others b behind
+    pub same_exchanges : (ones others : List (List ℕ × Outcome)) (a after b behind : Standing) → AnswersLines wants keeps limits ones a after → AnswersLines wants keeps limits others b behind
         → lines_of ones ≡ lines_of others → all_given ones ≡ all_given others → ones ≡ others
     same_exchanges [] [] a after b behind first second lines gave = refl
     same_exchanges [] (y ∷ ys) a after b behind first second lines gave = absurd (cc lines)
@@ -80,15 +80,15 @@ module _ (wants : List ℕ → Wanted → Type 0) (unique : (line : List ℕ) (o
         let heads : x ≡ y = ap (λ (l : List ℕ). (l, x.1)) line ∙ ap (λ (o : Outcome). (y.0, o)) outcome in
         cc (heads, rest)
 
-    pub last_is : (ones : List (List ℕ × Outcome)) (a after : Standing) → Run wants keeps limits ones a after → after.last ≡ last_behind keeps a.last ones
+    pub last_is : (ones : List (List ℕ × Outcome)) (a after : Standing) → AnswersLines wants keeps limits ones a after → after.last ≡ last_after_lines keeps a.last ones
     last_is [] a after run = ap (λ (s : Standing). s.last) run
-    last_is (x ∷ xs) a after run = last_is xs run.0 after run.3 ∙ ap (λ (l : LastLetter). last_behind keeps l xs) run.1.exchange.last
+    last_is (x ∷ xs) a after run = last_is xs run.0 after run.3 ∙ ap (λ (l : LastLetter). last_after_lines keeps l xs) run.1.exchange.last
 
-    pub exchanges_are : (ones others : List (List ℕ × Outcome)) (a after b behind : Standing) → Run wants keeps limits ones a after → Run wants keeps limits others b behind
+    pub exchanges_are : (ones others : List (List ℕ × Outcome)) (a after b behind : Standing) → AnswersLines wants keeps limits ones a after → AnswersLines wants keeps limits others b behind
         → a.last ≡ b.last → lines_of ones ≡ lines_of others → all_given ones ≡ all_given others → (ones ≡ others) × (after.last ≡ behind.last)
     exchanges_are ones others a after b behind first second last lines gave =
         let same = same_exchanges ones others a after b behind first second lines gave in
-        (same, last_is ones a after first ∙ ap (λ (l : LastLetter). last_behind keeps l ones) last ∙ ap (last_behind keeps b.last) same ∙ sym (last_is others b behind second))
+        (same, last_is ones a after first ∙ ap (λ (l : LastLetter). last_after_lines keeps l ones) last ∙ ap (last_after_lines keeps b.last) same ∙ sym (last_is others b behind second))
 
     pub appends_then : (first second third : Option (List ℕ)) (bytes more : List ℕ) → Appends first second bytes → Appends second third more → Appends first third (bytes ++ more)
     appends_then None second third bytes more a b = tt
@@ -100,7 +100,7 @@ module _ (wants : List ℕ → Wanted → Type 0) (unique : (line : List ℕ) (o
     appends_none None = tt
     appends_none (Some xs) = sym (append-nil xs)
 
-    pub written_is : (ones : List (List ℕ × Outcome)) (a after : Standing) → Run wants keeps limits ones a after → Appends a.sink.written after.sink.written (answers_text ones)
+    pub written_is : (ones : List (List ℕ × Outcome)) (a after : Standing) → AnswersLines wants keeps limits ones a after → Appends a.sink.written after.sink.written (answers_text ones)
     written_is [] a after run = subst (λ (s : Standing). Appends a.sink.written s.sink.written []) (sym run) (appends_none a.sink.written)
     written_is (x ∷ xs) a after run =
         appends_then a.sink.written run.0.sink.written after.sink.written (answer_line x.1) (answers_text xs) run.1.wrote.written (written_is xs run.0 after run.3)

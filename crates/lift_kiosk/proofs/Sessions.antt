@@ -14,7 +14,7 @@ use Rattle.lift_kiosk.specs.declared.terms.LastLetter.{LastLetter}
 use Rattle.lift_kiosk.specs.declared.terms.Limits.{Limits}
 use Rattle.lift_kiosk.specs.declared.terms.End.{End}
 use Rattle.lift_kiosk.specs.declared.terms.End.TheVariants.{Limit}
-use Rattle.lift_kiosk.specs.Session.{Standing, IsOf, Means, GoesOn, EndsWith, Run, Answers, LastStep, Opens, Converses, opening_line}
+use Rattle.lift_kiosk.specs.Session.{Standing, IsOf, Means, GoesOn, EndsWith, AnswersLines, AnswersLine, LastStep, SessionOpens, Converses, opening_line}
 use Rattle.lift_kiosk.specs.lemmas.Ends.{behind_greeting}
 
 pub means_its_ask : (wants : List ℕ → Wanted → Type 0) (line : List ℕ) (ask : Ask) (outcome : Outcome) → IsOf ask outcome → wants line (Asks ask) → Means wants line outcome
@@ -25,7 +25,7 @@ means_its_ask wants line ask (NotAnswered other) own asks = subst (λ a. wants l
 means_its_ask wants line ask (Refused other) own asks = subst (λ a. wants line (Asks a)) (sym own) asks
 
 pub ends_so : (wants : List ℕ → Wanted → Type 0) (keeps : LastLetter → ℕ → Reply → LastLetter) (limits : Limits) (calls : ℕ) (end : End) (line : List ℕ) (outcome : Outcome) (before after : Standing)
-    → EndsWith outcome end → Answers wants keeps limits line outcome before after → LastStep wants keeps limits calls end before after
+    → EndsWith outcome end → AnswersLine wants keeps limits line outcome before after → LastStep wants keeps limits calls end before after
 ends_so wants keeps limits calls end line Malformed before after ends done = absurd ends
 ends_so wants keeps limits calls end line OffFloors before after ends done = absurd ends
 ends_so wants keeps limits calls end line (Answered ask reply) before after ends done = absurd ends
@@ -36,9 +36,9 @@ ends_so wants keeps limits calls end line (Refused ask) before after ends done =
 
 -- a run goes on by a line
 pub run_more : (wants : List ℕ → Wanted → Type 0) (keeps : LastLetter → ℕ → Reply → LastLetter) (limits : Limits) (xs : List (List ℕ × Outcome)) (line : List ℕ) (outcome : Outcome) (before mid after : Standing)
-    → Run wants keeps limits xs before mid → GoesOn outcome → Answers wants keeps limits line outcome mid after → Run wants keeps limits (xs ++ (line, outcome) ∷ []) before after
+    → AnswersLines wants keeps limits xs before mid → GoesOn outcome → AnswersLine wants keeps limits line outcome mid after → AnswersLines wants keeps limits (xs ++ (line, outcome) ∷ []) before after
 run_more wants keeps limits [] line outcome before mid after so_far goes done =
-    (after, subst (λ (s : Standing). Answers wants keeps limits line outcome s after) so_far done, goes, refl)
+    (after, subst (λ (s : Standing). AnswersLine wants keeps limits line outcome s after) so_far done, goes, refl)
 run_more wants keeps limits (x ∷ xs) line outcome before mid after so_far goes done =
     (so_far.0, so_far.1, so_far.2, run_more wants keeps limits xs line outcome so_far.0 mid after so_far.3 goes done)
 
@@ -46,16 +46,16 @@ run_more wants keeps limits (x ∷ xs) line outcome before mid after so_far goes
 pub record HasAnswered (wants : List ℕ → Wanted → Type 0) (keeps : LastLetter → ℕ → Reply → LastLetter) (limits : Limits) (count : ℕ) (before after : Standing) : Type 0 where
   pub opening : Opening
   pub greeted : Standing
-  pub opens : Opens keeps limits opening before greeted
+  pub opens : SessionOpens keeps limits opening before greeted
   pub greets : Takes (opening_line greeted.last opening) before.sink greeted.sink
   pub ready : opening ≢ StillWaits
   pub exchanges : List (List ℕ × Outcome)
   pub count_is : length exchanges ≡ count
-  pub runs : Run wants keeps limits exchanges greeted after
+  pub runs : AnswersLines wants keeps limits exchanges greeted after
 
 module _ (wants : List ℕ → Wanted → Type 0) (keeps : LastLetter → ℕ → Reply → LastLetter) (limits : Limits) (count : ℕ) (before mid : Standing)
     (so_far : HasAnswered wants keeps limits count before mid) where
-  pub answers_more : (line : List ℕ) (outcome : Outcome) (after : Standing) → GoesOn outcome → Answers wants keeps limits line outcome mid after
+  pub answers_more : (line : List ℕ) (outcome : Outcome) (after : Standing) → GoesOn outcome → AnswersLine wants keeps limits line outcome mid after
       → HasAnswered wants keeps limits (count + 1) before after
   answers_more line outcome after goes done = record {
     opening = so_far.opening;

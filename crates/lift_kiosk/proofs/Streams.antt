@@ -15,10 +15,10 @@ use Rattle.lift_kiosk.specs.declared.terms.End.TheVariants.{Closed, Limit, Late,
 use Rattle.lift_kiosk.specs.declared.terms.LastLetter.{LastLetter}
 use Rattle.lift_kiosk.specs.declared.terms.Limits.{Limits}
 use Rattle.lift_kiosk.specs.Lines.{HasNoFeed}
-use Rattle.lift_kiosk.specs.Session.{Standing, Means, Run, GoesOn, LastStep, EndsAtOnce, EndsBehind, IsSession, last_after, last_opened, answer_line, opening_line}
-use Rattle.lift_kiosk.specs.Determined.{given, lines_of, all_given, answers_text, last_behind}
-use Rattle.lift_kiosk.specs.Whole.{Came, LinesEnd, brought_by, cut_to, came_first, came_last, last_text, came_behind, text_behind, came_to, text_of}
-use Rattle.lift_kiosk.specs.Streams.{LastRead, GaveByte, GaveEnd, GaveFault, Streams, lines_read, last_bytes, last_read, last_given, last_cut, streams_of}
+use Rattle.lift_kiosk.specs.Session.{Standing, Means, AnswersLines, GoesOn, LastStep, EndsAtOnce, EndsBehind, IsSession, last_after, last_opened, answer_line, opening_line}
+use Rattle.lift_kiosk.specs.Determined.{given, lines_of, all_given, answers_text, last_after_lines}
+use Rattle.lift_kiosk.specs.Whole.{Came, SessionLinesEnd, brought_by, cut_to, came_first, came_last, last_text, came_behind, text_behind, came_to, text_of}
+use Rattle.lift_kiosk.specs.Streams.{LastRead, GaveByte, GaveEnd, GaveFault, Streams, lines_read, bytes_that_came_last, last_read, last_given, last_cut, streams_of}
 use Rattle.lift_kiosk.proofs.Determined.{same_outcome, last_is}
 use Rattle.lift_kiosk.proofs.Whole.{first_came, same_opening, first_seen, same_first}
 
@@ -67,7 +67,7 @@ read_join [] ys part = refl
 read_join (x ∷ xs) ys part = ap (λ (l : List ℕ). x.0 ++ 10 ∷ l) (read_join xs ys part)
 
 last_join : (keeps : LastLetter → ℕ → Reply → LastLetter) (last : LastLetter) (xs ys : List Exchanged)
-    → last_behind keeps last (xs ++ ys) ≡ last_behind keeps (last_behind keeps last xs) ys
+    → last_after_lines keeps last (xs ++ ys) ≡ last_after_lines keeps (last_after_lines keeps last xs) ys
 last_join keeps last [] ys = refl
 last_join keeps last (x ∷ xs) ys = last_join keeps (last_after keeps last x.1) xs ys
 
@@ -148,19 +148,19 @@ module _ (wants : List ℕ → Wanted → Type 0) (unique : (line : List ℕ) (o
       let heads : x ≡ y = ap (λ (l : List ℕ). (l, x.1)) line ∙ ap (λ (o : Outcome). (y.0, o)) outcome in
       cc (heads, rest)
 
-  fine_join : (xs ys : List Exchanged) (before after : Standing) → Run wants keeps limits xs before after → AreFine ys → AreFine (xs ++ ys)
+  fine_join : (xs ys : List Exchanged) (before after : Standing) → AnswersLines wants keeps limits xs before after → AreFine ys → AreFine (xs ++ ys)
   fine_join [] ys before after run fine = fine
   fine_join (x ∷ xs) ys before after run fine = ((run.1.exchange.read.whole, run.1.exchange.means), fine_join xs ys run.0 after run.3 fine)
 
-  fine_all : (xs : List Exchanged) (before after : Standing) → Run wants keeps limits xs before after → AreFine xs
+  fine_all : (xs : List Exchanged) (before after : Standing) → AnswersLines wants keeps limits xs before after → AreFine xs
   fine_all [] before after run = tt
   fine_all (x ∷ xs) before after run = ((run.1.exchange.read.whole, run.1.exchange.means), fine_all xs run.0 after run.3)
 
-  ends_join : (xs ys : List Exchanged) (before after : Standing) → Run wants keeps limits xs before after → ends_in (xs ++ ys) ≡ ends_in ys
+  ends_join : (xs ys : List Exchanged) (before after : Standing) → AnswersLines wants keeps limits xs before after → ends_in (xs ++ ys) ≡ ends_in ys
   ends_join [] ys before after run = refl
   ends_join (x ∷ xs) ys before after run = goes_on x.1 (ends_in (xs ++ ys)) run.2 ∙ ends_join xs ys run.0 after run.3
 
-  ends_all : (xs : List Exchanged) (before after : Standing) → Run wants keeps limits xs before after → ends_in xs ≡ Limit
+  ends_all : (xs : List Exchanged) (before after : Standing) → AnswersLines wants keeps limits xs before after → ends_in xs ≡ Limit
   ends_all [] before after run = refl
   ends_all (x ∷ xs) before after run = goes_on x.1 (ends_in xs) run.2 ∙ ends_all xs run.0 after run.3
 
@@ -172,12 +172,12 @@ module _ (wants : List ℕ → Wanted → Type 0) (unique : (line : List ℕ) (o
     pub unfinished : HasNoFeed part
     pub bytes_are : bytes ≡ lines_read (lines_of whole) part
     pub given_are : gave ≡ all_given whole
-    pub last : after ≡ last_behind keeps known whole
+    pub last : after ≡ last_after_lines keeps known whole
     pub wrote : text ≡ cut_answers cut whole
     pub ended : end ≡ ends_for read cut whole
     pub cut_line : (count : ℕ) → cut ≡ Some count → bytes ≢ []
 
-  silent : (xs : List Exchanged) (before answered : Standing) → Run wants keeps limits xs before answered → (part : List ℕ) → HasNoFeed part
+  silent : (xs : List Exchanged) (before answered : Standing) → AnswersLines wants keeps limits xs before answered → (part : List ℕ) → HasNoFeed part
       → (end : End) (read : LastRead) → end ≡ ends_for read None xs → (after : Standing) → after.last ≡ answered.last
       → Follows end before.last (lines_read (lines_of xs) part) read (all_given xs ++ []) None (answers_text xs ++ []) after.last
   silent xs before answered run part unfinished end read ended after last = record {
@@ -193,7 +193,7 @@ module _ (wants : List ℕ → Wanted → Type 0) (unique : (line : List ℕ) (o
     cut_line = λ count is. absurd (cc is);
   }
 
-  spoken : (xs : List Exchanged) (before answered : Standing) → Run wants keeps limits xs before answered → (line : List ℕ) (outcome : Outcome) → IsFine (line, outcome)
+  spoken : (xs : List Exchanged) (before answered : Standing) → AnswersLines wants keeps limits xs before answered → (line : List ℕ) (outcome : Outcome) → IsFine (line, outcome)
       → (end : End) (cut : Option ℕ) → end ≡ ends_for GaveByte cut (xs ++ (line, outcome) ∷ []) → (after : Standing) → after.last ≡ last_after keeps answered.last outcome
       → Follows end before.last (lines_read (lines_of xs) (line ++ 10 ∷ [])) GaveByte (all_given xs ++ given outcome) cut (answers_text xs ++ cut_to cut (answer_line outcome)) after.last
   spoken xs before answered run line outcome fine end cut ended after last = record {
@@ -212,10 +212,10 @@ module _ (wants : List ℕ → Wanted → Type 0) (unique : (line : List ℕ) (o
   abbrev FollowsStep : (calls : ℕ) (end : End) (xs : List Exchanged) (before answered after : Standing) → LastStep wants keeps limits calls end answered after → Type 0
   FollowsStep calls end xs before answered after step =
       let came = came_last wants keeps limits calls end answered after step in
-      Follows end before.last (lines_read (lines_of xs) (last_bytes came)) (last_read came) (all_given xs ++ last_given came) (last_cut came)
+      Follows end before.last (lines_read (lines_of xs) (bytes_that_came_last came)) (last_read came) (all_given xs ++ last_given came) (last_cut came)
       (answers_text xs ++ last_text wants keeps limits calls end answered after step) after.last
 
-  step_follows : (calls : ℕ) (end : End) (xs : List Exchanged) (before answered after : Standing) → Run wants keeps limits xs before answered
+  step_follows : (calls : ℕ) (end : End) (xs : List Exchanged) (before answered after : Standing) → AnswersLines wants keeps limits xs before answered
       → (step : LastStep wants keeps limits calls end answered after) → FollowsStep calls end xs before answered after step
   step_follows calls Closed xs before answered after run step = silent xs before answered run step.0 step.2.read.whole Closed GaveEnd refl after step.2.last
   step_follows calls ReadFault xs before answered after run step = silent xs before answered run step.0 step.2.read.whole ReadFault GaveFault refl after step.2.last
@@ -230,14 +230,14 @@ module _ (wants : List ℕ → Wanted → Type 0) (unique : (line : List ℕ) (o
   step_follows calls WriteFault xs before answered after run step =
       spoken xs before answered run step.0 step.1 (step.2.read.whole, step.2.means) WriteFault (Some step.3) refl after step.2.last
 
-  abbrev FollowsLines : (calls : ℕ) (end : End) (xs : List Exchanged) (before answered after : Standing) → LinesEnd wants keeps limits calls end (length xs) answered after → Type 0
+  abbrev FollowsLines : (calls : ℕ) (end : End) (xs : List Exchanged) (before answered after : Standing) → SessionLinesEnd wants keeps limits calls end (length xs) answered after → Type 0
   FollowsLines calls end xs before answered after ends =
       let came = came_behind wants keeps limits calls end (length xs) answered after ends in
-      Follows end before.last (lines_read (lines_of xs) (last_bytes came)) (last_read came) (all_given xs ++ last_given came) (last_cut came)
+      Follows end before.last (lines_read (lines_of xs) (bytes_that_came_last came)) (last_read came) (all_given xs ++ last_given came) (last_cut came)
       (answers_text xs ++ text_behind wants keeps limits calls end (length xs) answered after ends) after.last
 
-  lines_follow : (calls : ℕ) (end : End) (xs : List Exchanged) (before answered after : Standing) → Run wants keeps limits xs before answered
-      → (ends : LinesEnd wants keeps limits calls end (length xs) answered after) → FollowsLines calls end xs before answered after ends
+  lines_follow : (calls : ℕ) (end : End) (xs : List Exchanged) (before answered after : Standing) → AnswersLines wants keeps limits xs before answered
+      → (ends : SessionLinesEnd wants keeps limits calls end (length xs) answered after) → FollowsLines calls end xs before answered after ends
   lines_follow calls end xs before answered after run (inl all) =
       silent xs before answered run [] tt end GaveByte (all.1 ∙ sym (ends_all xs before answered run)) after (ap (λ (s : Standing). s.last) all.2)
   lines_follow calls end xs before answered after run (inr step) = step_follows calls end xs before answered after run step.1
@@ -252,7 +252,7 @@ module _ (wants : List ℕ → Wanted → Type 0) (unique : (line : List ℕ) (o
       let whole = same_outcomes a.whole b.whole a.fine b.fine lines (sym a.given_are ∙ gave_same ∙ b.given_are) in (
         a.ended ∙ ap (λ (r : LastRead). ends_for r cut a.whole) read_same ∙ ap (λ (c : Option ℕ). ends_for reads c a.whole) cut_same
             ∙ ap (λ (xs : List Exchanged). ends_for reads cuts xs) whole ∙ sym b.ended,
-        a.last ∙ ap (λ (l : LastLetter). last_behind keeps l a.whole) last ∙ ap (λ (xs : List Exchanged). last_behind keeps other xs) whole ∙ sym b.last,
+        a.last ∙ ap (λ (l : LastLetter). last_after_lines keeps l a.whole) last ∙ ap (λ (xs : List Exchanged). last_after_lines keeps other xs) whole ∙ sym b.last,
         a.wrote ∙ ap (λ (c : Option ℕ). cut_answers c a.whole) cut_same ∙ ap (λ (xs : List Exchanged). cut_answers cuts xs) whole ∙ sym b.wrote,
       )
 

@@ -19,7 +19,7 @@ use Rattle.lift_kiosk.specs.Port.{PortView}
 use Rattle.lift_kiosk.specs.Session.{Standing, Means, PortOpened, LastStep, EndsAtOnce, EndsBehind, IsSession, last_after, last_opened, answer_line, opening_line}
 use Rattle.lift_kiosk.specs.Determined.{given, answers_text}
 use Rattle.lift_kiosk.specs.Whole.{LastCame, NoAnswer, FirstLineCut, NothingMore, ReaderEnded, ReaderFailed, CallsUsed, LastLine}
-use Rattle.lift_kiosk.specs.Whole.{Came, LinesEnd, brought_by, cut_to, came_first, first_text, came_last, last_text, came_behind, text_behind, came_to, text_of}
+use Rattle.lift_kiosk.specs.Whole.{Came, SessionLinesEnd, brought_by, cut_to, came_first, first_text, came_last, last_text, came_behind, text_behind, came_to, text_of}
 use Rattle.lift_kiosk.proofs.Determined.{outcome_is, exchanges_are, written_is, appends_then, appends_none}
 
 abbrev end_for : List (Option (Option Reply)) → Option ℕ → End
@@ -134,7 +134,7 @@ module _ (wants : List ℕ → Wanted → Type 0) (unique : (line : List ℕ) (o
   step_seen calls WriteFault before after step =
       inr (record { line = step.0; outcome = step.1; cut = Some step.3; came_so = refl; means = step.2.means; last = step.2.last; wrote = refl })
 
-  behind_seen : (calls : ℕ) (end : End) (count : ℕ) (answered after : Standing) (ends : LinesEnd wants keeps limits calls end count answered after)
+  behind_seen : (calls : ℕ) (end : End) (count : ℕ) (answered after : Standing) (ends : SessionLinesEnd wants keeps limits calls end count answered after)
       → Silent (came_behind wants keeps limits calls end count answered after ends) (text_behind wants keeps limits calls end count answered after ends) answered after
       ⊎ Spoken wants keeps (came_behind wants keeps limits calls end count answered after ends) (text_behind wants keeps limits calls end count answered after ends) answered after
   behind_seen calls end count answered after (inl all) = inl (record { last = ap (λ (s : Standing). s.last) all.2; nothing = refl; lineless = refl })
@@ -149,7 +149,7 @@ module _ (wants : List ℕ → Wanted → Type 0) (unique : (line : List ℕ) (o
   step_ends calls Spent before after step = (refl, refl)
   step_ends calls WriteFault before after step = (refl, refl)
 
-  behind_ends : (calls : ℕ) (end : End) (count : ℕ) (answered after : Standing) (ends : LinesEnd wants keeps limits calls end count answered after)
+  behind_ends : (calls : ℕ) (end : End) (count : ℕ) (answered after : Standing) (ends : SessionLinesEnd wants keeps limits calls end count answered after)
       → (end_by (came_behind wants keeps limits calls end count answered after ends) ≡ end) × (is_first (came_behind wants keeps limits calls end count answered after ends) ≡ false)
   behind_ends calls end count answered after (inl all) = (sym all.1, refl)
   behind_ends calls end count answered after (inr step) = step_ends calls end answered after step.1
@@ -269,7 +269,7 @@ module _ (wants : List ℕ → Wanted → Type 0) (unique : (line : List ℕ) (o
   step_written calls Spent before after step = step.2.wrote.written
   step_written calls WriteFault before after step = step.4.written
 
-  behind_written : (calls : ℕ) (end : End) (count : ℕ) (answered after : Standing) (ends : LinesEnd wants keeps limits calls end count answered after)
+  behind_written : (calls : ℕ) (end : End) (count : ℕ) (answered after : Standing) (ends : SessionLinesEnd wants keeps limits calls end count answered after)
       → Wrote answered after (text_behind wants keeps limits calls end count answered after ends)
   behind_written calls end count answered after (inl all) = nothing_written answered after (ap (λ (s : Standing). s.sink) all.2)
   behind_written calls end count answered after (inr step) = step_written calls end answered after step.1

@@ -9,7 +9,7 @@ use Rattle.lift_kiosk.specs.declared.outcome.Outcome.TheVariants.{Malformed, Off
 use Rattle.lift_kiosk.specs.declared.outcome.Outcome.TheVariants.{NotAnswered, Refused}
 use Rattle.lift_kiosk.specs.declared.terms.LastLetter.{LastLetter}
 use Rattle.lift_kiosk.specs.declared.terms.Limits.{Limits}
-use Rattle.lift_kiosk.specs.Session.{Standing, Means, Run, last_after, answer_line}
+use Rattle.lift_kiosk.specs.Session.{Standing, Means, AnswersLines, last_after, answer_line}
 
 -- What the port gave for an ask: an answer, none within its looks (Some None), or no turn (None).
 -- Where a line asks nothing it gave nothing.
@@ -31,10 +31,10 @@ abbrev pub answers_text : List (List ℕ × Outcome) → List ℕ
 answers_text exchanges = flat_map (λ x. answer_line x.1) exchanges
 
 -- the last command behind these lines
-abbrev pub last_behind : (keeps : LastLetter → ℕ → Reply → LastLetter) → LastLetter
+abbrev pub last_after_lines : (keeps : LastLetter → ℕ → Reply → LastLetter) → LastLetter
     → List (List ℕ × Outcome) → LastLetter
-last_behind keeps last [] = last
-last_behind keeps last (x ∷ xs) = last_behind keeps (last_after keeps last x.1) xs
+last_after_lines keeps last [] = last
+last_after_lines keeps last (x ∷ xs) = last_after_lines keeps (last_after keeps last x.1) xs
 
 -- a line asks for one thing at most
 abbrev pub AsksForOneThing : (wants : List ℕ → Wanted → Type 0) → Type 0
@@ -53,7 +53,8 @@ abbrev pub LinesDetermine : (wants : List ℕ → Wanted → Type 0)
 LinesDetermine wants keeps =
     (limits : Limits) (ones others : List (List ℕ × Outcome))
     (one one_after other other_after : Standing)
-    → Run wants keeps limits ones one one_after → Run wants keeps limits others other other_after
+    → AnswersLines wants keeps limits ones one one_after
+    → AnswersLines wants keeps limits others other other_after
     → one.last ≡ other.last → lines_of ones ≡ lines_of others → all_given ones ≡ all_given others
     → (ones ≡ others) × (one_after.last ≡ other_after.last)
 
@@ -62,5 +63,5 @@ abbrev pub OutcomesAreWritten : (wants : List ℕ → Wanted → Type 0)
     → (keeps : LastLetter → ℕ → Reply → LastLetter) → Type 0
 OutcomesAreWritten wants keeps =
     (limits : Limits) (exchanges : List (List ℕ × Outcome)) (before after : Standing)
-    → Run wants keeps limits exchanges before after
+    → AnswersLines wants keeps limits exchanges before after
     → Appends before.sink.written after.sink.written (answers_text exchanges)

@@ -25,7 +25,8 @@ heard before reply = record before {
 
 -- The port looked until an answer came, at most so many times, and rested behind each look that
 -- found none. Where none came, all of these looks were made.
-abbrev pub Waits : (limit : ℕ) → (before : PortView) → Option Reply → (after : PortView) → Type 0
-Waits limit before None after = after ≡ looked before limit
-Waits limit before (Some reply) after = (misses : ℕ) × (misses < limit)
+abbrev pub WaitsForReply : (limit : ℕ) → (before : PortView) → Option Reply → (after : PortView)
+    → Type 0
+WaitsForReply limit before None after = after ≡ looked before limit
+WaitsForReply limit before (Some reply) after = (misses : ℕ) × (misses < limit)
     × (after ≡ heard (looked before misses) reply)

@@ -19,7 +19,7 @@ pub record Source : Type 0 where
   pub left : Option (List ℕ)
 
 -- these bytes came, one at each call
-pub record Gives (bytes : List ℕ) (before after : Source) : Type 0 where
+pub record GivesBytes (bytes : List ℕ) (before after : Source) : Type 0 where
   pub calls : after.calls ≡ before.calls + length bytes
   pub failed : after.failed ≡ before.failed
   pub ended : after.ended ≡ before.ended
@@ -34,7 +34,7 @@ pub record FindsEnd (before after : Source) : Type 0 where
   pub nothing : IsAtEnd after.left
 
 -- one call failed
-pub record Fails (before after : Source) : Type 0 where
+pub record FailsOnce (before after : Source) : Type 0 where
   pub calls : after.calls ≡ before.calls + 1
   pub failed : after.failed ≡ true
   pub ended : after.ended ≡ before.ended
@@ -46,12 +46,12 @@ HasNoFeed bytes = AllByRecursion (λ byte. byte ≢ 10) bytes
 -- a line came, and its line feed
 pub record GivesLine (line : List ℕ) (before after : Source) : Type 0 where
   pub whole : HasNoFeed line
-  pub bytes : Gives (line ++ 10 ∷ []) before after
+  pub bytes : GivesBytes (line ++ 10 ∷ []) before after
 
 -- less than a line came
 pub record GivesPart (part : List ℕ) (before after : Source) : Type 0 where
   pub whole : HasNoFeed part
-  pub bytes : Gives part before after
+  pub bytes : GivesBytes part before after
 
 abbrev pub AreAscii : List (List ℕ) → Type 0
 AreAscii words = AllByRecursion IsAscii words

@@ -22,8 +22,8 @@ use Rattle.lift_kiosk.specs.declared.outcome.Outcome.{Outcome}
 use Rattle.lift_kiosk.specs.declared.outcome.Outcome.TheVariants.{Malformed, OffFloors, Answered}
 use Rattle.lift_kiosk.specs.declared.outcome.Outcome.TheVariants.{NotAnswered, Refused}
 use Rattle.lift_kiosk.specs.Port.{PortView, AsksOne}
-use Rattle.lift_kiosk.specs.Hearing.{Waits}
-use Rattle.lift_kiosk.specs.Lines.{Source, GivesLine, GivesPart, FindsEnd, Fails}
+use Rattle.lift_kiosk.specs.Hearing.{WaitsForReply}
+use Rattle.lift_kiosk.specs.Lines.{Source, GivesLine, GivesPart, FindsEnd, FailsOnce}
 
 -- where a session stands: the last command that it knows, its port, its reader and its writer
 pub record Standing : Type 0 where
@@ -78,9 +78,9 @@ abbrev pub PortDid : (looks : ℕ) → (before : PortView) → Outcome → (afte
 PortDid looks before Malformed after = after ≡ before
 PortDid looks before OffFloors after = after ≡ before
 PortDid looks before (Answered ask reply) after = (asking : PortView) × AsksOne before ask asking
-    × Waits looks asking (Some reply) after
+    × WaitsForReply looks asking (Some reply) after
 PortDid looks before (NotAnswered ask) after = (asking : PortView) × AsksOne before ask asking
-    × Waits looks asking None after
+    × WaitsForReply looks asking None after
 PortDid looks before (Refused ask) after = (before.spent ≡ true) × (before.pending ≡ None)
     × (after ≡ before)
 
@@ -115,7 +115,7 @@ abbrev pub answer_line : Outcome → List ℕ
 answer_line outcome = answer_text outcome ++ 10 ∷ []
 
 -- A line that is answered.
-pub record Answers (wants : List ℕ → Wanted → Type 0) (keeps : LastLetter → ℕ → Reply
+pub record AnswersLine (wants : List ℕ → Wanted → Type 0) (keeps : LastLetter → ℕ → Reply
     → LastLetter) (limits : Limits) (line : List ℕ) (outcome : Outcome)
     (before after : Standing) : Type 0 where
   pub exchange : Exchanges wants keeps limits line outcome before after
@@ -137,20 +137,22 @@ EndsWith (NotAnswered ask) end = end ≡ Late
 EndsWith (Refused ask) end = end ≡ Spent
 
 -- line after line, each answered before the next is read
-abbrev pub Run : (wants : List ℕ → Wanted → Type 0) → (keeps : LastLetter → ℕ → Reply → LastLetter)
+abbrev pub AnswersLines : (wants : List ℕ → Wanted → Type 0)
+    → (keeps : LastLetter → ℕ → Reply → LastLetter)
     → Limits → List (List ℕ × Outcome) → Standing → Standing → Type 0
-Run wants keeps limits [] before after = after ≡ before
-Run wants keeps limits (x ∷ xs) before after =
-    (mid : Standing) × Answers wants keeps limits x.0 x.1 before mid × GoesOn x.1
-    × Run wants keeps limits xs mid after
+AnswersLines wants keeps limits [] before after = after ≡ before
+AnswersLines wants keeps limits (x ∷ xs) before after =
+    (mid : Standing) × AnswersLine wants keeps limits x.0 x.1 before mid × GoesOn x.1
+    × AnswersLines wants keeps limits xs mid after
 
 -- What the port did at the start: where an ask of an earlier session was not heard, it was looked
 -- at for the answer.
 abbrev pub PortOpened : (looks : ℕ) → (before : PortView) → Opening → (after : PortView) → Type 0
 PortOpened looks before Free after = (before.pending ≡ None) × (after ≡ before)
 PortOpened looks before (BroughtIn number reply) after = (before.pending ≡ Some number)
-    × Waits looks before (Some reply) after
-PortOpened looks before StillWaits after = (before.pending ≢ None) × Waits looks before None after
+    × WaitsForReply looks before (Some reply) after
+PortOpened looks before StillWaits after = (before.pending ≢ None)
+    × WaitsForReply looks before None after
 
 -- The last command follows an answer that is brought in too.
 abbrev pub last_opened : (keeps : LastLetter → ℕ → Reply → LastLetter) → LastLetter → Opening
@@ -160,7 +162,7 @@ last_opened keeps last (BroughtIn number reply) = keeps last number reply
 last_opened keeps last StillWaits = last
 
 -- The start: the port, and nothing is read.
-pub record Opens (keeps : LastLetter → ℕ → Reply
+pub record SessionOpens (keeps : LastLetter → ℕ → Reply
     → LastLetter) (limits : Limits) (opening : Opening) (before after : Standing) : Type 0 where
   pub port : PortOpened limits.looks before.port opening after.port
   pub last : after.last ≡ last_opened keeps before.last opening
@@ -173,10 +175,10 @@ opening_line last opening = opening_text last opening ++ 10 ∷ []
 -- failed.
 abbrev pub EndsAtOnce : (keeps : LastLetter → ℕ → Reply → LastLetter) → Limits → End
     → (before after : Standing) → Type 0
-EndsAtOnce keeps limits Late before after = Opens keeps limits StillWaits before after
+EndsAtOnce keeps limits Late before after = SessionOpens keeps limits StillWaits before after
     × Takes (opening_line after.last StillWaits) before.sink after.sink
 EndsAtOnce keeps limits WriteFault before after =
-    (opening : Opening) × Opens keeps limits opening before after × (count : ℕ)
+    (opening : Opening) × SessionOpens keeps limits opening before after × (count : ℕ)
     × TakesFront count (opening_line after.last opening) before.sink after.sink
 EndsAtOnce keeps limits Closed before after = ⊥
 EndsAtOnce keeps limits Limit before after = ⊥
@@ -184,7 +186,7 @@ EndsAtOnce keeps limits Spent before after = ⊥
 EndsAtOnce keeps limits ReadFault before after = ⊥
 
 -- less than a line was read, and nothing else was done
-pub record StopsIn (part : List ℕ) (before : Standing) (mid : Source)
+pub record StopsInLine (part : List ℕ) (before : Standing) (mid : Source)
     (after : Standing) : Type 0 where
   pub read : GivesPart part before.source mid
   pub port : after.port ≡ before.port
@@ -198,15 +200,16 @@ abbrev pub LastStep : (wants : List ℕ → Wanted → Type 0)
     → (keeps : LastLetter → ℕ → Reply → LastLetter) → Limits → (calls : ℕ) → End
     → (before after : Standing) → Type 0
 LastStep wants keeps limits calls Closed before after = (part : List ℕ) × (mid : Source)
-    × StopsIn part before mid after × FindsEnd mid after.source
+    × StopsInLine part before mid after × FindsEnd mid after.source
 LastStep wants keeps limits calls ReadFault before after = (part : List ℕ) × (mid : Source)
-    × StopsIn part before mid after × Fails mid after.source
+    × StopsInLine part before mid after × FailsOnce mid after.source
 LastStep wants keeps limits calls Limit before after =
-    (part : List ℕ) × StopsIn part before after.source after × (after.source.calls ≡ calls)
+    (part : List ℕ) × StopsInLine part before after.source after × (after.source.calls ≡ calls)
 LastStep wants keeps limits calls Late before after =
-    (line : List ℕ) × (ask : Ask) × Answers wants keeps limits line (NotAnswered ask) before after
+    (line : List ℕ) × (ask : Ask)
+    × AnswersLine wants keeps limits line (NotAnswered ask) before after
 LastStep wants keeps limits calls Spent before after =
-    (line : List ℕ) × (ask : Ask) × Answers wants keeps limits line (Refused ask) before after
+    (line : List ℕ) × (ask : Ask) × AnswersLine wants keeps limits line (Refused ask) before after
 LastStep wants keeps limits calls WriteFault before after =
     (line : List ℕ) × (outcome : Outcome) × Exchanges wants keeps limits line outcome before after
     × (count : ℕ)
@@ -217,7 +220,7 @@ pub record EndsLines (wants : List ℕ → Wanted → Type 0) (keeps : LastLette
     → LastLetter) (limits : Limits) (calls : ℕ) (end : End) (before after : Standing) : Type 0 where
   pub exchanges : List (List ℕ × Outcome)
   pub answered : Standing
-  pub runs : Run wants keeps limits exchanges before answered
+  pub runs : AnswersLines wants keeps limits exchanges before answered
   pub ends : ((length exchanges ≡ limits.lines) × (end ≡ Limit) × (after ≡ answered))
       ⊎ ((length exchanges < limits.lines) × LastStep wants keeps limits calls end answered after)
 
@@ -226,7 +229,7 @@ pub record EndsBehind (wants : List ℕ → Wanted → Type 0) (keeps : LastLett
     → LastLetter) (limits : Limits) (end : End) (before after : Standing) : Type 0 where
   pub opening : Opening
   pub greeted : Standing
-  pub opens : Opens keeps limits opening before greeted
+  pub opens : SessionOpens keeps limits opening before greeted
   pub greets : Takes (opening_line greeted.last opening) before.sink greeted.sink
   pub ready : opening ≢ StillWaits
   pub lines : EndsLines wants keeps limits (before.source.calls + limits.reads) end greeted after

@@ -32,14 +32,14 @@ abbrev pub lines_read : List (List ℕ) → (behind : List ℕ) → List ℕ
 lines_read [] behind = behind
 lines_read (line ∷ lines) behind = line ++ 10 ∷ lines_read lines behind
 
-abbrev pub last_bytes : LastCame → List ℕ
-last_bytes NoAnswer = []
-last_bytes (FirstLineCut count) = []
-last_bytes NothingMore = []
-last_bytes (ReaderEnded part) = part
-last_bytes (ReaderFailed part) = part
-last_bytes (CallsUsed part) = part
-last_bytes (LastLine line gave cut) = line ++ 10 ∷ []
+abbrev pub bytes_that_came_last : LastCame → List ℕ
+bytes_that_came_last NoAnswer = []
+bytes_that_came_last (FirstLineCut count) = []
+bytes_that_came_last NothingMore = []
+bytes_that_came_last (ReaderEnded part) = part
+bytes_that_came_last (ReaderFailed part) = part
+bytes_that_came_last (CallsUsed part) = part
+bytes_that_came_last (LastLine line gave cut) = line ++ 10 ∷ []
 
 abbrev pub last_read : LastCame → LastRead
 last_read NoAnswer = GaveByte
@@ -72,7 +72,7 @@ last_cut (LastLine line gave cut) = cut
 abbrev pub streams_of : Came → Streams
 streams_of came = record {
   brought = came.brought;
-  bytes = lines_read came.lines (last_bytes came.last);
+  bytes = lines_read came.lines (bytes_that_came_last came.last);
   read = last_read came.last;
   given = came.given ++ last_given came.last;
   cut = last_cut came.last;

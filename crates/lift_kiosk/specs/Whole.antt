@@ -102,23 +102,23 @@ last_text wants keeps limits calls Spent before after step = answer_line (Refuse
 last_text wants keeps limits calls WriteFault before after step = take step.3 (answer_line step.1)
 
 -- the lines' end: all that it may answer, or a last step
-abbrev pub LinesEnd : (wants : List ℕ → Wanted → Type 0)
+abbrev pub SessionLinesEnd : (wants : List ℕ → Wanted → Type 0)
     → (keeps : LastLetter → ℕ → Reply → LastLetter) → Limits → (calls : ℕ) → End → (count : ℕ)
     → (answered after : Standing) → Type 0
-LinesEnd wants keeps limits calls end count answered after =
+SessionLinesEnd wants keeps limits calls end count answered after =
     ((count ≡ limits.lines) × (end ≡ Limit) × (after ≡ answered))
     ⊎ ((count < limits.lines) × LastStep wants keeps limits calls end answered after)
 
 abbrev pub came_behind : (wants : List ℕ → Wanted → Type 0) (keeps : LastLetter → ℕ → Reply
     → LastLetter) (limits : Limits) (calls : ℕ) (end : End) (count : ℕ) (answered after : Standing)
-    → LinesEnd wants keeps limits calls end count answered after → LastCame
+    → SessionLinesEnd wants keeps limits calls end count answered after → LastCame
 came_behind wants keeps limits calls end count answered after (inl all) = NothingMore
 came_behind wants keeps limits calls end count answered after (inr step) =
     came_last wants keeps limits calls end answered after step.1
 
 abbrev pub text_behind : (wants : List ℕ → Wanted → Type 0) (keeps : LastLetter → ℕ → Reply
     → LastLetter) (limits : Limits) (calls : ℕ) (end : End) (count : ℕ) (answered after : Standing)
-    → LinesEnd wants keeps limits calls end count answered after → List ℕ
+    → SessionLinesEnd wants keeps limits calls end count answered after → List ℕ
 text_behind wants keeps limits calls end count answered after (inl all) = []
 text_behind wants keeps limits calls end count answered after (inr step) =
     last_text wants keeps limits calls end answered after step.1

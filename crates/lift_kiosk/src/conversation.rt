@@ -5,7 +5,7 @@ ghost use Rattle.std.specs.Prelude.{IfNone, Err, None};
 ghost use Rattle.std.specs.Str.Lines.{strip_carriage_return};
 ghost use Rattle.lift_base.specs.Output.{sink_of};
 ghost use Rattle.lift_kiosk.specs.Lines.{Keeps65, source_of, IsEndWithoutLine};
-ghost use Rattle.lift_kiosk.specs.Session.{Means, PortDid, GoesOn, EndsWith, Answers, LastStep};
+ghost use Rattle.lift_kiosk.specs.Session.{Means, PortDid, GoesOn, EndsWith, AnswersLine, LastStep};
 ghost use Rattle.lift_kiosk.specs.Session.{Converses, standing, last_after, last_opened};
 ghost use Rattle.lift_kiosk.specs.declared.outcome.Outcome.{Outcome as OutcomeValue};
 
@@ -90,7 +90,7 @@ fn exchange<T: Dialect, R: Read + Drop, W: Write + Drop, P: Port>(
 ) -> Result<(), End>
     requires free { (P.view port.old).pending ≡ None }
     ensures ok { OnOk result ((line : List ℕ) × (outcome : OutcomeValue) × GoesOn outcome
-        × Answers T.wants T.keeps limits.now line outcome
+        × AnswersLine T.wants T.keeps limits.now line outcome
         (standing last.old (P.view port.old) (source_of R.remaining reader.old)
         (sink_of W.contents writer.old))
         (standing last.new (P.view port.new) (source_of R.remaining reader.new)

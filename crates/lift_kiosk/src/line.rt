@@ -2,8 +2,8 @@
 
 ghost use Rattle.std.specs.Prelude.{◌≡◌, ℕ, List, ◌+◌, ◌≤◌, ◌<◌, ◌^◌, [], ◌∷◌, IfOk, Ok, Err, None};
 ghost use Rattle.std.specs.Prelude.{Some, IfSome, IfErr, ◌++◌};
-ghost use Rattle.lift_kiosk.specs.Lines.{Source, Gives, FindsEnd, Fails, GivesLine, GivesPart};
-ghost use Rattle.lift_kiosk.specs.Lines.{Keeps65, source_of};
+ghost use Rattle.lift_kiosk.specs.Lines.{Source, GivesBytes, FindsEnd, FailsOnce, GivesLine};
+ghost use Rattle.lift_kiosk.specs.Lines.{GivesPart, Keeps65, source_of};
 
 use arrayvec::ArrayVec;
 use lift_base::text::{Counted, ReadFault};
@@ -57,12 +57,12 @@ pub enum NoLine {
 /// One byte; none at the end.
 fn next_byte<R: Read + Drop>(reader: &mut Counted<R>) -> Result<Option<u8>, ReadFault>
     ensures byte { IfOk result (λ found.
-        IfSome found (λ byte. Gives (byte ∷ []) (source_of R.remaining reader.old)
+        IfSome found (λ byte. GivesBytes (byte ∷ []) (source_of R.remaining reader.old)
         (source_of R.remaining reader.new))) }
     ensures end { result ≡ Ok None
         → FindsEnd (source_of R.remaining reader.old) (source_of R.remaining reader.new) }
     ensures fault { IfErr result (λ _.
-        Fails (source_of R.remaining reader.old) (source_of R.remaining reader.new)) }
+        FailsOnce (source_of R.remaining reader.old) (source_of R.remaining reader.new)) }
 {
     let mut byte = [0u8; 1];
     let count = reader.read(&mut byte)?;
@@ -83,7 +83,7 @@ pub fn read_line<R: Read + Drop>(reader: &mut Counted<R>, left: &mut u32) -> Res
         × FindsEnd mid (source_of R.remaining reader.new) }
     ensures fault { result ≡ Err NoLine.Fault → (part : List ℕ) × (mid : Source)
         × GivesPart part (source_of R.remaining reader.old) mid
-        × Fails mid (source_of R.remaining reader.new) }
+        × FailsOnce mid (source_of R.remaining reader.new) }
     ensures limit { result ≡ Err NoLine.NoCalls → (part : List ℕ)
         × GivesPart part (source_of R.remaining reader.old) (source_of R.remaining reader.new)
         × (left.new ≡ 0) }

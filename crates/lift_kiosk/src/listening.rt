@@ -1,7 +1,7 @@
 //! Asking at a port, and waiting for the answer.
 
 ghost use Rattle.std.specs.Prelude.{◌≡◌, None, Some};
-ghost use Rattle.lift_kiosk.specs.Hearing.{Waits};
+ghost use Rattle.lift_kiosk.specs.Hearing.{WaitsForReply};
 ghost use Rattle.lift_kiosk.specs.Session.{IsOf, PortDid, PortOpened};
 
 use crate::outcome::{Opening, Outcome};
@@ -12,7 +12,7 @@ use lift_desk::Ask;
 /// Looks for the answer until it comes, at most so many times, and rests behind each look that
 /// found none.
 fn wait_for_reply<P: Port>(port: &mut P, looks: u32) -> Option<Reply>
-    ensures waits { Waits looks (P.view port.old) result (P.view port.new) }
+    ensures waits { WaitsForReply looks (P.view port.old) result (P.view port.new) }
     ensures stays { P.place port.new ≡ P.place port.old }
 {
     for _ in 0..looks {

@@ -25,7 +25,7 @@ use Rattle.lift_world.specs.declared.event.Answer.{Answer}
 use Rattle.lift_world.specs.declared.event.Taken.{Taken as Held}
 use Rattle.lift_world.specs.World.{asks, is_answer_to}
 use Rattle.lift_world.specs.Next.{answer_of, unknown_to}
-use Rattle.lift_clerk.specs.Scanning.{told}
+use Rattle.lift_clerk.specs.Scanning.{reply_told}
 use Rattle.lift_clerk.specs.Visits.{Visit}
 use Rattle.lift_clerk.specs.lemmas.Visiting.{taken-new}
 use Rattle.lift_clerk.specs.lemmas.Words.{asks_both, asks_count, answers_both, answers_long}
@@ -69,7 +69,7 @@ grown_join u v x cs ds old_answers new_answers g h =
 
 -- the answer that is told
 abbrev pub answer_told : Bool → Taken → Answer
-answer_told is_safe t = record { terminal = t.command.terminal; number = t.command.number; reply = told is_safe t.reply }
+answer_told is_safe t = record { terminal = t.command.terminal; number = t.command.number; reply = reply_told is_safe t.reply }
 
 -- one command
 module _ (is_safe : Bool) (places next : List ClerkPlace) (taken : Taken) where
@@ -85,33 +85,33 @@ module _ (is_safe : Bool) (places next : List ClerkPlace) (taken : Taken) where
   own word (Some ask) k inside =
       let mid : List ClerkPlace = looked_at places t word in
       let looked : view_at mid t ≡ with_taking old word = view_at-here places t (with_taking old word) inside in
-      let stored : view_at next t ≡ with_answer (view_at mid t) (reply_word (length (view_at mid t).taken) taken.command.number (told is_safe taken.reply)) =
+      let stored : view_at next t ≡ with_answer (view_at mid t) (reply_word (length (view_at mid t).taken) taken.command.number (reply_told is_safe taken.reply)) =
       ap (λ (s : List ClerkPlace). view_at s t) k.answered
-      ∙ view_at-here mid t (with_answer (view_at mid t) (reply_word (length (view_at mid t).taken) taken.command.number (told is_safe taken.reply)))
+      ∙ view_at-here mid t (with_answer (view_at mid t) (reply_word (length (view_at mid t).taken) taken.command.number (reply_told is_safe taken.reply)))
       (omega (arith, length-set places t (placed_at (get_or places t no_place).table (with_taking old word)))) in
-      let now : view_at next t ≡ with_answer (with_taking old word) (reply_word (length (with_taking old word).taken) taken.command.number (told is_safe taken.reply)) =
-      stored ∙ ap (λ (v : ClerkView). with_answer v (reply_word (length v.taken) taken.command.number (told is_safe taken.reply))) looked in
+      let now : view_at next t ≡ with_answer (with_taking old word) (reply_word (length (with_taking old word).taken) taken.command.number (reply_told is_safe taken.reply)) =
+      stored ∙ ap (λ (v : ClerkView). with_answer v (reply_word (length v.taken) taken.command.number (reply_told is_safe taken.reply))) looked in
       let more : (with_taking old word).taken ≡ old.taken ++ word ∷ [] = taken-new old word k.finds.reads.0 in
       let even : length old.answered ≡ length old.taken = k.finds.even refl in
       let count : length (with_taking old word).taken ≡ suc (length old.answered) = omega (arith, ap length more, length-append old.taken (word ∷ [])) in
       record {
         taken = ap (λ (v : ClerkView). v.taken) now ∙ more
             ∙ ap (λ (n : ℕ). old.taken ++ n ∷ []) (k.finds.reads.1 ∙ ap (λ (x : ℕ × Rattle.lift_base.specs.declared.command.Body.Body). ask_word (suc (length old.taken)) x.0 x.1) (λ i. (k.gives.0 i, k.gives.1 i)));
-        answered = ap (λ (v : ClerkView). v.answered) now ∙ ap (λ (n : ℕ). old.answered ++ reply_word n taken.command.number (told is_safe taken.reply) ∷ []) count;
+        answered = ap (λ (v : ClerkView). v.answered) now ∙ ap (λ (n : ℕ). old.answered ++ reply_word n taken.command.number (reply_told is_safe taken.reply) ∷ []) count;
       }
 
   pub other : (visit : Visit) (j : ℕ) → j ≢ t → AnswersOne is_safe places taken visit next → view_at next j ≡ view_at places j
   other visit j apart k =
       let mid : List ClerkPlace = looked_at places t visit.word in
       ap (λ (s : List ClerkPlace). view_at s j) k.answered
-      ∙ view_at-else mid t j (with_answer (view_at mid t) (reply_word (length (view_at mid t).taken) taken.command.number (told is_safe taken.reply))) apart
+      ∙ view_at-else mid t j (with_answer (view_at mid t) (reply_word (length (view_at mid t).taken) taken.command.number (reply_told is_safe taken.reply))) apart
       ∙ view_at-else places t j (with_taking old visit.word) apart
 
   pub same_long : (visit : Visit) → AnswersOne is_safe places taken visit next → length next ≡ length places
   same_long visit k =
       let mid : List ClerkPlace = looked_at places t visit.word in
       ap length k.answered
-      ∙ length-set mid t (placed_at (get_or mid t no_place).table (with_answer (view_at mid t) (reply_word (length (view_at mid t).taken) taken.command.number (told is_safe taken.reply))))
+      ∙ length-set mid t (placed_at (get_or mid t no_place).table (with_answer (view_at mid t) (reply_word (length (view_at mid t).taken) taken.command.number (reply_told is_safe taken.reply))))
       ∙ length-set places t (placed_at (get_or places t no_place).table (with_taking old visit.word))
 
 -- all of them

@@ -28,17 +28,17 @@ use Rattle.lift_world.specs.Turns.{with_replies}
 use Rattle.lift_clerk.specs.Answered.{Answers}
 use Rattle.lift_clerk.specs.lemmas.Committed.{moment_of}
 use Rattle.lift_clerk.specs.Clerk.{ClerkState}
-use Rattle.lift_clerk.specs.Steps.{group_of, DecidesOn, MakesSafe, LeavesInDoubt, AnswersUnknown, MayAccept, Rests}
+use Rattle.lift_clerk.specs.Steps.{group_of, DecidesOn, TurnMakesSafe, LeavesInDoubt, AnswersUnknown, MayAccept, ClerkRests}
 use Rattle.lift_clerk.specs.Group.{Terminals, TakesAsks}
-use Rattle.lift_clerk.specs.Past.{IsPastOf, GoesOn, PastsGoOn}
+use Rattle.lift_clerk.specs.Past.{IsPastOf, LeadsToPast, PastsGoOn}
 use Rattle.lift_clerk.specs.History.{History, Turned, Failed, TurnedWhileBroken, Rested}
 use Rattle.lift_clerk.specs.Keeping.{CrashesKeep, MomentsKeep, LeavesSafe, KeepsNow}
 use Rattle.lift_clerk.specs.lemmas.Keeps.{kept_now}
 use Rattle.lift_parts.specs.declared.counts.FlushCounts.{FlushCounts}
-use Rattle.lift_parts.specs.Batch.{BatchState, decided, AreBelow, commands_in, replies_in}
+use Rattle.lift_parts.specs.Batch.{BatchState, state_with_entries, AreBelow, commands_in, replies_in}
 use Rattle.lift_parts.specs.Flusher.{FlusherState, IsFlusher, IsEmptyTurn, IsBatchTurn, Answered, is_ok, entries_between}
 use Rattle.lift_parts.specs.Turns.{NoFlush, OneFlush}
-use Rattle.lift_parts.specs.Tie.{held_as, entries_of}
+use Rattle.lift_parts.specs.Tie.{held_as, entries_of_batches}
 use Rattle.lift_parts.specs.History.{group_behind, held_in, Adds, GoesOnTo, FlushStands, FlushesStand, TurnsGoOn, SplitsGoOn, JoinedGoOn}
 use Rattle.lift_parts.specs.Past.{flush_events, FlushLeadsOn, FlushesLeadOn, SplitsKeepPasts, JoinedKeepPasts}
 use Rattle.lift_parts.proofs.Answering.{replies_of, held_is, answers_them}
@@ -113,7 +113,7 @@ module _ {D : Type 0} (state : D → DiskState) (crashes : CrashesKeep D) (law :
     none_between =
         no_entries c.batch
         (sym c.counted ∙ ap (λ (x : FlusherState D). entries_between f.end x.end) e.same
-        ∙ ap (λ (bs : List BatchState). Rattle.lift_parts.specs.Flusher.entries_of bs) (drop-length f.end.received))
+        ∙ ap (λ (bs : List BatchState). Rattle.lift_parts.specs.Flusher.count_of_entries bs) (drop-length f.end.received))
 
     no_doubt : f.writer.is_broken ≡ false → f.writer.doubt ≡ []
     no_doubt whole =
@@ -204,16 +204,16 @@ module _ {D : Type 0} (state : D → DiskState) (crashes : CrashesKeep D) (law :
           t.decided.shows ∙ ap (λ (r : RegisterState). register_of r batch.entries)
           (ap (λ (s : State). s.register) t.receives.next.on_state ∙ sym (is.safe whole))
 
-      decides : f.writer.is_broken ≡ false → DecidesOn (record { state = f.end.state; writer = f.writer }) cs (replies_in batch.commands) (decided batch)
+      decides : f.writer.is_broken ≡ false → DecidesOn (record { state = f.end.state; writer = f.writer }) cs (replies_in batch.commands) (state_with_entries batch)
       decides whole = record {
         was_whole = whole;
-        run = subst (λ (p : Plan). Run p any_eligible f.end.state cs (replies_in batch.commands) (decided batch)) (t.receives.next.of_building ∙ is.of_building)
-            (subst (λ (s : State). Run batch.building any_eligible s cs (replies_in batch.commands) (decided batch)) t.receives.next.on_state t.decided.run);
+        run = subst (λ (p : Plan). Run p any_eligible f.end.state cs (replies_in batch.commands) (state_with_entries batch)) (t.receives.next.of_building ∙ is.of_building)
+            (subst (λ (s : State). Run batch.building any_eligible s cs (replies_in batch.commands) (state_with_entries batch)) t.receives.next.on_state t.decided.run);
         shows = shows whole;
       }
 
       accepts : f.writer.is_broken ≡ false → MayAccept (record { state = f.end.state; writer = f.writer }) batch.entries
-      accepts whole = record { commands = cs; replies = replies_in batch.commands; decided = decided batch; apart = t.apart; decides = decides whole; is = refl }
+      accepts whole = record { commands = cs; replies = replies_in batch.commands; decided = state_with_entries batch; apart = t.apart; decides = decides whole; is = refl }
 
       -- its moments
       moments_whole : (whole : f.writer.is_broken ≡ false) → CommitsTo {T = FlushCounts} state f.writer (entries_between f.end g.end) g.end.state.register g.writer answer
@@ -225,7 +225,7 @@ module _ {D : Type 0} (state : D → DiskState) (crashes : CrashesKeep D) (law :
       one_received : g.end.received ≡ f.end.received ++ (batch ∷ [])
       one_received = t.receives.receives
 
-      kept_adds : f.writer.is_broken ≡ false → Adds f g (entries_of (batch ∷ [])) (held_in (batch ∷ []) ++ map unknown_to (held_in []))
+      kept_adds : f.writer.is_broken ≡ false → Adds f g (entries_of_batches (batch ∷ [])) (held_in (batch ∷ []) ++ map unknown_to (held_in []))
       kept_adds whole = record {
         kept = batch ∷ [];
         lost = [];
@@ -260,11 +260,11 @@ module _ {D : Type 0} (state : D → DiskState) (crashes : CrashesKeep D) (law :
       was_whole : f.writer.is_broken ≡ false
       was_whole = is_whole f.writer.is_broken (λ broken. let wrong : Ok counts ≡ Err (Journal Broken) = c.is.broken.1 broken in absurd (cc))
 
-      abbrev makes_safe : MakesSafe (group_behind f) (group_behind g)
+      abbrev makes_safe : TurnMakesSafe (group_behind f) (group_behind g)
       makes_safe = record {
         commands = cs;
         replies = replies_in batch.commands;
-        decided = decided batch;
+        decided = state_with_entries batch;
         desk = same_desk;
         decides = decides (Ok counts) t was_whole;
         answers = answers (Ok counts) t true refl;
@@ -275,14 +275,14 @@ module _ {D : Type 0} (state : D → DiskState) (crashes : CrashesKeep D) (law :
         same_plan = c.is.same.0;
       }
 
-      safe_history : Now (safe ++ entries_of (batch ∷ [])) (given ++ (held_in (batch ∷ []) ++ map unknown_to (held_in [])))
+      safe_history : Now (safe ++ entries_of_batches (batch ∷ [])) (given ++ (held_in (batch ∷ []) ++ map unknown_to (held_in [])))
       safe_history = subst (λ (xs : List Entry). Now (safe ++ xs) (given ++ (held_in (batch ∷ []) ++ map unknown_to (held_in [])))) (sym (append-nil batch.entries))
           (subst (λ (ts : List Held). Now (safe ++ batch.entries) ts) (kept_told (Ok counts) t) (Turned h makes_safe))
 
       pub safe_stands : FlushStands f g base safe given old new
       safe_stands = record {
         goes_on = record {
-          more = entries_of (batch ∷ []);
+          more = entries_of_batches (batch ∷ []);
           told = held_in (batch ∷ []) ++ map unknown_to (held_in []);
           adds = kept_adds (Ok counts) t was_whole;
           history = safe_history;
@@ -293,7 +293,7 @@ module _ {D : Type 0} (state : D → DiskState) (crashes : CrashesKeep D) (law :
         while_whole = λ whole. sym (append-nil batch.entries);
         while_broken = λ broken. both f.writer.is_broken was_whole broken;
         stands = law (group_behind f) batch.entries g.writer.device (inr (accepts (Ok counts) t was_whole)) (moments_whole (Ok counts) t was_whole c) base safe given h;
-        now = keeps_behind (Ok counts) c (safe ++ entries_of (batch ∷ [])) (given ++ (held_in (batch ∷ []) ++ map unknown_to (held_in []))) safe_history;
+        now = keeps_behind (Ok counts) c (safe ++ entries_of_batches (batch ∷ [])) (given ++ (held_in (batch ∷ []) ++ map unknown_to (held_in []))) safe_history;
       }
 
       pub safe_leads : PastsGoOn D → (w : World) (terminals : Terminals) → IsPastOf w (group_behind f) terminals safe given → TakesAsks (group_behind g) terminals
@@ -303,14 +303,14 @@ module _ {D : Type 0} (state : D → DiskState) (crashes : CrashesKeep D) (law :
           record {
             received = batch ∷ [];
             receives = one_received (Ok counts) t;
-            more = entries_of (batch ∷ []);
+            more = entries_of_batches (batch ∷ []);
             told = held_in (batch ∷ []) ++ map unknown_to (held_in []);
             adds = kept_adds (Ok counts) t was_whole;
             letters = k.0;
             leads = λ folds.
                 let es : List Event = flush_events (batch ∷ []) true f.writer.is_broken k.0 folds in
-                subst (λ (xs : List Entry). GoesOn w es (group_behind g) terminals (safe ++ xs) (given ++ (held_in (batch ∷ []) ++ map unknown_to (held_in [])))) (sym (append-nil batch.entries))
-                (subst (λ (ts : List Held). GoesOn w es (group_behind g) terminals (safe ++ batch.entries) ts) (kept_told (Ok counts) t) (k.1 folds));
+                subst (λ (xs : List Entry). LeadsToPast w es (group_behind g) terminals (safe ++ xs) (given ++ (held_in (batch ∷ []) ++ map unknown_to (held_in [])))) (sym (append-nil batch.entries))
+                (subst (λ (ts : List Held). LeadsToPast w es (group_behind g) terminals (safe ++ batch.entries) ts) (kept_told (Ok counts) t) (k.1 folds));
           }
 
     -- or it doesn't
@@ -334,7 +334,7 @@ module _ {D : Type 0} (state : D → DiskState) (crashes : CrashesKeep D) (law :
       leaves_in_doubt whole e =
           let is_disk : Err fault ≡ Err (Journal Disk) = ap (λ (x : KeeperFault). Err x) e in
           record {
-            may = record { commands = cs; replies = replies_in batch.commands; decided = decided batch; apart = t.apart; decides = decides (Err fault) t whole; is = sym (t.fails is_disk).0 };
+            may = record { commands = cs; replies = replies_in batch.commands; decided = state_with_entries batch; apart = t.apart; decides = decides (Err fault) t whole; is = sym (t.fails is_disk).0 };
             desk = same_desk;
             answers = answers (Err fault) t false refl;
             some = some_long batch.entries (t.fails is_disk).1;
@@ -377,7 +377,7 @@ module _ {D : Type 0} (state : D → DiskState) (crashes : CrashesKeep D) (law :
       }
 
       lost_leads : (w : World) (terminals : Terminals) (was : Bool) (letters : List (Option ℕ)) → f.writer.is_broken ≡ was
-          → ((folds : ℕ) → GoesOn w (flush_events (batch ∷ []) false was letters folds) (group_behind g) terminals (safe ++ []) (with_given false)) → FlushLeadsOn f g (Err fault) w terminals safe given
+          → ((folds : ℕ) → LeadsToPast w (flush_events (batch ∷ []) false was letters folds) (group_behind g) terminals (safe ++ []) (with_given false)) → FlushLeadsOn f g (Err fault) w terminals safe given
       lost_leads w terminals was letters is leads = record {
         received = batch ∷ [];
         receives = one_received (Err fault) t;
@@ -386,8 +386,8 @@ module _ {D : Type 0} (state : D → DiskState) (crashes : CrashesKeep D) (law :
         adds = lost_adds (Err fault) t c.is.breaks;
         letters = letters;
         leads = λ folds.
-            subst (λ (b : Bool). GoesOn w (flush_events (batch ∷ []) false b letters folds) (group_behind g) terminals (safe ++ []) (given ++ (held_in [] ++ map unknown_to (held_in (batch ∷ []))))) (sym is)
-            (subst (λ (ts : List Held). GoesOn w (flush_events (batch ∷ []) false was letters folds) (group_behind g) terminals (safe ++ []) ts) (lost_told (Err fault) t) (leads folds));
+            subst (λ (b : Bool). LeadsToPast w (flush_events (batch ∷ []) false b letters folds) (group_behind g) terminals (safe ++ []) (given ++ (held_in [] ++ map unknown_to (held_in (batch ∷ []))))) (sym is)
+            (subst (λ (ts : List Held). LeadsToPast w (flush_events (batch ∷ []) false was letters folds) (group_behind g) terminals (safe ++ []) ts) (lost_told (Err fault) t) (leads folds));
       }
 
       leads_by_cause : PastsGoOn D → (w : World) (terminals : Terminals) → IsPastOf w (group_behind f) terminals safe given → TakesAsks (group_behind g) terminals
@@ -434,9 +434,9 @@ flushes_lead_on state crashes law past f g answer k w terminals safe given p tak
     (λ t. batch_leads state crashes law f g w.base safe given p.history k.before k.same.0 t.0 past w terminals p takes answer t.1 k.commits) k.turns
 
 -- ---- any number of turns
-entries_both : (xs ys : List BatchState) → entries_of (xs ++ ys) ≡ entries_of xs ++ entries_of ys
+entries_both : (xs ys : List BatchState) → entries_of_batches (xs ++ ys) ≡ entries_of_batches xs ++ entries_of_batches ys
 entries_both [] ys = refl
-entries_both (x ∷ xs) ys = ap (λ (es : List Entry). x.entries ++ es) (entries_both xs ys) ∙ sym (append_assoc x.entries (entries_of xs) (entries_of ys))
+entries_both (x ∷ xs) ys = ap (λ (es : List Entry). x.entries ++ es) (entries_both xs ys) ∙ sym (append_assoc x.entries (entries_of_batches xs) (entries_of_batches ys))
 
 held_both : (xs ys : List BatchState) → held_in (xs ++ ys) ≡ held_in xs ++ held_in ys
 held_both [] ys = refl
@@ -452,7 +452,7 @@ module _ {D : Type 0} (f m g : FlusherState D) (base : RegisterState) (safe : Li
         lost = x.lost ++ y.lost;
         received = y.received ∙ ap (λ (bs : List BatchState). m.end.received ++ (bs ++ y.lost)) none ∙ ap (λ (bs : List BatchState). bs ++ y.lost) x.received
             ∙ append_assoc f.end.received (x.kept ++ x.lost) y.lost ∙ ap (λ (bs : List BatchState). f.end.received ++ bs) (append_assoc x.kept x.lost y.lost);
-        more_is = ap (λ (es : List Entry). a ++ es) (y.more_is ∙ ap entries_of none) ∙ append-nil a ∙ x.more_is;
+        more_is = ap (λ (es : List Entry). a ++ es) (y.more_is ∙ ap entries_of_batches none) ∙ append-nil a ∙ x.more_is;
         told_is = ap (λ (hs : List Held). u ++ hs) (y.told_is ∙ ap (λ (bs : List BatchState). held_in bs ++ map unknown_to (held_in y.lost)) none)
             ∙ ap (λ (hs : List Held). hs ++ map unknown_to (held_in y.lost)) x.told_is ∙ append_assoc (held_in x.kept) (map unknown_to (held_in x.lost)) (map unknown_to (held_in y.lost))
             ∙ ap (λ (hs : List Held). held_in x.kept ++ hs) (sym (map-append unknown_to (held_in x.lost) (held_in y.lost)) ∙ ap (map unknown_to) (sym (held_both x.lost y.lost)));
@@ -467,7 +467,7 @@ module _ {D : Type 0} (f m g : FlusherState D) (base : RegisterState) (safe : Li
         lost = y.lost;
         received = y.received ∙ ap (λ (bs : List BatchState). bs ++ (y.kept ++ y.lost)) (x.received ∙ ap (λ (bs : List BatchState). f.end.received ++ bs) kept)
             ∙ append_assoc f.end.received x.kept (y.kept ++ y.lost) ∙ ap (λ (bs : List BatchState). f.end.received ++ bs) (sym (append_assoc x.kept y.kept y.lost));
-        more_is = ap (λ (es : List Entry). es ++ b) x.more_is ∙ ap (λ (es : List Entry). entries_of x.kept ++ es) y.more_is ∙ sym (entries_both x.kept y.kept);
+        more_is = ap (λ (es : List Entry). es ++ b) x.more_is ∙ ap (λ (es : List Entry). entries_of_batches x.kept ++ es) y.more_is ∙ sym (entries_both x.kept y.kept);
         told_is = ap (λ (hs : List Held). hs ++ v) (x.told_is ∙ ap (λ (bs : List BatchState). held_in x.kept ++ map unknown_to (held_in bs)) none ∙ append-nil (held_in x.kept))
             ∙ ap (λ (hs : List Held). held_in x.kept ++ hs) y.told_is ∙ sym (append_assoc (held_in x.kept) (held_in y.kept) (map unknown_to (held_in y.lost)))
             ∙ ap (λ (hs : List Held). hs ++ map unknown_to (held_in y.lost)) (sym (held_both x.kept y.kept));
@@ -510,7 +510,7 @@ module _ {D : Type 0} (state : D → DiskState) (crashes : CrashesKeep D) (law :
 
 -- ---- splits and joins
 split_rests : {D P : Type 0} (clerk : ClerkState D P) (f : FlusherState D) → f.desk ≡ clerk.desk → f.seat ≡ clerk.seat → f.writer ≡ clerk.keeper.writer
-    → (clerk.keeper.writer.is_broken ≡ false → f.end.state ≡ clerk.keeper.state) → Rests (group_of clerk) (group_behind f)
+    → (clerk.keeper.writer.is_broken ≡ false → f.end.state ≡ clerk.keeper.state) → ClerkRests (group_of clerk) (group_behind f)
 split_rests {D} clerk f desk seat writer state = record {
   desk = desk;
   words = λ t. (ap (λ (s : List ClerkPlace). (view_at s t).taken) seat, ap (λ (s : List ClerkPlace). (view_at s t).answered) seat);
@@ -522,7 +522,7 @@ split_rests {D} clerk f desk seat writer state = record {
 }
 
 join_rests : {D P : Type 0} (clerk : ClerkState D P) (f : FlusherState D) → clerk.desk ≡ f.desk → clerk.seat ≡ f.seat → clerk.keeper.writer ≡ f.writer → clerk.keeper.state ≡ f.end.state
-    → Rests (group_behind f) (group_of clerk)
+    → ClerkRests (group_behind f) (group_of clerk)
 join_rests {D} clerk f desk seat writer state = record {
   desk = desk;
   words = λ t. (ap (λ (s : List ClerkPlace). (view_at s t).taken) seat, ap (λ (s : List ClerkPlace). (view_at s t).answered) seat);

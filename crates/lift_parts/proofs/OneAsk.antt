@@ -5,7 +5,7 @@ use Rattle.lift_base.specs.declared.travel.Dir.TheVariants.{Up, Down}
 use Rattle.lift_base.specs.declared.command.Body.{Body}
 use Rattle.lift_base.specs.declared.command.Body.TheVariants.{Call, Stop, Place}
 use Rattle.lift_desk.specs.declared.words.Ask.{Ask}
-use Rattle.lift_desk.specs.Words.{turn_of, dir_bit, body_bits, ask_word, IsBody}
+use Rattle.lift_desk.specs.Words.{turn_of, dir_bit, body_bits, ask_word, IsBodyInRange}
 use Rattle.lift_desk.specs.Spelled.{IsAsk}
 
 dir_same : (d e : Dir) → dir_bit d ≡ dir_bit e → d ≡ e
@@ -18,12 +18,12 @@ dir_small : (d : Dir) → dir_bit d ≤ 1
 dir_small Up = omega arith
 dir_small Down = omega arith
 
-pub bits_small : (b : Body) → IsBody b → body_bits b < 2 ^ 20
+pub bits_small : (b : Body) → IsBodyInRange b → body_bits b < 2 ^ 20
 bits_small (Call floor party) h = omega arith
 bits_small (Stop floor dir) h = let d = dir_small dir in omega arith
 bits_small (Place floor dir) h = let d = dir_small dir in omega arith
 
-bits_same : (b c : Body) → IsBody b → IsBody c → body_bits b ≡ body_bits c → b ≡ c
+bits_same : (b c : Body) → IsBodyInRange b → IsBodyInRange c → body_bits b ≡ body_bits c → b ≡ c
 bits_same (Call f p) (Call g q) h k e =
     let fs : f ≡ g = omega arith in
     let ps : p ≡ q = omega arith in

@@ -13,7 +13,7 @@ use Rattle.lift_desk.specs.Seats.{ClerkPlace, view_at, ahead_from}
 use Rattle.lift_policy.specs.Step.{State}
 use Rattle.lift_policy.specs.declared.command.Command.{Command}
 use Rattle.lift_world.specs.declared.event.Event.{Event}
-use Rattle.lift_world.specs.World.{World, Batch, start, asks, state_of, safe_list}
+use Rattle.lift_world.specs.World.{World, SealedBatch, start, asks, state_of, safe_list}
 use Rattle.lift_world.specs.Next.{run, goes}
 use Rattle.lift_world.specs.Headline.{HearsInOrder, QueuesFew, AllAskOneByOne}
 use Rattle.lift_world.specs.Relay.{IsQueueInOrder, IsBetweenScans}
@@ -50,7 +50,7 @@ module _ (laws : RelayLaws) (w : World) (reached : IsReached w) where
 
 -- nothing on its way
 pub none_queued : (w : World) (t : ℕ) → w.queue ≡ [] → on_way w t ≡ []
-none_queued w t none = ap (λ (q : List Batch). filter (asks t) (queued_in q)) none
+none_queued w t none = ap (λ (q : List SealedBatch). filter (asks t) (queued_in q)) none
 
 pub view_ahead : (clerk : List ClerkPlace) (t : ℕ) → (view_at (ahead_from clerk) t).taken ≡ (view_at clerk t).taken
 view_ahead [] t = refl
@@ -81,10 +81,10 @@ words_of w t ahead view none k = record {
   even = k.even;
 }
 
-queued_none : (count : ℕ) (queue : List Batch) → queue ≡ [] → AreQueued count [] queue
+queued_none : (count : ℕ) (queue : List SealedBatch) → queue ≡ [] → AreQueued count [] queue
 queued_none count queue none = subst (AreQueued count []) (sym none) tt
 
-decided_none : (from : ℕ) (queue : List Batch) → queue ≡ [] → AreDecided from [] queue
+decided_none : (from : ℕ) (queue : List SealedBatch) → queue ≡ [] → AreDecided from [] queue
 decided_none from queue none = subst (AreDecided from []) (sym none) tt
 
 settled_same : (state : State) → state.batch ≡ [] → settled state ≡ state
@@ -275,7 +275,7 @@ none_waits sent hand received [] e none same = refl
 none_waits sent hand received (b ∷ waiting) e none same =
     absurd (omega (arith, ap length e, ap length none, length-append sent hand, length-append received (b ∷ waiting)))
 
-pub queue_none : (count : ℕ) (waiting : List BatchState) (queue : List Batch) → waiting ≡ [] → AreQueued count waiting queue → queue ≡ []
+pub queue_none : (count : ℕ) (waiting : List BatchState) (queue : List SealedBatch) → waiting ≡ [] → AreQueued count waiting queue → queue ≡ []
 queue_none count [] [] e k = refl
 queue_none count [] (q ∷ queue) e k = absurd k
 queue_none count (b ∷ waiting) queue e k = absurd (cc)

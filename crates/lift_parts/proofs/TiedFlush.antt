@@ -19,9 +19,9 @@ use Rattle.lift_world.specs.declared.event.Answer.{Answer}
 use Rattle.lift_world.specs.declared.event.Event.{Event}
 use Rattle.lift_world.specs.declared.event.Phase.TheVariants.{GateWritten}
 use Rattle.lift_world.specs.declared.event.Taken.{Taken as Held}
-use Rattle.lift_world.specs.World.{World, Batch, asks, is_answer_to, safe_list}
+use Rattle.lift_world.specs.World.{World, SealedBatch, asks, is_answer_to, safe_list}
 use Rattle.lift_world.specs.Next.{goes, answer_of, unknown_to}
-use Rattle.lift_world.specs.Relay.{answered_of, left_of, flushed, flush_failed, flushed_broken, flusher_events, failing_flush, broken_flush}
+use Rattle.lift_world.specs.Relay.{answered_of, left_unanswered, flushed, flush_failed, flushed_broken, flusher_events, failing_flush, broken_flush}
 use Rattle.lift_clerk.specs.lemmas.Words.{asks_both, asks_count, answers_both, answers_long}
 use Rattle.lift_clerk.specs.lemmas.Asked.{not_both}
 use Rattle.lift_parts.specs.declared.taken.Taken.{Taken}
@@ -31,7 +31,7 @@ use Rattle.lift_parts.specs.Line.{ReceivesOne}
 use Rattle.lift_parts.specs.Allocator.{AllocatorState}
 use Rattle.lift_parts.specs.Flusher.{FlusherState, Answered}
 use Rattle.lift_parts.specs.Laws.{RelayLaws}
-use Rattle.lift_parts.specs.Tie.{held_as, command_of, entries_of, queued_in, on_way, AreQueued, AreDecided, ShowsBoth, RunsWhole, RunsBroken, IsRelayOf, LeadsOn, ReceivesSent, all_found, Flushes, FlushFails, FlushesBroken, FlushesAreFlushes, FailedFlushesAreFailures, BrokenFlushesAreBroken}
+use Rattle.lift_parts.specs.Tie.{held_as, command_of, entries_of_batches, queued_in, on_way, AreQueued, AreDecided, ShowsBoth, RunsWhole, RunsBroken, IsRelayOf, LeadsOn, ReceivesSent, all_found, Flushes, FlushFails, FlushesBroken, FlushesAreFlushes, FailedFlushesAreFailures, BrokenFlushesAreBroken}
 use Rattle.lift_parts.proofs.Tied.{order, reaches}
 use Rattle.lift_parts.proofs.TiedTake.{safe_long}
 
@@ -40,7 +40,7 @@ pub all_answered : (cs : List Held) → answered_of all_found cs ≡ cs
 all_answered [] = refl
 all_answered (c ∷ cs) = ap (λ (xs : List Held). c ∷ xs) (all_answered cs)
 
-pub none_left : (cs : List Held) → left_of all_found cs ≡ []
+pub none_left : (cs : List Held) → left_unanswered all_found cs ≡ []
 none_left [] = refl
 none_left (c ∷ cs) = none_left cs
 
@@ -60,15 +60,15 @@ pub unknown_same : (cs : List Held) (batch : List Taken) → map command_of cs �
 unknown_same cs batch e = unknown_of cs ∙ ap (map unknown_held) e ∙ sym (unknown_held_as batch)
 
 -- ---- the first batch of the queue
-pub record First (count : ℕ) (batch : BatchState) (rest : List BatchState) (queue : List Batch) : Type 0 where
-  pub q : Batch
-  pub qs : List Batch
+pub record First (count : ℕ) (batch : BatchState) (rest : List BatchState) (queue : List SealedBatch) : Type 0 where
+  pub q : SealedBatch
+  pub qs : List SealedBatch
   pub at : queue ≡ q ∷ qs
   pub same : map command_of q.commands ≡ commands_in batch.commands
   pub under : AreBelow count (commands_in batch.commands)
   pub rests : AreQueued count rest qs
 
-first_queued : (count : ℕ) (batch : BatchState) (rest : List BatchState) (queue : List Batch) → AreQueued count (batch ∷ rest) queue → First count batch rest queue
+first_queued : (count : ℕ) (batch : BatchState) (rest : List BatchState) (queue : List SealedBatch) → AreQueued count (batch ∷ rest) queue → First count batch rest queue
 first_queued count batch rest [] k = absurd k
 first_queued count batch rest (q ∷ qs) k = record { q = q; qs = qs; at = refl; same = k.0; under = k.1; rests = k.2 }
 
@@ -95,9 +95,9 @@ module _ {D P : Type 0} (laws : RelayLaws) (w : World) (a : AllocatorState P) (f
 
     way_is : (j : ℕ) → on_way w j ≡ here j batch.commands ++ on_way end j
     way_is j =
-        ap (λ (xs : List Batch). filter (asks j) (queued_in xs)) first.at
+        ap (λ (xs : List SealedBatch). filter (asks j) (queued_in xs)) first.at
         ∙ filter-append (asks j) (map command_of first.q.commands) (queued_in first.qs)
-        ∙ ap (λ (x : List Command × List Batch). filter (asks j) x.0 ++ filter (asks j) (queued_in x.1)) (λ i. (first.same i, sym queue i))
+        ∙ ap (λ (x : List Command × List SealedBatch). filter (asks j) x.0 ++ filter (asks j) (queued_in x.1)) (λ i. (first.same i, sym queue i))
 
     pub words : (j : ℕ) → ShowsBoth end j (view_at a.seat j) (view_at g.seat j)
     words j =
@@ -154,20 +154,20 @@ module _ {D P : Type 0} (laws : RelayLaws) (w : World) (a : AllocatorState P) (f
 
   -- while nothing has failed
   module _ (k : RunsWhole w a f m.waiting) where
-    abbrev pub q : Batch
+    abbrev pub q : SealedBatch
     q = first.q
 
     pub decided : (q.commands ≡ map held_as batch.commands) × (q.upto ≡ length (safe_list w) + length batch.entries) × AreDecided (length (safe_list w) + length batch.entries) rest first.qs
-    decided = subst (λ (x : List BatchState × List Batch). AreDecided (length (safe_list w)) x.0 x.1) (λ i. (waiting_is i, first.at i)) k.decided
+    decided = subst (λ (x : List BatchState × List SealedBatch). AreDecided (length (safe_list w)) x.0 x.1) (λ i. (waiting_is i, first.at i)) k.decided
 
-    pub accepted_is : w.accepted ≡ (safe_list w ++ batch.entries) ++ entries_of rest
-    accepted_is = k.accepted ∙ ap (λ (xs : List BatchState). safe_list w ++ entries_of xs) waiting_is ∙ sym (append_assoc (safe_list w) batch.entries (entries_of rest))
+    pub accepted_is : w.accepted ≡ (safe_list w ++ batch.entries) ++ entries_of_batches rest
+    accepted_is = k.accepted ∙ ap (λ (xs : List BatchState). safe_list w ++ entries_of_batches xs) waiting_is ∙ sym (append_assoc (safe_list w) batch.entries (entries_of_batches rest))
 
     pub ends_at : q.upto ≡ length (safe_list w ++ batch.entries)
     ends_at = decided.1 ∙ sym (length-append (safe_list w) batch.entries)
 
     pub now_safe : take q.upto w.accepted ≡ safe_list w ++ batch.entries
-    now_safe = ap (λ (x : ℕ × List Entry). take x.0 x.1) (λ i. (ends_at i, accepted_is i)) ∙ take-append_seam (safe_list w ++ batch.entries) (entries_of rest)
+    now_safe = ap (λ (x : ℕ × List Entry). take x.0 x.1) (λ i. (ends_at i, accepted_is i)) ∙ take-append_seam (safe_list w ++ batch.entries) (entries_of_batches rest)
 
     pub count_is : q.upto - w.safe ≡ length batch.entries
     count_is = let long = safe_long laws w m.reached in omega (arith, decided.1)
@@ -176,8 +176,8 @@ module _ {D P : Type 0} (laws : RelayLaws) (w : World) (a : AllocatorState P) (f
     in_doubt =
         let long = safe_long laws w m.reached in
         ap (λ (n : ℕ). take n (drop w.safe w.accepted)) count_is
-        ∙ ap (λ (x : ℕ × List Entry). take (length batch.entries) (drop x.0 x.1)) (λ i. (sym long i, (accepted_is ∙ append_assoc (safe_list w) batch.entries (entries_of rest)) i))
-        ∙ ap (take (length batch.entries)) (drop-append_seam (safe_list w) (batch.entries ++ entries_of rest)) ∙ take-append_seam batch.entries (entries_of rest)
+        ∙ ap (λ (x : ℕ × List Entry). take (length batch.entries) (drop x.0 x.1)) (λ i. (sym long i, (accepted_is ∙ append_assoc (safe_list w) batch.entries (entries_of_batches rest)) i))
+        ∙ ap (take (length batch.entries)) (drop-append_seam (safe_list w) (batch.entries ++ entries_of_batches rest)) ∙ take-append_seam batch.entries (entries_of_batches rest)
 
 -- ---- a turn that answers Ok
 module _ {D P : Type 0} (laws : RelayLaws) (w : World) (a : AllocatorState P) (f g : FlusherState D) (batch : BatchState) (counts : FlushCounts) (t : Flushes f g batch counts) (sent : ReceivesSent a g) (m : IsRelayOf w a f) where
@@ -224,7 +224,7 @@ module _ {D P : Type 0} (laws : RelayLaws) (w : World) (a : AllocatorState P) (f
         (λ e. record {
           between = record { running = k.between.running; idle = k.between.idle; nothing_flies = k.between.nothing_flies };
           state = k.state;
-          accepted = accepted_is laws w a f g batch t.turn.receives sent m k ∙ ap (λ (xs : List Entry). xs ++ entries_of sent.0) (sym safe_now);
+          accepted = accepted_is laws w a f g batch t.turn.receives sent m k ∙ ap (λ (xs : List Entry). xs ++ entries_of_batches sent.0) (sym safe_now);
           decided = subst (λ (n : ℕ). AreDecided n sent.0 fq.qs) (sym (length-append (safe_list w) batch.entries) ∙ ap length (sym safe_now)) (decided laws w a f g batch t.turn.receives sent m k).2;
           register = t.register;
           no_doubt = t.no_doubt;

@@ -24,7 +24,7 @@ use Rattle.lift_policy.specs.Step.{State}
 use Rattle.lift_policy.specs.Run.{Run}
 use Rattle.lift_policy.specs.declared.command.Command.{Command}
 use Rattle.lift_world.specs.declared.event.Taken.{Taken as Held}
-use Rattle.lift_world.specs.World.{World, Batch, asks, is_off, is_answer_to, is_taken_of}
+use Rattle.lift_world.specs.World.{World, SealedBatch, asks, is_off, is_answer_to, is_taken_of}
 use Rattle.lift_world.specs.Next.{unanswered}
 use Rattle.lift_world.specs.Among.{StandsAsk}
 use Rattle.lift_world.specs.Headline.{AsksOneByOne}
@@ -76,10 +76,10 @@ module _ (t : ℕ) where
   same_count [] = refl
   same_count (x ∷ xs) = one_counted x xs (eqb x.terminal t) (same_count xs)
 
-abbrev pub flat : List Batch → List Held
-flat queue = flat_map (λ (q : Batch). q.commands) queue
+abbrev pub flat : List SealedBatch → List Held
+flat queue = flat_map (λ (q : SealedBatch). q.commands) queue
 
-pub queued_is : (queue : List Batch) → queued_in queue ≡ map command_of (flat queue)
+pub queued_is : (queue : List SealedBatch) → queued_in queue ≡ map command_of (flat queue)
 queued_is [] = refl
 queued_is (q ∷ queue) = ap (λ (cs : List Command). map command_of q.commands ++ cs) (queued_is queue) ∙ sym (map-append command_of q.commands (flat queue))
 
@@ -100,7 +100,7 @@ is_queued w a f m = by_state f.writer.is_broken refl
     by_state : (b : Bool) → f.writer.is_broken ≡ b → OnlyQueued w
     by_state false e =
         let k = (m.whole e).between in
-        record { on = ap is_off k.running; all = only_queued w m.nothing_due (ap (λ (b : Batch). b.commands) k.nothing_flies) m.between.nothing_taken }
+        record { on = ap is_off k.running; all = only_queued w m.nothing_due (ap (λ (b : SealedBatch). b.commands) k.nothing_flies) m.between.nothing_taken }
     by_state true e =
         let k = (m.broken e).between in
         record { on = ap is_off k.broken; all = only_queued w m.nothing_due k.nothing_flies m.between.nothing_taken }

@@ -20,7 +20,7 @@ use Rattle.lift_policy.specs.Step.{State}
 use Rattle.lift_policy.specs.Run.{Run}
 use Rattle.lift_policy.specs.declared.command.Command.{Command}
 use Rattle.lift_world.specs.declared.event.Taken.{Taken as Held}
-use Rattle.lift_world.specs.World.{World, Batch, asks, state_of, safe_list, batch_of}
+use Rattle.lift_world.specs.World.{World, SealedBatch, asks, state_of, safe_list, batch_in_flight}
 use Rattle.lift_world.specs.Next.{goes}
 use Rattle.lift_world.specs.Policies.{RunsAreAny}
 use Rattle.lift_world.specs.Relay.{IsBetweenScans, flown, allocated, allocator_events}
@@ -38,7 +38,7 @@ use Rattle.lift_parts.specs.Batch.{BatchState, AreBelow, commands_in, replies_in
 use Rattle.lift_parts.specs.Allocator.{AllocatorState, IsScanTurn}
 use Rattle.lift_parts.specs.Flusher.{FlusherState}
 use Rattle.lift_parts.specs.Laws.{RelayLaws}
-use Rattle.lift_parts.specs.Tie.{held_as, command_of, entries_of, queued_in, on_way, AreQueued, AreDecided, ShowsBoth, RunsWhole, RunsBroken, IsRelayOf, LeadsOn, TakesAsked, AllTakesAsked, HasRoom, ScansAreAllocations}
+use Rattle.lift_parts.specs.Tie.{held_as, command_of, entries_of_batches, queued_in, on_way, AreQueued, AreDecided, ShowsBoth, RunsWhole, RunsBroken, IsRelayOf, LeadsOn, TakesAsked, AllTakesAsked, HasRoom, ScansAreAllocations}
 use Rattle.lift_parts.proofs.Tied.{order, reaches}
 use Rattle.lift_parts.proofs.TiedScan.{Reads, is_queued, AllStand, looks_from, found, waits, left, below}
 
@@ -61,7 +61,7 @@ module _ (laws : RelayLaws) (w : World) (reached : IsReached w) where
   pub safe_long : length (safe_list w) ≡ w.safe
   safe_long = length-take-le w.safe w.accepted safe_within
 
-  pub doubt_stays : (batch : List Entry) → take (w.flight.upto - w.safe) (drop w.safe (w.accepted ++ batch)) ≡ batch_of w
+  pub doubt_stays : (batch : List Entry) → take (w.flight.upto - w.safe) (drop w.safe (w.accepted ++ batch)) ≡ batch_in_flight w
   doubt_stays batch =
       let l = length-drop w.safe w.accepted in
       let upto = doubt_within in
@@ -69,26 +69,26 @@ module _ (laws : RelayLaws) (w : World) (reached : IsReached w) where
       ∙ take-append-le (w.flight.upto - w.safe) (drop w.safe w.accepted) batch (omega arith)
 
 -- ---- the queue grows by one
-pub queued_more : (count : ℕ) (batches : List BatchState) (queue : List Batch) (b : BatchState) (q : Batch) → AreQueued count batches queue → map command_of q.commands ≡ commands_in b.commands
+pub queued_more : (count : ℕ) (batches : List BatchState) (queue : List SealedBatch) (b : BatchState) (q : SealedBatch) → AreQueued count batches queue → map command_of q.commands ≡ commands_in b.commands
     → AreBelow count (commands_in b.commands) → AreQueued count (batches ++ b ∷ []) (queue ++ q ∷ [])
 queued_more count [] [] b q k same under = (same, under, tt)
 queued_more count [] (p ∷ queue) b q k same under = absurd k
 queued_more count (c ∷ batches) [] b q k same under = absurd k
 queued_more count (c ∷ batches) (p ∷ queue) b q k same under = (k.0, k.1, queued_more count batches queue b q k.2 same under)
 
-pub queued_long : (count : ℕ) (batches : List BatchState) (queue : List Batch) → AreQueued count batches queue → length queue ≡ length batches
+pub queued_long : (count : ℕ) (batches : List BatchState) (queue : List SealedBatch) → AreQueued count batches queue → length queue ≡ length batches
 queued_long count [] [] k = refl
 queued_long count [] (q ∷ queue) k = absurd k
 queued_long count (b ∷ batches) [] k = absurd k
 queued_long count (b ∷ batches) (q ∷ queue) k = ap suc (queued_long count batches queue k.2)
 
-pub decided_more : (from : ℕ) (batches : List BatchState) (queue : List Batch) (b : BatchState) (q : Batch) → AreDecided from batches queue → q.commands ≡ map held_as b.commands
-    → q.upto ≡ from + length (entries_of batches) + length b.entries → AreDecided from (batches ++ b ∷ []) (queue ++ q ∷ [])
+pub decided_more : (from : ℕ) (batches : List BatchState) (queue : List SealedBatch) (b : BatchState) (q : SealedBatch) → AreDecided from batches queue → q.commands ≡ map held_as b.commands
+    → q.upto ≡ from + length (entries_of_batches batches) + length b.entries → AreDecided from (batches ++ b ∷ []) (queue ++ q ∷ [])
 decided_more from [] [] b q k same ends = (same, omega arith, tt)
 decided_more from [] (p ∷ queue) b q k same ends = absurd k
 decided_more from (c ∷ batches) [] b q k same ends = absurd k
 decided_more from (c ∷ batches) (p ∷ queue) b q k same ends =
-    (k.0, k.1, decided_more (from + length c.entries) batches queue b q k.2 same (omega (arith, length-append c.entries (entries_of batches))))
+    (k.0, k.1, decided_more (from + length c.entries) batches queue b q k.2 same (omega (arith, length-append c.entries (entries_of_batches batches))))
 
 -- ---- a run's commands, with their replies
 pub run_commands : (plan : Plan) (choice : Choice) (state next : State) (cs : List Command) (rs : List Reply) → Run plan choice state cs rs next → map command_of (with_replies cs rs) ≡ cs
@@ -153,7 +153,7 @@ module _ {D P : Type 0} (laws : RelayLaws) (choice : Choice) (any : RunsAreAny c
 
     way_is : (n : ℕ) → on_way end n ≡ on_way w n ++ here n
     way_is n =
-        ap (filter (asks n)) (flat_map-append (λ (q : Batch). map command_of q.commands) w.queue (record { commands = with_replies cs rs; upto = length (w.accepted ++ state.batch) } ∷ [])
+        ap (filter (asks n)) (flat_map-append (λ (q : SealedBatch). map command_of q.commands) w.queue (record { commands = with_replies cs rs; upto = length (w.accepted ++ state.batch) } ∷ [])
         ∙ ap (λ (xs : List Command). queued_in w.queue ++ xs) (append-nil (map command_of (with_replies cs rs)) ∙ same))
         ∙ filter-append (asks n) (queued_in w.queue) cs
 
@@ -231,18 +231,18 @@ module _ {D P : Type 0} (laws : RelayLaws) (choice : Choice) (any : RunsAreAny c
       let k = m.whole e in
       let registers = register_is w any_eligible cs replies t.decided m.between (run_here e) in
       let now : List Entry = w.accepted ++ t.decided.batch in
-      let entries : entries_of (m.waiting ++ t.batch ∷ []) ≡ entries_of m.waiting ++ t.decided.batch =
-      flat_map-append (λ (x : BatchState). x.entries) m.waiting (t.batch ∷ []) ∙ ap (λ (xs : List Entry). entries_of m.waiting ++ xs) (append-nil t.batch.entries ∙ t.entries) in
+      let entries : entries_of_batches (m.waiting ++ t.batch ∷ []) ≡ entries_of_batches m.waiting ++ t.decided.batch =
+      flat_map-append (λ (x : BatchState). x.entries) m.waiting (t.batch ∷ []) ∙ ap (λ (xs : List Entry). entries_of_batches m.waiting ++ xs) (append-nil t.batch.entries ∙ t.entries) in
       let safe = safe_stays laws w m.reached t.decided.batch in
       record {
         between = record { running = k.between.running; idle = k.between.idle; nothing_flies = k.between.nothing_flies };
         state = ap (λ (x : RegisterState × List Entry). record { register = x.0; positions = t.decided.positions; batch = x.1 }) (λ i. (registers i, drop-length now i)) ∙ sym t.after;
-        accepted = ap (λ (xs : List Entry). xs ++ t.decided.batch) k.accepted ∙ append_assoc (safe_list w) (entries_of m.waiting) t.decided.batch
+        accepted = ap (λ (xs : List Entry). xs ++ t.decided.batch) k.accepted ∙ append_assoc (safe_list w) (entries_of_batches m.waiting) t.decided.batch
             ∙ ap (λ (x : List Entry × List Entry). x.0 ++ x.1) (λ i. (sym safe i, sym entries i));
         decided = subst (λ (n : ℕ). AreDecided n (m.waiting ++ t.batch ∷ []) (w.queue ++ record { commands = with_replies cs replies; upto = length now } ∷ [])) (ap length (sym safe))
             (decided_more (length (safe_list w)) m.waiting w.queue t.batch (record { commands = with_replies cs replies; upto = length now }) k.decided
             (ap (λ (xs : List Command). with_replies xs replies) (sym t.commands) ∙ held_all t.batch.commands)
-            (omega (arith, length-append w.accepted t.decided.batch, ap length k.accepted, length-append (safe_list w) (entries_of m.waiting), ap length t.entries)));
+            (omega (arith, length-append w.accepted t.decided.batch, ap length k.accepted, length-append (safe_list w) (entries_of_batches m.waiting), ap length t.entries)));
         register = k.register;
         no_doubt = k.no_doubt;
       }

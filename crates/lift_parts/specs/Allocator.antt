@@ -11,7 +11,7 @@ use Rattle.lift_clerk.specs.Turn.{settled}
 use Rattle.lift_clerk.specs.Visits.{Visit, commands_of, served}
 use Rattle.lift_parts.specs.Batch.{BatchState, turns_behind, turns_of, commands_in}
 use Rattle.lift_parts.specs.Batch.{replies_in, noted_in}
-use Rattle.lift_parts.specs.Line.{SendState, Tries, tried, Begins, IsNext, WasFull}
+use Rattle.lift_parts.specs.Line.{SendState, Tries, tried, Begins, IsNextBatch, WasFull}
 use Rattle.lift_parts.specs.Scan.{TakesEach, turns_in, words_of}
 
 pub record AllocatorState (P : Type 0) : Type 0 where
@@ -40,7 +40,7 @@ DecidesAlong plan choice state (batch ∷ batches) last =
 -- where the batches go on from what was sent: behind a batch in hand
 abbrev pub GoesOnBehind : Plan → List TableId → State → List ℕ → List BatchState → State → List ℕ → Type 0
 GoesOnBehind plan desk sent turns [] shown taken = (shown ≡ sent) × (taken ≡ turns)
-GoesOnBehind plan desk sent turns (batch ∷ []) shown taken = IsNext plan desk sent turns batch
+GoesOnBehind plan desk sent turns (batch ∷ []) shown taken = IsNextBatch plan desk sent turns batch
     × (shown ≡ batch.after) × (taken ≡ turns_behind batch)
 GoesOnBehind plan desk sent turns (batch ∷ other ∷ batches) shown taken = ⊥
 

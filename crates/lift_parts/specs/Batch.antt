@@ -74,21 +74,21 @@ AreNoted desk turns (taken ∷ commands) = IsNoted desk turns taken
     × AreNoted desk (turns_with turns taken) commands
 
 -- what its commands led to, with what was accepted of them
-abbrev pub decided : BatchState → State
-decided batch = record batch.after { batch = batch.entries }
+abbrev pub state_with_entries : BatchState → State
+state_with_entries batch = record batch.after { batch = batch.entries }
 
 -- Its commands with their replies are a run of the rules from before it to behind it, which
 -- accepted just its entries.
 pub record IsDecided (batch : BatchState) : Type 0 where
   pub run : Run batch.building any_eligible batch.before (commands_in batch.commands)
-      (replies_in batch.commands) (decided batch)
+      (replies_in batch.commands) (state_with_entries batch)
   pub shows : batch.after.register ≡ register_of batch.before.register batch.entries
   pub sealed : (batch.before.batch ≡ []) × (batch.after.batch ≡ [])
 
 -- What is true of every batch: its entries fit where they were decided, its commands are of
 -- terminals of the desk, at most one of each, each has a note of its ask, and its replies and
 -- entries are of one run.
-pub record IsBatch (batch : BatchState) : Type 0 where
+pub record IsLawfulBatch (batch : BatchState) : Type 0 where
   pub fits : FitFrom batch.building batch.before.register batch.entries
   pub apart : AreApart (commands_in batch.commands)
   pub at_desk : AreBelow (length batch.desk) (commands_in batch.commands)

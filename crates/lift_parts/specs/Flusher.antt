@@ -11,7 +11,7 @@ use Rattle.lift_journal.specs.declared.fault.JournalFault.TheVariants.{Disk, Bro
 use Rattle.lift_keeper.specs.declared.fault.KeeperFault.{KeeperFault}
 use Rattle.lift_keeper.specs.declared.fault.KeeperFault.TheVariants.{Journal}
 use Rattle.lift_keeper.specs.Writer.{WriterView}
-use Rattle.lift_clerk.specs.Scanning.{told}
+use Rattle.lift_clerk.specs.Scanning.{reply_told}
 use Rattle.lift_clerk.specs.Visits.{Visit, FindsAt}
 use Rattle.lift_parts.specs.declared.taken.Taken.{Taken}
 use Rattle.lift_parts.specs.declared.counts.FlushCounts.{FlushCounts}
@@ -69,7 +69,7 @@ pub record AnswersOne (is_safe : Bool) (places : List ClerkPlace) (taken : Taken
   pub gives : GivesIt visit.found taken
   pub word : visit.word ≡ taken.note.word
   pub answered : next ≡ answered_at (looked_at places taken.command.terminal visit.word) taken
-      (told is_safe taken.reply)
+      (reply_told is_safe taken.reply)
 
 -- all of them, one after another
 abbrev pub AnswersAll : Bool → List ClerkPlace → List Taken → List Visit → List ClerkPlace → Type 0
@@ -91,13 +91,13 @@ is_ok (Ok a) = true
 is_ok (Err b) = false
 
 -- how many entries these batches have
-abbrev pub entries_of : List BatchState → ℕ
-entries_of [] = 0
-entries_of (batch ∷ batches) = length batch.entries + entries_of batches
+abbrev pub count_of_entries : List BatchState → ℕ
+count_of_entries [] = 0
+count_of_entries (batch ∷ batches) = length batch.entries + count_of_entries batches
 
 -- how many entries were received from one state of an end to another
 abbrev pub entries_between : ReceiveState → ReceiveState → ℕ
-entries_between old new = entries_of (drop (length old.received) new.received)
+entries_between old new = count_of_entries (drop (length old.received) new.received)
 
 -- A turn that received no batch. It tried once to, the line was empty at that try, and nothing else
 -- changes.

@@ -11,12 +11,12 @@ use Rattle.lift_world.specs.Next.{unknown_to}
 use Rattle.lift_clerk.specs.Clerk.{ClerkState}
 use Rattle.lift_clerk.specs.Steps.{GroupState, group_of}
 use Rattle.lift_clerk.specs.History.{History}
-use Rattle.lift_clerk.specs.Keeping.{Stands, LeavesSafe, KeepsNow}
+use Rattle.lift_clerk.specs.Keeping.{KeepsThroughout, LeavesSafe, KeepsNow}
 use Rattle.lift_parts.specs.declared.counts.FlushCounts.{FlushCounts}
 use Rattle.lift_parts.specs.Batch.{BatchState}
 use Rattle.lift_parts.specs.Flusher.{FlusherState}
 use Rattle.lift_parts.specs.Turns.{FlusherTurns, IsFlush}
-use Rattle.lift_parts.specs.Tie.{held_as, entries_of}
+use Rattle.lift_parts.specs.Tie.{held_as, entries_of_batches}
 
 -- The group as the flusher has it: a clerk of its seats and its writer, which shows what was
 -- received.
@@ -39,7 +39,7 @@ pub record Adds {D : Type 0} (old new : FlusherState D) (more : List Entry)
   pub kept : List BatchState
   pub lost : List BatchState
   pub received : new.end.received ≡ old.end.received ++ (kept ++ lost)
-  pub more_is : more ≡ entries_of kept
+  pub more_is : more ≡ entries_of_batches kept
   pub told_is : told ≡ held_in kept ++ map unknown_to (held_in lost)
   pub was_broken : old.writer.is_broken ≡ true → (kept ≡ []) × (new.writer.is_broken ≡ true)
   pub is_whole : new.writer.is_broken ≡ false → lost ≡ []
@@ -61,9 +61,9 @@ pub record FlushStands {D : Type 0} (f g : FlusherState D) (base : RegisterState
   pub received : List BatchState
   pub receives : g.end.received ≡ f.end.received ++ received
   pub batch : List Entry
-  pub while_whole : f.writer.is_broken ≡ false → batch ≡ entries_of received
+  pub while_whole : f.writer.is_broken ≡ false → batch ≡ entries_of_batches received
   pub while_broken : f.writer.is_broken ≡ true → batch ≡ f.writer.doubt
-  pub stands : Stands base (group_behind f) safe given batch old new
+  pub stands : KeepsThroughout base (group_behind f) safe given batch old new
   pub now : LeavesSafe f.writer old
       → KeepsNow base (group_behind g) (safe ++ goes_on.more) (given ++ goes_on.told) new
 

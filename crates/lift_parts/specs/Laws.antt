@@ -9,7 +9,7 @@ use Rattle.lift_world.specs.declared.event.Event.{Event}
 use Rattle.lift_world.specs.World.{World, start}
 use Rattle.lift_world.specs.Next.{run}
 use Rattle.lift_world.specs.Among.{LooksFindAsks}
-use Rattle.lift_world.specs.Beside.{GoesAreRuns, RunsJoin}
+use Rattle.lift_world.specs.Beside.{GoesAreRuns, EventsJoin}
 use Rattle.lift_world.specs.Headline.{HearsInOrder, QueuesFew, AllAskOneByOne}
 use Rattle.lift_world.specs.Relay.{IsQueueInOrder, AllocationsAreEvents, FlushesAreEvents}
 use Rattle.lift_world.specs.Relay.{FailedFlushesAreEvents, BrokenFlushesAreEvents, PartsMeet}
@@ -31,5 +31,5 @@ pub record RelayLaws : Type 0 where
   pub one_by_one : (building : Plan) (base : RegisterState) (events : List Event)
       → AllAskOneByOne (run events (start building base))
   pub possible : (w : World) → GoesAreRuns w
-  pub joined : (w : World) → RunsJoin w
+  pub joined : (w : World) → EventsJoin w
   pub registers : RegistersJoin

@@ -49,7 +49,7 @@ abbrev pub Begins : List BatchState → List BatchState → Type 0
 Begins first whole = (rest : List BatchState) × (whole ≡ first ++ rest)
 
 -- the batch was decided in this building, at this desk, on this state, and taken behind these turns
-pub record IsNext (building : Plan) (desk : List TableId) (state : State)
+pub record IsNextBatch (building : Plan) (desk : List TableId) (state : State)
     (turns : List ℕ) (batch : BatchState) : Type 0 where
   pub of_building : batch.building ≡ building
   pub at_desk : batch.desk ≡ desk
@@ -58,12 +58,12 @@ pub record IsNext (building : Plan) (desk : List TableId) (state : State)
 
 -- each of these batches goes on from the state and the turns that those before it leave, from these
 -- to those
-abbrev pub GoesOn : Plan → List TableId → State → List ℕ → List BatchState → State
+abbrev pub BatchesGoOn : Plan → List TableId → State → List ℕ → List BatchState → State
     → List ℕ → Type 0
-GoesOn building desk first turns [] last ended = (first ≡ last) × (turns ≡ ended)
-GoesOn building desk first turns (batch ∷ batches) last ended =
-    IsNext building desk first turns batch
-    × GoesOn building desk batch.after (turns_behind batch) batches last ended
+BatchesGoOn building desk first turns [] last ended = (first ≡ last) × (turns ≡ ended)
+BatchesGoOn building desk first turns (batch ∷ batches) last ended =
+    IsNextBatch building desk first turns batch
+    × BatchesGoOn building desk batch.after (turns_behind batch) batches last ended
 
 -- a new line, which goes on from where this batch was decided
 pub record IsLine (first : BatchState) (sender : SendState) (receiver : ReceiveState) : Type 0 where
@@ -104,7 +104,7 @@ pub record SendsOne (old : SendState) (batch : BatchState) (new : SendState) : T
 -- the batch leaves at the front, it goes on from what was received, and what is behind it was sent
 pub record ReceivesOne (old : ReceiveState) (batch : BatchState) (new : ReceiveState) : Type 0 where
   pub same : (new.line ≡ old.line) × (new.building ≡ old.building) × (new.desk ≡ old.desk)
-  pub next : IsNext old.building old.desk old.state old.turns batch
+  pub next : IsNextBatch old.building old.desk old.state old.turns batch
   pub receives : new.received ≡ old.received ++ batch ∷ []
   pub state : new.state ≡ batch.after
   pub turns : new.turns ≡ turns_behind batch
@@ -129,7 +129,7 @@ WasEmpty s = Begins s.known s.received
 
 -- The end tried once more to send, and was refused, where the line was full: that try alone
 -- changes anything.
-pub record IsRefused (old new : SendState) : Type 0 where
+pub record FindsNoRoom (old new : SendState) : Type 0 where
   pub tries : new ≡ record old { tries = tried old.tries true }
   pub was_full : WasFull old
 

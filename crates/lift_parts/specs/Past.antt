@@ -13,7 +13,7 @@ use Rattle.lift_clerk.specs.Clerk.{ClerkState}
 use Rattle.lift_clerk.specs.Steps.{group_of}
 use Rattle.lift_clerk.specs.Machine.{events_of_turn, events_while_broken}
 use Rattle.lift_clerk.specs.Group.{Terminals, TakesAsks}
-use Rattle.lift_clerk.specs.Past.{IsPastOf, GoesOn}
+use Rattle.lift_clerk.specs.Past.{IsPastOf, LeadsToPast}
 use Rattle.lift_parts.specs.declared.counts.FlushCounts.{FlushCounts}
 use Rattle.lift_parts.specs.Batch.{BatchState, commands_in}
 use Rattle.lift_parts.specs.Flusher.{FlusherState, is_ok}
@@ -40,7 +40,7 @@ pub record FlushLeadsOn {D : Type 0} (f g : FlusherState D) (answer : Result Flu
   pub told : List Held
   pub adds : Adds f g more told
   pub letters : List (Option ℕ)
-  pub leads : (folds : ℕ) → GoesOn w
+  pub leads : (folds : ℕ) → LeadsToPast w
       (flush_events received (is_ok answer) f.writer.is_broken letters folds) (group_behind g)
       terminals (safe ++ more) (given ++ told)
 

@@ -2,13 +2,13 @@
 use Rattle.std.specs.Prelude.{◌≡◌, ◌≤◌, List, ◌++◌, length}
 use Rattle.lift_parts.specs.Batch.{BatchState}
 use Rattle.lift_parts.specs.Line.{SendState, ReceiveState}
-use Rattle.lift_parts.specs.Line.{GoesOn}
+use Rattle.lift_parts.specs.Line.{BatchesGoOn}
 
 -- What was received, and then what the line holds, at most four batches, is what was sent. Each of
 -- these goes on from the one before it, the first from what was received.
 pub record Queued (sender : SendState) (receiver : ReceiveState) : Type 0 where
   pub items : List BatchState
   pub in_order : sender.sent ≡ receiver.received ++ items
-  pub goes_on : GoesOn sender.building sender.desk receiver.state receiver.turns items
+  pub goes_on : BatchesGoOn sender.building sender.desk receiver.state receiver.turns items
       sender.state sender.turns
   pub four : length items ≤ 4

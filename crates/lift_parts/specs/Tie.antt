@@ -18,8 +18,8 @@ use Rattle.lift_world.specs.declared.event.Event.{Event}
 use Rattle.lift_world.specs.declared.event.Kept.TheVariants.{WithBatch}
 use Rattle.lift_world.specs.declared.event.Phase.TheVariants.{GateWritten}
 use Rattle.lift_world.specs.declared.event.Taken.{Taken as Held}
-use Rattle.lift_world.specs.World.{World, Batch, asks, is_answer_to, state_of}
-use Rattle.lift_world.specs.World.{safe_list, batch_of, may_keep}
+use Rattle.lift_world.specs.World.{World, SealedBatch, asks, is_answer_to, state_of}
+use Rattle.lift_world.specs.World.{safe_list, batch_in_flight, may_keep}
 use Rattle.lift_world.specs.Next.{next, goes, answer_of, unknown_to}
 use Rattle.lift_world.specs.Beside.{is_of_terminals}
 use Rattle.lift_world.specs.Relay.{IsBetweenScans, IsBetweenFlushes, IsBrokenBetween}
@@ -50,18 +50,18 @@ held_as t = record {
 abbrev pub command_of : Held → Command
 command_of h = record { terminal = h.terminal; number = h.number; body = h.body }
 
-abbrev pub entries_of : List BatchState → List Entry
-entries_of batches = flat_map (λ (b : BatchState). b.entries) batches
+abbrev pub entries_of_batches : List BatchState → List Entry
+entries_of_batches batches = flat_map (λ (b : BatchState). b.entries) batches
 
 -- the commands of the machine's queue, and those of one terminal
-abbrev pub queued_in : List Batch → List Command
-queued_in queue = flat_map (λ (q : Batch). map command_of q.commands) queue
+abbrev pub queued_in : List SealedBatch → List Command
+queued_in queue = flat_map (λ (q : SealedBatch). map command_of q.commands) queue
 
 abbrev pub on_way : World → ℕ → List Command
 on_way w terminal = filter (asks terminal) (queued_in w.queue)
 
 -- the machine's queue has the commands of these batches, which are of so many terminals
-abbrev pub AreQueued : ℕ → List BatchState → List Batch → Type 0
+abbrev pub AreQueued : ℕ → List BatchState → List SealedBatch → Type 0
 AreQueued count [] [] = Unit {0}
 AreQueued count (b ∷ batches) (q ∷ queue) = (map command_of q.commands ≡ commands_in b.commands)
     × AreBelow count (commands_in b.commands) × AreQueued count batches queue
@@ -69,7 +69,7 @@ AreQueued count [] (q ∷ queue) = ⊥
 AreQueued count (b ∷ batches) [] = ⊥
 
 -- with their replies, and each ends where its entries do, from here on
-abbrev pub AreDecided : ℕ → List BatchState → List Batch → Type 0
+abbrev pub AreDecided : ℕ → List BatchState → List SealedBatch → Type 0
 AreDecided from [] [] = Unit {0}
 AreDecided from (b ∷ batches) (q ∷ queue) = (q.commands ≡ map held_as b.commands)
     × (q.upto ≡ from + length b.entries) × AreDecided (from + length b.entries) batches queue
@@ -95,7 +95,7 @@ pub record RunsWhole {D P : Type 0} (w : World) (a : AllocatorState P) (f : Flus
     (waiting : List BatchState) : Type 0 where
   pub between : IsBetweenFlushes w
   pub state : state_of w ≡ a.state
-  pub accepted : w.accepted ≡ safe_list w ++ entries_of waiting
+  pub accepted : w.accepted ≡ safe_list w ++ entries_of_batches waiting
   pub decided : AreDecided (length (safe_list w)) waiting w.queue
   pub register : f.writer.register ≡ f.end.state.register
   pub no_doubt : f.writer.doubt ≡ []
@@ -104,7 +104,7 @@ pub record RunsWhole {D P : Type 0} (w : World) (a : AllocatorState P) (f : Flus
 -- is no matter: each command is answered Unknown.
 pub record RunsBroken {D : Type 0} (w : World) (f : FlusherState D) : Type 0 where
   pub between : IsBrokenBetween w
-  pub doubt : batch_of w ≡ f.writer.doubt
+  pub doubt : batch_in_flight w ≡ f.writer.doubt
   pub may_be_kept : f.writer.doubt ≢ [] → IsTrue (may_keep w WithBatch)
 
 -- The world is what this group's two parts are, each between two of its turns. What was sent, with
@@ -238,7 +238,7 @@ abbrev pub FlushesAreFlushes : (D P : Type 0) → Type 0
 FlushesAreFlushes D P = (w : World) (a : AllocatorState P) (f g : FlusherState D)
     (batch : BatchState) (counts : FlushCounts) → Flushes f g batch counts → ReceivesSent a g
     → IsRelayOf w a f
-    → (q : Batch) × ((folds : ℕ)
+    → (q : SealedBatch) × ((folds : ℕ)
     → LeadsOn w (flusher_events all_found q folds (length batch.entries))
     (map held_as batch.commands) (safe_list w ++ batch.entries) a g)
 
@@ -256,7 +256,7 @@ abbrev pub FailedFlushesAreFailures : (D P : Type 0) → Type 0
 FailedFlushesAreFailures D P =
     (w : World) (a : AllocatorState P) (f g : FlusherState D) (batch : BatchState)
     → FlushFails f g batch → ReceivesSent a g → IsRelayOf w a f
-    → (q : Batch) × ((folds : ℕ)
+    → (q : SealedBatch) × ((folds : ℕ)
     → LeadsOn w (failing_flush all_found q folds GateWritten (length batch.entries))
     (map unknown_to (map held_as batch.commands)) (safe_list w) a g)
 
@@ -271,5 +271,5 @@ abbrev pub BrokenFlushesAreBroken : (D P : Type 0) → Type 0
 BrokenFlushesAreBroken D P =
     (w : World) (a : AllocatorState P) (f g : FlusherState D) (batch : BatchState)
     → FlushesBroken f g batch → ReceivesSent a g → IsRelayOf w a f
-    → (q : Batch) × LeadsOn w (broken_flush all_found q)
+    → (q : SealedBatch) × LeadsOn w (broken_flush all_found q)
     (map unknown_to (map held_as batch.commands)) (safe_list w) a g

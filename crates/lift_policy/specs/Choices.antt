@@ -8,7 +8,7 @@ use Rattle.lift_building.specs.Plan.{Plan}
 use Rattle.lift_register.specs.Prelude.{rows_of, persons_of}
 use Rattle.lift_stops.specs.StopList.{halt_at, stop_list}
 use Rattle.lift_cost.specs.declared.call.NewCall.{NewCall}
-use Rattle.lift_cost.specs.Cost.{total_cost, arrival_at, waiting_row, with_call}
+use Rattle.lift_cost.specs.Cost.{total_cost, arrival_at, new_call_row, with_new_call}
 use Rattle.lift_policy.specs.View.{ViewState, position_of}
 use Rattle.lift_policy.specs.Eligible.{Choice}
 use Rattle.lift_policy.specs.declared.shipped.Shipped.{Shipped}
@@ -36,8 +36,8 @@ total_cost_at plan view call car =
 -- when a car that takes the call too is where its passengers wait; however many they are
 abbrev pub wait : Plan → Position → List Row → NewCall → ℕ
 wait plan position rows call =
-    arrival_at plan position.floor (stop_list (with_call rows call) position)
-    (halt_at position (waiting_row call) call.from)
+    arrival_at plan position.floor (stop_list (with_new_call rows call) position)
+    (halt_at position (new_call_row call) call.from)
 
 abbrev pub wait_at : Plan → ViewState → NewCall → ℕ → ℕ
 wait_at plan view call car =

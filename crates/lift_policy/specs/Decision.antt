@@ -18,7 +18,7 @@ use Rattle.lift_policy.specs.Terminals.{kiosk_floor}
 use Rattle.lift_policy.specs.View.{ViewState}
 use Rattle.lift_policy.specs.Choices.{first_least, total_cost_at, open_at, wait_at}
 use Rattle.lift_policy.specs.Step.{State, view_of, first_cause, is_new, call_at, cars_for}
-use Rattle.lift_policy.specs.Step.{accepting, standing, stopping, next_from}
+use Rattle.lift_policy.specs.Step.{accepting, with_car_at, stopping, next_from}
 
 -- a reply, and the state after it
 pub record Decision : Type 0 where
@@ -63,8 +63,8 @@ proceeding pick plan state terminal number (Stop floor dir) =
     }
 proceeding pick plan state terminal number (Place floor dir) =
     record {
-      reply = Placed (next_from (standing state terminal floor dir) terminal floor dir);
-      next = standing state terminal floor dir;
+      reply = Placed (next_from (with_car_at state terminal floor dir) terminal floor dir);
+      next = with_car_at state terminal floor dir;
     }
 
 abbrev pub decided_after : Option Reason → Pick → Plan → State → ℕ → ℕ → Body → Decision

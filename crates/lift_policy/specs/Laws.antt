@@ -85,22 +85,22 @@ StepsKeepStates choice =
 
 -- a `Car` or a `Stopped`, new or repeated, tells of the command that the register keeps as its
 -- terminal's last
-abbrev pub Tells : Plan → RegisterState → ℕ → ℕ → Body → Reply → Type 0
-Tells plan register terminal number (Call to party) (Car car) =
+abbrev pub TellsKept : Plan → RegisterState → ℕ → ℕ → Body → Reply → Type 0
+TellsKept plan register terminal number (Call to party) (Car car) =
     last_of register terminal
     ≡ Some (record {
       number = number;
       content = Letter (kiosk_floor plan terminal) to car party;
     })
-Tells plan register terminal number (Stop floor dir) (Stopped next) =
+TellsKept plan register terminal number (Stop floor dir) (Stopped next) =
     last_of register terminal ≡ Some (record { number = number; content = StoppedAt floor dir })
-Tells plan register terminal number _ _ = Unit {0}
+TellsKept plan register terminal number _ _ = Unit {0}
 
 abbrev pub StepsTell : Choice → Type 0
 StepsTell choice = (plan : Plan) (state : State) (terminal number : ℕ) (body : Body) (reply : Reply)
     (next : State)
     → terminal < 63 → IsStateIn plan state → Step plan choice state terminal number body reply next
-    → Tells plan next.register terminal number body reply
+    → TellsKept plan next.register terminal number body reply
 
 -- the rules allow just the decision that is computed
 abbrev pub StepsAreDecisions : Choice → Pick → Type 0

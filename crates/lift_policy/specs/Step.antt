@@ -134,8 +134,8 @@ accepting state entry =
     }
 
 -- the car stands there
-abbrev pub standing : State → ℕ → ℕ → Dir → State
-standing state car floor dir =
+abbrev pub with_car_at : State → ℕ → ℕ → Dir → State
+with_car_at state car floor dir =
     record {
       register = state.register;
       positions = slice_set state.positions car (Some (record { floor = floor; dir = dir }));
@@ -145,7 +145,7 @@ standing state car floor dir =
 -- a stop of a new number joins, a repeat doesn't; either way the car stands there
 abbrev pub stopping : State → ℕ → ℕ → ℕ → Dir → State
 stopping state car number floor dir =
-    standing (if is_new state car number then accepting state
+    with_car_at (if is_new state car number then accepting state
     (Stopping car number floor dir) else state) car floor dir
 
 -- the car's next stop from there
@@ -179,7 +179,7 @@ Proceeds plan choice state terminal number (Stop floor dir) reply next =
     (next ≡ stopping state terminal number floor dir)
     × (reply ≡ Stopped (next_from next terminal floor dir))
 Proceeds plan choice state terminal number (Place floor dir) reply next =
-    (next ≡ standing state terminal floor dir)
+    (next ≡ with_car_at state terminal floor dir)
     × (reply ≡ Placed (next_from next terminal floor dir))
 
 -- One decision. Where a cause of refusal holds, the first is named and nothing changes.

@@ -3,14 +3,14 @@ use Rattle.std.proofs.Common.{ℕ, Option, List, refl, inl, inr}
 use Rattle.clap.specs.Words.{Text}
 use Rattle.lift_program.specs.Ends.{IsEndFor, IsEndOf, WritesFor}
 use Rattle.lift_program.specs.Images.{ImageFiles}
-use Rattle.lift_program.specs.Words.{Asks}
+use Rattle.lift_program.specs.Words.{AskForRequest}
 use Rattle.lift_program.specs.declared.end.End.{End}
 use Rattle.lift_program.specs.declared.end.End.TheVariants.{Replayed, Formatted, Shown, Served, Failed, NoImage, Unformatted, Unshown, Unserved, OtherWords}
 use Rattle.lift_program.specs.declared.fault.Fault.TheVariants.{Memory}
 use Rattle.lift_program.specs.declared.words.Request.{Request}
 
 -- an end of what the words ask for
-pub asked_end : (files : ImageFiles) (input : Option (List ℕ)) (words : List Text) (before after : Option (List ℕ)) (end : End files.Made files.Shown files.Served files.File) (request : Request) → Asks words request → IsEndFor files request before after end
+pub asked_end : (files : ImageFiles) (input : Option (List ℕ)) (words : List Text) (before after : Option (List ℕ)) (end : End files.Made files.Shown files.Served files.File) (request : Request) → AskForRequest words request → IsEndFor files request before after end
     → WritesFor files input request before after → IsEndOf files input words before after end
 asked_end files input words before after (Replayed verdict) request asks is writes = inr (request, asks, is, writes)
 asked_end files input words before after (Formatted disk) request asks is writes = inr (request, asks, is, writes)

@@ -6,7 +6,7 @@ use Rattle.clap.specs.declared.error.Error.{Error}
 use Rattle.clap.specs.declared.error.kind.ErrorKind.TheVariants.{OutOfMemory}
 use Rattle.clap.specs.declared.parser.matches.ArgMatches.{ArgMatches}
 use Rattle.clap.proofs.OnLiterals.{clap_on_literals}
-use Rattle.lift_program.specs.Words.{liftd_app, Asks, IsFor}
+use Rattle.lift_program.specs.Words.{liftd_app, AskForRequest, IsFor}
 use Rattle.lift_program.specs.declared.words.Request.{Request}
 
 liftd_is_simple : is_simple liftd_app ≡ true
@@ -29,23 +29,23 @@ found : (app : App) (words : List Text) (m : ArgMatches) → app ≡ liftd_app �
 found app words m same has = (has (ap is_simple same ∙ liftd_is_simple)).1 ∙ ap (λ a. subcommand_of a words) same
 
 asked : (app : App) (words : List Text) (m : ArgMatches) (request : Request) → app ≡ liftd_app → (is_simple_and_free app ≡ true → fault_of app words ≡ []) → HasMatchesOf app words m
-    → IsFor (subcommand_rows_of m) request → Asks words request
+    → IsFor (subcommand_rows_of m) request → AskForRequest words request
 asked app words m request same kinds has is = (taken app words same kinds, subst (λ s. IsFor s request) (found app words m same has) is)
 
 -- what was found is what the words ask for
 pub some_asked : (app : App) (words : List Text) (m : ArgMatches) (r : Option Request) → app ≡ liftd_app → (is_simple_and_free app ≡ true → fault_of app words ≡ []) → HasMatchesOf app words m
-    → IfSome r (λ request. IsFor (subcommand_rows_of m) request) → IfSome r (λ request. Asks words request)
+    → IfSome r (λ request. IsFor (subcommand_rows_of m) request) → IfSome r (λ request. AskForRequest words request)
 some_asked app words m None same kinds has is = tt
 some_asked app words m (Some request) same kinds has is = asked app words m request same kinds has is
 
 -- where nothing was found the words ask for nothing
 pub none_asked : (app : App) (words : List Text) (m : ArgMatches) (r : Option Request) → app ≡ liftd_app → HasMatchesOf app words m
-    → IfNone r ((request : Request) → IsFor (subcommand_rows_of m) request → ⊥) → IfNone r ((request : Request) → Asks words request → ⊥)
+    → IfNone r ((request : Request) → IsFor (subcommand_rows_of m) request → ⊥) → IfNone r ((request : Request) → AskForRequest words request → ⊥)
 none_asked app words m (Some request) same has none = tt
 none_asked app words m None same has none = λ request asks. none request (subst (λ s. IsFor s request) (sym (found app words m same has)) asks.1)
 
 pub refused : (app : App) (words : List Text) (e : Error) (request : Request) → app ≡ liftd_app → (is_simple_and_free app ≡ true → HasKind (fault_of app words) e)
-    → kind_of e ≢ OutOfMemory → Asks words request → ⊥
+    → kind_of e ≢ OutOfMemory → AskForRequest words request → ⊥
 refused app words e request same kinds other asks = go (kinds (ap is_simple_and_free same ∙ liftd_is_free))
   where
     go : HasKind (fault_of app words) e → ⊥

@@ -4,11 +4,11 @@ use Rattle.std.proofs.lemmas.Bool.{false≢true}
 use Rattle.std.specs.Prelude.{Result, Ok, Err, IsErrAnd, IfErr, OnOk, is_err}
 use Rattle.lift_base.specs.Output.{WroteAll, WroteUpToFault}
 use Rattle.lift_base.specs.declared.text.output.WriteFault.{WriteFault}
-use Rattle.lift_replay.specs.Writing.{TakesEach}
+use Rattle.lift_replay.specs.Writing.{TakesSomeEachCall}
 use Rattle.lift_replay.specs.lemmas.Writes.{fails_of, takes_of}
 use Rattle.lift_building.specs.Plan.{Plan}
 use Rattle.lift_program.specs.Ends.{IsFileFault, IsServingFault, IsShowingFault}
-use Rattle.lift_program.specs.Output.{HasFailed}
+use Rattle.lift_program.specs.Output.{WriterHasFailed}
 use Rattle.lift_disk.specs.Disk.{DiskState}
 use Rattle.lift_program.specs.Stages.{IsBuildingFault, IsUnkept, fault_in}
 use Rattle.lift_program.specs.declared.left.Undone.{Undone}
@@ -19,14 +19,14 @@ use Rattle.lift_program.specs.declared.fault.Role.TheVariants.{Image as OfImage,
 
 -- all of the bytes were written
 pub takes_put : {W : Type 0} (gives : W → List ℕ → Option ℕ → W → Type 0) (bytes : List ℕ) (old new : W) (result : Result Unit WriteFault)
-    → is_err result ≡ false → OnOk result ((calls : ℕ) × WroteAll gives bytes 0 calls old new) → TakesEach gives old new
+    → is_err result ≡ false → OnOk result ((calls : ℕ) × WroteAll gives bytes 0 calls old new) → TakesSomeEachCall gives old new
 takes_put gives bytes old new (Ok done) whole told = takes_of gives bytes old new told
 takes_put gives bytes old new (Err fault) whole told = absurd (false≢true (sym whole))
 
 -- or a front of them
 pub put_failed : {W : Type 0} (gives : W → List ℕ → Option ℕ → W → Type 0) (flushes : W → Bool → W → Type 0) (bytes : List ℕ) (old new : W) (result : Result Unit WriteFault)
     → is_err result ≡ true → IfErr result (λ fault. fault.written < length bytes) → IfErr result (λ fault. (calls : ℕ) × WroteUpToFault gives bytes fault.written 0 calls old new)
-    → HasFailed gives flushes old new
+    → WriterHasFailed gives flushes old new
 put_failed gives flushes bytes old new (Ok done) failed within told = absurd (false≢true failed)
 put_failed gives flushes bytes old new (Err fault) failed within told = inl (fails_of gives bytes old new fault within told)
 

@@ -11,7 +11,7 @@ use Rattle.lift_replay.specs.declared.lines.Verdict.{Verdict}
 use Rattle.lift_disk.specs.Disk.{DiskState}
 use Rattle.lift_program.specs.Ends.{SaysFront, serving_text}
 use Rattle.lift_program.specs.Images.{ImageFiles}
-use Rattle.lift_program.specs.Showing.{Shows, ShowsFront, ShowsPart}
+use Rattle.lift_program.specs.Showing.{ShowsRegister, ShowsFront, ShowsPart}
 
 -- where nothing was written, nothing of the port was
 pub nothing_said : (port : ℕ) (written : Option (List ℕ)) → SaysFront port written written
@@ -32,7 +32,7 @@ pub report_front : (input old new : Option (List ℕ)) (verdict : Verdict) → R
 report_front input old new verdict told = (told.0, told.1, (told.2.0, verdict, told.2.1, (told.2.0, ([], append-nil told.2.0), told.2.2)))
 
 -- all lines of a register are a front of them
-pub shown_front : (plan : Plan) (opened left : DiskState) (old new : Option (List ℕ)) → Shows plan opened left old new
+pub shown_front : (plan : Plan) (opened left : DiskState) (old new : Option (List ℕ)) → ShowsRegister plan opened left old new
     → ShowsFront plan opened left old new
 shown_front plan opened left old new shows =
     let text : List ℕ = register_text shows.register in

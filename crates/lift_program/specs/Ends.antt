@@ -23,12 +23,12 @@ use Rattle.lift_replay.specs.declared.lines.Verdict.TheVariants.{Good, Bad}
 use Rattle.lift_replay.specs.Replaying.{ReportsFront, ReportsInput}
 use Rattle.lift_serve.specs.Open.{EndedState}
 use Rattle.lift_program.specs.Faults.{fault_text, help_text, usage_text}
-use Rattle.lift_program.specs.Output.{IsTold, SaysText}
+use Rattle.lift_program.specs.Output.{IsWrittenOrFailed, SaysText}
 use Rattle.lift_program.specs.Serving.{IsServing}
 use Rattle.lift_program.specs.Images.{ImageFiles}
 use Rattle.lift_program.specs.Showing.{IsShown, IsOpeningFault, ShowsPart}
 use Rattle.lift_program.specs.Stages.{HasBuilding, IsBuildingFault, IsLeftAs, IsNoImage}
-use Rattle.lift_program.specs.Words.{Asks, AsksForHelp}
+use Rattle.lift_program.specs.Words.{AskForRequest, AsksForHelp}
 use Rattle.lift_program.specs.declared.fault.Fault.{Fault}
 use Rattle.lift_program.specs.declared.fault.Fault.TheVariants.{Building, Journal, File, Memory}
 use Rattle.lift_program.specs.declared.fault.Fault.TheVariants.{Network, Thread}
@@ -45,19 +45,19 @@ use Rattle.lift_program.specs.declared.words.Request.{Request}
 use Rattle.lift_program.specs.declared.words.Request.TheVariants.{Replay, Format, Show, Serve}
 
 -- 0 where all was done, 1 for a bad script or a fault, 2 for other words
-abbrev pub status_of : {M S V F : Type 0} → End M S V F → ℕ
-status_of (Replayed Good) = 0
-status_of (Replayed Bad) = 1
-status_of (Formatted disk) = 0
-status_of (Shown disk) = 0
-status_of (Served port None left ended) = 0
-status_of (Served port (Some fault) left ended) = 1
-status_of (Failed fault) = 1
-status_of (NoImage fault left) = 1
-status_of (Unformatted fault left) = 1
-status_of (Unshown fault left) = 1
-status_of (Unserved fault left) = 1
-status_of OtherWords = 2
+abbrev pub exit_status_of : {M S V F : Type 0} → End M S V F → ℕ
+exit_status_of (Replayed Good) = 0
+exit_status_of (Replayed Bad) = 1
+exit_status_of (Formatted disk) = 0
+exit_status_of (Shown disk) = 0
+exit_status_of (Served port None left ended) = 0
+exit_status_of (Served port (Some fault) left ended) = 1
+exit_status_of (Failed fault) = 1
+exit_status_of (NoImage fault left) = 1
+exit_status_of (Unformatted fault left) = 1
+exit_status_of (Unshown fault left) = 1
+exit_status_of (Unserved fault left) = 1
+exit_status_of OtherWords = 2
 
 -- the line of a fault
 abbrev pub told_line : Fault → Option (List ℕ)
@@ -206,11 +206,11 @@ abbrev pub IsUnread : {R : Type 0} → InputState R → Type 0
 IsUnread new = (new.failed ≡ true) ⊎ ((new.calls ≡ 2097152) × (new.ended ≡ false))
 
 -- what a request may fail by, with nothing asked of an image
-abbrev pub IsFaultOf : Request → Fault → Type 0
-IsFaultOf Replay fault = IsReplayFault fault
-IsFaultOf (Format image building half) fault = IsBuildingFault fault
-IsFaultOf (Show image building) fault = IsBuildingFault fault
-IsFaultOf (Serve image building port sessions policy) fault = IsBuildingFault fault
+abbrev pub IsRequestFault : Request → Fault → Type 0
+IsRequestFault Replay fault = IsReplayFault fault
+IsRequestFault (Format image building half) fault = IsBuildingFault fault
+IsRequestFault (Show image building) fault = IsBuildingFault fault
+IsRequestFault (Serve image building port sessions policy) fault = IsBuildingFault fault
 
 -- no image was had at the path that was named, and the file that was opened there was left so
 abbrev pub IsNoImageFor : (files : ImageFiles) → Request → Fault → Option files.File → Type 0
@@ -274,7 +274,7 @@ IsEndFor files request before after (Formatted left) = IsMadeFor files request l
 IsEndFor files request before after (Shown disk) = IsShownFor files request disk before after
 IsEndFor files request before after (Served port fault left ended) =
     IsServedFor files request port fault left ended × IfSome fault IsServingFault
-IsEndFor files request before after (Failed fault) = IsFaultOf request fault
+IsEndFor files request before after (Failed fault) = IsRequestFault request fault
 IsEndFor files request before after (NoImage fault left) = IsNoImageFor files request fault left
 IsEndFor files request before after (Unformatted fault left) =
     IsUnformattedFor files request fault left
@@ -306,9 +306,10 @@ WritesFor files input (Serve image building port sessions policy) before after =
 -- written; or, where they ask for nothing, other words.
 abbrev pub IsEndOf : (files : ImageFiles) → (input : Option (List ℕ)) → List Text
     → (before after : Option (List ℕ)) → End files.Made files.Shown files.Served files.File → Type 0
-IsEndOf files input words before after OtherWords = (request : Request) → Asks words request → ⊥
+IsEndOf files input words before after OtherWords = (request : Request)
+    → AskForRequest words request → ⊥
 IsEndOf files input words before after end = ((end ≡ Failed Memory) × (after ≡ before))
-    ⊎ ((request : Request) × Asks words request × IsEndFor files request before after end
+    ⊎ ((request : Request) × AskForRequest words request × IsEndFor files request before after end
     × WritesFor files input request before after)
 
 -- What was written of a fault: nothing of a building's, an image's, a journal's, or the port's.
@@ -325,19 +326,19 @@ IsReportOfFault Thread before after = Unit {0}
 
 -- what was written, by the end: of a script the report of the input, and of a serving what says so;
 -- for other words it is told beside this
-abbrev pub IsReport : {M S V F : Type 0} → (input : Option (List ℕ)) → End M S V F
+abbrev pub IsReportOfEnd : {M S V F : Type 0} → (input : Option (List ℕ)) → End M S V F
     → (before after : Option (List ℕ)) → Type 0
-IsReport input (Replayed verdict) before after = ReportsInput input before after verdict
-IsReport input (Formatted disk) before after = after ≡ before
-IsReport input (Shown disk) before after = Unit {0}
-IsReport input (Served port fault left ended) before after =
+IsReportOfEnd input (Replayed verdict) before after = ReportsInput input before after verdict
+IsReportOfEnd input (Formatted disk) before after = after ≡ before
+IsReportOfEnd input (Shown disk) before after = Unit {0}
+IsReportOfEnd input (Served port fault left ended) before after =
     Appends before after (serving_text port)
-IsReport input (Failed fault) before after = IsReportOfFault fault before after
-IsReport input (NoImage fault left) before after = IsReportOfFault fault before after
-IsReport input (Unformatted fault left) before after = IsReportOfFault fault before after
-IsReport input (Unshown fault left) before after = IsReportOfFault fault before after
-IsReport input (Unserved fault left) before after = IsReportOfFault fault before after
-IsReport input OtherWords before after = Unit {0}
+IsReportOfEnd input (Failed fault) before after = IsReportOfFault fault before after
+IsReportOfEnd input (NoImage fault left) before after = IsReportOfFault fault before after
+IsReportOfEnd input (Unformatted fault left) before after = IsReportOfFault fault before after
+IsReportOfEnd input (Unshown fault left) before after = IsReportOfFault fault before after
+IsReportOfEnd input (Unserved fault left) before after = IsReportOfFault fault before after
+IsReportOfEnd input OtherWords before after = Unit {0}
 
 -- What was written for words that ask for nothing: how the program is called, where they ask for help,
 -- and else nothing.
@@ -364,9 +365,9 @@ pub record IsStatusFor (files : ImageFiles) {E : Type 0} (contents : E
     (old new : OutputState E) (status : ℕ) : Type 0 where
   pub end : End files.Made files.Shown files.Served files.File
   pub is_end : IsEndOf files input words before after end
-  pub reported : IsReport input end before after
+  pub reported : IsReportOfEnd input end before after
   pub answered : end ≡ OtherWords → IsAnswered words has_failed before after
-  pub is_status : status ≡ status_of end
-  pub told : IfSome (line_of end) (IsTold contents old new)
+  pub is_status : status ≡ exit_status_of end
+  pub told : IfSome (line_of end) (IsWrittenOrFailed contents old new)
   pub quiet : line_of end ≡ None → new ≡ old
   pub caused : IsCaused has_failed has_listened was_refused end

@@ -23,10 +23,10 @@ use Rattle.lift_program.specs.declared.fault.Fault.TheVariants.{Building, Journa
 use Rattle.lift_program.specs.declared.fault.Fault.TheVariants.{Network, Thread}
 
 -- a building's fault by its number, a detour with its three floors
-abbrev pub building_text : BuildingFault → List ℕ
-building_text (Detour from by to) =
+abbrev pub building_fault_line : BuildingFault → List ℕ
+building_fault_line (Detour from by to) =
     codes "liftd: building 6 " ++ decimal from ++ 32 ∷ decimal by ++ 32 ∷ decimal to
-building_text fault = codes "liftd: building " ++ decimal (building_number fault)
+building_fault_line fault = codes "liftd: building " ++ decimal (building_number fault)
 
 -- where in the journal a fault was found: damage has its sector, a record that doesn't fit its
 -- place
@@ -45,7 +45,7 @@ journal_text fault = codes "liftd: journal " ++ decimal (journal_number fault) +
 
 -- the line of a fault, without its end
 abbrev pub fault_text : Fault → List ℕ
-fault_text (Building fault) = building_text fault
+fault_text (Building fault) = building_fault_line fault
 fault_text (Journal fault) = journal_text fault
 fault_text (File role) = codes "liftd: file"
 fault_text Memory = codes "liftd: memory"

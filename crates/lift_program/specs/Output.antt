@@ -3,15 +3,16 @@ use Rattle.std.specs.Prelude.{ℕ, ◌≡◌, ◌⊎◌, Bool, true, false, Opti
 use Rattle.std.specs.Prelude.{take}
 use Rattle.std.specs.Io.KnownBytes.{Appends}
 use Rattle.lift_base.specs.Output.{OutputState, Takes, TakesFront, sink_of}
-use Rattle.lift_replay.specs.Writing.{TakesEach, FailsAtLast}
+use Rattle.lift_replay.specs.Writing.{TakesSomeEachCall, FailsAtLast}
 use Rattle.lift_program.specs.declared.fault.Fault.{Fault}
 use Rattle.lift_program.specs.declared.fault.Fault.TheVariants.{File, Memory}
 use Rattle.lift_program.specs.declared.fault.Role.TheVariants.{Output}
 
 -- All of these bytes were written, or the writer failed behind a front of them.
-abbrev pub IsTold : {W : Type 0} → (W → Option (List ℕ)) → (old new : OutputState W) → List ℕ
+abbrev pub IsWrittenOrFailed : {W : Type 0} → (W → Option (List ℕ)) → (old new : OutputState W)
+    → List ℕ
     → Type 0
-IsTold contents old new bytes =
+IsWrittenOrFailed contents old new bytes =
     Takes bytes (sink_of contents old) (sink_of contents new)
     ⊎ ((count : ℕ) × TakesFront count bytes (sink_of contents old) (sink_of contents new))
 
@@ -19,28 +20,29 @@ IsTold contents old new bytes =
 abbrev pub IsFlushed : {W : Type 0} → (gives : W → List ℕ → Option ℕ → W → Type 0)
     → (flushes : W → Bool → W → Type 0) → (old new : W) → Type 0
 IsFlushed {W} gives flushes old new =
-    (last : W) × TakesEach gives old last × flushes last true new
+    (last : W) × TakesSomeEachCall gives old last × flushes last true new
 
 -- Each call of the writer took a byte at least, and then there was none, or a flush that failed.
 abbrev pub WasTaken : {W : Type 0} → (gives : W → List ℕ → Option ℕ → W → Type 0)
     → (flushes : W → Bool → W → Type 0) → (old new : W) → Type 0
 WasTaken {W} gives flushes old new =
-    (last : W) × TakesEach gives old last × ((new ≡ last) ⊎ flushes last false new)
+    (last : W) × TakesSomeEachCall gives old last × ((new ≡ last) ⊎ flushes last false new)
 
 -- The writer's last call failed, or took nothing; or each took a byte at least, and the flush
 -- behind them failed.
-abbrev pub HasFailed : {W : Type 0} → (gives : W → List ℕ → Option ℕ → W → Type 0)
+abbrev pub WriterHasFailed : {W : Type 0} → (gives : W → List ℕ → Option ℕ → W → Type 0)
     → (flushes : W → Bool → W → Type 0) → (old new : W) → Type 0
-HasFailed {W} gives flushes old new =
-    FailsAtLast gives old new ⊎ ((last : W) × TakesEach gives old last × flushes last false new)
+WriterHasFailed {W} gives flushes old new =
+    FailsAtLast gives old new
+    ⊎ ((last : W) × TakesSomeEachCall gives old last × flushes last false new)
 
 -- How the standard output was called: what is written ends well only with a flush behind it that
 -- did not fail; the output is told as the fault only where it has failed, and memory only where no
 -- call failed but a flush.
-pub record IsSettled {W : Type 0} (gives : W → List ℕ → Option ℕ → W → Type 0)
+pub record IsOutputSettled {W : Type 0} (gives : W → List ℕ → Option ℕ → W → Type 0)
     (flushes : W → Bool → W → Type 0) (old new : W) (result : Result Unit Fault) : Type 0 where
   pub flushed : OnOk result (IsFlushed gives flushes old new)
-  pub failed : result ≡ Err (File Output) → HasFailed gives flushes old new
+  pub failed : result ≡ Err (File Output) → WriterHasFailed gives flushes old new
   pub wanting : result ≡ Err Memory → WasTaken gives flushes old new
 
 -- This text was written; or a front of it, and then the output has failed.

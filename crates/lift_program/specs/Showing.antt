@@ -19,7 +19,8 @@ use Rattle.lift_program.specs.Images.{ImageFiles}
 
 -- The recovery has opened a device of the building: this is the register that it gave, and it is
 -- possible in the building.
-pub record Recovers (plan : Plan) (old new : DiskState) (register : RegisterState) : Type 0 where
+pub record RecoversRegister (plan : Plan) (old new : DiskState)
+    (register : RegisterState) : Type 0 where
   pub half : ℕ
   pub is_second : Bool
   pub used : ℕ
@@ -29,16 +30,17 @@ pub record Recovers (plan : Plan) (old new : DiskState) (register : RegisterStat
   pub balanced : IsBalanced register
 
 -- The open calls of the register that the recovery gave were written.
-pub record Shows (plan : Plan) (old new : DiskState) (before after : Option (List ℕ)) : Type 0 where
+pub record ShowsRegister (plan : Plan) (old new : DiskState)
+    (before after : Option (List ℕ)) : Type 0 where
   pub register : RegisterState
-  pub recovers : Recovers plan old new register
+  pub recovers : RecoversRegister plan old new register
   pub written : Appends before after (register_text register)
 
 -- A front of them was.
 pub record ShowsFront (plan : Plan) (old new : DiskState)
     (before after : Option (List ℕ)) : Type 0 where
   pub register : RegisterState
-  pub recovers : Recovers plan old new register
+  pub recovers : RecoversRegister plan old new register
   pub count : ℕ
   pub written : Appends before after (take count (register_text register))
 
@@ -67,7 +69,7 @@ pub record IsShown (files : ImageFiles) (path : List ℕ) (disk : files.Shown)
   pub described : IsTextOf text plan
   pub opened : files.Shown
   pub fresh : files.is_to_be_shown path opened
-  pub shows : Shows plan (files.shown_state opened) (files.shown_state disk) before after
+  pub shows : ShowsRegister plan (files.shown_state opened) (files.shown_state disk) before after
   pub only_read : files.is_only_read disk
 
 -- What an opening may be refused for: what the journal's opening is, a building of another shape,

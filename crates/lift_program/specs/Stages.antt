@@ -27,8 +27,8 @@ abbrev pub most_text : ℕ
 most_text = 1048576
 
 -- so many bytes were taken from the reader
-abbrev pub TakesAll : {R : Type 0} → ℕ → (R → Option (List ℕ)) → (old new : R) → Type 0
-TakesAll count remaining old new = (bytes : List ℕ) × (length bytes ≡ count)
+abbrev pub TakesBytes : {R : Type 0} → ℕ → (R → Option (List ℕ)) → (old new : R) → Type 0
+TakesBytes count remaining old new = (bytes : List ℕ) × (length bytes ≡ count)
     × Consumes (remaining old) (remaining new) bytes
 
 -- a text within the bound was read, and it describes this building

@@ -115,19 +115,21 @@ IsFor (Some command) request = ((command.0 ≡ codes "replay") × (request ≡ R
     ⊎ ((command.0 ≡ codes "serve") × IsServe command.1 request)))
 
 -- The grammar of the commands takes the words, and they ask for this.
-abbrev pub Asks : List Text → Request → Type 0
-Asks words request = (fault_of liftd_app words ≡ []) × IsFor (subcommand_of liftd_app words) request
+abbrev pub AskForRequest : List Text → Request → Type 0
+AskForRequest words request = (fault_of liftd_app words ≡ [])
+    × IsFor (subcommand_of liftd_app words) request
 
 -- none of these requests is there
 abbrev pub AsksNothing : (Request → Type 0) → Type 0
 AsksNothing is_asked = (request : Request) → is_asked request → ⊥
 
 -- 64 to 1,000,000 sectors in a half
-abbrev pub IsInRange : Request → Type 0
-IsInRange Replay = Unit {0}
-IsInRange (Format image building half) = (64 ≤ half) × (half ≤ 1000000)
-IsInRange (Show image building) = Unit {0}
-IsInRange (Serve image building port sessions policy) = (1 ≤ port) × (port ≤ 65535) × (1 ≤ sessions)
+abbrev pub IsRequestInRange : Request → Type 0
+IsRequestInRange Replay = Unit {0}
+IsRequestInRange (Format image building half) = (64 ≤ half) × (half ≤ 1000000)
+IsRequestInRange (Show image building) = Unit {0}
+IsRequestInRange (Serve image building port sessions policy) = (1 ≤ port) × (port ≤ 65535)
+    × (1 ≤ sessions)
     × (sessions ≤ 1000000)
 
 -- the words ask for help, and for nothing else

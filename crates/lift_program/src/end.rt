@@ -1,8 +1,8 @@
 //! How the program ends.
 
 ghost use Rattle.std.specs.Prelude.{◌≡◌, None, IfSome};
-ghost use Rattle.lift_program.specs.Ends.{line_of, status_of};
-ghost use Rattle.lift_program.specs.Output.{IsTold};
+ghost use Rattle.lift_program.specs.Ends.{line_of, exit_status_of};
+ghost use Rattle.lift_program.specs.Output.{IsWrittenOrFailed};
 
 use crate::fault::Fault;
 use crate::left::Left;
@@ -43,7 +43,7 @@ impl<M, S, V, F> End<M, S, V, F> {
     /// The program's status: 0 where all was done, 1 for a bad script or a fault, 2 for other
     /// words.
     pub fn status(&self) -> u8
-        ensures { result ≡ status_of self.now }
+        ensures { result ≡ exit_status_of self.now }
     {
         match self {
             End::Replayed(Verdict::Good) => 0,
@@ -64,7 +64,8 @@ impl<M, S, V, F> End<M, S, V, F> {
     /// Writes the line of a fault, or of other words. Where it can't be written, the status alone
     /// tells.
     pub fn tell<E: Write + Drop>(&self, errors: &mut Watched<E>)
-        ensures told { IfSome (line_of self.now) (IsTold E.contents errors.old errors.new) }
+        ensures told { IfSome (line_of self.now)
+            (IsWrittenOrFailed E.contents errors.old errors.new) }
         ensures quiet { line_of self.now ≡ None → errors.new ≡ errors.old }
     {
         match self {

@@ -4,9 +4,9 @@ ghost use Rattle.std.specs.Prelude.{◌≡◌, ◌≢◌, ◌≤◌, ◌+◌, �
 ghost use Rattle.std.specs.Fmt.{decimal};
 ghost use Rattle.std.specs.IoError.{error_kind};
 ghost use Rattle.arrayvec.specs.ArrayString.{array_string_len};
-ghost use Rattle.lift_program.specs.Faults.{building_text, journal_text, fault_text, of_building};
-ghost use Rattle.lift_program.specs.Faults.{of_replay};
-ghost use Rattle.lift_program.specs.Output.{IsTold};
+ghost use Rattle.lift_program.specs.Faults.{building_fault_line, journal_text, fault_text};
+ghost use Rattle.lift_program.specs.Faults.{of_building, of_replay};
+ghost use Rattle.lift_program.specs.Output.{IsWrittenOrFailed};
 ghost use Rattle.lift_program.specs.declared.fault.Fault.TheVariants.{Memory as Wanting};
 
 use crate::output::tell;
@@ -128,7 +128,7 @@ fn plain_line(text: &str) -> Line
 
 /// The line of a building's fault, without its end.
 fn building_line(fault: BuildingFault) -> Line
-    ensures text { result.bytes ≡ building_text fault }
+    ensures text { result.bytes ≡ building_fault_line fault }
     ensures short { array_string_len result ≤ 63 }
 {
     match fault {
@@ -194,7 +194,8 @@ impl Fault {
 
     /// Writes its line.
     pub fn tell<E: Write + Drop>(&self, errors: &mut Watched<E>)
-        ensures { IsTold E.contents errors.old errors.new (fault_text self.now ++ 10 ∷ []) }
+        ensures { IsWrittenOrFailed E.contents errors.old errors.new
+            (fault_text self.now ++ 10 ∷ []) }
     {
         let mut line = self.line();
         line.push_str("\n");

@@ -10,7 +10,7 @@ ghost use Rattle.lift_disk.specs.Traced.{making_calls, to_be_made, to_be_read, t
 ghost use Rattle.lift_replay.specs.Reading.{TakesUpTo};
 ghost use Rattle.lift_program.specs.Ends.{IsFileFault, IsImageFault, IsUncalled, IsUnread};
 ghost use Rattle.lift_program.specs.Images.{IsJustMade, IsUnhad, file_in, image_files};
-ghost use Rattle.lift_program.specs.Stages.{HasBuilding, IsBuildingFault, TakesAll, most_text};
+ghost use Rattle.lift_program.specs.Stages.{HasBuilding, IsBuildingFault, TakesBytes, most_text};
 ghost use Rattle.lift_program.specs.declared.fault.Role.TheVariants.{Building as OfBuilding};
 ghost use Rattle.lift_program.specs.declared.fault.Role.TheVariants.{Image as OfImage};
 
@@ -49,7 +49,7 @@ fn bytes_of<R: Read + Drop>(alloc: Global, reader: &mut Counted<R>) -> Result<Ve
     // The file is refused where it couldn't be read, or where it held a byte too many; memory is
     // wanting only where no call failed.
     ensures refused { result ≡ Err (Fault.File OfBuilding) → IsUnread reader.new
-        ⊎ TakesAll (most_text + 1) R.remaining reader.old.reader reader.new.reader }
+        ⊎ TakesBytes (most_text + 1) R.remaining reader.old.reader reader.new.reader }
     ensures wanting { result ≡ Err Fault.Memory → reader.new.failed ≡ false }
     ensures unfailed { OnOk result (reader.new.failed ≡ false) }
 {

@@ -3,7 +3,7 @@
 ghost use Rattle.std.specs.Prelude.{ℕ, Bool, true, false, OnOk, OnErr, IfErr, take, ⊤};
 ghost use Rattle.std.specs.Io.KnownBytes.{Appends, Keeps};
 ghost use Rattle.lift_program.specs.Ends.{IsFileFault};
-ghost use Rattle.lift_program.specs.Output.{IsSettled, IsTold};
+ghost use Rattle.lift_program.specs.Output.{IsOutputSettled, IsWrittenOrFailed};
 ghost use Rattle.lift_program.specs.declared.fault.Role.TheVariants.{Output};
 
 use crate::fault::{Fault, Role};
@@ -38,7 +38,7 @@ pub fn write_out<W: Outflow>(writer: &mut W, bytes: &[u8]) -> Result<(), Fault>
     ensures front { OnErr result ((n : ℕ)
         × Appends (W.contents writer.old) (W.contents writer.new) (take n bytes.now)) }
     ensures fault { IfErr result (IsFileFault Output) }
-    ensures settled { IsSettled W.gives W.flushes writer.old writer.new result }
+    ensures settled { IsOutputSettled W.gives W.flushes writer.old writer.new result }
 {
     if put_all(writer, bytes).is_err() {
         return Err(Fault::File(Role::Output));
@@ -51,7 +51,7 @@ pub fn write_out<W: Outflow>(writer: &mut W, bytes: &[u8]) -> Result<(), Fault>
 
 /// Writes all of the bytes, or those before which the writer fails: it keeps in mind that it did.
 pub fn tell<W: Write + Drop>(writer: &mut Watched<W>, bytes: &[u8])
-    ensures { IsTold W.contents writer.old writer.new bytes.now }
+    ensures { IsWrittenOrFailed W.contents writer.old writer.new bytes.now }
 {
     match writer.put(bytes) {
         Ok(()) => {}

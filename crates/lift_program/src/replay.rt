@@ -1,10 +1,10 @@
 //! The carrying out of a script.
 
 ghost use Rattle.std.specs.Prelude.{◌≡◌, ◌≤◌, ◌+◌, true, IfErr, OnOk};
-ghost use Rattle.lift_replay.specs.Reading.{IsRead, TakesUpTo, most_bytes};
+ghost use Rattle.lift_replay.specs.Reading.{IsInputRead, TakesUpTo, most_bytes};
 ghost use Rattle.lift_program.specs.declared.fault.Role.TheVariants.{Input, Output};
 ghost use Rattle.lift_program.specs.Ends.{IsReplayFault, IsUncalled, IsUnread, ReportsAll};
-ghost use Rattle.lift_program.specs.Output.{HasFailed, IsFlushed};
+ghost use Rattle.lift_program.specs.Output.{WriterHasFailed, IsFlushed};
 
 use crate::fault::{Fault, Role};
 use crate::output::Outflow;
@@ -29,13 +29,13 @@ pub fn replay<R: Read + Drop, W: Outflow>(
     ensures unread { result ≡ Err (Fault.File Input) → IsUnread input.new }
     ensures unwritten { result ≡ Err (Fault.File Input)
         → W.contents writer.new ≡ W.contents writer.old }
-    ensures read { result ≡ Err (Fault.File Output) → IsRead R.remaining input.old input.new }
+    ensures read { result ≡ Err (Fault.File Output) → IsInputRead R.remaining input.old input.new }
     // Nothing is read behind what the script took.
     ensures taken { TakesUpTo (most_bytes + 1) R.remaining input.old.reader input.new.reader }
     ensures few_calls { input.new.calls ≤ 2097152 }
     ensures flushed { OnOk result (IsFlushed W.gives W.flushes writer.old writer.new) }
     ensures failed { result ≡ Err (Fault.File Output)
-        → HasFailed W.gives W.flushes writer.old writer.new }
+        → WriterHasFailed W.gives W.flushes writer.old writer.new }
 {
     let verdict = lift_replay::run(alloc, input, writer)?;
     match writer.settle() {

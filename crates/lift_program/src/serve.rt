@@ -8,7 +8,7 @@ ghost use Rattle.lift_program.specs.Ends.{IsServingFault, SaysFront, serving_tex
 ghost use Rattle.lift_program.specs.Faults.{served_fault};
 ghost use Rattle.lift_program.specs.Images.{image_files};
 ghost use Rattle.lift_program.specs.Listening.{HasListened, local};
-ghost use Rattle.lift_program.specs.Output.{HasFailed, IsSettled};
+ghost use Rattle.lift_program.specs.Output.{WriterHasFailed, IsOutputSettled};
 ghost use Rattle.lift_program.specs.Serving.{IsServing};
 ghost use Rattle.lift_program.specs.Stages.{IsUndoneServing, fault_in};
 ghost use Rattle.lift_program.specs.declared.fault.Role.TheVariants.{Output};
@@ -55,7 +55,7 @@ fn say<W: Outflow>(port: u16, writer: &mut W) -> Result<(), Fault>
     ensures front { OnErr result
         (SaysFront port (W.contents writer.old) (W.contents writer.new)) }
     ensures fault { IfErr result (IsFileFault Output) }
-    ensures settled { IsSettled W.gives W.flushes writer.old writer.new result }
+    ensures settled { IsOutputSettled W.gives W.flushes writer.old writer.new result }
 {
     let mut digits = Buffer::new();
     let mut line: ArrayString<64> = ArrayString::new();
@@ -141,7 +141,7 @@ pub fn serve<
         IsReportOfFault (fault_in undone) (W.contents writer.old) (W.contents writer.new)) }
     ensures front { SaysFront port (W.contents writer.old) (W.contents writer.new) }
     ensures failed { IfErr result (λ undone. fault_in undone ≡ Fault.File Output
-        → HasFailed W.gives W.flushes writer.old writer.new) }
+        → WriterHasFailed W.gives W.flushes writer.old writer.new) }
 {
     let building = match building_in(rt, alloc, building) {
         Ok(building) => building,

@@ -8,8 +8,8 @@ ghost use Rattle.lift_replay.specs.Report.{register_text};
 ghost use Rattle.lift_program.specs.Ends.{IsFileFault, IsReportOfFault, IsShowingFault};
 ghost use Rattle.lift_program.specs.Ends.{IsShowingUndone};
 ghost use Rattle.lift_program.specs.Images.{image_files};
-ghost use Rattle.lift_program.specs.Output.{HasFailed, IsSettled};
-ghost use Rattle.lift_program.specs.Showing.{IsShown, Shows, ShowsFront, ShowsPart};
+ghost use Rattle.lift_program.specs.Output.{WriterHasFailed, IsOutputSettled};
+ghost use Rattle.lift_program.specs.Showing.{IsShown, ShowsRegister, ShowsFront, ShowsPart};
 ghost use Rattle.lift_program.specs.Stages.{IsUndoneShowing, fault_in};
 ghost use Rattle.lift_program.specs.declared.fault.Fault.TheVariants.{Journal as OfJournal};
 ghost use Rattle.lift_program.specs.declared.fault.Role.TheVariants.{Output};
@@ -35,7 +35,7 @@ fn write_rows<W: Outflow>(alloc: Global, register: &Register, writer: &mut W) ->
         × Appends (W.contents writer.old) (W.contents writer.new)
         (take n (register_text register.now))) }
     ensures fault { IfErr result (IsFileFault Output) }
-    ensures settled { IsSettled W.gives W.flushes writer.old writer.new result }
+    ensures settled { IsOutputSettled W.gives W.flushes writer.old writer.new result }
 {
     let mut report = String::new(alloc);
     push_rows(&mut report, register)?;
@@ -52,7 +52,7 @@ fn show_on<D: Disk + Drop, W: Outflow>(
 ) -> (D, Result<(), Fault>)
     // What is written is exactly the lines of the register that the recovery gave,
     ensures shown { OnOk result.1
-        (Shows building.now (D.state disk) (D.state result.0) (W.contents writer.old)
+        (ShowsRegister building.now (D.state disk) (D.state result.0) (W.contents writer.old)
         (W.contents writer.new)) }
     // or a front of them, where they can't be written.
     ensures front { IfErr result.1 (λ fault. IsFileFault Output fault
@@ -67,7 +67,7 @@ fn show_on<D: Disk + Drop, W: Outflow>(
     ensures writes { (D.state result.0).writes ≡ (D.state disk).writes }
     // The standard output is told only where it failed.
     ensures failed { result.1 ≡ Err (Fault.File Output)
-        → HasFailed W.gives W.flushes writer.old writer.new }
+        → WriterHasFailed W.gives W.flushes writer.old writer.new }
 {
     match Keeper::open(disk, building) {
         Ok(keeper) => {
@@ -101,7 +101,7 @@ pub fn show<F: Files<File = File> + ToldFiles, W: Outflow>(
     ensures report { IfErr result (λ undone.
         IsReportOfFault (fault_in undone) (W.contents writer.old) (W.contents writer.new)) }
     ensures failed { IfErr result (λ undone. fault_in undone ≡ Fault.File Output
-        → HasFailed W.gives W.flushes writer.old writer.new) }
+        → WriterHasFailed W.gives W.flushes writer.old writer.new) }
 {
     let building = match building_in(rt, alloc, building) {
         Ok(building) => building,

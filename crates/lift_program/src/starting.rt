@@ -2,15 +2,15 @@
 
 ghost use Rattle.std.specs.Prelude.{◌≡◌, ◌≢◌, ◌≤◌, None, true, map, IfSome};
 ghost use Rattle.std.specs.IoError.{error_kind};
-ghost use Rattle.lift_replay.specs.Reading.{IsRead};
+ghost use Rattle.lift_replay.specs.Reading.{IsInputRead};
 ghost use Rattle.lift_replay.specs.declared.lines.Verdict.TheVariants.{Good};
 ghost use Rattle.lift_program.specs.declared.fault.Role.TheVariants.{Input, Output};
-ghost use Rattle.lift_program.specs.Ends.{IsAnswered, IsCaused, IsEndFor, IsEndOf, IsReport, IsStatusFor};
-ghost use Rattle.lift_program.specs.Ends.{IsUncalled, IsUnread, WritesFor, line_of};
+ghost use Rattle.lift_program.specs.Ends.{IsAnswered, IsCaused, IsEndFor, IsEndOf, IsReportOfEnd};
+ghost use Rattle.lift_program.specs.Ends.{IsStatusFor, IsUncalled, IsUnread, WritesFor, line_of};
 ghost use Rattle.lift_program.specs.Images.{image_files};
 ghost use Rattle.lift_program.specs.Listening.{HasListened, WasRefused};
-ghost use Rattle.lift_program.specs.Output.{HasFailed, IsTold};
-ghost use Rattle.lift_program.specs.Words.{Asks, IsInRange};
+ghost use Rattle.lift_program.specs.Output.{WriterHasFailed, IsWrittenOrFailed};
+ghost use Rattle.lift_program.specs.Words.{AskForRequest, IsRequestInRange};
 ghost use Rattle.lift_program.specs.declared.words.Request.TheVariants.{Replay};
 
 use crate::end::End;
@@ -48,7 +48,7 @@ fn done<
     input: &mut Counted<R>,
     writer: &mut W,
 ) -> End<SectorFile<F::Told>, ShownImage<F::Told>, BufferedFile<F::Told>, F::Told>
-    requires range { IsInRange request }
+    requires range { IsRequestInRange request }
     requires uncalled { IsUncalled input.old }
     ensures end { IsEndFor (image_files (F.stands rt.now) (F.opens rt.now) (F.names rt.now) (F.unnamed rt.now) F.Told.gives F.Told.fails F.Told.holds
         ⟦<BufferedFile<F::Told> as Disk>⟧.state ⟦<ShownImage<F::Told> as Disk>⟧.state) request.entry
@@ -56,14 +56,14 @@ fn done<
     ensures only { WritesFor (image_files (F.stands rt.now) (F.opens rt.now) (F.names rt.now) (F.unnamed rt.now) F.Told.gives F.Told.fails F.Told.holds
         ⟦<BufferedFile<F::Told> as Disk>⟧.state ⟦<ShownImage<F::Told> as Disk>⟧.state) (R.remaining input.old.reader) request.entry
         (W.contents writer.old) (W.contents writer.new) }
-    ensures report { IsReport (R.remaining input.old.reader) result (W.contents writer.old)
+    ensures report { IsReportOfEnd (R.remaining input.old.reader) result (W.contents writer.old)
         (W.contents writer.new) }
     ensures good { result ≡ End.Replayed Good → input.new.ended ≡ true }
     ensures unread { result ≡ End.Failed (Fault.File Input) → IsUnread input.new }
     ensures few_calls { input.new.calls ≤ 2097152 }
     ensures read { request.entry ≡ Replay → result ≡ End.Failed (Fault.File Output)
-        → IsRead R.remaining input.old input.new }
-    ensures caused { IsCaused (HasFailed W.gives W.flushes writer.old writer.new)
+        → IsInputRead R.remaining input.old input.new }
+    ensures caused { IsCaused (WriterHasFailed W.gives W.flushes writer.old writer.new)
         (HasListened F.gives rt.now) (WasRefused F.gives rt.now) result }
 {
     match request {
@@ -106,7 +106,7 @@ fn done<
 pub fn not_given<E: Write + Drop>(error: io::Error, errors: &mut Watched<E>) -> End<(), (), (), ()>
     ensures memory { error_kind error ≡ ErrorKind.OutOfMemory → result ≡ End.Failed Fault.Memory }
     ensures other { error_kind error ≢ ErrorKind.OutOfMemory → result ≡ End.OtherWords }
-    ensures told { IfSome (line_of result) (IsTold E.contents errors.old errors.new) }
+    ensures told { IfSome (line_of result) (IsWrittenOrFailed E.contents errors.old errors.new) }
 {
     let end = if error.kind() == ErrorKind::OutOfMemory {
         End::Failed(Fault::Memory)
@@ -139,25 +139,26 @@ fn carry_out<
         ⟦<BufferedFile<F::Told> as Disk>⟧.state ⟦<ShownImage<F::Told> as Disk>⟧.state) (R.remaining input.old.reader) (map S.text words.now)
         (W.contents writer.old) (W.contents writer.new) result }
     // a fault and other words are told by their line,
-    ensures told { IfSome (line_of result) (IsTold E.contents errors.old errors.new) }
+    ensures told { IfSome (line_of result) (IsWrittenOrFailed E.contents errors.old errors.new) }
     // and what was done tells nothing.
     ensures quiet { line_of result ≡ None → errors.new ≡ errors.old }
     // A script's report is that of the input, and a journal's are its open calls.
-    ensures report { IsReport (R.remaining input.old.reader) result (W.contents writer.old)
+    ensures report { IsReportOfEnd (R.remaining input.old.reader) result (W.contents writer.old)
         (W.contents writer.new) }
     // Words that ask for nothing are answered by how the program is called, if they ask for help.
     ensures answered { result ≡ End.OtherWords → IsAnswered (map S.text words.now)
-        (HasFailed W.gives W.flushes writer.old writer.new) (W.contents writer.old)
+        (WriterHasFailed W.gives W.flushes writer.old writer.new) (W.contents writer.old)
         (W.contents writer.new) }
     // A good script was read to its end,
     ensures good { result ≡ End.Replayed Good → input.new.ended ≡ true }
     // one that is undone for the standard input could not be read,
     ensures unread { result ≡ End.Failed (Fault.File Input) → IsUnread input.new }
     // and one that is undone for the standard output was.
-    ensures read { Asks (map S.text words.now) Replay → result ≡ End.Failed (Fault.File Output)
-        → IsRead R.remaining input.old input.new }
+    ensures read { AskForRequest (map S.text words.now) Replay
+        → result ≡ End.Failed (Fault.File Output)
+        → IsInputRead R.remaining input.old input.new }
     // The standard output is told only where it failed, and the port only where it was refused.
-    ensures caused { IsCaused (HasFailed W.gives W.flushes writer.old writer.new)
+    ensures caused { IsCaused (WriterHasFailed W.gives W.flushes writer.old writer.new)
         (HasListened F.gives rt.now) (WasRefused F.gives rt.now) result }
 {
     let end = match request_of(alloc, words) {
@@ -186,7 +187,7 @@ pub fn start<
     ensures status { IsStatusFor (image_files (F.stands rt.now) (F.opens rt.now) (F.names rt.now) (F.unnamed rt.now) F.Told.gives F.Told.fails F.Told.holds
         ⟦<BufferedFile<F::Told> as Disk>⟧.state ⟦<ShownImage<F::Told> as Disk>⟧.state) E.contents (map S.text words.now) (R.remaining reader)
         (W.contents writer.old) (W.contents writer.new)
-        (HasFailed W.gives W.flushes writer.old writer.new) (HasListened F.gives rt.now)
+        (WriterHasFailed W.gives W.flushes writer.old writer.new) (HasListened F.gives rt.now)
         (WasRefused F.gives rt.now) errors.old errors.new result }
 {
     let mut input = Counted::new(reader);

@@ -2,8 +2,9 @@
 
 ghost use Rattle.std.specs.Prelude.{◌≡◌, ◌≤◌, ◌↔◌, ℕ, map, option_map, IfOk, IfSome, IfNone, IsTrue};
 ghost use Rattle.clap.specs.Words.{Text, rows_of, found_of, subcommand_rows_of};
-ghost use Rattle.lift_program.specs.Words.{Asks, AsksForHelp, AsksNothing, IsCount, IsFor, IsFormat, IsShow};
-ghost use Rattle.lift_program.specs.Words.{IsHalf, IsInRange, IsOver, IsPolicy, IsPolicyWord, IsServe};
+ghost use Rattle.lift_program.specs.Words.{AskForRequest, AsksForHelp, AsksNothing, IsCount, IsFor};
+ghost use Rattle.lift_program.specs.Words.{IsFormat, IsShow, IsHalf, IsRequestInRange, IsOver};
+ghost use Rattle.lift_program.specs.Words.{IsPolicy, IsPolicyWord, IsServe};
 ghost use Rattle.lift_policy.specs.declared.shipped.Shipped.{Shipped as ShippedValue};
 
 use crate::grammar::grammar;
@@ -82,7 +83,7 @@ fn files_of<'a>(matches: &ArgMatches<'a>) -> Option<(&'a str, &'a str)>
 /// What the words behind `format` ask for.
 fn format_of<'a>(matches: &ArgMatches<'a>) -> Option<Request<'a>>
     ensures some { IfSome result (λ request. IsFormat (rows_of (found_of matches.now)) request) }
-    ensures range { IfSome result (λ request. IsInRange request) }
+    ensures range { IfSome result (λ request. IsRequestInRange request) }
     ensures none { IfNone result (AsksNothing (IsFormat (rows_of (found_of matches.now)))) }
 {
     let (image, building) = files_of(matches)?;
@@ -97,7 +98,7 @@ fn format_of<'a>(matches: &ArgMatches<'a>) -> Option<Request<'a>>
 /// What the words behind `show` ask for.
 fn show_of<'a>(matches: &ArgMatches<'a>) -> Option<Request<'a>>
     ensures some { IfSome result (λ request. IsShow (rows_of (found_of matches.now)) request) }
-    ensures range { IfSome result (λ request. IsInRange request) }
+    ensures range { IfSome result (λ request. IsRequestInRange request) }
     ensures none { IfNone result (AsksNothing (IsShow (rows_of (found_of matches.now)))) }
 {
     let (image, building) = files_of(matches)?;
@@ -148,7 +149,7 @@ fn policy_of(word: Option<&str>) -> Option<Shipped>
 /// What the words behind `serve` ask for.
 fn serve_of<'a>(matches: &ArgMatches<'a>) -> Option<Request<'a>>
     ensures some { IfSome result (λ request. IsServe (rows_of (found_of matches.now)) request) }
-    ensures range { IfSome result (λ request. IsInRange request) }
+    ensures range { IfSome result (λ request. IsRequestInRange request) }
     ensures none { IfNone result (AsksNothing (IsServe (rows_of (found_of matches.now)))) }
 {
     let (image, building) = files_of(matches)?;
@@ -167,7 +168,7 @@ fn serve_of<'a>(matches: &ArgMatches<'a>) -> Option<Request<'a>>
 /// What the words ask for, by the command among them.
 fn found_in<'a>(matches: &ArgMatches<'a>) -> Option<Request<'a>>
     ensures some { IfSome result (λ request. IsFor (subcommand_rows_of matches.now) request) }
-    ensures range { IfSome result (λ request. IsInRange request) }
+    ensures range { IfSome result (λ request. IsRequestInRange request) }
     ensures none { IfNone result (AsksNothing (IsFor (subcommand_rows_of matches.now))) }
 {
     match matches.subcommand() {
@@ -199,10 +200,10 @@ pub fn request_of<'a, S: AsStr>(
     words: &'a [S],
 ) -> Result<Option<Request<'a>>, AllocError>
     ensures asked { IfOk result (λ found.
-        IfSome found (λ request. Asks (map S.text words.now) request)) }
-    ensures range { IfOk result (λ found. IfSome found (λ request. IsInRange request)) }
+        IfSome found (λ request. AskForRequest (map S.text words.now) request)) }
+    ensures range { IfOk result (λ found. IfSome found (λ request. IsRequestInRange request)) }
     ensures other { IfOk result (λ found.
-        IfNone found (AsksNothing (Asks (map S.text words.now)))) }
+        IfNone found (AsksNothing (AskForRequest (map S.text words.now)))) }
 {
     match grammar(alloc)?.try_get_matches_from(words) {
         Ok(matches) => Ok(found_in(&matches)),

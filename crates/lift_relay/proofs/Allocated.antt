@@ -19,9 +19,9 @@ use Rattle.lift_clerk.specs.Visits.{commands_of, served}
 use Rattle.std.proofs.lemmas.List.{length-map}
 use Rattle.lift_parts.specs.declared.taken.Taken.{Taken}
 use Rattle.lift_parts.specs.Batch.{BatchState, turns_behind, turns_of, turns_after, commands_in, replies_in, noted_in}
-use Rattle.lift_parts.specs.Line.{SendState, Tries, tried, Begins, IsNext, SendsOne, WasFull, IsRefused}
+use Rattle.lift_parts.specs.Line.{SendState, Tries, tried, Begins, IsNextBatch, SendsOne, WasFull, FindsNoRoom}
 use Rattle.lift_parts.specs.Scan.{ScansAhead, TakesEach, turns_in}
-use Rattle.lift_relay.specs.Scanner.{ScannerState, Makes, MakesIt, HasScanned}
+use Rattle.lift_relay.specs.Scanner.{ScannerState, MakesBatch, MakesIt, HasScanned}
 use Rattle.lift_relay.proofs.Queues.{full_by}
 use Rattle.lift_parts.specs.Allocator.{AllocatorState, DecidesAlong, GoesOnBehind, IsAllocator, IsScanTurn, IsAllocation, tries_behind}
 
@@ -50,7 +50,7 @@ pub makes : {P : Type 0} (choice : Choice) (a : ScannerState P) (seat : List Cle
     → batch ≡ record { commands = taken; entries = entries; building = plan; before = before; after = after; desk = a.desk; turns = turns_of seats } → IsClerkOf a.desk seat
     → Run a.plan choice a.state (commands_in taken) (replies_in taken) decided → entries ≡ decided.batch → plan ≡ a.plan → before ≡ a.state
     → after ≡ settled decided → turns_in a.seat + 1 ≤ turns_in seat
-    → seats ≡ a.seat → turns_after (turns_of a.seat) taken ≡ turns_of seat → Makes choice a seat decided batch
+    → seats ≡ a.seat → turns_after (turns_of a.seat) taken ≡ turns_of seat → MakesBatch choice a seat decided batch
 makes choice a seat decided taken entries plan before after seats batch is seated run same building on leads uses of_seat turns = record {
   uses = uses;
   seated = seated;
@@ -74,7 +74,7 @@ behind_none plan desk sent turns hand shown used none same still = subst (λ (l 
 
 -- the new batch is sent
 pub sent_one : {P : Type 0} (choice : Choice) (a : AllocatorState P) (seat : List ClerkPlace) (decided state : State) (plan : Plan) (batch : BatchState) (end : SendState)
-    → IsAllocator choice a → a.hand ≡ [] → Makes choice (half_of a) seat decided batch → plan ≡ a.plan → state ≡ settled decided → SendsOne a.end batch end
+    → IsAllocator choice a → a.hand ≡ [] → MakesBatch choice (half_of a) seat decided batch → plan ≡ a.plan → state ≡ settled decided → SendsOne a.end batch end
     → IsAllocator choice (record { desk = a.desk; seat = seat; plan = plan; state = state; start = a.start; policy = a.policy; end = end; hand = a.hand })
 sent_one choice a seat decided state plan batch end is none made of_plan settles sent =
     let along = along_more a.plan choice a.start a.state decided (a.end.sent ++ a.hand) batch is.decides made.run made.entries in
@@ -92,7 +92,7 @@ sent_one choice a seat decided state plan batch end is none made of_plan settles
 
 -- the line has no room for it
 pub held_one : {P : Type 0} (choice : Choice) (a : AllocatorState P) (seat : List ClerkPlace) (decided state : State) (plan : Plan) (batch back : BatchState) (end : SendState)
-    → IsAllocator choice a → a.hand ≡ [] → Makes choice (half_of a) seat decided batch → plan ≡ a.plan → state ≡ settled decided → end ≡ record a.end { tries = tried a.end.tries true } → back ≡ batch
+    → IsAllocator choice a → a.hand ≡ [] → MakesBatch choice (half_of a) seat decided batch → plan ≡ a.plan → state ≡ settled decided → end ≡ record a.end { tries = tried a.end.tries true } → back ≡ batch
     → IsAllocator choice (record { desk = a.desk; seat = seat; plan = plan; state = state; start = a.start; policy = a.policy; end = end; hand = back ∷ [] })
 held_one choice a seat decided state plan batch back end is none made of_plan settles same_end is_back =
     let along = along_more a.plan choice a.start a.state decided (a.end.sent ++ a.hand) batch is.decides made.run made.entries in
@@ -109,7 +109,7 @@ held_one choice a seat decided state plan batch back end is none made of_plan se
       decides = subst (λ (p : Plan × List BatchState × State). DecidesAlong p.0 choice a.start p.1 p.2) (λ i. (sym of_plan i, same i, sym settles i)) along;
       few = let used = made.uses in let was = is.few in omega (arith, ap (λ (e : SendState). length e.sent) same_end, ap length none);
       goes_on = (
-        subst (λ (p : Plan × State × List ℕ × BatchState). IsNext p.0 a.desk p.1 p.2 p.3) (λ i. (sym of_plan i, shown i, used i, sym is_back i)) made.next,
+        subst (λ (p : Plan × State × List ℕ × BatchState). IsNextBatch p.0 a.desk p.1 p.2 p.3) (λ i. (sym of_plan i, shown i, used i, sym is_back i)) made.next,
         settles ∙ sym made.leads ∙ ap (λ (b : BatchState). b.after) (sym is_back),
         made.turns ∙ ap turns_behind (sym is_back),
       );
@@ -135,7 +135,7 @@ some_command [] commands is some = absurd (some (sym is))
 some_command (t ∷ taken) commands is some = omega arith
 
 -- what was full at a refused try reads so behind it
-pub refused_full : (old new : SendState) → IsRefused old new → WasFull new
+pub refused_full : (old new : SendState) → FindsNoRoom old new → WasFull new
 refused_full old new refused =
     let full = refused.was_full in
     subst WasFull (sym refused.tries) (record { items = full.items; four = full.four; received = full.received; all = full.all; later = full.later })
@@ -195,7 +195,7 @@ module _ {P : Type 0} (chooses : P → Choice) (s n : ScannerState P) (end : Sen
       subst (λ (v : ScannerState P). IsAllocator (chooses v.policy) (allocator_of v sent hand)) (sym scan.same)
       (sent_one (chooses s.policy) (allocator_of s end hand) n.seat scan.decided n.state s.plan batch sent is none scan.makes.2 refl scan.after sends)
 
-  pub scanned_held : (batch back : BatchState) (sent : SendState) → HasScanned (chooses s.policy) s n counts (Some batch) → back ≡ batch → IsRefused end sent → IsAllocator (chooses n.policy) (allocator_of n sent (back ∷ []))
+  pub scanned_held : (batch back : BatchState) (sent : SendState) → HasScanned (chooses s.policy) s n counts (Some batch) → back ≡ batch → FindsNoRoom end sent → IsAllocator (chooses n.policy) (allocator_of n sent (back ∷ []))
   scanned_held batch back sent scan same refused =
       subst (λ (v : ScannerState P). IsAllocator (chooses v.policy) (allocator_of v sent (back ∷ []))) (sym scan.same)
       (held_one (chooses s.policy) (allocator_of s end hand) n.seat scan.decided n.state s.plan batch back sent is none scan.makes.2 refl scan.after refused.tries same)
@@ -246,7 +246,7 @@ module _ {P : Type 0} (choice : Choice) (old : AllocatorState P) (s n : ScannerS
       (batch ∷ [], one.sends)
       (λ held. absurd (held between.none)) one.later
 
-  pub held_turn : (batch back : BatchState) (last : SendState) → HasScanned choice s n counts (Some batch) → back ≡ batch → IsRefused end last → IsScanTurn choice old (allocator_of n last (back ∷ [])) counts
+  pub held_turn : (batch back : BatchState) (last : SendState) → HasScanned choice s n counts (Some batch) → back ≡ batch → FindsNoRoom end last → IsScanTurn choice old (allocator_of n last (back ∷ [])) counts
   held_turn batch back last scan same refused =
       let some = scan.makes.0 in
       turn_by (Some batch) scan batch last (back ∷ []) scan.makes.1 scan.makes.2.entries (ap (λ (e : SendState). e.line) refused.tries)

@@ -13,7 +13,7 @@ use Rattle.lift_desk.specs.Steps.{with_taking, with_answer}
 use Rattle.lift_desk.specs.Seats.{ClerkPlace, no_place, placed_at, view_at, clerk_with, ahead_from, TakesOf, Owes, OwesNothing, Says}
 use Rattle.lift_desk.specs.lemmas.Places.{view_at-here, view_at-else}
 use Rattle.lift_desk.specs.lemmas.WordLists.{last_of-push}
-use Rattle.lift_clerk.specs.Scanning.{told}
+use Rattle.lift_clerk.specs.Scanning.{reply_told}
 use Rattle.lift_clerk.specs.Visits.{Visit, FindsAt}
 use Rattle.lift_clerk.specs.lemmas.Visiting.{finds-at, taken-new}
 use Rattle.lift_clerk.specs.lemmas.Scanned.{Looked}
@@ -42,7 +42,7 @@ pub gives_one : (is_safe : Bool) (places mid next : List ClerkPlace) (taken : Ta
     → view_at mid taken.command.terminal ≡ with_taking (view_at places taken.command.terminal) word
     → next ≡ clerk_with mid taken.command.terminal (with_answer (view_at mid taken.command.terminal)
     (reply_word (length (view_at mid taken.command.terminal).taken) (number_of (last_of (view_at mid taken.command.terminal).taken)) reply))
-    → reply ≡ told is_safe taken.reply → (with_taking (view_at places taken.command.terminal) word).taken ≡ (view_at places taken.command.terminal).taken ++ taken.note.word ∷ []
+    → reply ≡ reply_told is_safe taken.reply → (with_taking (view_at places taken.command.terminal) word).taken ≡ (view_at places taken.command.terminal).taken ++ taken.note.word ∷ []
     → AnswersOne is_safe places taken (record { word = word; found = found }) next
 gives_one is_safe places mid next taken word found reply look gives here stored said noted =
     let t = taken.command.terminal in
@@ -52,7 +52,7 @@ gives_one is_safe places mid next taken word found reply look gives here stored 
       gives = gives;
       word = one_word (view_at places t) word taken.note.word found taken look.takes gives noted;
       answered = stored ∙ ap (λ (p : ℕ × Reply). clerk_with mid t (with_answer (view_at mid t) (reply_word (length (view_at mid t).taken) p.0 p.1))) (λ i. (number i, said i))
-          ∙ ap (λ (l : List ClerkPlace). answered_at l taken (told is_safe taken.reply)) look.seat_is;
+          ∙ ap (λ (l : List ClerkPlace). answered_at l taken (reply_told is_safe taken.reply)) look.seat_is;
     }
 
 is_same : (m n : ℕ) → nat_eq m n ≡ true → m ≡ n

@@ -2,15 +2,15 @@
 use Rattle.std.proofs.Common.{◌≡◌, Option, Some, None, refl, ◌∙◌, subst, sym}
 use Rattle.lift_keeper.specs.declared.fault.KeeperFault.{KeeperFault}
 use Rattle.lift_relay.specs.declared.pair.RunFault.{RunFault}
-use Rattle.lift_relay.specs.Pair.{HeardSince, Hears, fault_of}
+use Rattle.lift_relay.specs.Pair.{HeardSince, WitnessHears, fault_of}
 
 pub since_same : {V : Type 0} (hears : V → KeeperFault → V → Type 0) (first : Option KeeperFault) (v : V) → HeardSince hears first first v v
 since_same hears None v = refl
 since_same hears (Some fault) v = (refl, refl)
 
-pub since_drain : {V : Type 0} (hears : V → KeeperFault → V → Type 0) (last : Option KeeperFault) (fault : Option RunFault) (u w : V) → fault ≡ fault_of last → HeardSince hears None last u w → Hears hears fault u w
-since_drain {V} hears None fault u w is heard = subst (λ f. Hears hears f u w) (sym is) heard
-since_drain {V} hears (Some e) fault u w is heard = subst (λ f. Hears hears f u w) (sym is) heard
+pub since_drain : {V : Type 0} (hears : V → KeeperFault → V → Type 0) (last : Option KeeperFault) (fault : Option RunFault) (u w : V) → fault ≡ fault_of last → HeardSince hears None last u w → WitnessHears hears fault u w
+since_drain {V} hears None fault u w is heard = subst (λ f. WitnessHears hears f u w) (sym is) heard
+since_drain {V} hears (Some e) fault u w is heard = subst (λ f. WitnessHears hears f u w) (sym is) heard
 
 pub heard_on : {V : Type 0} (hears : V → KeeperFault → V → Type 0) (a b c : Option KeeperFault) (u v w : V)
     → HeardSince hears a b u v → HeardSince hears b c v w → HeardSince hears a c u w

@@ -9,23 +9,23 @@ use Rattle.lift_building.specs.Plan.{Plan}
 use Rattle.lift_policy.specs.Step.{State}
 use Rattle.lift_parts.specs.Batch.{BatchState, turns_behind}
 use Rattle.lift_relay.specs.declared.line.EndView.{EndView}
-use Rattle.lift_parts.specs.Line.{Begins, IsNext}
-use Rattle.lift_relay.specs.Rule.{opening, opening_view, begun_with, sending, receiving, most_batches, joined, told_both, spent_pass, Lists, Fits, IsInOrder, IsKept, Named, Begun, Sent, Received, SentAllBut, ReceivedBefore, Waits}
-use Rattle.lift_parts.specs.Line.{GoesOn}
+use Rattle.lift_parts.specs.Line.{Begins, IsNextBatch}
+use Rattle.lift_relay.specs.Rule.{opening, opening_view, begun_with, sending, receiving, most_batches, with_both_passes, told_both, spent_pass, LineLists, EndFits, IsLineInOrder, IsLineKept, Named, Begun, Sent, Received, SentAllBut, ReceivedBefore, HoldsUnreceived}
+use Rattle.lift_parts.specs.Line.{BatchesGoOn}
 
 off : {A : Type 0} → false ≡ true → A
 off e = absurd (true≢false (sym e))
 
-goes_on_more : (building : Plan) (desk : List TableId) (first mid : State) (turns used : List ℕ) (batches : List BatchState) (batch : BatchState) → GoesOn building desk first turns batches mid used
-    → IsNext building desk mid used batch → GoesOn building desk first turns (batches ++ batch ∷ []) batch.after (turns_behind batch)
-goes_on_more building desk first mid turns used [] batch so next = (subst (λ (p : State × List ℕ). IsNext building desk p.0 p.1 batch) (λ i. (sym so.0 i, sym so.1 i)) next, (refl, refl))
+goes_on_more : (building : Plan) (desk : List TableId) (first mid : State) (turns used : List ℕ) (batches : List BatchState) (batch : BatchState) → BatchesGoOn building desk first turns batches mid used
+    → IsNextBatch building desk mid used batch → BatchesGoOn building desk first turns (batches ++ batch ∷ []) batch.after (turns_behind batch)
+goes_on_more building desk first mid turns used [] batch so next = (subst (λ (p : State × List ℕ). IsNextBatch building desk p.0 p.1 batch) (λ i. (sym so.0 i, sym so.1 i)) next, (refl, refl))
 goes_on_more building desk first mid turns used (b ∷ batches) batch so next = (so.0, goes_on_more building desk b.after mid (turns_behind b) used batches batch so.1 next)
 
-fit_set : (l : Lists) (views : List EndView) (id : ℕ) (w : EndView) → Fits l id w
-    → ((j : ℕ) (u : EndView) → j ≢ id → get_elem? views j ≡ some u → Fits l j u) → (j : ℕ) (u : EndView) → get_elem? (set views id w) j ≡ some u → Fits l j u
+fit_set : (l : LineLists) (views : List EndView) (id : ℕ) (w : EndView) → EndFits l id w
+    → ((j : ℕ) (u : EndView) → j ≢ id → get_elem? views j ≡ some u → EndFits l j u) → (j : ℕ) (u : EndView) → get_elem? (set views id w) j ≡ some u → EndFits l j u
 fit_set l views id w mine others j u e =
     ⊎_elim
-    (λ (x : (j ≡ id) × (w ≡ u)). subst (λ (y : ℕ × EndView). Fits l y.0 y.1) (λ i. (sym x.0 i, x.1 i)) mine)
+    (λ (x : (j ≡ id) × (w ≡ u)). subst (λ (y : ℕ × EndView). EndFits l y.0 y.1) (λ i. (sym x.0 i, x.1 i)) mine)
     (λ (x : (j ≢ id) × (get_elem? views j ≡ some u)). others j u x.0 x.1)
     (at_set views id j w u e)
 
@@ -36,7 +36,7 @@ at_end (x ∷ xs) a b zero n e = absurd (n e)
 at_end (x ∷ xs) a b (suc j) n e = ap suc (at_end xs a b j n e)
 
 -- the line hasn't begun
-pub begins : IsKept [] (opening_view ∷ [])
+pub begins : IsLineKept [] (opening_view ∷ [])
 begins = inl refl
 
 -- it is the pass of the line, which has pushed what is there
@@ -53,7 +53,7 @@ not_begun items views id v begun is at = off (sym (ap (λ (u : EndView). u.begun
 set_only : (views : List EndView) (u w : EndView) (id : ℕ) → id ≡ 0 → views ≡ u ∷ [] → set views id w ≡ w ∷ []
 set_only views u w id first is = ap (λ (p : ℕ × List EndView). set p.1 p.0 w) (λ i. (first i, is i))
 
-pub names : (n id : ℕ) (v : EndView) (batch : BatchState) → v ≡ opening_view → Pushes IsKept n id v batch (Named v batch)
+pub names : (n id : ℕ) (v : EndView) (batch : BatchState) → v ≡ opening_view → Pushes IsLineKept n id v batch (Named v batch)
 names n id v batch first items views few h at =
     ⊎_elim
     (λ is.
@@ -63,7 +63,7 @@ names n id v batch first items views few h at =
       inl (set_only views (opening items) (opening (batch ∷ [])) id a.0 is ∙ ap (λ l. opening (l ++ batch ∷ []) ∷ []) (sym none)),
       refl,
     ))
-    (λ (o : IsInOrder items views). off (sym (ap (λ (u : EndView). u.begun) first) ∙ (o.fits id v at).begun))
+    (λ (o : IsLineInOrder items views). off (sym (ap (λ (u : EndView). u.begun) first) ∙ (o.fits id v at).begun))
     h
 
 head_is : (x y : BatchState) (xs : List BatchState) → x ∷ xs ≡ y ∷ [] → xs ≡ []
@@ -73,18 +73,18 @@ head_is x y xs e = ap (λ (l : List BatchState). tail l) e
     tail [] = []
     tail (z ∷ zs) = zs
 
-one : (batch : BatchState) (lists : Lists) → Fits lists 0 (begun_with batch) → (pass : ℕ) (u : EndView) → get_elem? (begun_with batch ∷ []) pass ≡ some u → Fits lists pass u
-one batch lists mine zero u e = subst (Fits lists 0) (some-injective (begun_with batch) u e) mine
+one : (batch : BatchState) (lists : LineLists) → EndFits lists 0 (begun_with batch) → (pass : ℕ) (u : EndView) → get_elem? (begun_with batch ∷ []) pass ≡ some u → EndFits lists pass u
+one batch lists mine zero u e = subst (EndFits lists 0) (some-injective (begun_with batch) u e) mine
 one batch lists mine (suc pass) u e = absurd (some-ne-none u (sym e))
 
-pub starts : (id : ℕ) (v : EndView) (first : BatchState) → v ≡ opening (first ∷ []) → Pops IsKept id v (Begun v)
+pub starts : (id : ℕ) (v : EndView) (first : BatchState) → v ≡ opening (first ∷ []) → Pops IsLineKept id v (Begun v)
 starts id v first is batch items views h at =
     ⊎_elim
     (λ only.
     let a = alone_at (batch ∷ items) views id v only at in
     let pushed : batch ∷ items ≡ first ∷ [] = sym (ap (λ (u : EndView). u.sent) a.1) ∙ ap (λ (u : EndView). u.sent) is in
     let none : items ≡ [] = head_is batch first items pushed in
-    let lists : Lists = record {
+    let lists : LineLists = record {
       sender = 0;
       receiver = 0;
       sent = [];
@@ -96,30 +96,30 @@ starts id v first is batch items views h at =
       turns_ahead = batch.turns;
       turns_behind = batch.turns;
     } in
-    let mine : Fits lists 0 (begun_with batch) = record { begun = refl; sends = λ _. (refl, refl, ([], refl), refl, refl, refl, refl); receives = λ _. (refl, refl, ([], refl), refl, refl, refl, refl) } in (
+    let mine : EndFits lists 0 (begun_with batch) = record { begun = refl; sends = λ _. (refl, refl, ([], refl), refl, refl, refl, refl); receives = λ _. (refl, refl, ([], refl), refl, refl, refl, refl) } in (
       begun_with batch,
-      inr (subst (λ (p : List BatchState × List EndView). IsInOrder p.0 p.1) (λ i. (sym none i, sym (set_only views (opening (batch ∷ items)) (begun_with batch) id a.0 only) i))
+      inr (subst (λ (p : List BatchState × List EndView). IsLineInOrder p.0 p.1) (λ i. (sym none i, sym (set_only views (opening (batch ∷ items)) (begun_with batch) id a.0 only) i))
           (record { lists = lists; in_order = refl; few = omega arith; goes_on = (refl, refl); fits = one batch lists mine; four = omega arith })),
       record { only = ap (λ (u : EndView). u.sent) a.1 ∙ ap (λ l. batch ∷ l) none; begins = refl },
     ))
-    (λ (o : IsInOrder (batch ∷ items) views). off (sym (ap (λ (u : EndView). u.begun) is) ∙ (o.fits id v at).begun))
+    (λ (o : IsLineInOrder (batch ∷ items) views). off (sym (ap (λ (u : EndView). u.begun) is) ∙ (o.fits id v at).begun))
     h
 
 longer : (first whole : List BatchState) (batch : BatchState) → Begins first whole → Begins first (whole ++ batch ∷ [])
 longer first whole batch b = (b.0 ++ batch ∷ [], ap (λ l. l ++ batch ∷ []) b.1 ∙ append_assoc first b.0 (batch ∷ []))
 
-sends_on : (n id : ℕ) (v : EndView) (batch : BatchState) → n ≡ 4 → v.sends ≡ true → length v.sent < most_batches → IsNext v.building v.desk v.ahead v.turns_ahead batch → (items : List BatchState) (views : List EndView) → length items < n
-    → IsInOrder items views → get_elem? views id ≡ some v → (w : EndView) × IsInOrder (items ++ batch ∷ []) (set views id w) × Sent v batch w
+sends_on : (n id : ℕ) (v : EndView) (batch : BatchState) → n ≡ 4 → v.sends ≡ true → length v.sent < most_batches → IsNextBatch v.building v.desk v.ahead v.turns_ahead batch → (items : List BatchState) (views : List EndView) → length items < n
+    → IsLineInOrder items views → get_elem? views id ≡ some v → (w : EndView) × IsLineInOrder (items ++ batch ∷ []) (set views id w) × Sent v batch w
 sends_on n id v batch four may room next items views few h at =
     let l = h.lists in
     let w : EndView = record v { sent = v.sent ++ batch ∷ []; gone = l.received; ahead = batch.after; turns_ahead = turns_behind batch } in
     let mine = h.fits id v at in
     let a = mine.sends may in
     let sent = l.sent ++ batch ∷ [] in
-    let more : Lists = record l { sent = sent; ahead = batch.after; turns_ahead = turns_behind batch } in
+    let more : LineLists = record l { sent = sent; ahead = batch.after; turns_ahead = turns_behind batch } in
     let order = ap (λ x. x ++ batch ∷ []) h.in_order ∙ append_assoc l.received items (batch ∷ []) in
-    let here : IsNext l.building l.desk l.ahead l.turns_ahead batch = record { of_building = next.of_building ∙ a.3; at_desk = next.at_desk ∙ a.4; on_state = next.on_state ∙ a.5; on_turns = next.on_turns ∙ a.6 } in
-    let kept : Fits more id w = record {
+    let here : IsNextBatch l.building l.desk l.ahead l.turns_ahead batch = record { of_building = next.of_building ∙ a.3; at_desk = next.at_desk ∙ a.4; on_state = next.on_state ∙ a.5; on_turns = next.on_turns ∙ a.6 } in
+    let kept : EndFits more id w = record {
       begun = mine.begun;
       sends = λ _. (a.0, ap (λ x. x ++ batch ∷ []) a.1, ([], sym (append-nil l.received)), a.3, a.4, refl, refl);
       receives = λ p. let r = mine.receives p in (r.0, r.1, longer v.known l.sent batch r.2, r.3, r.4, r.5, r.6);
@@ -154,22 +154,22 @@ sends_on n id v batch four may room next items views few h at =
       },
     )
 
-pub sends : (n id : ℕ) (v : EndView) (batch : BatchState) → n ≡ 4 → v.begun ≡ true → v.sends ≡ true → length v.sent < most_batches → IsNext v.building v.desk v.ahead v.turns_ahead batch → Pushes IsKept n id v batch (Sent v batch)
+pub sends : (n id : ℕ) (v : EndView) (batch : BatchState) → n ≡ 4 → v.begun ≡ true → v.sends ≡ true → length v.sent < most_batches → IsNextBatch v.building v.desk v.ahead v.turns_ahead batch → Pushes IsLineKept n id v batch (Sent v batch)
 sends n id v batch four begun may room next items views few h at =
     ⊎_elim (λ is. not_begun items views id v begun is at) (λ o. let s = sends_on n id v batch four may room next items views few o at in (s.0, inr s.1, s.2)) h
 
-receives_on : (id : ℕ) (v : EndView) → v.receives ≡ true → (batch : BatchState) (items : List BatchState) (views : List EndView) → IsInOrder (batch ∷ items) views → get_elem? views id ≡ some v
-    → (w : EndView) × IsInOrder items (set views id w) × Received v batch w
+receives_on : (id : ℕ) (v : EndView) → v.receives ≡ true → (batch : BatchState) (items : List BatchState) (views : List EndView) → IsLineInOrder (batch ∷ items) views → get_elem? views id ≡ some v
+    → (w : EndView) × IsLineInOrder items (set views id w) × Received v batch w
 receives_on id v may batch items views h at =
     let l = h.lists in
     let w : EndView = record v { received = v.received ++ batch ∷ []; known = l.sent; behind = batch.after; turns_behind = turns_behind batch } in
     let mine = h.fits id v at in
     let a = mine.receives may in
     let received = l.received ++ batch ∷ [] in
-    let fewer : Lists = record l { received = received; behind = batch.after; turns_behind = turns_behind batch } in
+    let fewer : LineLists = record l { received = received; behind = batch.after; turns_behind = turns_behind batch } in
     let order = h.in_order ∙ sym (append_assoc l.received (batch ∷ []) items) in
     let first = h.goes_on.0 in
-    let kept : Fits fewer id w = record {
+    let kept : EndFits fewer id w = record {
       begun = mine.begun;
       sends = λ p. let r = mine.sends p in (r.0, r.1, longer v.gone l.received batch r.2, r.3, r.4, r.5, r.6);
       receives = λ _. (a.0, ap (λ x. x ++ batch ∷ []) a.1, ([], sym (append-nil l.sent)), a.3, a.4, refl, refl);
@@ -204,35 +204,35 @@ receives_on id v may batch items views h at =
       },
     )
 
-pub receives : (id : ℕ) (v : EndView) → v.begun ≡ true → v.receives ≡ true → Pops IsKept id v (Received v)
+pub receives : (id : ℕ) (v : EndView) → v.begun ≡ true → v.receives ≡ true → Pops IsLineKept id v (Received v)
 receives id v begun may batch items views h at =
     ⊎_elim (λ is. not_begun (batch ∷ items) views id v begun is at) (λ o. let s = receives_on id v may batch items views o at in (s.0, inr s.1, s.2)) h
 
-pub sender_learns : (id : ℕ) (v : EndView) → v.begun ≡ true → v.sends ≡ true → Learns IsKept id v (SentAllBut v)
+pub sender_learns : (id : ℕ) (v : EndView) → v.begun ≡ true → v.sends ≡ true → Learns IsLineKept id v (SentAllBut v)
 sender_learns id v begun may items views h at =
     ⊎_elim
     (λ is. not_begun items views id v begun is at)
-    (λ (o : IsInOrder items views). let a = (o.fits id v at).sends may in record { received = o.lists.received; all = a.1 ∙ o.in_order; later = a.2 })
+    (λ (o : IsLineInOrder items views). let a = (o.fits id v at).sends may in record { received = o.lists.received; all = a.1 ∙ o.in_order; later = a.2 })
     h
 
-pub receiver_learns : (id : ℕ) (v : EndView) → v.begun ≡ true → v.receives ≡ true → Learns IsKept id v (ReceivedBefore v)
+pub receiver_learns : (id : ℕ) (v : EndView) → v.begun ≡ true → v.receives ≡ true → Learns IsLineKept id v (ReceivedBefore v)
 receiver_learns id v begun may items views h at =
     ⊎_elim
     (λ is. not_begun items views id v begun is at)
-    (λ (o : IsInOrder items views). let a = (o.fits id v at).receives may in record { sent = o.lists.sent; all = o.in_order ∙ ap (λ x. x ++ items) (sym a.1); later = a.2 })
+    (λ (o : IsLineInOrder items views). let a = (o.fits id v at).receives may in record { sent = o.lists.sent; all = o.in_order ∙ ap (λ x. x ++ items) (sym a.1); later = a.2 })
     h
 
 -- the pass with both rights leaves one to a new pass
-ends_on : (id : ℕ) (v : EndView) → v.sends ≡ true → v.receives ≡ true → (items : List BatchState) (views : List EndView) → IsInOrder items views → get_elem? views id ≡ some v
-    → IsInOrder items (set views id (sending v) ++ receiving v ∷ [])
+ends_on : (id : ℕ) (v : EndView) → v.sends ≡ true → v.receives ≡ true → (items : List BatchState) (views : List EndView) → IsLineInOrder items views → get_elem? views id ≡ some v
+    → IsLineInOrder items (set views id (sending v) ++ receiving v ∷ [])
 ends_on id v may takes items views h at =
     let l = h.lists in
     let mine = h.fits id v at in
     let a = mine.sends may in
     let b = mine.receives takes in
     let vs = set views id (sending v) in
-    let next : Lists = record l { receiver = length vs } in
-    let Old : ℕ → EndView → Type 0 = λ j u. Fits next j u × (u.receives ≢ true) in
+    let next : LineLists = record l { receiver = length vs } in
+    let Old : ℕ → EndView → Type 0 = λ j u. EndFits next j u × (u.receives ≢ true) in
     let old : (j : ℕ) (u : EndView) → get_elem? vs j ≡ some u → Old j u = λ j u e.
     ⊎_elim
     (λ (x : (j ≡ id) × (sending v ≡ u)). subst (λ (y : ℕ × EndView). Old y.0 y.1) (λ i. (sym x.0 i, x.1 i)) (record { begun = mine.begun; sends = λ _. a; receives = λ p. off p }, λ p. off p))
@@ -249,7 +249,7 @@ ends_on id v may takes items views h at =
       four = h.four;
       fits = λ j u e. ⊎_elim
           (λ (x : get_elem? vs j ≡ some u). (old j u x).0)
-          (λ (is : receiving v ≡ u). subst (Fits next j) is (record {
+          (λ (is : receiving v ≡ u). subst (EndFits next j) is (record {
             begun = mine.begun;
             sends = λ p. off p;
             receives = λ p. (at_end vs (receiving v) (receiving v) j (λ x. (old j (receiving v) x).1 takes) (e ∙ ap (λ (y : EndView). some y) (sym is)), b.1, b.2, b.3, b.4, b.5, b.6);
@@ -257,15 +257,15 @@ ends_on id v may takes items views h at =
           (at_snoc vs (receiving v) u j e);
     }
 
-pub ends : (id : ℕ) (v : EndView) → v.begun ≡ true → v.sends ≡ true → v.receives ≡ true → Forks IsKept id v (sending v) (receiving v)
+pub ends : (id : ℕ) (v : EndView) → v.begun ≡ true → v.sends ≡ true → v.receives ≡ true → Forks IsLineKept id v (sending v) (receiving v)
 ends id v begun may takes items views h at =
     ⊎_elim (λ is. not_begun items views id v begun is at) (λ o. inr (ends_on id v may takes items views o at)) h
 
 -- the sending pass takes in the receiving one, and knows what both know, of what left the line and of what came into it as much as is true
-joins_on : (id other : ℕ) (v w : EndView) (gone known : List BatchState) → v.sends ≡ true → w.receives ≡ true → (items : List BatchState) (views : List EndView) (h : IsInOrder items views)
+joins_on : (id other : ℕ) (v w : EndView) (gone known : List BatchState) → v.sends ≡ true → w.receives ≡ true → (items : List BatchState) (views : List EndView) (h : IsLineInOrder items views)
     → Begins gone h.lists.received → Begins known h.lists.sent → get_elem? views id ≡ some v → other ≢ id
     → get_elem? (set views id (record v { receives = true; received = w.received; gone = gone; known = known; behind = w.behind; turns_behind = w.turns_behind })) other ≡ some w
-    → IsInOrder items (set (set views id (record v { receives = true; received = w.received; gone = gone; known = known; behind = w.behind; turns_behind = w.turns_behind })) other spent_pass)
+    → IsLineInOrder items (set (set views id (record v { receives = true; received = w.received; gone = gone; known = known; behind = w.behind; turns_behind = w.turns_behind })) other spent_pass)
 joins_on id other v w gone known may takes items views h left came at apart at_other =
     let l = h.lists in
     let both : EndView = record v { receives = true; received = w.received; gone = gone; known = known; behind = w.behind; turns_behind = w.turns_behind } in
@@ -274,9 +274,9 @@ joins_on id other v w gone known may takes items views h left came at apart at_o
     let a = mine.sends may in
     let was : get_elem? views other ≡ some w = ⊎_elim (λ (x : (other ≡ id) × (both ≡ w)). absurd (apart x.0)) (λ (x : (other ≢ id) × (get_elem? views other ≡ some w)). x.1) (at_set views id other both w at_other) in
     let b = (h.fits other w was).receives takes in
-    let next : Lists = record l { receiver = id } in
-    let Now : ℕ → EndView → Type 0 = λ j u. j ≢ other → Fits next j u in
-    let here : Fits next id both = record {
+    let next : LineLists = record l { receiver = id } in
+    let Now : ℕ → EndView → Type 0 = λ j u. j ≢ other → EndFits next j u in
+    let here : EndFits next id both = record {
       begun = mine.begun;
       sends = λ _. (a.0, a.1, left, a.3, a.4, a.5, a.6);
       receives = λ _. (refl, b.1, came, a.3, a.4, b.5, b.6);
@@ -297,40 +297,40 @@ joins_on id other v w gone known may takes items views h left came at apart at_o
       fits = fit_set next vs other spent_pass (record { begun = refl; sends = λ p. off p; receives = λ p. off p }) (λ j u off_other e. now j u e off_other);
     }
 
-pub joins : (id : ℕ) (v : EndView) (other : ℕ) (w : EndView) → v.begun ≡ true → v.sends ≡ true → w.receives ≡ true → Merges IsKept id v other w (joined v w) spent_pass
+pub joins : (id : ℕ) (v : EndView) (other : ℕ) (w : EndView) → v.begun ≡ true → v.sends ≡ true → w.receives ≡ true → Merges IsLineKept id v other w (with_both_passes v w) spent_pass
 joins id v other w begun may takes items views h at apart at_other =
     ⊎_elim
     (λ is. not_begun items views id v begun is at)
-    (λ (o : IsInOrder items views).
-    let was = ⊎_elim (λ (x : (other ≡ id) × (joined v w ≡ w)). absurd (apart x.0)) (λ (x : (other ≢ id) × (get_elem? views other ≡ some w)). x.1) (at_set views id other (joined v w) w at_other) in
+    (λ (o : IsLineInOrder items views).
+    let was = ⊎_elim (λ (x : (other ≡ id) × (with_both_passes v w ≡ w)). absurd (apart x.0)) (λ (x : (other ≢ id) × (get_elem? views other ≡ some w)). x.1) (at_set views id other (with_both_passes v w) w at_other) in
     inr (joins_on id other v w v.gone w.known may takes items views o ((o.fits id v at).sends may).2 ((o.fits other w was).receives takes).2 at apart at_other))
     h
 
 all_of : (xs ys : List BatchState) → xs ≡ ys → Begins xs ys
 all_of xs ys is = ([], sym is ∙ sym (append-nil xs))
 
-pub tells : (id : ℕ) (v : EndView) (other : ℕ) (w : EndView) → v.begun ≡ true → v.sends ≡ true → w.receives ≡ true → Merges IsKept id v other w (told_both v w) spent_pass
+pub tells : (id : ℕ) (v : EndView) (other : ℕ) (w : EndView) → v.begun ≡ true → v.sends ≡ true → w.receives ≡ true → Merges IsLineKept id v other w (told_both v w) spent_pass
 tells id v other w begun may takes items views h at apart at_other =
     ⊎_elim
     (λ is. not_begun items views id v begun is at)
-    (λ (o : IsInOrder items views).
+    (λ (o : IsLineInOrder items views).
     let was = ⊎_elim (λ (x : (other ≡ id) × (told_both v w ≡ w)). absurd (apart x.0)) (λ (x : (other ≢ id) × (get_elem? views other ≡ some w)). x.1) (at_set views id other (told_both v w) w at_other) in
     inr (joins_on id other v w w.received v.sent may takes items views o (all_of w.received o.lists.received ((o.fits other w was).receives takes).1) (all_of v.sent o.lists.sent ((o.fits id v at).sends may).1) at apart at_other))
     h
 
-pub both_learn : (id : ℕ) (v : EndView) → v.begun ≡ true → v.sends ≡ true → v.receives ≡ true → Learns IsKept id v (Waits v)
+pub both_learn : (id : ℕ) (v : EndView) → v.begun ≡ true → v.sends ≡ true → v.receives ≡ true → Learns IsLineKept id v (HoldsUnreceived v)
 both_learn id v begun may takes items views h at =
     ⊎_elim
     (λ is. not_begun items views id v begun is at)
-    (λ (o : IsInOrder items views).
+    (λ (o : IsLineInOrder items views).
     let l = o.lists in
     let mine = o.fits id v at in
     let a = mine.sends may in
     let b = mine.receives takes in
-    let goes = subst (λ (p : Plan × List TableId × State × List ℕ). GoesOn p.0 p.1 p.2 p.3 items l.ahead l.turns_ahead) (λ i. (sym a.3 i, sym a.4 i, sym b.5 i, sym b.6 i)) o.goes_on in
+    let goes = subst (λ (p : Plan × List TableId × State × List ℕ). BatchesGoOn p.0 p.1 p.2 p.3 items l.ahead l.turns_ahead) (λ i. (sym a.3 i, sym a.4 i, sym b.5 i, sym b.6 i)) o.goes_on in
     record {
       all = a.1 ∙ o.in_order ∙ ap (λ x. x ++ items) (sym b.1);
-      goes_on = subst (λ (p : State × List ℕ). GoesOn v.building v.desk v.behind v.turns_behind items p.0 p.1) (λ i. (sym a.5 i, sym a.6 i)) goes;
+      goes_on = subst (λ (p : State × List ℕ). BatchesGoOn v.building v.desk v.behind v.turns_behind items p.0 p.1) (λ i. (sym a.5 i, sym a.6 i)) goes;
       four = o.four;
     })
     h

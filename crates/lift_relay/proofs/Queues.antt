@@ -1,9 +1,9 @@
 -- What the line holds, by its two ends.
 use Rattle.std.proofs.Common.{◌≡◌, ℕ, ◌+◌, ◌≤◌, List, [], ◌∷◌, ◌++◌, length, drop, refl, sym, ap, ◌∙◌, append-nil, length-append, arith, subst}
 use Rattle.lift_parts.specs.Batch.{BatchState}
-use Rattle.lift_parts.specs.Line.{SendState, ReceiveState, ReceivesOne, WasFull, WasEmpty, GoesOn}
+use Rattle.lift_parts.specs.Line.{SendState, ReceiveState, ReceivesOne, WasFull, WasEmpty, BatchesGoOn}
 use Rattle.lift_parts.specs.Queued.{Queued}
-use Rattle.lift_parts.specs.Flusher.{entries_of, entries_between}
+use Rattle.lift_parts.specs.Flusher.{count_of_entries, entries_between}
 
 no_more : {A : Type 0} (xs ys : List A) → length xs ≡ length xs + length ys → ys ≡ []
 no_more xs [] same = refl
@@ -18,7 +18,7 @@ all_received s r q same = q.in_order ∙ ap (λ l. r.received ++ l) (none_waits 
 
 -- the two ends are at one state then
 pub same_state : (s : SendState) (r : ReceiveState) → Queued s r → length s.sent ≡ length r.received → r.state ≡ s.state
-same_state s r q same = (subst (λ (items : List BatchState). GoesOn s.building s.desk r.state r.turns items s.state s.turns) (none_waits s r q same) q.goes_on).0
+same_state s r q same = (subst (λ (items : List BatchState). BatchesGoOn s.building s.desk r.state r.turns items s.state s.turns) (none_waits s r q same) q.goes_on).0
 
 drop_all : (xs : List BatchState) → drop (length xs) xs ≡ []
 drop_all [] = refl
@@ -29,10 +29,10 @@ drop_front [] ys = refl
 drop_front (x ∷ xs) ys = drop_front xs ys
 
 pub between_none : (r : ReceiveState) → entries_between r r ≡ 0
-between_none r = ap entries_of (drop_all r.received)
+between_none r = ap count_of_entries (drop_all r.received)
 
 pub between_one : (old new : ReceiveState) (batch : BatchState) → ReceivesOne old batch new → entries_between old new ≡ length batch.entries
-between_one old new batch one = ap (λ l. entries_of (drop (length old.received) l)) one.receives ∙ ap entries_of (drop_front old.received (batch ∷ [])) ∙ zero_right (length batch.entries)
+between_one old new batch one = ap (λ l. count_of_entries (drop (length old.received) l)) one.receives ∙ ap count_of_entries (drop_front old.received (batch ∷ [])) ∙ zero_right (length batch.entries)
   where
     zero_right : (n : ℕ) → n + 0 ≡ n
     zero_right n = omega arith

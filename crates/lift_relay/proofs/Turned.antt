@@ -16,17 +16,17 @@ use Rattle.lift_parts.specs.declared.counts.FlushCounts.{FlushCounts}
 use Rattle.lift_building.specs.Plan.{Plan}
 use Rattle.lift_parts.specs.Batch.{BatchState, IsDecided}
 use Rattle.lift_parts.specs.Line.{ReceiveState, ReceivesOne, FindsNone, Tries, tried}
-use Rattle.lift_parts.specs.Flusher.{FlusherState, IsFlusher, IsEmptyTurn, IsBatchTurn, entries_of, entries_between}
+use Rattle.lift_parts.specs.Flusher.{FlusherState, IsFlusher, IsEmptyTurn, IsBatchTurn, count_of_entries, entries_between}
 use Rattle.lift_parts.specs.Turns.{IsFlush}
-use Rattle.lift_relay.specs.Settler.{SettlerState, Settles}
+use Rattle.lift_relay.specs.Settler.{SettlerState, SettlesBatch}
 
 pub none_between : (old new : ReceiveState) (tries : Tries) → new ≡ record old { tries = tries } → 0 ≡ entries_between old new
-none_between old new tries same = sym (ap (λ (r : ReceiveState). entries_of (drop (length old.received) r.received)) same ∙ ap entries_of (drop-length old.received))
+none_between old new tries same = sym (ap (λ (r : ReceiveState). count_of_entries (drop (length old.received) r.received)) same ∙ ap count_of_entries (drop-length old.received))
 
 pub one_between : (old new : ReceiveState) (batch : BatchState) → new.received ≡ old.received ++ batch ∷ [] → entries_between old new ≡ length batch.entries
 one_between old new batch receives =
     let seam : entries_between old new ≡ length batch.entries + 0 =
-    ap (λ (l : List BatchState). entries_of (drop (length old.received) l)) receives ∙ ap entries_of (drop-append_seam old.received (batch ∷ [])) in
+    ap (λ (l : List BatchState). count_of_entries (drop (length old.received) l)) receives ∙ ap count_of_entries (drop-append_seam old.received (batch ∷ [])) in
     omega arith
 
 module _ {D : Type 0} (state : D → DiskState) (f g : FlusherState D) (is_flusher : IsFlusher f) (desk : g.desk ≡ f.desk) where
@@ -102,7 +102,7 @@ leads_to state old new batch (Ok counts) is next c whole =
 leads_to state old new batch (Err fault) is next c whole = absurd (let broken = c.breaks in cc)
 
 -- a batch that was received and settled
-pub settled_turn : {D : Type 0} (state : D → DiskState) (f g : FlusherState D) (batch : BatchState) (answer : Result FlushCounts KeeperFault) → ReceivesOne f.end batch g.end → Settles state (half_of f) batch (half_of g) answer
+pub settled_turn : {D : Type 0} (state : D → DiskState) (f g : FlusherState D) (batch : BatchState) (answer : Result FlushCounts KeeperFault) → ReceivesOne f.end batch g.end → SettlesBatch state (half_of f) batch (half_of g) answer
     → IsBatchTurn f g batch answer
 settled_turn state f g batch answer receives s = record {
   receives = receives;

@@ -11,9 +11,9 @@ use Rattle.lift_relay.specs.declared.batch.Batch.TheInside.{Inside}
 
 -- these commands and entries, decided in this building from one state to another, of what these
 -- seats of this desk took next
-abbrev pub batch_of : List Taken → List Entry → Plan → State → State → List TableId
+abbrev pub batch_taken : List Taken → List Entry → Plan → State → State → List TableId
     → List ClerkPlace → BatchState
-batch_of commands entries building before after desk seats = record {
+batch_taken commands entries building before after desk seats = record {
   commands = commands;
   entries = entries;
   building = building;
@@ -25,4 +25,4 @@ batch_of commands entries building before after desk seats = record {
 
 abbrev pub seen : Inside → BatchState
 seen b =
-    batch_of b.commands.items b.entries.items b.building.value b.before b.after b.desk.value b.seats.value
+    batch_taken b.commands.items b.entries.items b.building.value b.before b.after b.desk.value b.seats.value

@@ -49,10 +49,11 @@ HeardOf hears (Refused allocator no_thread) old new = new ≡ old
 HeardOf hears (Done allocator first) old new = HeardSince hears None first old new
 
 -- A witness heard of the fault that a run answers; of none it is as it was.
-abbrev pub Hears : {V : Type 0} → (V → KeeperFault → V → Type 0) → Option RunFault → V → V → Type 0
-Hears hears None old new = new ≡ old
-Hears hears (Some (Keeper fault)) old new = hears old fault new
-Hears hears (Some (Spawn no_thread)) old new = new ≡ old
+abbrev pub WitnessHears : {V : Type 0} → (V → KeeperFault → V → Type 0) → Option RunFault → V → V
+    → Type 0
+WitnessHears hears None old new = new ≡ old
+WitnessHears hears (Some (Keeper fault)) old new = hears old fault new
+WitnessHears hears (Some (Spawn no_thread)) old new = new ≡ old
 
 abbrev pub fault_of : Option KeeperFault → Option RunFault
 fault_of None = None

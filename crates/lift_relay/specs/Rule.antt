@@ -9,7 +9,7 @@ use Rattle.lift_register.specs.Register.{empty}
 use Rattle.lift_policy.specs.Step.{State}
 use Rattle.lift_parts.specs.Batch.{BatchState, turns_behind}
 use Rattle.lift_relay.specs.declared.line.EndView.{EndView}
-use Rattle.lift_parts.specs.Line.{Begins, IsNext, GoesOn}
+use Rattle.lift_parts.specs.Line.{Begins, IsNextBatch, BatchesGoOn}
 
 abbrev pub no_building : Plan
 no_building = record { floors = 0; door_ms = 0; kiosks = []; flights = []; cars = [] }
@@ -63,8 +63,8 @@ abbrev pub receiving : EndView → EndView
 receiving v = record v { sends = false }
 
 -- both passes in one, which knows what each of them knew
-abbrev pub joined : EndView → EndView → EndView
-joined v w = record v {
+abbrev pub with_both_passes : EndView → EndView → EndView
+with_both_passes v w = record v {
   receives = true;
   received = w.received;
   known = w.known;
@@ -92,7 +92,7 @@ abbrev pub most_batches : ℕ
 most_batches = 66060225
 
 -- what the line has seen so far
-pub record Lists : Type 0 where
+pub record LineLists : Type 0 where
   pub sender : ℕ
   pub receiver : ℕ
   pub sent : List BatchState
@@ -104,7 +104,7 @@ pub record Lists : Type 0 where
   pub turns_ahead : List ℕ
   pub turns_behind : List ℕ
 
-pub record Fits (l : Lists) (pass : ℕ) (v : EndView) : Type 0 where
+pub record EndFits (l : LineLists) (pass : ℕ) (v : EndView) : Type 0 where
   pub begun : v.begun ≡ true
   pub sends : v.sends ≡ true → (pass ≡ l.sender) × (v.sent ≡ l.sent) × Begins v.gone l.received
       × (v.building ≡ l.building) × (v.desk ≡ l.desk) × (v.ahead ≡ l.ahead)
@@ -114,18 +114,19 @@ pub record Fits (l : Lists) (pass : ℕ) (v : EndView) : Type 0 where
       × (v.building ≡ l.building) × (v.desk ≡ l.desk) × (v.behind ≡ l.behind)
       × (v.turns_behind ≡ l.turns_behind)
 
-pub record IsInOrder (items : List BatchState) (views : List EndView) : Type 0 where
-  pub lists : Lists
+pub record IsLineInOrder (items : List BatchState) (views : List EndView) : Type 0 where
+  pub lists : LineLists
   pub in_order : lists.sent ≡ lists.received ++ items
   pub few : length lists.sent ≤ most_batches
-  pub goes_on : GoesOn lists.building lists.desk lists.behind lists.turns_behind items lists.ahead
+  pub goes_on : BatchesGoOn lists.building lists.desk lists.behind lists.turns_behind items
+      lists.ahead
       lists.turns_ahead
-  pub fits : (pass : ℕ) (v : EndView) → get_elem? views pass ≡ some v → Fits lists pass v
+  pub fits : (pass : ℕ) (v : EndView) → get_elem? views pass ≡ some v → EndFits lists pass v
   pub four : length items ≤ 4
 
 -- the line is in order, or hasn't begun, and then one pass has pushed all that is there
-abbrev pub IsKept : List BatchState → List EndView → Type 0
-IsKept items views = (views ≡ opening items ∷ []) ⊎ IsInOrder items views
+abbrev pub IsLineKept : List BatchState → List EndView → Type 0
+IsLineKept items views = (views ≡ opening items ∷ []) ⊎ IsLineInOrder items views
 
 abbrev pub Named : EndView → BatchState → EndView → Type 0
 Named v batch w = w ≡ opening (batch ∷ [])
@@ -155,7 +156,7 @@ pub record Received (v : EndView) (batch : BatchState) (w : EndView) : Type 0 wh
   pub received : w.received ≡ v.received ++ batch ∷ []
   pub building : w.building ≡ v.building
   pub desk : w.desk ≡ v.desk
-  pub next : IsNext v.building v.desk v.behind v.turns_behind batch
+  pub next : IsNextBatch v.building v.desk v.behind v.turns_behind batch
   pub behind : w.behind ≡ batch.after
   pub turns : w.turns_behind ≡ turns_behind batch
   pub known : Begins w.received w.known
@@ -178,7 +179,7 @@ pub record ReceivedBefore (v : EndView) (items : List BatchState) : Type 0 where
 
 -- what the line holds, where one pass both sends and receives: just what was sent and not received,
 -- at most four, each going on from the one before it
-pub record Waits (v : EndView) (items : List BatchState) : Type 0 where
+pub record HoldsUnreceived (v : EndView) (items : List BatchState) : Type 0 where
   pub all : v.sent ≡ v.received ++ items
-  pub goes_on : GoesOn v.building v.desk v.behind v.turns_behind items v.ahead v.turns_ahead
+  pub goes_on : BatchesGoOn v.building v.desk v.behind v.turns_behind items v.ahead v.turns_ahead
   pub four : length items ≤ 4

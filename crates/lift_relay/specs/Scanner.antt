@@ -10,7 +10,7 @@ use Rattle.lift_clerk.specs.declared.counts.Counts.{Counts}
 use Rattle.lift_clerk.specs.Turn.{settled}
 use Rattle.lift_parts.specs.declared.taken.Taken.{Taken}
 use Rattle.lift_parts.specs.Batch.{BatchState, turns_of, turns_behind, turns_after, commands_in, replies_in}
-use Rattle.lift_parts.specs.Line.{IsNext}
+use Rattle.lift_parts.specs.Line.{IsNextBatch}
 use Rattle.lift_parts.specs.Scan.{ScansAhead, turns_in}
 
 pub record ScannerState (P : Type 0) : Type 0 where
@@ -24,13 +24,13 @@ pub record ScannerState (P : Type 0) : Type 0 where
   pub policy : P
 
 -- the batch that a scan makes: it goes on from what was decided and taken before
-pub record Makes {P : Type 0} (choice : Choice) (a : ScannerState P) (seat : List ClerkPlace)
+pub record MakesBatch {P : Type 0} (choice : Choice) (a : ScannerState P) (seat : List ClerkPlace)
     (decided : State) (batch : BatchState) : Type 0 where
   pub seated : IsClerkOf a.desk seat
   pub run : Run a.plan choice a.state (commands_in batch.commands) (replies_in batch.commands)
       decided
   pub entries : batch.entries ≡ decided.batch
-  pub next : IsNext a.plan a.desk a.state (turns_of a.seat) batch
+  pub next : IsNextBatch a.plan a.desk a.state (turns_of a.seat) batch
   -- what decisions read behind it
   pub leads : batch.after ≡ settled decided
   pub turns : turns_of seat ≡ turns_behind batch
@@ -41,7 +41,7 @@ abbrev pub MakesIt : {P : Type 0} → Choice → ScannerState P → List ClerkPl
     → Option BatchState → Type 0
 MakesIt choice old seat decided taken None = length taken ≡ 0
 MakesIt choice old seat decided taken (Some batch) = (0 < length taken)
-    × (batch.commands ≡ taken) × Makes choice old seat decided batch
+    × (batch.commands ≡ taken) × MakesBatch choice old seat decided batch
 
 -- One scan of the desk, and what it took decided.
 pub record HasScanned {P : Type 0} (choice : Choice) (old new : ScannerState P) (counts : Counts)

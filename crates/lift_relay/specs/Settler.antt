@@ -20,7 +20,7 @@ pub record SettlerState (D : Type 0) : Type 0 where
 -- One batch: its entries were committed, a crash at any moment leaves what was safe before or that
 -- with the batch, and each of its commands, which its own look gave, was answered: with its reply
 -- where the batch is safe, else Unknown.
-pub record Settles {D : Type 0} (state : D
+pub record SettlesBatch {D : Type 0} (state : D
     → DiskState) (old : SettlerState D) (batch : BatchState) (new : SettlerState D)
     (answer : Result FlushCounts KeeperFault) : Type 0 where
   pub commits : Commits state old.writer batch.entries new.writer answer

@@ -28,7 +28,7 @@ pub struct Batch {
 }
 
 impl Model for Batch {
-    ghost use Rattle.lift_parts.specs.Batch.{BatchState, IsBatch};
+    ghost use Rattle.lift_parts.specs.Batch.{BatchState, IsLawfulBatch};
 
     ghost Value = { BatchState };
 
@@ -36,11 +36,11 @@ impl Model for Batch {
 
     ghost view = { seen };
 
-    ghost invariant = { λ b. IsBatch (seen b) };
+    ghost invariant = { λ b. IsLawfulBatch (seen b) };
 }
 
 impl Batch {
-    ghost use Rattle.lift_relay.specs.BatchInside.{batch_of};
+    ghost use Rattle.lift_relay.specs.BatchInside.{batch_taken};
 
     /// A batch that was decided in this building from one state to another, of commands that these
     /// seats of this desk took next.
@@ -58,9 +58,11 @@ impl Batch {
         requires apart { AreApart (commands_in commands.items) }
         requires noted { AreNoted desk.now (turns_of seats.value) commands.items }
         requires decided { IsDecided
-            (batch_of commands.items entries.items building.now before after desk.now seats.value) }
+            (batch_taken commands.items entries.items building.now before after desk.now
+            seats.value) }
         ensures { result
-            ≡ batch_of commands.items entries.items building.now before after desk.now seats.value }
+            ≡ batch_taken commands.items entries.items building.now before after desk.now
+            seats.value }
     {
         Batch {
             commands,

@@ -1,6 +1,6 @@
 //! A queue of four batches with one end that sends and one that receives.
 ghost use Rattle.std.specs.Prelude.{◌≡◌, ◌<◌, ◌^◌, [], length, MatchResult, MatchOption, IfOk};
-ghost use Rattle.lift_parts.specs.Line.{SendsOne, ReceivesOne, IsNext, IsLine, IsRefused};
+ghost use Rattle.lift_parts.specs.Line.{SendsOne, ReceivesOne, IsNextBatch, IsLine, FindsNoRoom};
 ghost use Rattle.lift_parts.specs.Line.{FindsNone};
 ghost use Rattle.lift_parts.specs.Queued.{Queued};
 
@@ -43,9 +43,9 @@ pub struct EndView {
 pub struct InOrder;
 
 impl Protocol<Batch, EndView> for InOrder {
-    ghost use Rattle.lift_relay.specs.Rule.{IsKept, opening_view};
+    ghost use Rattle.lift_relay.specs.Rule.{IsLineKept, opening_view};
 
-    ghost holds = { IsKept };
+    ghost holds = { IsLineKept };
 
     ghost first = { opening_view };
 }
@@ -65,9 +65,9 @@ impl Split<EndView> for Ends {
 struct Together;
 
 impl Join<EndView> for Together {
-    ghost use Rattle.lift_relay.specs.Rule.{joined, spent_pass};
+    ghost use Rattle.lift_relay.specs.Rule.{with_both_passes, spent_pass};
 
-    ghost both = { joined };
+    ghost both = { with_both_passes };
 
     ghost spent = { spent_pass };
 }
@@ -87,9 +87,9 @@ impl Join<EndView> for Tells {
 pub struct Holds;
 
 impl Lesson<Batch, EndView> for Holds {
-    ghost use Rattle.lift_relay.specs.Rule.{Waits};
+    ghost use Rattle.lift_relay.specs.Rule.{HoldsUnreceived};
 
-    ghost fact = { Waits };
+    ghost fact = { HoldsUnreceived };
 }
 
 // A batch without commands names the building, the desk and the first state.
@@ -202,10 +202,10 @@ impl SendEnd {
     /// was full at that try.
     pub fn send<R: Wait>(&mut self, rt: &R, batch: Batch) -> Result<(), Batch>
         requires few { length self.old.sent < 66060225 }
-        requires next { IsNext self.old.building self.old.desk self.old.state self.old.turns
+        requires next { IsNextBatch self.old.building self.old.desk self.old.state self.old.turns
             batch }
         ensures { MatchResult result (λ _. SendsOne self.old batch self.new) (λ back.
-            (back ≡ batch) × IsRefused self.old self.new) }
+            (back ≡ batch) × FindsNoRoom self.old self.new) }
     {
         self.side.push::<Sends, R>(rt, batch)?;
         self.count += 1;

@@ -12,7 +12,7 @@ ghost use Rattle.lift_parts.specs.Turns.{AllocatorTurns, FlusherTurns, IsFlush, 
 ghost use Rattle.lift_parts.specs.Turns.{first_of};
 ghost use Rattle.lift_relay.specs.Pair.{ComesFrom};
 ghost use Rattle.lift_relay.specs.Pair.{HaveTurned, IfDone, IfRan, IsRun, HaveRun};
-ghost use Rattle.lift_relay.specs.Pair.{Hears, HeardSince, HeardOf};
+ghost use Rattle.lift_relay.specs.Pair.{WitnessHears, HeardSince, HeardOf};
 ghost use Rattle.lift_parts.specs.Turns.{IsSameAllocator, IsSameFlusher};
 ghost use Rattle.lift_clerk.specs.History.{History};
 ghost use Rattle.lift_parts.specs.History.{GoesOnTo, group_behind};
@@ -295,7 +295,7 @@ where
     V: Witness + Drop,
     ensures ran { IsRun (P.chooses allocator.entry.policy) D.state allocator.entry result.0
         flusher.entry result.1 result.2.1 }
-    ensures heard { Hears V.hears result.2.1 witness result.2.0 }
+    ensures heard { WitnessHears V.hears result.2.1 witness result.2.0 }
     ensures closed { result.2.1 ≢ Some (RunFault.Spawn tt) → G.closed gate.now }
 {
     let (turned, mut flusher, mut witness) = turn_both(rt, allocator, flusher, gate, witness);
@@ -346,7 +346,7 @@ where
         → HaveRun (P.chooses allocator.old.policy) D.state allocator.old allocator.new flusher.old
         flusher.new result.1 }
     // The witness heard of just that fault, once; of none it is as it was.
-    ensures heard { Hears V.hears result.1 witness result.0 }
+    ensures heard { WitnessHears V.hears result.1 witness result.0 }
     // It ends only once the gate has said not to go on, or where no thread could be made.
     ensures closed { result.1 ≢ Some (RunFault.Spawn tt) → G.closed gate.now }
     ensures broken { (fault : KeeperFault) → result.1 ≡ Some (RunFault.Keeper fault)
@@ -376,7 +376,7 @@ where
         )
             ensures ran { IsRun (P.chooses allocator.entry.policy) D.state allocator.entry result.0
                 flusher.entry result.1 result.2.1 }
-            ensures heard { Hears V.hears result.2.1 witness result.2.0 }
+            ensures heard { WitnessHears V.hears result.2.1 witness result.2.0 }
             ensures closed { result.2.1 ≢ Some (RunFault.Spawn tt) → G.closed gate.entry.now }
         { run_owned(rt, Asking::new(allocator), flusher, gate, witness) },
     );

@@ -9,7 +9,7 @@ ghost use Rattle.lift_keeper.specs.Prelude.{Commits, CommitCalls};
 ghost use Rattle.lift_clerk.specs.Visits.{Visit};
 ghost use Rattle.lift_parts.specs.Batch.{turns_behind, turns_with};
 ghost use Rattle.lift_parts.specs.Flusher.{AnswersOne, Answered, IsSettled};
-ghost use Rattle.lift_relay.specs.Settler.{Settles};
+ghost use Rattle.lift_relay.specs.Settler.{SettlesBatch};
 
 use crate::batch::Batch;
 use crate::held::HeldClerk;
@@ -149,7 +149,7 @@ impl<'d, 'b, D: Disk, K> Settler<'d, 'b, D, K> {
             → (batch.building ≡ self.old.writer.plan)
             × (batch.before.register ≡ self.old.writer.register) }
         requires settled { IsSettled self.old.seat batch.turns }
-        ensures settles { Settles D.state self.old batch self.new result }
+        ensures settles { SettlesBatch D.state self.old batch self.new result }
         ensures calls { CommitCalls
             D.state self.old.writer (length batch.entries) self.new.writer result }
     {

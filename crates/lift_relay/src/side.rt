@@ -3,7 +3,7 @@ ghost use Rattle.std.specs.Prelude.{◌≡◌, true, false, List, MatchResult, M
 ghost use Rattle.crossbeam_queue.specs.Fifo.{Pushes, Pops, Merges, Learns, Held};
 ghost use Rattle.lift_parts.specs.Batch.{BatchState};
 ghost use Rattle.lift_parts.specs.Line.{tried};
-ghost use Rattle.lift_relay.specs.Rule.{IsKept, Waits, sending, receiving};
+ghost use Rattle.lift_relay.specs.Rule.{IsLineKept, HoldsUnreceived, sending, receiving};
 ghost use Rattle.lift_relay.specs.Side.{AreSides};
 
 use crate::batch::Batch;
@@ -84,9 +84,9 @@ impl Side {
         rt: &R,
         batch: Batch,
     ) -> Result<(), Batch>
-        requires pushes { Pushes IsKept 4 self.old.pass self.old.knows batch
+        requires pushes { Pushes IsLineKept 4 self.old.pass self.old.knows batch
             (M.then self.old.knows batch) }
-        requires learns { Learns IsKept self.old.pass self.old.knows (M.fact self.old.knows) }
+        requires learns { Learns IsLineKept self.old.pass self.old.knows (M.fact self.old.knows) }
         ensures same { (self.new.line ≡ self.old.line) × (self.new.pass ≡ self.old.pass) }
         ensures pushed { MatchResult result
             (λ _. M.then self.old.knows batch self.new.knows
@@ -114,8 +114,8 @@ impl Side {
         &mut self,
         rt: &R,
     ) -> Option<Batch>
-        requires pops { Pops IsKept self.old.pass self.old.knows (M.then self.old.knows) }
-        requires learns { Learns IsKept self.old.pass self.old.knows (M.fact self.old.knows) }
+        requires pops { Pops IsLineKept self.old.pass self.old.knows (M.then self.old.knows) }
+        requires learns { Learns IsLineKept self.old.pass self.old.knows (M.fact self.old.knows) }
         ensures same { (self.new.line ≡ self.old.line) × (self.new.pass ≡ self.old.pass) }
         ensures popped { MatchOption result
             ((self.new ≡ record self.old { tries = tried self.old.tries true })
@@ -140,7 +140,7 @@ impl Side {
     /// parts them again. That tries nothing.
     pub fn meet<J: Join<EndView>>(&mut self, other: Side) -> Side
         requires line { other.line ≡ self.old.line }
-        requires joins { Merges IsKept self.old.pass self.old.knows other.pass other.knows
+        requires joins { Merges IsLineKept self.old.pass self.old.knows other.pass other.knows
             (J.both self.old.knows other.knows) J.spent }
         requires both { let both = J.both self.old.knows other.knows in
             (both.begun ≡ true) × (both.sends ≡ true) × (both.receives ≡ true) }
@@ -150,7 +150,7 @@ impl Side {
             × (result.knows ≡ receiving (J.both self.old.knows other.knows))
             × (result.tries ≡ other.tries) }
         ensures waits { (items : List BatchState)
-            × Waits (J.both self.old.knows other.knows) items }
+            × HoldsUnreceived (J.both self.old.knows other.knows) items }
     {
         let Side {
             line,

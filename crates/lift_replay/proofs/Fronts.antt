@@ -11,7 +11,7 @@ use Rattle.lift_desk.specs.Seats.{TerminalSeat}
 use Rattle.lift_register.specs.Balanced.{open_count}
 use Rattle.lift_replay.specs.declared.lines.End.{End}
 use Rattle.lift_replay.specs.declared.lines.End.TheVariants.{Cut as Power}
-use Rattle.lift_replay.specs.Group.{GroupState, left_by, recovered}
+use Rattle.lift_replay.specs.Group.{ScriptGroup, left_by, recovered}
 use Rattle.lift_replay.specs.Reading.{IsInput}
 use Rattle.lift_replay.specs.Replaying.{IsTextReport, WritesFront, ReportsFront}
 use Rattle.lift_replay.specs.Report.{AppendsFront, Reports, ReportsPart, cut_text}
@@ -80,33 +80,33 @@ more_part old mid new piece next after added more first second = record {
 }
 
 -- the lines have told nothing yet
-pub tells_none : (plan : Plan) (count : ℕ) (g : GroupState) (script : List (List ℕ)) (old : Option (List ℕ)) (piece : List ℕ) → TellsPart plan count g script old old piece piece
+pub tells_none : (plan : Plan) (count : ℕ) (g : ScriptGroup) (script : List (List ℕ)) (old : Option (List ℕ)) (piece : List ℕ) → TellsPart plan count g script old old piece piece
 tells_none plan count g script old piece = let told = lines_total plan count g script in (told.0, told.1, told.2, no_part old piece told.0)
 
 -- the writer took a front of the piece
-pub tells_torn : (plan : Plan) (count : ℕ) (g : GroupState) (script : List (List ℕ)) (old new : Option (List ℕ)) (n : ℕ) (piece after : List ℕ) → Appends old new (take n piece) → after ≡ []
+pub tells_torn : (plan : Plan) (count : ℕ) (g : ScriptGroup) (script : List (List ℕ)) (old new : Option (List ℕ)) (n : ℕ) (piece after : List ℕ) → Appends old new (take n piece) → after ≡ []
     → TellsPart plan count g script old new piece after
 tells_torn plan count g script old new n piece after appends none =
     let told = lines_total plan count g script in (told.0, told.1, told.2, torn_part old new n piece after told.0 appends none)
 
 -- the later lines told a front
-pub tells_more : (plan : Plan) (count later : ℕ) (g next : GroupState) (script rest : List (List ℕ)) (old mid new : Option (List ℕ)) (piece kept after text : List ℕ)
+pub tells_more : (plan : Plan) (count later : ℕ) (g next : ScriptGroup) (script rest : List (List ℕ)) (old mid new : Option (List ℕ)) (piece kept after text : List ℕ)
     → Continues plan count g script text later next rest → Reports old mid piece kept text → TellsPart plan later next rest mid new kept after → TellsPart plan count g script old new piece after
 tells_more plan count later g next script rest old mid new piece kept after text leads reports (more, verdict, tells, part) =
     (text ++ more, verdict, leads more verdict tells, more_part old mid new piece kept after text more reports part)
 
 -- they told nothing more
-pub tells_so_far : (plan : Plan) (count later : ℕ) (g next : GroupState) (script rest : List (List ℕ)) (old new : Option (List ℕ)) (piece after text : List ℕ)
+pub tells_so_far : (plan : Plan) (count later : ℕ) (g next : ScriptGroup) (script rest : List (List ℕ)) (old new : Option (List ℕ)) (piece after text : List ℕ)
     → Continues plan count g script text later next rest → Reports old new piece after text → TellsPart plan count g script old new piece after
 tells_so_far plan count later g next script rest old new piece after text leads reports =
     tells_more plan count later g next script rest old new new piece after after text leads reports (tells_none plan later next rest new after)
 
 -- the piece has stayed as it was
-pub tells_kept : (plan : Plan) (count : ℕ) (g : GroupState) (script : List (List ℕ)) (old new : Option (List ℕ)) (piece kept after : List ℕ) → after ≡ kept → TellsPart plan count g script old new piece kept → TellsPart plan count g script old new piece after
+pub tells_kept : (plan : Plan) (count : ℕ) (g : ScriptGroup) (script : List (List ℕ)) (old new : Option (List ℕ)) (piece kept after : List ℕ) → after ≡ kept → TellsPart plan count g script old new piece kept → TellsPart plan count g script old new piece after
 tells_kept plan count g script old new piece kept after is part = subst (TellsPart plan count g script old new piece) (sym is) part
 
 -- what was kept back was written, or a front of it
-pub tells_put : (plan : Plan) (count : ℕ) (g : GroupState) (script : List (List ℕ)) (old mid new : Option (List ℕ)) (piece after : List ℕ) → piece ≡ [] → TellsPart plan count g script old mid piece after
+pub tells_put : (plan : Plan) (count : ℕ) (g : ScriptGroup) (script : List (List ℕ)) (old mid new : Option (List ℕ)) (piece after : List ℕ) → piece ≡ [] → TellsPart plan count g script old mid piece after
     → AppendsFront mid new after → WritesFront (TellsLines plan count g script) old new
 tells_put plan count g script old mid new piece after none (all, verdict, tells, part) (put, (rest, is), appends) = (
   all,
@@ -124,12 +124,12 @@ tells_put plan count g script old mid new piece after none (all, verdict, tells,
 )
 
 -- all was told, and the last piece was torn
-pub tells_all : (plan : Plan) (count : ℕ) (g : GroupState) (script : List (List ℕ)) (old new : Option (List ℕ)) (piece after : List ℕ) (verdict : Verdict)
+pub tells_all : (plan : Plan) (count : ℕ) (g : ScriptGroup) (script : List (List ℕ)) (old new : Option (List ℕ)) (piece after : List ℕ) (verdict : Verdict)
     → (all : List ℕ) × TellsLines plan count g script all verdict × Reports old new piece after all → TellsPart plan count g script old new piece after
 tells_all plan count g script old new piece after verdict (all, tells, reports) = (all, verdict, tells, whole_part old new piece after all reports)
 
 -- all was told, or a front of it
-pub tells_either : {E : Type 0} (plan : Plan) (count : ℕ) (g : GroupState) (script : List (List ℕ)) (old new : Option (List ℕ)) (piece after : List ℕ) (result : Result Verdict E)
+pub tells_either : {E : Type 0} (plan : Plan) (count : ℕ) (g : ScriptGroup) (script : List (List ℕ)) (old new : Option (List ℕ)) (piece after : List ℕ) (result : Result Verdict E)
     → IfOk result (λ verdict. (all : List ℕ) × TellsLines plan count g script all verdict × Reports old new piece after all) → OnErr result (TellsPart plan count g script old new piece after)
     → TellsPart plan count g script old new piece after
 tells_either plan count g script old new piece after (Ok verdict) tells front = tells_all plan count g script old new piece after verdict tells
@@ -163,14 +163,14 @@ longer_part old new piece after all more part = record {
 }
 
 -- a power cut ended the lines at a desk, and what stands behind it failed
-pub cut_part : (plan : Plan) (count later : ℕ) (g : GroupState) (script rest : List (List ℕ)) (outcome : Outcome) (clerk : ScriptClerk) (seats : List TerminalSeat) (end : End) (old mid new : Option (List ℕ)) (piece next after : List ℕ)
+pub cut_part : (plan : Plan) (count later : ℕ) (g : ScriptGroup) (script rest : List (List ℕ)) (outcome : Outcome) (clerk : ScriptClerk) (seats : List TerminalSeat) (end : End) (old mid new : Option (List ℕ)) (piece next after : List ℕ)
     → end ≡ Power outcome → (added : List ℕ) × LinesEnd plan count g script added later rest clerk seats end × Reports old mid piece next added
-    → ((h : GroupState) → Shows plan h clerk seats → ReportsPart mid new next after (cut_text (open_count (left_by outcome h).register)))
+    → ((h : ScriptGroup) → Shows plan h clerk seats → ReportsPart mid new next after (cut_text (open_count (left_by outcome h).register)))
     → TellsPart plan count g script old new piece after
 cut_part plan count later g script rest outcome clerk seats end old mid new piece next after is (added, ends, reports) part =
     let power = subst (LinesEnd plan count g script added later rest clerk seats) is ends in
     let cut : List ℕ = cut_text (open_count (left_by outcome power.0).register) in
-    let behind : GroupState = recovered plan (left_by outcome power.0) in
+    let behind : ScriptGroup = recovered plan (left_by outcome power.0) in
     let told = lines_total plan later behind rest in (
       added ++ (cut ++ told.0),
       told.1,

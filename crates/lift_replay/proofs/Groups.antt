@@ -30,11 +30,11 @@ use Rattle.lift_clerk.specs.declared.counts.Counts.{Counts}
 use Rattle.lift_clerk.specs.Turn.{IsTurn, IsFailedTurn, IsBrokenTurn, settled}
 use Rattle.lift_clerk.specs.lemmas.Visiting.{length-served}
 use Rattle.lift_clerk.specs.Visits.{Visit, Serves, commands_of as commands_at}
-use Rattle.lift_replay.specs.Group.{Asking, GroupState, Stopped, Found, half, commands_in, commands_of, having_heard, answers_text, state_by, replies_by, beginning, decided, calls_for, passes, passing_after, calls_to_stop, after_turn, after_stop, after_commit, commit_text, turned, turn_told, by_mark, at_mark, standing, folded, with_room, with_batch, in_folding, in_append, room_for, left_of}
+use Rattle.lift_replay.specs.Group.{Asking, ScriptGroup, Stopped, Found, half, waiting_from, waiting_commands, having_heard, heard_replies_text, state_by, replies_by, state_to_decide_on, state_decided, calls_for, passes, passing_after, calls_to_stop, after_turn, after_stop, after_commit, commit_text, turned, turn_told, by_mark, at_mark, found_while_whole, folded, with_room, with_batch, in_folding, in_append, room_for, found_after_cut}
 use Rattle.lift_replay.specs.Report.{turn_text, fault_text}
 use Rattle.lift_replay.specs.Terminals.{AllHear, AreTold, seat_at}
 use Rattle.lift_replay.specs.Told.{ScriptClerk, OutcomeTells, TurnTells, HasCommitted, WasStopped, device_of}
-use Rattle.lift_replay.specs.Shows.{AreInStep, IsFound, IsFused, Stands, IsKept, Shows}
+use Rattle.lift_replay.specs.Shows.{AreInStep, IsFound, IsFused, Stands, IsKeeperOf, Shows}
 use Rattle.lift_replay.proofs.InStep.{all_found, commands_found, hear_all}
 
 le_of : (a b : ℕ) → nat_le a b ≡ true → a ≤ b
@@ -74,8 +74,8 @@ heard_length (a ∷ terminals) = ap suc (heard_length terminals)
 
 -- what a turn takes and what is heard behind it
 pub record TakesAll (terminals : List Asking) (visits : List Visit) (replies : List Reply) (after : List TerminalSeat) (known : List ClerkPlace) (heard : List ℕ) : Type 0 where
-  pub commands : commands_at 0 visits ≡ commands_in 0 terminals
-  pub text : heard ≡ answers_text (commands_in 0 terminals) replies
+  pub commands : commands_at 0 visits ≡ waiting_from 0 terminals
+  pub text : heard ≡ heard_replies_text (waiting_from 0 terminals) replies
   pub in_step : AreInStep (having_heard terminals) after known
 
 pub takes_all : (terminals : List Asking) (seats told after : List TerminalSeat) (places turned known : List ClerkPlace) (visits : List Visit) (replies : List Reply) (heard : List ℕ)
@@ -127,7 +127,7 @@ module _ (plan : Plan) (old new : DiskState) (P Q M O : Found) (offset mark made
       cases false e = behind_mark outcome image (nat_le (mark + 2) made) refl (let w = past_of made mark e in omega (arith, w)) left
 
 -- what each cut leaves of a commit that was stopped
-module _ (plan : Plan) (g : GroupState) (s : Stopped) (old new : DiskState) (honest : new.is_honest)
+module _ (plan : Plan) (g : ScriptGroup) (s : Stopped) (old new : DiskState) (honest : new.is_honest)
     (stops : StopsCommit plan half g.is_second g.used g.register s.batch old new) (calls : new.calls ≡ old.calls + s.made) (some : 0 < length s.batch)
     (most : s.made ≤ commit_calls g.register g.used half (length s.batch)) where
   room_is : (b : Bool) → has_room g.used half (length s.batch) ≡ b → (room_for g s.batch ≡ 0) ⊎ (room_for g s.batch ≡ sectors_for (length (base_records g.register)) + 4)
@@ -146,14 +146,14 @@ module _ (plan : Plan) (g : GroupState) (s : Stopped) (old new : DiskState) (hon
       few = elim (room_is (has_room g.used half (length s.batch)) refl) [ inl none ↦ omega (arith, none, early) | inr some_room ↦ omega (arith, some_room, early) ]
 
       by_half : (second : Bool)
-          → StopsAtMark (IsFound plan (standing g)) (IsFound plan (folded g)) (FirstIf second (IsFound plan (standing g)) (IsFound plan (folded g)))
-          (FirstIf second (IsFound plan (folded g)) (IsFound plan (standing g))) (sectors_for (length (base_records g.register)) + 2) old new
-          → IsFound plan (at_mark outcome (sectors_for (length (base_records g.register)) + 2) s.made (standing g) (folded g) (if second then standing g else folded g) (if second then folded g else standing g)) image
+          → StopsAtMark (IsFound plan (found_while_whole g)) (IsFound plan (folded g)) (FirstIf second (IsFound plan (found_while_whole g)) (IsFound plan (folded g)))
+          (FirstIf second (IsFound plan (folded g)) (IsFound plan (found_while_whole g))) (sectors_for (length (base_records g.register)) + 2) old new
+          → IsFound plan (at_mark outcome (sectors_for (length (base_records g.register)) + 2) s.made (found_while_whole g) (folded g) (if second then found_while_whole g else folded g) (if second then folded g else found_while_whole g)) image
       by_half true stop =
-          left_at_mark plan old new (standing g) (folded g) (standing g) (folded g) 0 (sectors_for (length (base_records g.register)) + 2) s.made (sectors_for (length (base_records g.register)) + 2) honest (omega arith) stop
+          left_at_mark plan old new (found_while_whole g) (folded g) (found_while_whole g) (folded g) 0 (sectors_for (length (base_records g.register)) + 2) s.made (sectors_for (length (base_records g.register)) + 2) honest (omega arith) stop
           (omega (arith, calls)) (omega (arith, few)) outcome image left may
       by_half false stop =
-          left_at_mark plan old new (standing g) (folded g) (folded g) (standing g) 0 (sectors_for (length (base_records g.register)) + 2) s.made (sectors_for (length (base_records g.register)) + 2) honest (omega arith) stop
+          left_at_mark plan old new (found_while_whole g) (folded g) (folded g) (found_while_whole g) 0 (sectors_for (length (base_records g.register)) + 2) s.made (sectors_for (length (base_records g.register)) + 2) honest (omega arith) stop
           (omega (arith, calls)) (omega (arith, few)) outcome image left may
 
   append_left : (outcome : Outcome) (image : Image) → room_for g s.batch < s.made → IsLeftBy outcome new image → MayLeave new image
@@ -163,7 +163,7 @@ module _ (plan : Plan) (g : GroupState) (s : Stopped) (old new : DiskState) (hon
       (room_for g s.batch) (bodies (length s.batch) + 2) (s.made - room_for g s.batch) (room_for g s.batch + (bodies (length s.batch) + 2)) honest refl
       (stops.adding (omega (arith, calls, late))) (omega (arith, calls, late)) (omega (arith, all_calls, late)) outcome image left may
 
-  pub cut_as : (outcome : Outcome) (image : Image) → IsLeftBy outcome new image → MayLeave new image → IsFound plan (left_of (Some s) outcome g) image
+  pub cut_as : (outcome : Outcome) (image : Image) → IsLeftBy outcome new image → MayLeave new image → IsFound plan (found_after_cut (Some s) outcome g) image
   cut_as outcome image left may = cases (nat_le s.made (room_for g s.batch)) refl
     where
       cases : (b : Bool) → nat_le s.made (room_for g s.batch) ≡ b
@@ -222,11 +222,11 @@ stops_at passing need old new inert fused long most last = last_call passing fus
         record { stopped = beyond need left (omega (arith, past, most)); calls = here; most = omega (arith, here, most) }
 
 -- the terminals and the fuse are nothing to what a cut leaves
-pub left_as : (x : Option Stopped) (g : GroupState) (passing : Option ℕ) (terminals : List Asking) (outcome : Outcome) → left_of x outcome (record g { passing = passing; terminals = terminals }) ≡ left_of x outcome g
+pub left_as : (x : Option Stopped) (g : ScriptGroup) (passing : Option ℕ) (terminals : List Asking) (outcome : Outcome) → found_after_cut x outcome (record g { passing = passing; terminals = terminals }) ≡ found_after_cut x outcome g
 left_as None g passing terminals outcome = refl
 left_as (Some s) g passing terminals outcome = refl
 
-pub with_terminals : (plan : Plan) (g : GroupState) (keeper : KeeperView FusedDisk) (terminals : List Asking) (s : Option Stopped) → Stands s plan g keeper → Stands s plan (record g { terminals = terminals }) keeper
+pub with_terminals : (plan : Plan) (g : ScriptGroup) (keeper : KeeperView FusedDisk) (terminals : List Asking) (s : Option Stopped) → Stands s plan g keeper → Stands s plan (record g { terminals = terminals }) keeper
 with_terminals plan g keeper terminals None stands = stands
 with_terminals plan g keeper terminals (Some s) stands =
     (stands.0, λ outcome image left may. subst (λ f. IsFound plan f image) (sym (left_as g.stopped g g.passing terminals outcome)) (stands.1 outcome image left may))
@@ -235,7 +235,7 @@ is_broken_not : (b : Bool) → b ≡ true → b ≡ false → ⊥
 is_broken_not b yes_it no_it = true≢false (sym yes_it ∙ no_it)
 
 -- A turn tells what is computed, and makes the group that is computed.
-module _ (computed : StepsAreDecisions IsEtdChoice etd_pick) (plan : Plan) (g : GroupState) (old new : ScriptClerk) (seats after : List TerminalSeat) (text : List ℕ)
+module _ (computed : StepsAreDecisions IsEtdChoice etd_pick) (plan : Plan) (g : ScriptGroup) (old new : ScriptClerk) (seats after : List TerminalSeat) (text : List ℕ)
     (shows : Shows plan g old seats) (outcome : OutcomeTells old new seats after text) (long : (device_of new).is_short ≡ false) where
   abbrev now : ScriptClerk
   now = outcome.turned
@@ -244,7 +244,7 @@ module _ (computed : StepsAreDecisions IsEtdChoice etd_pick) (plan : Plan) (g : 
   same_keeper = ap (λ (c : ScriptClerk). c.keeper) outcome.rest
 
   abbrev Result : Option Stopped → Type 0
-  Result s = (text ≡ turn_told s plan g) × IsKept plan (turned s plan g) now.keeper × AreInStep (turned s plan g).terminals after new.seat
+  Result s = (text ≡ turn_told s plan g) × IsKeeperOf plan (turned s plan g) now.keeper × AreInStep (turned s plan g).terminals after new.seat
 
   long_now : (device_of now).is_short ≡ false
   long_now = subst (λ (k : KeeperView FusedDisk). (fuse_state_of k.writer.device).is_short ≡ false) same_keeper long
@@ -254,16 +254,16 @@ module _ (computed : StepsAreDecisions IsEtdChoice etd_pick) (plan : Plan) (g : 
   went_well None stands counts turn made head =
       let takes = takes_all g.terminals seats outcome.told after old.seat now.seat new.seat turn.visits turn.replies outcome.heard shows.terminals turn.serves outcome.knows outcome.hear in
       let run = subst (λ cs. Run old.keeper.writer.plan IsEtdChoice old.keeper.state cs turn.replies turn.decided) takes.commands turn.run in
-      let run_here = subst (λ (p : Plan). Run p IsEtdChoice old.keeper.state (commands_of g) turn.replies turn.decided) shows.keeper.same_plan run in
-      let is = run_is computed plan (beginning g) (commands_of g) turn.replies turn.decided (subst (λ s. Run plan IsEtdChoice s (commands_of g) turn.replies turn.decided) stands.1 run_here) in
-      let accepted : counts.accepted ≡ length (decided plan g).batch = turn.accepted ∙ ap (λ (s : State). length s.batch) is.1 in
-      let need : (device_of now).calls ≡ (device_of old).calls + calls_for g (decided plan g) =
+      let run_here = subst (λ (p : Plan). Run p IsEtdChoice old.keeper.state (waiting_commands g) turn.replies turn.decided) shows.keeper.same_plan run in
+      let is = run_is computed plan (state_to_decide_on g) (waiting_commands g) turn.replies turn.decided (subst (λ s. Run plan IsEtdChoice s (waiting_commands g) turn.replies turn.decided) stands.1 run_here) in
+      let accepted : counts.accepted ≡ length (state_decided plan g).batch = turn.accepted ∙ ap (λ (s : State). length s.batch) is.1 in
+      let need : (device_of now).calls ≡ (device_of old).calls + calls_for g (state_decided plan g) =
       made.calls ∙ ap (λ r. (device_of old).calls + commit_calls r old.keeper.writer.used old.keeper.writer.half counts.accepted) shows.keeper.register
       ∙ ap (λ u. (device_of old).calls + commit_calls g.register u old.keeper.writer.half counts.accepted) stands.2
       ∙ ap (λ h. (device_of old).calls + commit_calls g.register g.used h counts.accepted) shows.keeper.half_is
       ∙ ap (λ n. (device_of old).calls + commit_calls g.register g.used half n) accepted in
-      let ok = passes_all g.passing (calls_for g (decided plan g)) (device_of old) (device_of now) tt stands.4 need made.none_fails in
-      let kept : IsKept plan (after_turn g (decided plan g)) now.keeper = record {
+      let ok = passes_all g.passing (calls_for g (state_decided plan g)) (device_of old) (device_of now) tt stands.4 need made.none_fails in
+      let kept : IsKeeperOf plan (after_turn g (state_decided plan g)) now.keeper = record {
         same_plan = outcome.place.plan ∙ shows.keeper.same_plan;
         half_is = outcome.place.half ∙ shows.keeper.half_is;
         register = made.register ∙ ap (λ (s : State). s.register) (turn.after ∙ ap settled is.1);
@@ -278,15 +278,15 @@ module _ (computed : StepsAreDecisions IsEtdChoice etd_pick) (plan : Plan) (g : 
               ∙ ap (λ u. commit_second g.is_second u old.keeper.writer.half counts.accepted) stands.2
               ∙ ap (λ h. commit_second g.is_second g.used h counts.accepted) shows.keeper.half_is
               ∙ ap (λ n. commit_second g.is_second g.used half n) accepted,
-          fused_on g.passing (calls_for g (decided plan g)) (device_of old) (device_of now) ok stands.4 need made.none_fails outcome.place.fuse,
+          fused_on g.passing (calls_for g (state_decided plan g)) (device_of old) (device_of now) ok stands.4 need made.none_fails outcome.place.fuse,
         );
       } in
-      let told : text ≡ commit_text true plan g (decided plan g) =
-      outcome.shown ∙ ap (λ l. l ++ outcome.heard) (head ∙ ap (λ n. turn_text n counts.accepted) (turn.taken ∙ ap length takes.commands) ∙ ap (turn_text (length (commands_of g))) accepted)
-      ∙ ap (λ l. turn_text (length (commands_of g)) (length (decided plan g).batch) ++ l) (takes.text ∙ ap (answers_text (commands_of g)) is.0) in (
-        told ∙ ap (λ b. commit_text b plan g (decided plan g)) (sym ok),
-        subst (λ b. IsKept plan (after_commit b g (decided plan g)) now.keeper) (sym ok) kept,
-        subst (λ b. AreInStep (after_commit b g (decided plan g)).terminals after new.seat) (sym ok) takes.in_step,
+      let told : text ≡ commit_text true plan g (state_decided plan g) =
+      outcome.shown ∙ ap (λ l. l ++ outcome.heard) (head ∙ ap (λ n. turn_text n counts.accepted) (turn.taken ∙ ap length takes.commands) ∙ ap (turn_text (length (waiting_commands g))) accepted)
+      ∙ ap (λ l. turn_text (length (waiting_commands g)) (length (state_decided plan g).batch) ++ l) (takes.text ∙ ap (heard_replies_text (waiting_commands g)) is.0) in (
+        told ∙ ap (λ b. commit_text b plan g (state_decided plan g)) (sym ok),
+        subst (λ b. IsKeeperOf plan (after_commit b g (state_decided plan g)) now.keeper) (sym ok) kept,
+        subst (λ b. AreInStep (after_commit b g (state_decided plan g)).terminals after new.seat) (sym ok) takes.in_step,
       )
 
   was_stopped : (s : Option Stopped) → Stands s plan g old.keeper → IsFailedTurn IsEtdChoice old now → WasStopped old now → outcome.head ≡ fault_text (codes "turn") 1 → Result s
@@ -294,25 +294,25 @@ module _ (computed : StepsAreDecisions IsEtdChoice etd_pick) (plan : Plan) (g : 
   was_stopped None stands turn stop head =
       let takes = takes_all g.terminals seats outcome.told after old.seat now.seat new.seat turn.visits (unknowns (commands_at 0 turn.visits)) outcome.heard shows.terminals turn.serves outcome.knows outcome.hear in
       let run = subst (λ cs. Run old.keeper.writer.plan IsEtdChoice old.keeper.state cs turn.decided_so now.keeper.state) takes.commands turn.run in
-      let run_here = subst (λ (p : Plan). Run p IsEtdChoice old.keeper.state (commands_of g) turn.decided_so now.keeper.state) shows.keeper.same_plan run in
-      let is = run_is computed plan (beginning g) (commands_of g) turn.decided_so now.keeper.state (subst (λ s. Run plan IsEtdChoice s (commands_of g) turn.decided_so now.keeper.state) stands.1 run_here) in
-      let batch : now.keeper.state.batch ≡ (decided plan g).batch = ap (λ (s : State). s.batch) is.1 in
-      let doubt : now.keeper.writer.doubt ≡ (decided plan g).batch = turn.doubt ∙ batch in
-      let need : (device_of now).calls ≤ (device_of old).calls + calls_for g (decided plan g) =
+      let run_here = subst (λ (p : Plan). Run p IsEtdChoice old.keeper.state (waiting_commands g) turn.decided_so now.keeper.state) shows.keeper.same_plan run in
+      let is = run_is computed plan (state_to_decide_on g) (waiting_commands g) turn.decided_so now.keeper.state (subst (λ s. Run plan IsEtdChoice s (waiting_commands g) turn.decided_so now.keeper.state) stands.1 run_here) in
+      let batch : now.keeper.state.batch ≡ (state_decided plan g).batch = ap (λ (s : State). s.batch) is.1 in
+      let doubt : now.keeper.writer.doubt ≡ (state_decided plan g).batch = turn.doubt ∙ batch in
+      let need : (device_of now).calls ≤ (device_of old).calls + calls_for g (state_decided plan g) =
       subst (λ n. (device_of now).calls ≤ (device_of old).calls + commit_calls g.register g.used half n) (ap length batch)
       (subst (λ h. (device_of now).calls ≤ (device_of old).calls + commit_calls g.register g.used h (length now.keeper.state.batch)) shows.keeper.half_is
       (subst (λ u. (device_of now).calls ≤ (device_of old).calls + commit_calls g.register u old.keeper.writer.half (length now.keeper.state.batch)) stands.2
       (subst (λ r. (device_of now).calls ≤ (device_of old).calls + commit_calls r old.keeper.writer.used old.keeper.writer.half (length now.keeper.state.batch)) shows.keeper.register stop.calls))) in
-      let fuse = stops_at g.passing (calls_for g (decided plan g)) (device_of old) (device_of now) tt stands.4 long_now need stop.last_fails in
-      let stops : StopsCommit plan half g.is_second g.used g.register (decided plan g).batch (device_of old) (device_of now) =
-      subst (λ (p : Plan). StopsCommit p half g.is_second g.used g.register (decided plan g).batch (device_of old) (device_of now)) shows.keeper.same_plan
-      (subst (λ h. StopsCommit old.keeper.writer.plan h g.is_second g.used g.register (decided plan g).batch (device_of old) (device_of now)) shows.keeper.half_is
-      (subst (λ b. StopsCommit old.keeper.writer.plan old.keeper.writer.half b g.used g.register (decided plan g).batch (device_of old) (device_of now)) stands.3
-      (subst (λ u. StopsCommit old.keeper.writer.plan old.keeper.writer.half old.keeper.writer.is_second u g.register (decided plan g).batch (device_of old) (device_of now)) stands.2
-      (subst (λ r. StopsCommit old.keeper.writer.plan old.keeper.writer.half old.keeper.writer.is_second old.keeper.writer.used r (decided plan g).batch (device_of old) (device_of now)) shows.keeper.register
+      let fuse = stops_at g.passing (calls_for g (state_decided plan g)) (device_of old) (device_of now) tt stands.4 long_now need stop.last_fails in
+      let stops : StopsCommit plan half g.is_second g.used g.register (state_decided plan g).batch (device_of old) (device_of now) =
+      subst (λ (p : Plan). StopsCommit p half g.is_second g.used g.register (state_decided plan g).batch (device_of old) (device_of now)) shows.keeper.same_plan
+      (subst (λ h. StopsCommit old.keeper.writer.plan h g.is_second g.used g.register (state_decided plan g).batch (device_of old) (device_of now)) shows.keeper.half_is
+      (subst (λ b. StopsCommit old.keeper.writer.plan old.keeper.writer.half b g.used g.register (state_decided plan g).batch (device_of old) (device_of now)) stands.3
+      (subst (λ u. StopsCommit old.keeper.writer.plan old.keeper.writer.half old.keeper.writer.is_second u g.register (state_decided plan g).batch (device_of old) (device_of now)) stands.2
+      (subst (λ r. StopsCommit old.keeper.writer.plan old.keeper.writer.half old.keeper.writer.is_second old.keeper.writer.used r (state_decided plan g).batch (device_of old) (device_of now)) shows.keeper.register
       (subst (λ d. StopsCommit old.keeper.writer.plan old.keeper.writer.half old.keeper.writer.is_second old.keeper.writer.used old.keeper.writer.register d (device_of old) (device_of now)) doubt stop.stops))))) in
-      let stopped : Stopped = record { made = calls_to_stop g.passing; batch = (decided plan g).batch } in
-      let kept : IsKept plan (after_stop g (decided plan g)) now.keeper = record {
+      let stopped : Stopped = record { made = calls_to_stop g.passing; batch = (state_decided plan g).batch } in
+      let kept : IsKeeperOf plan (after_stop g (state_decided plan g)) now.keeper = record {
         same_plan = outcome.place.plan ∙ shows.keeper.same_plan;
         half_is = outcome.place.half ∙ shows.keeper.half_is;
         register = stop.register ∙ shows.keeper.register;
@@ -321,26 +321,26 @@ module _ (computed : StepsAreDecisions IsEtdChoice etd_pick) (plan : Plan) (g : 
           cut_as plan g stopped (device_of old) (device_of now) tt stops fuse.calls (subst (λ b. 0 < length b) batch turn.some) fuse.most,
         );
       } in
-      let told : text ≡ commit_text false plan g (decided plan g) =
+      let told : text ≡ commit_text false plan g (state_decided plan g) =
       outcome.shown ∙ ap (λ l. l ++ outcome.heard) head
-      ∙ ap (λ l. fault_text (codes "turn") 1 ++ l) (takes.text ∙ ap (answers_text (commands_of g)) (ap unknowns takes.commands)) in (
-        told ∙ ap (λ b. commit_text b plan g (decided plan g)) (sym fuse.stopped),
-        subst (λ b. IsKept plan (after_commit b g (decided plan g)) now.keeper) (sym fuse.stopped) kept,
-        subst (λ b. AreInStep (after_commit b g (decided plan g)).terminals after new.seat) (sym fuse.stopped) takes.in_step,
+      ∙ ap (λ l. fault_text (codes "turn") 1 ++ l) (takes.text ∙ ap (heard_replies_text (waiting_commands g)) (ap unknowns takes.commands)) in (
+        told ∙ ap (λ b. commit_text b plan g (state_decided plan g)) (sym fuse.stopped),
+        subst (λ b. IsKeeperOf plan (after_commit b g (state_decided plan g)) now.keeper) (sym fuse.stopped) kept,
+        subst (λ b. AreInStep (after_commit b g (state_decided plan g)).terminals after new.seat) (sym fuse.stopped) takes.in_step,
       )
 
   was_broken : (s : Option Stopped) → Stands s plan g old.keeper → old.keeper.writer.is_broken ≡ true → IsBrokenTurn old now → outcome.head ≡ fault_text (codes "turn") 5 → g.stopped ≡ s → Result s
   was_broken None stands broken turn head is = absurd (is_broken_not old.keeper.writer.is_broken broken stands.0)
   was_broken (Some s) stands broken turn head is =
       let takes = takes_all g.terminals seats outcome.told after old.seat now.seat new.seat turn.visits (unknowns (commands_at 0 turn.visits)) outcome.heard shows.terminals turn.serves outcome.knows outcome.hear in
-      let kept : IsKept plan (record g { terminals = having_heard g.terminals }) old.keeper = record {
+      let kept : IsKeeperOf plan (record g { terminals = having_heard g.terminals }) old.keeper = record {
         same_plan = shows.keeper.same_plan;
         half_is = shows.keeper.half_is;
         register = shows.keeper.register;
         stands = with_terminals plan g old.keeper (having_heard g.terminals) g.stopped shows.keeper.stands;
       } in (
-        outcome.shown ∙ ap (λ l. l ++ outcome.heard) head ∙ ap (λ l. fault_text (codes "turn") 5 ++ l) (takes.text ∙ ap (answers_text (commands_of g)) (ap unknowns takes.commands)),
-        subst (IsKept plan (record g { terminals = having_heard g.terminals })) (sym turn.rests) kept,
+        outcome.shown ∙ ap (λ l. l ++ outcome.heard) head ∙ ap (λ l. fault_text (codes "turn") 5 ++ l) (takes.text ∙ ap (heard_replies_text (waiting_commands g)) (ap unknowns takes.commands)),
+        subst (IsKeeperOf plan (record g { terminals = having_heard g.terminals })) (sym turn.rests) kept,
         takes.in_step,
       )
 
@@ -353,5 +353,5 @@ module _ (computed : StepsAreDecisions IsEtdChoice etd_pick) (plan : Plan) (g : 
   turn_shows =
       let result = by_turn outcome.tells in (
         result.0,
-        record { keeper = subst (IsKept plan (turned g.stopped plan g)) (sym same_keeper) result.1; terminals = result.2 },
+        record { keeper = subst (IsKeeperOf plan (turned g.stopped plan g)) (sym same_keeper) result.1; terminals = result.2 },
       )

@@ -7,14 +7,14 @@ use Rattle.lift_desk.specs.declared.words.Ask.{Ask}
 use Rattle.lift_desk.specs.declared.view.TerminalView.{TerminalView}
 use Rattle.lift_desk.specs.declared.view.ClerkView.{ClerkView}
 use Rattle.lift_desk.specs.Words.{number_of, last_of, reply_word, IsReply}
-use Rattle.lift_desk.specs.Steps.{is_new, with_taking, with_answer, with_hearing, with_told_answers, with_told_asks}
+use Rattle.lift_desk.specs.Steps.{is_new_word, with_taking, with_answer, with_hearing, with_told_answers, with_told_asks}
 use Rattle.lift_desk.specs.Seats.{TerminalSeat, ClerkPlace, Waits, IsToldAnswer, HearsOf, TakesOf, view_at}
 use Rattle.lift_desk.specs.lemmas.WordLists.{last_of-push, prefix_length}
 use Rattle.lift_policy.specs.declared.command.Command.{Command}
 use Rattle.lift_clerk.specs.Visits.{Visit, FindsAt, Finds, command_at, commands_of, with_reply, replies_behind, served}
-use Rattle.lift_replay.specs.Group.{Asking, asking_at, commands_in, having_heard, answers_text}
+use Rattle.lift_replay.specs.Group.{Asking, asking_at, waiting_from, having_heard, heard_replies_text}
 use Rattle.lift_replay.specs.Report.{heard_text}
-use Rattle.lift_replay.specs.Terminals.{AllHear, Hears, line_of, seat_at}
+use Rattle.lift_replay.specs.Terminals.{AllHear, Hears, heard_line, seat_at}
 use Rattle.lift_replay.specs.Shows.{WaitsFor, IsInStep}
 
 -- a terminal's ask that waits, of a clerk that found it
@@ -63,7 +63,7 @@ all_found (a ∷ askings) (place ∷ places) (v ∷ visits) replies seat many co
           (λ i below. each (suc i) (omega (arith, below))) (λ i below. front (suc i) (omega (arith, below))),
     )
 
-pub commands_found : (k : ℕ) (visits : List Visit) (askings : List Asking) → AllFound visits askings → commands_of k visits ≡ commands_in k askings
+pub commands_found : (k : ℕ) (visits : List Visit) (askings : List Asking) → AllFound visits askings → commands_of k visits ≡ waiting_from k askings
 commands_found k [] [] found = refl
 commands_found k [] (a ∷ askings) found = absurd found
 commands_found k (v ∷ visits) [] found = absurd found
@@ -119,7 +119,7 @@ module _ (a : Asking) (seat : TerminalView) (place : ClerkPlace) (v : Visit) (st
           even = omega (arith, step.even, ap length more, length-append place.view.taken (v.word ∷ []), length-append place.view.answered (reply_word (length looked.taken) ask.number reply ∷ []));
           waits = all_taken;
         } in (
-          h.shown ∙ ap (line_of old) is ∙ ap (λ n. heard_text n (number_of (last_of old.view.asked)) reply) at
+          h.shown ∙ ap (heard_line old) is ∙ ap (λ n. heard_text n (number_of (last_of old.view.asked)) reply) at
               ∙ ap (λ n. heard_text t n reply) (ap (λ (x : TerminalView). number_of (last_of x.asked)) view ∙ last),
           ap (λ (s : TerminalSeat). s.terminal) h.looked ∙ at,
           subst (λ x. IsInStep (record { turns = a.turns; waiting = None }) x (with_told_asks answered seat.asked)) (sym new_is) in_step,
@@ -132,7 +132,7 @@ module _ (a : Asking) (seat : TerminalView) (place : ClerkPlace) (v : Visit) (st
       let waiting : Waits (with_told_answers seat looked.answered) = subst Waits view h.waited in
       absurd (omega (arith, waiting, ap length step.heard, step.even, ap length waits))
   hears_nothing waits found old new t line view at (inl rests) =
-      let old_word : is_new place.view v.word ≡ false = subst (λ f. TakesOf place.view v.word f) found finds.reads in
+      let old_word : is_new_word place.view v.word ≡ false = subst (λ f. TakesOf place.view v.word f) found finds.reads in
       let same : looked.taken ≡ place.view.taken = ap (λ b. cond b (place.view.taken ++ v.word ∷ []) place.view.taken) old_word in
       let in_step : IsInStep (record { turns = a.turns; waiting = None }) (with_told_answers seat looked.answered) (with_told_asks looked seat.asked) = record {
         turns = step.turns;
@@ -148,26 +148,26 @@ module _ (a : Asking) (seat : TerminalView) (place : ClerkPlace) (v : Visit) (st
 
 -- all terminals hear, from this one on
 pub record HearAll (k : ℕ) (askings : List Asking) (after : List TerminalSeat) (heard : List ℕ) (replies : List Reply) (known : ℕ → ClerkView) : Type 0 where
-  pub text : heard ≡ answers_text (commands_in k askings) replies
+  pub text : heard ≡ heard_replies_text (waiting_from k askings) replies
   pub own : (i : ℕ) → i < length askings → (seat_at after i).terminal ≡ k + i
   pub each : (i : ℕ) → i < length askings → IsInStep (asking_at (having_heard askings) i) (seat_at after i).view (known i)
 
-no_more : (commands : List Command) (replies : List Reply) → length replies ≡ length commands → commands ≡ [] → answers_text commands replies ≡ []
+no_more : (commands : List Command) (replies : List Reply) → length replies ≡ length commands → commands ≡ [] → heard_replies_text commands replies ≡ []
 no_more [] replies same none = refl
 no_more (c ∷ commands) replies same none = absurd (omega (arith, ap length none))
 
 -- one terminal, and those behind it
 hear_one : (k : ℕ) (a : Asking) (askings : List Asking) (w : Option Ask) (place : ClerkPlace) (v : Visit) (replies : List Reply) (seat : TerminalView) (old new : TerminalSeat) (news : List TerminalSeat) (line others : List ℕ) (known : ℕ → ClerkView)
-    → a.waiting ≡ w → v.found ≡ w → IsInStep a seat place.view → FindsAt place v → All IsReply replies → length replies ≡ length (command_at k w ++ commands_in (suc k) askings)
+    → a.waiting ≡ w → v.found ≡ w → IsInStep a seat place.view → FindsAt place v → All IsReply replies → length replies ≡ length (command_at k w ++ waiting_from (suc k) askings)
     → old.view ≡ with_told_answers seat (with_reply (with_taking place.view v.word) w replies).answered
     → known 0 ≡ with_told_asks (with_reply (with_taking place.view v.word) w replies) seat.asked → old.terminal ≡ k → Hears old new line
-    → (All IsReply (replies_behind w replies) → length (replies_behind w replies) ≡ length (commands_in (suc k) askings) → HearAll (suc k) askings news others (replies_behind w replies) (λ i. known (suc i)))
+    → (All IsReply (replies_behind w replies) → length (replies_behind w replies) ≡ length (waiting_from (suc k) askings) → HearAll (suc k) askings news others (replies_behind w replies) (λ i. known (suc i)))
     → HearAll k (a ∷ askings) (new ∷ news) (line ++ others) replies known
 hear_one k a askings None place v replies seat old new news line others known w found step finds range many view known_is at hears behind =
     let here = hears_nothing a seat place v step finds (subst (λ x. WaitsFor x seat place.view) w step.waits) found old new k line view at hears in
     let rest = behind range many in
     record {
-      text = ap (λ l. l ++ others) here.0 ∙ rest.text ∙ ap (λ x. answers_text (command_at k x ++ commands_in (suc k) askings) replies) (sym w);
+      text = ap (λ l. l ++ others) here.0 ∙ rest.text ∙ ap (λ x. heard_replies_text (command_at k x ++ waiting_from (suc k) askings) replies) (sym w);
       own = own here.1 rest.own;
       each = each (subst (λ x. IsInStep (record { turns = a.turns; waiting = None }) new.view x) (sym known_is) here.2) rest.each;
     }
@@ -185,7 +185,7 @@ hear_one k a askings (Some ask) place v (reply ∷ replies) seat old new news li
     let here = hears_it a seat place v step finds ask reply (subst (λ x. WaitsFor x seat place.view) w step.waits) found old new k line (All-head IsReply reply replies range) view at hears in
     let rest = behind (All-tail IsReply reply replies range) (omega (arith, many)) in
     record {
-      text = ap (λ l. l ++ others) here.0 ∙ ap (λ l. heard_text k ask.number reply ++ l) rest.text ∙ ap (λ x. answers_text (command_at k x ++ commands_in (suc k) askings) (reply ∷ replies)) (sym w);
+      text = ap (λ l. l ++ others) here.0 ∙ ap (λ l. heard_text k ask.number reply ++ l) rest.text ∙ ap (λ x. heard_replies_text (command_at k x ++ waiting_from (suc k) askings) (reply ∷ replies)) (sym w);
       own = own here.1 rest.own;
       each = each (subst (λ x. IsInStep (record { turns = a.turns; waiting = None }) new.view x) (sym known_is) here.2) rest.each;
     }
@@ -200,7 +200,7 @@ hear_one k a askings (Some ask) place v (reply ∷ replies) seat old new news li
     each first more (suc i) below = more i (omega (arith, below))
 
 pub hear_all : (k : ℕ) (askings : List Asking) (places : List ClerkPlace) (visits : List Visit) (replies : List Reply) (seat : ℕ → TerminalView) (olds news : List TerminalSeat) (heard : List ℕ) (known : ℕ → ClerkView)
-    → AllFound visits askings → length places ≡ length askings → length olds ≡ length askings → Finds places visits → All IsReply replies → length replies ≡ length (commands_in k askings)
+    → AllFound visits askings → length places ≡ length askings → length olds ≡ length askings → Finds places visits → All IsReply replies → length replies ≡ length (waiting_from k askings)
     → ((i : ℕ) → i < length askings → IsInStep (asking_at askings i) (seat i) (view_at places i))
     → ((i : ℕ) → i < length askings → (seat_at olds i).view ≡ with_told_answers (seat i) (view_at (served places visits replies) i).answered)
     → ((i : ℕ) → i < length askings → known i ≡ with_told_asks (view_at (served places visits replies) i) (seat i).asked)

@@ -27,15 +27,15 @@ use Rattle.lift_replay.specs.declared.lines.End.TheVariants.{Run as Over, Cut as
 use Rattle.lift_replay.specs.declared.lines.Verdict.{Verdict}
 use Rattle.lift_replay.specs.declared.lines.Verdict.TheVariants.{Bad}
 use Rattle.lift_replay.specs.Running.{TellsLines, Continues, LinesEnd}
-use Rattle.lift_replay.specs.Grammar.{IsInRange, IsSkipped, Spells}
+use Rattle.lift_replay.specs.Grammar.{IsLineInRange, IsSkipped, Spells}
 use Rattle.lift_replay.specs.Known.{IsKnown}
-use Rattle.lift_replay.specs.Group.{Asking, GroupState, Stopped, asking_at, asking_more, after_ask, asked, asked_text, ask_text, unasked, unless_stopped, line_text, left_by, beginning}
+use Rattle.lift_replay.specs.Group.{Asking, ScriptGroup, Stopped, asking_at, asking_more, after_ask, after_asking, asked_text, ask_text, unasked, unless_stopped, line_text, left_by, state_to_decide_on}
 use Rattle.lift_replay.specs.Group.{after as after_line}
 use Rattle.lift_replay.specs.Report.{spent_text, register_text, bad_text, cut_text}
 use Rattle.lift_replay.specs.Shown.{stops_text, costs_text, unless_broken}
 use Rattle.lift_replay.specs.Terminals.{no_seat, seat_at, told_seat, having_asked}
-use Rattle.lift_replay.specs.Told.{ScriptClerk, Asks, HasAsked, IsArmed, KeepsKeeper, Rests, Tells, LineTells, device_of, end_of}
-use Rattle.lift_replay.specs.Shows.{WaitsFor, IsInStep, AreInStep, IsFound, Stands, IsKept, Shows}
+use Rattle.lift_replay.specs.Told.{ScriptClerk, Asks, HasAsked, IsArmed, KeepsKeeper, ScriptRests, Tells, LineTells, device_of, end_of}
+use Rattle.lift_replay.specs.Shows.{WaitsFor, IsInStep, AreInStep, IsFound, Stands, IsKeeperOf, Shows}
 use Rattle.lift_replay.proofs.Groups.{turn_shows, with_terminals, left_as}
 use Rattle.lift_replay.proofs.Recovered.{left_unchanged, may_unchanged}
 
@@ -99,7 +99,7 @@ module _ (terminals : List Asking) (seats after : List TerminalSeat) (places kno
   asks : (text : List ℕ) (w : Option Ask) → a.waiting ≡ w → Asks seats after places known t number body text → Asked text w
   asks text (Some ask) is (inl waits) = (waits.3, stays (Some ask) is waits.1 waits.2)
   asks text (Some ask) is (inr (inl spent)) = absurd (spent.0 (waits_so a (seat_at seats t).view (view_at places t) ask here is))
-  asks text (Some ask) is (inr (inr asked)) = absurd (asked.0 (waits_so a (seat_at seats t).view (view_at places t) ask here is))
+  asks text (Some ask) is (inr (inr after_asking)) = absurd (after_asking.0 (waits_so a (seat_at seats t).view (view_at places t) ask here is))
   asks text None is (inl waits) = absurd (waits_not a (seat_at seats t).view (view_at places t) here is waits.0)
   asks text None is (inr (inl spent)) =
       let all : (a.turns == 1048575) ≡ true = eq-eqb a.turns 1048575 (sym here.turns ∙ spent.1) in (
@@ -107,9 +107,9 @@ module _ (terminals : List Asking) (seats after : List TerminalSeat) (places kno
         subst (λ b. AreInStep (slice_set terminals t (cond b (record { turns = a.turns; waiting = None }) (record { turns = suc a.turns; waiting = Some asking }))) after known) (sym all)
             (stays None is spent.2 spent.3),
       )
-  asks text None is (inr (inr asked)) =
-      let left : (a.turns == 1048575) ≡ false = ne_eqb a.turns 1048575 (λ e. asked.1 (here.turns ∙ e)) in
-      let h : HasAsked seats after places known t number body = asked.2 in
+  asks text None is (inr (inr after_asking)) =
+      let left : (a.turns == 1048575) ≡ false = ne_eqb a.turns 1048575 (λ e. after_asking.1 (here.turns ∙ e)) in
+      let h : HasAsked seats after places known t number body = after_asking.2 in
       let word : ℕ = ask_word (suc (length (seat_at seats t).view.asked)) number body in
       let wide : t < length seats = omega (arith, inside, step.seat_count) in
       let deep : t < length places = omega (arith, inside, step.place_count) in
@@ -128,7 +128,7 @@ module _ (terminals : List Asking) (seats after : List TerminalSeat) (places kno
         even = here.even;
         waits = (h.in_range, ap (λ l. l ++ word ∷ []) same ∙ ap (λ n. (view_at places t).taken ++ ask_word (suc n) number body ∷ []) (ap length same));
       } in (
-        asked.3 ∙ ap (λ b. cond b (spent_text t number) []) (sym left),
+        after_asking.3 ∙ ap (λ b. cond b (spent_text t number) []) (sym left),
         subst (λ b. AreInStep (slice_set terminals t (cond b (record { turns = a.turns; waiting = None }) (record { turns = suc a.turns; waiting = Some asking }))) after known) (sym left)
             (step_at terminals seats after places known t (record { turns = suc a.turns; waiting = Some asking }) step inside
             (ap length h.seat ∙ length-set h.asked t _ ∙ ap length h.asks ∙ length-set seats t _)
@@ -145,13 +145,13 @@ module _ (terminals : List Asking) (seats after : List TerminalSeat) (places kno
   asks_shows text told = asks text a.waiting refl told
 
 -- what is shown while nothing is stopped
-shown_is : (plan : Plan) (g : GroupState) (keeper : KeeperView FusedDisk) (line : List ℕ) (f : State → List ℕ) (s : Option Stopped) → Stands s plan g keeper
-    → unless_broken keeper.writer.is_broken line (f keeper.state) ≡ unless_stopped s line (f (beginning g))
+shown_is : (plan : Plan) (g : ScriptGroup) (keeper : KeeperView FusedDisk) (line : List ℕ) (f : State → List ℕ) (s : Option Stopped) → Stands s plan g keeper
+    → unless_broken keeper.writer.is_broken line (f keeper.state) ≡ unless_stopped s line (f (state_to_decide_on g))
 shown_is plan g keeper line f None stands = ap (λ b. unless_broken b line (f keeper.state)) stands.0 ∙ ap f stands.1
 shown_is plan g keeper line f (Some s) stands = ap (λ b. unless_broken b line (f keeper.state)) stands.0
 
 -- a fuse
-arms : (plan : Plan) (g : GroupState) (calls : ℕ) (old new : ScriptClerk) (s : Option Stopped) → IsArmed calls old new → Stands s plan g old.keeper → g.stopped ≡ s → Stands s plan (record g { passing = Some calls }) new.keeper
+arms : (plan : Plan) (g : ScriptGroup) (calls : ℕ) (old new : ScriptClerk) (s : Option Stopped) → IsArmed calls old new → Stands s plan g old.keeper → g.stopped ≡ s → Stands s plan (record g { passing = Some calls }) new.keeper
 arms plan g calls old new None armed stands is = (
   ap (λ (c : ScriptClerk). c.keeper.writer.is_broken) armed.rest ∙ stands.0,
   ap (λ (c : ScriptClerk). c.keeper.state) armed.rest ∙ stands.1,
@@ -169,7 +169,7 @@ arms plan g calls old new (Some s) armed stands is = (
 )
 
 -- a line that is carried out tells what is computed, and makes the group that is computed
-module _ (computed : StepsAreDecisions IsEtdChoice etd_pick) (plan : Plan) (g : GroupState) (old new : ScriptClerk) (seats after : List TerminalSeat)
+module _ (computed : StepsAreDecisions IsEtdChoice etd_pick) (plan : Plan) (g : ScriptGroup) (old new : ScriptClerk) (seats after : List TerminalSeat)
     (shows : Shows plan g old seats) (count : length seats ≡ 16 + length plan.kiosks) (long : (device_of new).is_short ≡ false) where
   abbrev pub Carried : ScriptLine → List ℕ → Type 0
   Carried (Place car position) told = (told ≡ line_text plan g (Place car position)) × Shows plan (after_line plan g (Place car position)) new after
@@ -182,25 +182,25 @@ module _ (computed : StepsAreDecisions IsEtdChoice etd_pick) (plan : Plan) (g : 
   Carried (Fuse calls) told = (told ≡ []) × Shows plan (after_line plan g (Fuse calls)) new after
   Carried (Cut outcome) told = (told ≡ []) × Shows plan g new after
 
-  rests : Rests old new seats after → Shows plan g new after
+  rests : ScriptRests old new seats after → Shows plan g new after
   rests is = subst (λ c. Shows plan g c after) (sym is.clerk) (subst (Shows plan g old) (sym is.terminals) shows)
 
   asks_so : (t number : ℕ) (body : Body) (told : List ℕ) → t < 16 + length plan.kiosks → Asks seats after old.seat new.seat t number body told → KeepsKeeper old new
-      → (told ≡ asked_text g t number) × Shows plan (asked g t number body) new after
+      → (told ≡ asked_text g t number) × Shows plan (after_asking g t number body) new after
   asks_so t number body told below asks keeps =
       let result = asks_shows g.terminals seats after old.seat new.seat t number body shows.terminals (omega (arith, below, count, shows.terminals.seat_count)) told asks in
       let same : new.keeper ≡ old.keeper = ap (λ (c : ScriptClerk). c.keeper) keeps in
-      let kept : IsKept plan (asked g t number body) old.keeper = record {
+      let kept : IsKeeperOf plan (after_asking g t number body) old.keeper = record {
         same_plan = shows.keeper.same_plan;
         half_is = shows.keeper.half_is;
         register = shows.keeper.register;
-        stands = with_terminals plan g old.keeper (asked g t number body).terminals g.stopped shows.keeper.stands;
+        stands = with_terminals plan g old.keeper (after_asking g t number body).terminals g.stopped shows.keeper.stands;
       } in (
         result.0,
-        record { keeper = subst (IsKept plan (asked g t number body)) (sym same) kept; terminals = result.1 },
+        record { keeper = subst (IsKeeperOf plan (after_asking g t number body)) (sym same) kept; terminals = result.1 },
       )
 
-  pub tells_shows : (wanted : ScriptLine) (told : List ℕ) → IsInRange wanted → IsKnown plan wanted → Tells plan old new seats after wanted told → Carried wanted told
+  pub tells_shows : (wanted : ScriptLine) (told : List ℕ) → IsLineInRange wanted → IsKnown plan wanted → Tells plan old new seats after wanted told → Carried wanted told
   tells_shows (Place car position) told range known tells = asks_so car 0 (Placing position.floor position.dir) told (let below = range.0 in omega (arith, below)) tells.0 tells.1
   tells_shows (Call kiosk number floor party) told range known tells = asks_so (16 + kiosk) number (Calls floor party) told (omega (arith, known)) tells.0 tells.1
   tells_shows (Stop car number stop) told range known tells = asks_so car number (Stopping stop.floor stop.dir) told (let below = range.0 in omega (arith, below)) tells.0 tells.1
@@ -212,7 +212,7 @@ module _ (computed : StepsAreDecisions IsEtdChoice etd_pick) (plan : Plan) (g : 
   tells_shows Rows told range known tells = (tells.0 ∙ shown_is plan g old.keeper (codes "rows") (λ s. register_text s.register) g.stopped shows.keeper.stands, rests tells.1)
   tells_shows (Fuse calls) told range known tells =
       let armed = tells.1 in
-      let kept : IsKept plan (record g { passing = Some calls }) new.keeper = record {
+      let kept : IsKeeperOf plan (record g { passing = Some calls }) new.keeper = record {
         same_plan = ap (λ (c : ScriptClerk). c.keeper.writer.plan) armed.rest ∙ shows.keeper.same_plan;
         half_is = ap (λ (c : ScriptClerk). c.keeper.writer.half) armed.rest ∙ shows.keeper.half_is;
         register = ap (λ (c : ScriptClerk). c.keeper.writer.register) armed.rest ∙ shows.keeper.register;
@@ -227,12 +227,12 @@ module _ (computed : StepsAreDecisions IsEtdChoice etd_pick) (plan : Plan) (g : 
   tells_shows (Cut outcome) told range known tells = (tells.0, rests tells.1)
 
 -- what a line tells, where another follows, and where it is the last
-module _ (computed : StepsAreDecisions IsEtdChoice etd_pick) (plan : Plan) (g : GroupState) (old new : ScriptClerk) (seats after : List TerminalSeat)
+module _ (computed : StepsAreDecisions IsEtdChoice etd_pick) (plan : Plan) (g : ScriptGroup) (old new : ScriptClerk) (seats after : List TerminalSeat)
     (shows : Shows plan g old seats) (count : length seats ≡ 16 + length plan.kiosks) (long : (device_of new).is_short ≡ false)
-    (so_far later : ℕ) (first : GroupState) (script rest behind : List (List ℕ)) (line before told : List ℕ) (number : ℕ)
+    (so_far later : ℕ) (first : ScriptGroup) (script rest behind : List (List ℕ)) (line before told : List ℕ) (number : ℕ)
     (at : rest ≡ line ∷ behind) (next_number : number ≡ later + 1) (leads : Continues plan so_far first script before later g rest) where
   -- what the rest tells, as the line and what is behind it
-  onward : (next : GroupState) (text : List ℕ) → ((more : List ℕ) (verdict : Verdict) → TellsLines plan (suc later) next behind more verdict → TellsLines plan later g (line ∷ behind) (text ++ more) verdict)
+  onward : (next : ScriptGroup) (text : List ℕ) → ((more : List ℕ) (verdict : Verdict) → TellsLines plan (suc later) next behind more verdict → TellsLines plan later g (line ∷ behind) (text ++ more) verdict)
       → Continues plan so_far first script (before ++ text) number next behind
   onward next text step more verdict tells =
       let here : number ≡ suc later = next_number ∙ omega arith in
@@ -249,7 +249,7 @@ module _ (computed : StepsAreDecisions IsEtdChoice etd_pick) (plan : Plan) (g : 
 
   -- a line behind which the next is carried out
   abbrev pub GoesOn : Type 0
-  GoesOn = (next : GroupState) × Shows plan next new after × Continues plan so_far first script (before ++ told) number next behind
+  GoesOn = (next : ScriptGroup) × Shows plan next new after × Continues plan so_far first script (before ++ told) number next behind
 
   pub line_goes_on : LineTells plan old new seats after line number None told → GoesOn
   line_goes_on (inl skipped) = (g, rests computed plan g old new seats after shows count long skipped.3, skips skipped.0 skipped.2)

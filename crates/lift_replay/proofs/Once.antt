@@ -12,8 +12,8 @@ use Rattle.lift_disk.specs.declared.outcome.Outcome.TheVariants.{Keep, Lose, Fil
 use Rattle.lift_replay.specs.declared.line.ScriptLine.{ScriptLine}
 use Rattle.lift_replay.specs.declared.line.ScriptLine.TheVariants.{Place, Call, Stop, Turn, Stops, Cost, Rows, Fuse, Cut}
 use Rattle.lift_replay.specs.declared.lines.Verdict.{Verdict}
-use Rattle.lift_replay.specs.Grammar.{AskFor, IsInRange, IsOutcomeInRange, outcome_words, Spells}
-use Rattle.lift_replay.specs.Group.{GroupState, line_text, after}
+use Rattle.lift_replay.specs.Grammar.{AskFor, IsLineInRange, IsOutcomeInRange, outcome_words, Spells}
+use Rattle.lift_replay.specs.Group.{ScriptGroup, line_text, after}
 use Rattle.lift_replay.specs.Known.{IsKnown}
 use Rattle.lift_replay.specs.Running.{TellsLines}
 use Rattle.lift_replay.specs.Script.{IsBadLine}
@@ -54,7 +54,7 @@ outcome_one (Fill m) Lose r s e = absurd (let no : ◌≡◌ {A = ℕ} 102 108 =
 outcome_one (Fill m) (Fill n) r s e = ap Fill (decimal_one m n (omega (arith, r)) (omega (arith, s)) (ap (word_at 1) e))
 
 -- words ask for one thing at most
-asks_one : (words : List (List ℕ)) (a b : ScriptLine) → IsInRange a → IsInRange b → AskFor words a → AskFor words b → a ≡ b
+asks_one : (words : List (List ℕ)) (a b : ScriptLine) → IsLineInRange a → IsLineInRange b → AskFor words a → AskFor words b → a ≡ b
 asks_one words (Place car position) (Place car2 position2) r s p q =
     let e = sym p ∙ q in
     ap (λ x. Place x position) (letter_one car car2 (ap (word_at 1) e))
@@ -170,7 +170,7 @@ bad_not plan line wanted (other, inl none) spells known = none wanted spells
 bad_not plan line wanted (other, inr (unknown, spelled, not)) spells known = not (subst (IsKnown plan) (spells_one line wanted unknown spells spelled) known)
 
 -- what lines tell, and the verdict, are determined
-pub lines_one : (plan : Plan) (count : ℕ) (g : GroupState) (script : List (List ℕ)) (s t : List ℕ) (v w : Verdict) → TellsLines plan count g script s v → TellsLines plan count g script t w → (s ≡ t) × (v ≡ w)
+pub lines_one : (plan : Plan) (count : ℕ) (g : ScriptGroup) (script : List (List ℕ)) (s t : List ℕ) (v w : Verdict) → TellsLines plan count g script s v → TellsLines plan count g script t w → (s ≡ t) × (v ≡ w)
 lines_one plan count g [] s t v w a b = (a.0 ∙ sym b.0, a.1 ∙ sym b.1)
 lines_one plan count g (line ∷ lines) s t v w (inl a) (inl b) = lines_one plan (suc count) g lines s t v w a.1 b.1
 lines_one plan count g (line ∷ lines) s t v w (inl a) (inr (inl b)) = absurd (b.2 a.0)

@@ -17,9 +17,9 @@ use Rattle.lift_keeper.specs.declared.fault.KeeperFault.TheVariants.{Journal}
 use Rattle.lift_keeper.specs.Images.{IsImageOf, IsInDoubt, IsImageIn}
 use Rattle.lift_keeper.specs.Calls.{OpensByCalls, RefusedCalls, FailsBy}
 use Rattle.lift_keeper.specs.Reopening.{Reopens, RefusesReopening}
-use Rattle.lift_replay.specs.Group.{GroupState, Found, Stopped, half, left_by, recovered, asking_at, unasked, new_terminals}
-use Rattle.lift_replay.specs.Group.{left_of as left_as}
-use Rattle.lift_replay.specs.Shows.{IsFound, IsInStep, AreInStep, Stands, IsKept, Shows}
+use Rattle.lift_replay.specs.Group.{ScriptGroup, Found, Stopped, half, left_by, recovered, asking_at, unasked, new_terminals}
+use Rattle.lift_replay.specs.Group.{found_after_cut as left_as}
+use Rattle.lift_replay.specs.Shows.{IsFound, IsInStep, AreInStep, Stands, IsKeeperOf, Shows}
 use Rattle.lift_replay.specs.Told.{ScriptClerk}
 use Rattle.lift_replay.specs.Terminals.{seat_at}
 use Rattle.lift_replay.proofs.Hearing.{count_from, own_from}
@@ -99,7 +99,7 @@ left_reads keeper plan register image is safe in_doubt may = subst (λ p. (other
 pub kept_of : (plan : Plan) (f : Found) (disk : FusedDisk) (keeper : KeeperView FusedDisk) → IsFound plan f (fuse_state_of disk).image
     → Reopens plan (fuse_state_of disk) (fuse_state_of keeper.writer.device) keeper.writer.register keeper.writer.half keeper.writer.is_second keeper.writer.used
     → OpensByCalls fuse_state_of (fuse_state_of disk) keeper.writer → (fuse_state_of keeper.writer.device).image ≡ (fuse_state_of disk).image → IsUnarmed (fuse_state_of keeper.writer.device) → keeper.state ≡ starting keeper.writer.register
-    → keeper.writer.plan ≡ plan → (keeper.writer.is_broken ≡ false) × (keeper.writer.doubt ≡ []) → IsKept plan (recovered plan f) keeper
+    → keeper.writer.plan ≡ plan → (keeper.writer.is_broken ≡ false) × (keeper.writer.doubt ≡ []) → IsKeeperOf plan (recovered plan f) keeper
 kept_of plan f disk keeper found opens calls image unarmed state of_plan whole =
     let here : IsImageIn plan half f.is_second f.used f.register (fuse_state_of keeper.writer.device).image = subst (IsFound plan f) (sym image) found in
     let is = calls.found tt half f.is_second f.used f.register (subst (λ (p : Plan). IsImageIn p half f.is_second f.used f.register (fuse_state_of keeper.writer.device).image) (sym of_plan) here) in
@@ -118,7 +118,7 @@ kept_of plan f disk keeper found opens calls image unarmed state of_plan whole =
     }
 
 -- what a cut leaves of a clerk that shows a group
-pub left_found : (plan : Plan) (g : GroupState) (keeper : KeeperView FusedDisk) (outcome : Outcome) (image : Image) (s : Option Stopped) → g.stopped ≡ s → Stands s plan g keeper
+pub left_found : (plan : Plan) (g : ScriptGroup) (keeper : KeeperView FusedDisk) (outcome : Outcome) (image : Image) (s : Option Stopped) → g.stopped ≡ s → Stands s plan g keeper
     → keeper.writer.plan ≡ plan → keeper.writer.half ≡ half → keeper.writer.register ≡ g.register
     → (keeper.writer.is_broken ≡ false → LeavesNow (fuse_state_of keeper.writer.device) (IsImageIn keeper.writer.plan keeper.writer.half keeper.writer.is_second keeper.writer.used keeper.writer.register))
     → IsLeftBy outcome (fuse_state_of keeper.writer.device) image → MayLeave (fuse_state_of keeper.writer.device) image → IsFound plan (left_by outcome g) image
@@ -182,10 +182,10 @@ new_in_step plan desk count =
           (subst (λ v. IsInStep unasked no_asks v) (sym (first_places desk t)) (record { turns = refl; told = refl; heard = refl; even = refl; waits = refl })));
     }
 
-pub new_shows : (plan : Plan) (g : GroupState) (keeper : KeeperView FusedDisk) (clerk : ScriptClerk) (seats : List TerminalSeat) (desk : List TableId) → IsKept plan g keeper → g.terminals ≡ new_terminals plan
+pub new_shows : (plan : Plan) (g : ScriptGroup) (keeper : KeeperView FusedDisk) (clerk : ScriptClerk) (seats : List TerminalSeat) (desk : List TableId) → IsKeeperOf plan g keeper → g.terminals ≡ new_terminals plan
     → clerk.keeper ≡ keeper → clerk.seat ≡ clerk_of desk → seats ≡ seats_from 0 desk → length desk ≡ 16 + length plan.kiosks → Shows plan g clerk seats
 new_shows plan g keeper clerk seats desk kept new keeper_is clerk_is seats_is count = record {
-  keeper = subst (IsKept plan g) (sym keeper_is) kept;
+  keeper = subst (IsKeeperOf plan g) (sym keeper_is) kept;
   terminals = subst (λ l. AreInStep l seats clerk.seat) (sym new)
       (subst (λ l. AreInStep (new_terminals plan) l clerk.seat) (sym seats_is) (subst (λ l. AreInStep (new_terminals plan) (seats_from 0 desk) l) (sym clerk_is) (new_in_step plan desk count)));
 }

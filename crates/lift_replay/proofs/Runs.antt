@@ -16,9 +16,9 @@ use Rattle.lift_desk.specs.Seats.{TerminalSeat}
 use Rattle.lift_keeper.specs.Keeper.{KeeperView}
 use Rattle.lift_policy.specs.Step.{State}
 use Rattle.lift_register.specs.Balanced.{open_count}
-use Rattle.lift_replay.specs.Group.{GroupState, new_terminals, left_by, recovered}
+use Rattle.lift_replay.specs.Group.{ScriptGroup, new_terminals, left_by, recovered}
 use Rattle.lift_replay.specs.Running.{TellsLines, Continues, LinesEnd, SegmentEnds}
-use Rattle.lift_replay.specs.Shows.{Shows, IsKept}
+use Rattle.lift_replay.specs.Shows.{Shows, IsKeeperOf}
 use Rattle.lift_replay.specs.Told.{ScriptClerk}
 use Rattle.lift_replay.specs.Report.{Reports, cut_text}
 
@@ -49,9 +49,9 @@ report_put old mid new piece after added none first last =
     subst (Appends old new) (sym whole) (Appends-trans old mid new first.written after first.appends last)
 
 -- lines that ended at a desk, with what a power cut leaves, and its report
-pub cut_goes_on : (plan : Plan) (count later : ℕ) (g : GroupState) (script rest : List (List ℕ)) (outcome : Outcome) (clerk : ScriptClerk) (seats : List TerminalSeat) (end : End) (keeper : KeeperView FusedDisk) (calls : ℕ) (old mid new : Option (List ℕ)) (piece next after : List ℕ)
+pub cut_goes_on : (plan : Plan) (count later : ℕ) (g : ScriptGroup) (script rest : List (List ℕ)) (outcome : Outcome) (clerk : ScriptClerk) (seats : List TerminalSeat) (end : End) (keeper : KeeperView FusedDisk) (calls : ℕ) (old mid new : Option (List ℕ)) (piece next after : List ℕ)
     → end ≡ Power outcome → (added : List ℕ) × LinesEnd plan count g script added later rest clerk seats end × Reports old mid piece next added
-    → ((h : GroupState) → Shows plan h clerk seats → IsKept plan (recovered plan (left_by outcome h)) keeper)
+    → ((h : ScriptGroup) → Shows plan h clerk seats → IsKeeperOf plan (recovered plan (left_by outcome h)) keeper)
     → calls ≡ open_count keeper.state.register → Reports mid new next after (cut_text calls)
     → (added : List ℕ) × SegmentEnds plan count g script added later rest (Cut keeper) × Reports old new piece after added
 cut_goes_on plan count later g script rest outcome clerk seats end keeper calls old mid new piece next after is (added, ends, reports) kept calls_is cut =
@@ -63,16 +63,16 @@ cut_goes_on plan count later g script rest outcome clerk seats end keeper calls 
       reports_on old mid new piece next after added (cut_text calls) reports cut,
     )
 
-pub run_told : (plan : Plan) (count later : ℕ) (g : GroupState) (script rest : List (List ℕ)) (verdict : Verdict) (clerk : ScriptClerk) (seats : List TerminalSeat) (end : End) (old new : Option (List ℕ)) (piece after : List ℕ)
+pub run_told : (plan : Plan) (count later : ℕ) (g : ScriptGroup) (script rest : List (List ℕ)) (verdict : Verdict) (clerk : ScriptClerk) (seats : List TerminalSeat) (end : End) (old new : Option (List ℕ)) (piece after : List ℕ)
     → end ≡ Over verdict → (added : List ℕ) × LinesEnd plan count g script added later rest clerk seats end × Reports old new piece after added
     → (added : List ℕ) × TellsLines plan count g script added verdict × Reports old new piece after added
 run_told plan count later g script rest verdict clerk seats end old new piece after is (added, ends, reports) = (added, subst (LinesEnd plan count g script added later rest clerk seats) is ends, reports)
 
 -- a segment behind those before it
-pub segment_more : (plan : Plan) (count later later2 : ℕ) (g next : GroupState) (script rest behind : List (List ℕ)) (before : List ℕ) (end : SegmentEnd) (keeper : KeeperView FusedDisk) (old mid new : Option (List ℕ)) (piece kept after : List ℕ)
+pub segment_more : (plan : Plan) (count later later2 : ℕ) (g next : ScriptGroup) (script rest behind : List (List ℕ)) (before : List ℕ) (end : SegmentEnd) (keeper : KeeperView FusedDisk) (old mid new : Option (List ℕ)) (piece kept after : List ℕ)
     → end ≡ Cut keeper → Continues plan count g script before later next rest → Reports old mid piece kept before
     → (added : List ℕ) × SegmentEnds plan later next rest added later2 behind end × Reports mid new kept after added
-    → (all : List ℕ) × (last : GroupState) × IsKept plan last keeper × (last.terminals ≡ new_terminals plan) × Continues plan count g script all later2 last behind × Reports old new piece after all
+    → (all : List ℕ) × (last : ScriptGroup) × IsKeeperOf plan last keeper × (last.terminals ≡ new_terminals plan) × Continues plan count g script all later2 last behind × Reports old new piece after all
 segment_more plan count later later2 g next script rest behind before end keeper old mid new piece kept after is leads reports (added, ends, more) =
     let cut = subst (SegmentEnds plan later next rest added later2 behind) is ends in (
       before ++ added,
@@ -83,7 +83,7 @@ segment_more plan count later later2 g next script rest behind before end keeper
       reports_on old mid new piece kept after before added reports more,
     )
 
-pub segment_last : (plan : Plan) (count later later2 : ℕ) (g next : GroupState) (script rest behind : List (List ℕ)) (before : List ℕ) (end : SegmentEnd) (verdict : Verdict) (old mid new : Option (List ℕ)) (piece kept after : List ℕ)
+pub segment_last : (plan : Plan) (count later later2 : ℕ) (g next : ScriptGroup) (script rest behind : List (List ℕ)) (before : List ℕ) (end : SegmentEnd) (verdict : Verdict) (old mid new : Option (List ℕ)) (piece kept after : List ℕ)
     → end ≡ Run verdict → Continues plan count g script before later next rest → Reports old mid piece kept before
     → (added : List ℕ) × SegmentEnds plan later next rest added later2 behind end × Reports mid new kept after added
     → (all : List ℕ) × TellsLines plan count g script all verdict × Reports old new piece after all

@@ -9,7 +9,7 @@ use Rattle.lift_building.specs.Plan.{Plan}
 use Rattle.lift_disk.specs.declared.outcome.Outcome.TheVariants.{Keep, Lose, Fill}
 use Rattle.lift_replay.specs.declared.line.ScriptLine.{ScriptLine}
 use Rattle.lift_replay.specs.declared.line.ScriptLine.TheVariants.{Place, Call, Stop, Turn, Stops, Cost, Rows, Fuse, Cut}
-use Rattle.lift_replay.specs.Grammar.{Spells, IsInRange, IsSkipped}
+use Rattle.lift_replay.specs.Grammar.{Spells, IsLineInRange, IsSkipped}
 use Rattle.lift_replay.specs.Known.{IsKnown}
 use Rattle.lift_replay.proofs.Found.{IsDecided, Within, within, both, either, below, worded, directed}
 
@@ -117,7 +117,7 @@ module _ (line : List ℕ) where
   as_words words others is are = subst (AreWords line) is are
 
   call_way : (kiosk number floor party : ℕ) (words last : List (List ℕ)) → AreWords line words → ArePartyWords last party → words ≡ codes "call" ∷ decimal kiosk ∷ decimal number ∷ decimal floor ∷ last
-      → IsInRange (Call kiosk number floor party) → Ways
+      → IsLineInRange (Call kiosk number floor party) → Ways
   call_way kiosk number floor party words last are (inl last_is) is range =
       let most = range.4 in
       let some = range.3 in
@@ -126,7 +126,7 @@ module _ (line : List ℕ) where
       inr (inl (kiosk, range.0, (number, range.1, (floor, range.2, as_words words _ (is ∙ ap (λ l. codes "call" ∷ decimal kiosk ∷ decimal number ∷ decimal floor ∷ l) none.0) are))))
 
   cost_way : (kiosk floor party : ℕ) (words last : List (List ℕ)) → AreWords line words → ArePartyWords last party → words ≡ codes "cost" ∷ decimal kiosk ∷ decimal floor ∷ last
-      → IsInRange (Cost kiosk floor party) → Ways
+      → IsLineInRange (Cost kiosk floor party) → Ways
   cost_way kiosk floor party words last are (inl last_is) is range =
       let most = range.3 in
       let some = range.2 in

@@ -9,7 +9,7 @@ use Rattle.std.specs.Str.{is_utf8}
 use Rattle.lift_building.specs.Plan.{Plan}
 use Rattle.lift_replay.specs.declared.lines.Verdict.{Verdict}
 use Rattle.lift_replay.specs.declared.lines.Verdict.TheVariants.{Good, Bad}
-use Rattle.lift_replay.specs.Group.{GroupState, first_group, line_text, after}
+use Rattle.lift_replay.specs.Group.{ScriptGroup, first_group, line_text, after}
 use Rattle.lift_replay.specs.Reading.{most_bytes}
 use Rattle.lift_replay.specs.Replaying.{IsPartsReport, IsTextReport, IsReport}
 use Rattle.lift_replay.specs.Report.{bad_text, building_text}
@@ -19,7 +19,7 @@ use Rattle.lift_replay.proofs.Built.{faulty_or_says}
 use Rattle.lift_replay.proofs.Found.{same}
 use Rattle.lift_replay.proofs.Spelled.{asks_for, skipped, known}
 
-pub lines_total : (plan : Plan) (count : ℕ) (g : GroupState) (script : List (List ℕ)) → (text : List ℕ) × (verdict : Verdict) × TellsLines plan count g script text verdict
+pub lines_total : (plan : Plan) (count : ℕ) (g : ScriptGroup) (script : List (List ℕ)) → (text : List ℕ) × (verdict : Verdict) × TellsLines plan count g script text verdict
 lines_total plan count g [] = ([], Good, (refl, refl))
 lines_total plan count g (line ∷ lines) = elim (skipped line) [
   | inl skips ↦ (let rest = lines_total plan (suc count) g lines in (rest.0, rest.1, inl (skips, rest.2)))

@@ -39,28 +39,28 @@ IsOutcomeInRange Lose = Unit {0}
 IsOutcomeInRange (Fill byte) = byte < 256
 
 -- cars A to P, kiosks 0 to 46, floors 0 to 63, numbers up to 16,777,215, parties of 1 to 15
-abbrev pub IsInRange : ScriptLine → Type 0
-IsInRange (Place car position) = (car < 16) × (position.floor < 64)
-IsInRange (Call kiosk number floor party) = (kiosk < 47) × (number < 16777216) × (floor < 64)
+abbrev pub IsLineInRange : ScriptLine → Type 0
+IsLineInRange (Place car position) = (car < 16) × (position.floor < 64)
+IsLineInRange (Call kiosk number floor party) = (kiosk < 47) × (number < 16777216) × (floor < 64)
     × (1 ≤ party) × (party ≤ 15)
-IsInRange (Stop car number stop) = (car < 16) × (number < 16777216) × (stop.floor < 64)
-IsInRange Turn = Unit {0}
-IsInRange (Stops car) = car < 16
-IsInRange (Cost kiosk floor party) = (kiosk < 47) × (floor < 64) × (1 ≤ party) × (party ≤ 15)
-IsInRange Rows = Unit {0}
-IsInRange (Fuse calls) = calls ≤ 1000000
-IsInRange (Cut outcome) = IsOutcomeInRange outcome
+IsLineInRange (Stop car number stop) = (car < 16) × (number < 16777216) × (stop.floor < 64)
+IsLineInRange Turn = Unit {0}
+IsLineInRange (Stops car) = car < 16
+IsLineInRange (Cost kiosk floor party) = (kiosk < 47) × (floor < 64) × (1 ≤ party) × (party ≤ 15)
+IsLineInRange Rows = Unit {0}
+IsLineInRange (Fuse calls) = calls ≤ 1000000
+IsLineInRange (Cut outcome) = IsOutcomeInRange outcome
 
 -- What is read from these words: a line that they ask for, and none exactly where they ask for none
 -- in range.
-abbrev pub IsReadAs : List (List ℕ) → Option ScriptLine → Type 0
-IsReadAs words (Some wanted) = AskFor words wanted × IsInRange wanted
-IsReadAs words None = (wanted : ScriptLine) → IsInRange wanted → AskFor words wanted → ⊥
+abbrev pub AreReadAsLine : List (List ℕ) → Option ScriptLine → Type 0
+AreReadAsLine words (Some wanted) = AskFor words wanted × IsLineInRange wanted
+AreReadAsLine words None = (wanted : ScriptLine) → IsLineInRange wanted → AskFor words wanted → ⊥
 
 -- The words of this line ask for this. What spells nothing in range is malformed.
 abbrev pub Spells : List ℕ → ScriptLine → Type 0
 Spells line wanted = (words : List (List ℕ)) × AreWords line words × AskFor words wanted
-    × IsInRange wanted
+    × IsLineInRange wanted
 
 -- empty lines, and those that begin with `#`, ask for nothing
 abbrev pub IsSkipped : List ℕ → Type 0

@@ -42,7 +42,7 @@ pub record Stopped : Type 0 where
   pub made : ℕ
   pub batch : List Entry
 
-pub record GroupState : Type 0 where
+pub record ScriptGroup : Type 0 where
   -- the calls that are safe; while nothing is stopped they are those that are shown
   pub register : RegisterState
   pub positions : List (Option Position)
@@ -73,7 +73,7 @@ abbrev pub no_positions : List (Option Position)
 no_positions = replicate 16 None
 
 -- over a formatted device
-abbrev pub first_group : Plan → GroupState
+abbrev pub first_group : Plan → ScriptGroup
 first_group plan = record {
   register = empty;
   positions = no_positions;
@@ -84,8 +84,8 @@ first_group plan = record {
   terminals = new_terminals plan;
 }
 
-abbrev pub view_in : GroupState → ViewState
-view_in g = record { register = g.register; positions = g.positions }
+abbrev pub policy_view : ScriptGroup → ViewState
+policy_view g = record { register = g.register; positions = g.positions }
 
 -- What a terminal tells that asks: nothing, or that it waits still, or that it has no turn left.
 abbrev pub ask_text : Option Ask → (turns terminal number : ℕ) → List ℕ
@@ -108,10 +108,10 @@ after_ask terminals terminal ask =
     (asking_at terminals terminal).turns ask)
 
 -- the commands that wait, from this terminal on, by rising terminal
-abbrev pub commands_in : ℕ → List Asking → List Command
-commands_in terminal [] = []
-commands_in terminal (asking ∷ terminals) =
-    command_at terminal asking.waiting ++ commands_in (suc terminal) terminals
+abbrev pub waiting_from : ℕ → List Asking → List Command
+waiting_from terminal [] = []
+waiting_from terminal (asking ∷ terminals) =
+    command_at terminal asking.waiting ++ waiting_from (suc terminal) terminals
 
 -- once each of them has heard its answer
 abbrev pub having_heard : List Asking → List Asking
@@ -133,24 +133,24 @@ replies_by plan state (c ∷ commands) =
     ∷ replies_by plan (decision_by etd_pick plan state c.terminal c.number c.body).next commands
 
 -- what the terminals of these commands hear
-abbrev pub answers_text : List Command → List Reply → List ℕ
-answers_text [] replies = []
-answers_text (c ∷ commands) [] = []
-answers_text (c ∷ commands) (reply ∷ replies) =
-    heard_text c.terminal c.number reply ++ answers_text commands replies
+abbrev pub heard_replies_text : List Command → List Reply → List ℕ
+heard_replies_text [] replies = []
+heard_replies_text (c ∷ commands) [] = []
+heard_replies_text (c ∷ commands) (reply ∷ replies) =
+    heard_text c.terminal c.number reply ++ heard_replies_text commands replies
 
 -- what decisions begin from
-abbrev pub beginning : GroupState → State
-beginning g = record { register = g.register; positions = g.positions; batch = [] }
+abbrev pub state_to_decide_on : ScriptGroup → State
+state_to_decide_on g = record { register = g.register; positions = g.positions; batch = [] }
 
-abbrev pub commands_of : GroupState → List Command
-commands_of g = commands_in 0 g.terminals
+abbrev pub waiting_commands : ScriptGroup → List Command
+waiting_commands g = waiting_from 0 g.terminals
 
-abbrev pub decided : Plan → GroupState → State
-decided plan g = state_by plan (beginning g) (commands_of g)
+abbrev pub state_decided : Plan → ScriptGroup → State
+state_decided plan g = state_by plan (state_to_decide_on g) (waiting_commands g)
 
 -- how many device calls the turn's commit makes where none fails
-abbrev pub calls_for : GroupState → State → ℕ
+abbrev pub calls_for : ScriptGroup → State → ℕ
 calls_for g state = commit_calls g.register g.used half (length state.batch)
 
 -- whether so many calls pass
@@ -169,7 +169,7 @@ calls_to_stop None = 0
 calls_to_stop (Some left) = suc left
 
 -- the turn's batch is safe
-abbrev pub after_turn : GroupState → State → GroupState
+abbrev pub after_turn : ScriptGroup → State → ScriptGroup
 after_turn g state = record {
   register = state.register;
   positions = state.positions;
@@ -181,7 +181,7 @@ after_turn g state = record {
 }
 
 -- or the device has stopped it
-abbrev pub after_stop : GroupState → State → GroupState
+abbrev pub after_stop : ScriptGroup → State → ScriptGroup
 after_stop g state = record g {
   stopped = Some (record {
     made = calls_to_stop g.passing;
@@ -190,29 +190,32 @@ after_stop g state = record g {
   terminals = having_heard g.terminals;
 }
 
-abbrev pub after_commit : Bool → GroupState → State → GroupState
+abbrev pub after_commit : Bool → ScriptGroup → State → ScriptGroup
 after_commit true g state = after_turn g state
 after_commit false g state = after_stop g state
 
-abbrev pub commit_text : Bool → Plan → GroupState → State → List ℕ
+abbrev pub commit_text : Bool → Plan → ScriptGroup → State → List ℕ
 commit_text true plan g state =
-    turn_text (length (commands_of g)) (length state.batch)
-    ++ answers_text (commands_of g) (replies_by plan (beginning g) (commands_of g))
+    turn_text (length (waiting_commands g)) (length state.batch)
+    ++ heard_replies_text (waiting_commands g)
+    (replies_by plan (state_to_decide_on g) (waiting_commands g))
 commit_text false plan g state =
-    fault_text (codes "turn") 1 ++ answers_text (commands_of g) (unknowns (commands_of g))
+    fault_text (codes "turn") 1
+    ++ heard_replies_text (waiting_commands g) (unknowns (waiting_commands g))
 
 -- whether the turn's commit is not stopped
-abbrev pub is_made : Plan → GroupState → Bool
-is_made plan g = passes g.passing (calls_for g (decided plan g))
+abbrev pub is_made : Plan → ScriptGroup → Bool
+is_made plan g = passes g.passing (calls_for g (state_decided plan g))
 
 -- a turn; while something is stopped each command is answered Unknown
-abbrev pub turn_told : Option Stopped → Plan → GroupState → List ℕ
-turn_told None plan g = commit_text (is_made plan g) plan g (decided plan g)
+abbrev pub turn_told : Option Stopped → Plan → ScriptGroup → List ℕ
+turn_told None plan g = commit_text (is_made plan g) plan g (state_decided plan g)
 turn_told (Some stopped) plan g =
-    fault_text (codes "turn") 5 ++ answers_text (commands_of g) (unknowns (commands_of g))
+    fault_text (codes "turn") 5
+    ++ heard_replies_text (waiting_commands g) (unknowns (waiting_commands g))
 
-abbrev pub turned : Option Stopped → Plan → GroupState → GroupState
-turned None plan g = after_commit (is_made plan g) g (decided plan g)
+abbrev pub turned : Option Stopped → Plan → ScriptGroup → ScriptGroup
+turned None plan g = after_commit (is_made plan g) g (state_decided plan g)
 turned (Some stopped) plan g = record g { terminals = having_heard g.terminals }
 
 -- what a recovery finds: a register, in this half, of which so many sectors are used
@@ -235,10 +238,10 @@ at_mark outcome mark made before behind marked others =
     (nat_le (mark + 2) made) before behind marked others
 
 -- the safe register where it stands, and once it is a checkpoint in the other half
-abbrev pub standing : GroupState → Found
-standing g = record { register = g.register; is_second = g.is_second; used = g.used }
+abbrev pub found_while_whole : ScriptGroup → Found
+found_while_whole g = record { register = g.register; is_second = g.is_second; used = g.used }
 
-abbrev pub folded : GroupState → Found
+abbrev pub folded : ScriptGroup → Found
 folded g = record {
   register = g.register;
   is_second = not g.is_second;
@@ -246,14 +249,14 @@ folded g = record {
 }
 
 -- once there is room for so many entries, and with these
-abbrev pub with_room : GroupState → ℕ → Found
+abbrev pub with_room : ScriptGroup → ℕ → Found
 with_room g count = record {
   register = g.register;
   is_second = room_second g.is_second g.used half count;
   used = room_used g.register g.used half count;
 }
 
-abbrev pub with_batch : GroupState → List Entry → Found
+abbrev pub with_batch : ScriptGroup → List Entry → Found
 with_batch g batch = record {
   register = register_of g.register batch;
   is_second = room_second g.is_second g.used half (length batch);
@@ -261,33 +264,34 @@ with_batch g batch = record {
 }
 
 -- within the checkpoint that the batch needs: the mark is the pick
-abbrev pub in_folding : Outcome → GroupState → ℕ → Found
+abbrev pub in_folding : Outcome → ScriptGroup → ℕ → Found
 in_folding outcome g made =
-    at_mark outcome (sectors_for (length (base_records g.register)) + 2) made (standing g)
+    at_mark outcome (sectors_for (length (base_records g.register)) + 2) made (found_while_whole g)
     (folded g)
-    (if g.is_second then standing g else folded g) (if g.is_second then folded g else standing g)
+    (if g.is_second then found_while_whole g else folded g)
+    (if g.is_second then folded g else found_while_whole g)
 
 -- behind it, so many calls within the append: the mark is the batch's gate
-abbrev pub in_append : Outcome → GroupState → List Entry → ℕ → Found
+abbrev pub in_append : Outcome → ScriptGroup → List Entry → ℕ → Found
 in_append outcome g batch made =
     at_mark outcome (bodies (length batch) + 2) made (with_room g (length batch))
     (with_batch g batch) (with_batch g batch) (with_room g (length batch))
 
-abbrev pub room_for : GroupState → List Entry → ℕ
+abbrev pub room_for : ScriptGroup → List Entry → ℕ
 room_for g batch = room_calls g.register g.used half (length batch)
 
 -- what a cut leaves
-abbrev pub left_of : Option Stopped → Outcome → GroupState → Found
-left_of None outcome g = standing g
-left_of (Some s) outcome g =
+abbrev pub found_after_cut : Option Stopped → Outcome → ScriptGroup → Found
+found_after_cut None outcome g = found_while_whole g
+found_after_cut (Some s) outcome g =
     if nat_le s.made (room_for g s.batch) then in_folding outcome g s.made else in_append outcome g
     s.batch (s.made - room_for g s.batch)
 
-abbrev pub left_by : Outcome → GroupState → Found
-left_by outcome g = left_of g.stopped outcome g
+abbrev pub left_by : Outcome → ScriptGroup → Found
+left_by outcome g = found_after_cut g.stopped outcome g
 
 -- the group that recovers it, at a new desk
-abbrev pub recovered : Plan → Found → GroupState
+abbrev pub recovered : Plan → Found → ScriptGroup
 recovered plan found = record {
   register = found.register;
   positions = no_positions;
@@ -303,13 +307,13 @@ abbrev pub unless_stopped : Option Stopped → (line text : List ℕ) → List �
 unless_stopped None line text = text
 unless_stopped (Some stopped) line text = fault_text line 5
 
-abbrev pub asked_text : GroupState → (terminal number : ℕ) → List ℕ
+abbrev pub asked_text : ScriptGroup → (terminal number : ℕ) → List ℕ
 asked_text g terminal number =
     ask_text (asking_at g.terminals terminal).waiting
     (asking_at g.terminals terminal).turns terminal number
 
-abbrev pub asked : GroupState → (terminal number : ℕ) → Body → GroupState
-asked g terminal number body =
+abbrev pub after_asking : ScriptGroup → (terminal number : ℕ) → Body → ScriptGroup
+after_asking g terminal number body =
     record g {
       terminals = after_ask g.terminals terminal (record {
         number = number;
@@ -318,15 +322,16 @@ asked g terminal number body =
     }
 
 -- what each line tells
-abbrev pub line_text : Plan → GroupState → ScriptLine → List ℕ
+abbrev pub line_text : Plan → ScriptGroup → ScriptLine → List ℕ
 line_text plan g (Place car position) = asked_text g car 0
 line_text plan g (Call kiosk number floor party) = asked_text g (16 + kiosk) number
 line_text plan g (Stop car number stop) = asked_text g car number
 line_text plan g Turn = turn_told g.stopped plan g
-line_text plan g (Stops car) = unless_stopped g.stopped (codes "stops") (stops_text (view_in g) car)
+line_text plan g (Stops car) = unless_stopped g.stopped (codes "stops")
+    (stops_text (policy_view g) car)
 line_text plan g (Cost kiosk floor party) =
     unless_stopped g.stopped (codes "cost")
-    (costs_text plan (view_in g) (record {
+    (costs_text plan (policy_view g) (record {
       from = kiosk_floor_of plan kiosk;
       to = floor;
       party = party;
@@ -336,10 +341,11 @@ line_text plan g (Fuse calls) = []
 line_text plan g (Cut outcome) = cut_text (open_count (left_by outcome g).register)
 
 -- what each makes of the group
-abbrev pub after : Plan → GroupState → ScriptLine → GroupState
-after plan g (Place car position) = asked g car 0 (Placing position.floor position.dir)
-after plan g (Call kiosk number floor party) = asked g (16 + kiosk) number (Calls floor party)
-after plan g (Stop car number stop) = asked g car number (Stopping stop.floor stop.dir)
+abbrev pub after : Plan → ScriptGroup → ScriptLine → ScriptGroup
+after plan g (Place car position) = after_asking g car 0 (Placing position.floor position.dir)
+after plan g (Call kiosk number floor party) = after_asking g (16 + kiosk) number
+    (Calls floor party)
+after plan g (Stop car number stop) = after_asking g car number (Stopping stop.floor stop.dir)
 after plan g Turn = turned g.stopped plan g
 after plan g (Stops car) = g
 after plan g (Cost kiosk floor party) = g

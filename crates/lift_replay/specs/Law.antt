@@ -2,7 +2,7 @@
 use Rattle.std.specs.Prelude.{ℕ, ◌≡◌, List}
 use Rattle.lift_building.specs.Plan.{Plan}
 use Rattle.lift_replay.specs.declared.lines.Verdict.{Verdict}
-use Rattle.lift_replay.specs.Group.{GroupState}
+use Rattle.lift_replay.specs.Group.{ScriptGroup}
 use Rattle.lift_replay.specs.Replaying.{IsReport}
 use Rattle.lift_replay.specs.Running.{TellsLines}
 
@@ -14,7 +14,7 @@ HasOne IsSuch = (text : List ℕ) × (verdict : Verdict) × IsSuch text verdict
 
 -- Any lines tell one text of a group of a building, and have one verdict.
 abbrev pub EachTellsOneText : Type 0
-EachTellsOneText = (plan : Plan) (count : ℕ) (g : GroupState) (script : List (List ℕ))
+EachTellsOneText = (plan : Plan) (count : ℕ) (g : ScriptGroup) (script : List (List ℕ))
     → HasOne (TellsLines plan count g script)
 
 -- Any bytes, as a script, have one report, and one verdict.

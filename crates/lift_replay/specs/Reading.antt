@@ -10,8 +10,8 @@ most_bytes = 1048576
 
 -- Its end was found, and the reader has nothing left; or one byte more than a script may have was
 -- taken.
-abbrev pub IsRead : {R : Type 0} → (R → Option (List ℕ)) → (old new : InputState R) → Type 0
-IsRead remaining old new = ((new.ended ≡ true) × IsAtEnd (remaining new.reader))
+abbrev pub IsInputRead : {R : Type 0} → (R → Option (List ℕ)) → (old new : InputState R) → Type 0
+IsInputRead remaining old new = ((new.ended ≡ true) × IsAtEnd (remaining new.reader))
     ⊎ ((bytes : List ℕ) × (length bytes ≡ most_bytes + 1)
     × Consumes (remaining old.reader) (remaining new.reader) bytes)
 
@@ -21,8 +21,9 @@ TakesUpTo most remaining old new = (bytes : List ℕ) × (length bytes ≤ most)
     × Consumes (remaining old) (remaining new) bytes
 
 -- one call of the reader, which gave these bytes
-abbrev pub Gives : {R : Type 0} → (R → Option (List ℕ)) → List ℕ → (old new : InputState R) → Type 0
-Gives remaining bytes old new = (new.calls ≡ old.calls + 1)
+abbrev pub ReaderGives : {R : Type 0} → (R → Option (List ℕ)) → List ℕ → (old new : InputState R)
+    → Type 0
+ReaderGives remaining bytes old new = (new.calls ≡ old.calls + 1)
     × Consumes (remaining old.reader) (remaining new.reader) bytes
 
 -- So many calls of the reader gave these bytes, one behind the other, and each gave one at least.
@@ -31,7 +32,7 @@ abbrev pub GiveEach : {R : Type 0} → (R → Option (List ℕ)) → (calls : �
 GiveEach remaining zero bytes old new = (bytes ≡ []) × (new ≡ old)
 GiveEach {R} remaining (suc calls) bytes old new =
     (between : InputState R) × (earlier : List ℕ) × (more : List ℕ)
-    × GiveEach remaining calls earlier old between × Gives remaining more between new
+    × GiveEach remaining calls earlier old between × ReaderGives remaining more between new
     × (0 < length more) × (bytes ≡ earlier ++ more)
 
 -- a call that gave these bytes gave one at least, found the end or failed
@@ -42,7 +43,7 @@ IsOfUse bytes new = (0 < length bytes) ⊎ ((new.ended ≡ true) ⊎ (new.failed
 -- the end, or failed.
 abbrev pub IsLastCall : {R : Type 0} → ℕ → (R → Option (List ℕ)) → List ℕ → (old new : InputState R)
     → Type 0
-IsLastCall most remaining bytes old new = (more : List ℕ) × Gives remaining more old new
+IsLastCall most remaining bytes old new = (more : List ℕ) × ReaderGives remaining more old new
     × IsOfUse more new × (length bytes + length more ≤ most + 1)
 
 -- Each call of the reader but the last gave a byte at least, and all of these no more than there

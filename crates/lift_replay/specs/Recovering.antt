@@ -6,6 +6,6 @@ use Rattle.lift_register.specs.Register.{RegisterState}
 use Rattle.lift_keeper.specs.Images.{IsImageOf}
 
 -- the image reads as this register, and as no other
-pub record Recovers (plan : Plan) (image : Image) (register : RegisterState) : Type 0 where
+pub record ReadsOnlyAs (plan : Plan) (image : Image) (register : RegisterState) : Type 0 where
   pub reads : IsImageOf plan register image
   pub only : (other : RegisterState) → IsImageOf plan other image → other ≡ register

@@ -34,9 +34,9 @@ IsReport bytes report verdict =
     ⊎ (IsText bytes × IsTextReport bytes report verdict))
 
 -- what was written is such a report, with this verdict
-abbrev pub Writes : (List ℕ → Verdict → Type 0) → (before after : Option (List ℕ)) → Verdict
+abbrev pub WritesReport : (List ℕ → Verdict → Type 0) → (before after : Option (List ℕ)) → Verdict
     → Type 0
-Writes IsSuch before after verdict = (report : List ℕ) × IsSuch report verdict
+WritesReport IsSuch before after verdict = (report : List ℕ) × IsSuch report verdict
     × Appends before after report
 
 -- what was written is a front of such a report
@@ -47,7 +47,7 @@ WritesFront IsSuch before after = (report : List ℕ) × (verdict : Verdict) × 
 -- what was written is the report of this input
 abbrev pub ReportsInput : (input before after : Option (List ℕ)) → Verdict → Type 0
 ReportsInput input before after verdict = (bytes : List ℕ) × IsInput input bytes
-    × Writes (IsReport bytes) before after verdict
+    × WritesReport (IsReport bytes) before after verdict
 
 -- or a front of it
 abbrev pub ReportsFront : (input before after : Option (List ℕ)) → Type 0

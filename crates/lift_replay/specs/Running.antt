@@ -11,17 +11,18 @@ use Rattle.lift_replay.specs.declared.lines.Verdict.TheVariants.{Good, Bad}
 use Rattle.lift_replay.specs.declared.segment.SegmentEnd.{SegmentEnd}
 use Rattle.lift_replay.specs.declared.segment.SegmentEnd.TheVariants.{Run, Cut}
 use Rattle.lift_replay.specs.Grammar.{Spells, IsSkipped}
-use Rattle.lift_replay.specs.Group.{GroupState, line_text, after, new_terminals, left_by, recovered}
+use Rattle.lift_replay.specs.Group.{ScriptGroup, line_text, after, new_terminals, left_by}
+use Rattle.lift_replay.specs.Group.{recovered}
 use Rattle.lift_replay.specs.Known.{IsKnown}
 use Rattle.lift_replay.specs.Report.{ReportsPart, bad_text, cut_text}
 use Rattle.lift_replay.specs.Script.{IsBadLine}
-use Rattle.lift_replay.specs.Shows.{Shows, IsKept}
+use Rattle.lift_replay.specs.Shows.{Shows, IsKeeperOf}
 use Rattle.lift_replay.specs.Told.{ScriptClerk}
 
 -- These lines, behind `count` others, tell this of a group, and the run of them has this verdict:
 -- skipped ones tell nothing, a malformed one ends the run, and each other tells what it asks for
 -- and leaves the group to the next.
-abbrev pub TellsLines : Plan → ℕ → GroupState → List (List ℕ) → List ℕ → Verdict → Type 0
+abbrev pub TellsLines : Plan → ℕ → ScriptGroup → List (List ℕ) → List ℕ → Verdict → Type 0
 TellsLines plan count g [] text verdict = (text ≡ []) × (verdict ≡ Good)
 TellsLines plan count g (line ∷ lines) text verdict =
     (IsSkipped line × TellsLines plan (suc count) g lines text verdict)
@@ -33,34 +34,35 @@ TellsLines plan count g (line ∷ lines) text verdict =
 
 -- What the later lines tell of the later group, behind this text, all of them tell of the first
 -- one.
-abbrev pub Continues : Plan → (count : ℕ) → GroupState → List (List ℕ) → List ℕ → (later : ℕ)
-    → GroupState → List (List ℕ) → Type 0
+abbrev pub Continues : Plan → (count : ℕ) → ScriptGroup → List (List ℕ) → List ℕ → (later : ℕ)
+    → ScriptGroup → List (List ℕ) → Type 0
 Continues plan count g script text later next rest =
     (more : List ℕ) (verdict : Verdict) → TellsLines plan later next rest more verdict
     → TellsLines plan count g script (text ++ more) verdict
 
 -- The lines tell some text of the group, and the report grew by a front of it.
-abbrev pub TellsPart : Plan → (count : ℕ) → GroupState → List (List ℕ) → (old new : Option (List ℕ))
+abbrev pub TellsPart : Plan → (count : ℕ) → ScriptGroup → List (List ℕ)
+    → (old new : Option (List ℕ))
     → (before after : List ℕ) → Type 0
 TellsPart plan count g script old new before after =
     (all : List ℕ) × (verdict : Verdict) × TellsLines plan count g script all verdict
     × ReportsPart old new before after all
 
 -- Where lines end at a desk: all are told, or a power cut is left to do.
-abbrev pub LinesEnd : Plan → (count : ℕ) → GroupState → List (List ℕ) → List ℕ → (later : ℕ)
+abbrev pub LinesEnd : Plan → (count : ℕ) → ScriptGroup → List (List ℕ) → List ℕ → (later : ℕ)
     → List (List ℕ) → ScriptClerk → List TerminalSeat → End → Type 0
 LinesEnd plan count g script text later rest clerk seats (Over verdict) =
     TellsLines plan count g script text verdict
 LinesEnd plan count g script text later rest clerk seats (Power outcome) =
-    (next : GroupState) × Shows plan next clerk seats
+    (next : ScriptGroup) × Shows plan next clerk seats
     × Continues plan count g script (text ++ cut_text (open_count (left_by outcome next).register))
     later (recovered plan (left_by outcome next)) rest
 
 -- where a segment ends: all lines are told, or a keeper goes on
-abbrev pub SegmentEnds : Plan → (count : ℕ) → GroupState → List (List ℕ) → List ℕ → (later : ℕ)
+abbrev pub SegmentEnds : Plan → (count : ℕ) → ScriptGroup → List (List ℕ) → List ℕ → (later : ℕ)
     → List (List ℕ) → SegmentEnd → Type 0
 SegmentEnds plan count g script text later rest (Run verdict) =
     TellsLines plan count g script text verdict
 SegmentEnds plan count g script text later rest (Cut keeper) =
-    (next : GroupState) × IsKept plan next keeper × (next.terminals ≡ new_terminals plan)
+    (next : ScriptGroup) × IsKeeperOf plan next keeper × (next.terminals ≡ new_terminals plan)
     × Continues plan count g script text later next rest

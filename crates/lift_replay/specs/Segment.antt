@@ -7,9 +7,9 @@ use Rattle.lift_replay.specs.declared.segment.SegmentEnd.{SegmentEnd}
 use Rattle.lift_replay.specs.declared.segment.SegmentEnd.TheVariants.{Run, Cut}
 
 -- a power cut ends the lines of a segment
-abbrev pub IsCut : End → Type 0
-IsCut (Over verdict) = ⊥
-IsCut (Power outcome) = Unit {0}
+abbrev pub IsPowerCut : End → Type 0
+IsPowerCut (Over verdict) = ⊥
+IsPowerCut (Power outcome) = Unit {0}
 
 -- behind a power cut the keeper that goes on is so
 abbrev pub IfCut : SegmentEnd → (KeeperView FusedDisk → Type 0) → Type 0

@@ -14,8 +14,8 @@ use Rattle.lift_desk.specs.Spelled.{IsAsk}
 use Rattle.lift_desk.specs.Seats.{TerminalSeat, ClerkPlace, view_at}
 use Rattle.lift_keeper.specs.Images.{IsImageIn}
 use Rattle.lift_keeper.specs.Keeper.{KeeperView}
-use Rattle.lift_replay.specs.Group.{Asking, GroupState, Stopped, Found, asking_at, beginning, half}
-use Rattle.lift_replay.specs.Group.{left_by}
+use Rattle.lift_replay.specs.Group.{Asking, ScriptGroup, Stopped, Found, asking_at}
+use Rattle.lift_replay.specs.Group.{state_to_decide_on, half, left_by}
 use Rattle.lift_replay.specs.Terminals.{seat_at}
 use Rattle.lift_replay.specs.Told.{ScriptClerk}
 
@@ -53,27 +53,28 @@ pub record IsFused (passing : Option ℕ) (disk : DiskState) : Type 0 where
   pub short : disk.is_short ≡ false
 
 -- what each cut leaves
-abbrev pub IsCutAs : Plan → GroupState → DiskState → Type 0
+abbrev pub IsCutAs : Plan → ScriptGroup → DiskState → Type 0
 IsCutAs plan g disk = (outcome : Outcome) (image : Image) → IsLeftBy outcome disk image
     → MayLeave disk image → IsFound plan (left_by outcome g) image
 
 -- While nothing is stopped the keeper stands there; behind that each cut leaves what the stopped
 -- commit's calls say.
-abbrev pub Stands : Option Stopped → Plan → GroupState → KeeperView FusedDisk → Type 0
-Stands None plan g keeper = (keeper.writer.is_broken ≡ false) × (keeper.state ≡ beginning g)
+abbrev pub Stands : Option Stopped → Plan → ScriptGroup → KeeperView FusedDisk → Type 0
+Stands None plan g keeper = (keeper.writer.is_broken ≡ false)
+    × (keeper.state ≡ state_to_decide_on g)
     × (keeper.writer.used ≡ g.used) × (keeper.writer.is_second ≡ g.is_second)
     × IsFused g.passing (fuse_state_of keeper.writer.device)
 Stands (Some stopped) plan g keeper = (keeper.writer.is_broken ≡ true)
     × IsCutAs plan g (fuse_state_of keeper.writer.device)
 
-pub record IsKept (plan : Plan) (g : GroupState) (keeper : KeeperView FusedDisk) : Type 0 where
+pub record IsKeeperOf (plan : Plan) (g : ScriptGroup) (keeper : KeeperView FusedDisk) : Type 0 where
   pub same_plan : keeper.writer.plan ≡ plan
   pub half_is : keeper.writer.half ≡ half
   pub register : keeper.writer.register ≡ g.register
   pub stands : Stands g.stopped plan g keeper
 
 -- The clerk and the terminals are this group.
-pub record Shows (plan : Plan) (g : GroupState) (clerk : ScriptClerk)
+pub record Shows (plan : Plan) (g : ScriptGroup) (clerk : ScriptClerk)
     (seats : List TerminalSeat) : Type 0 where
-  pub keeper : IsKept plan g clerk.keeper
+  pub keeper : IsKeeperOf plan g clerk.keeper
   pub terminals : AreInStep g.terminals seats clerk.seat

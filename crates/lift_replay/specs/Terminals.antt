@@ -54,9 +54,9 @@ pub record AreTold (seats told : List TerminalSeat) (places known : List ClerkPl
       → IsInOrder (lists_of (seat_at seats i).view (view_at places i))
 
 -- what the report shows of what a terminal hears
-abbrev pub line_of : TerminalSeat → Option Reply → List ℕ
-line_of seat None = []
-line_of seat (Some reply) = heard_text seat.terminal (number_of (last_of seat.view.asked)) reply
+abbrev pub heard_line : TerminalSeat → Option Reply → List ℕ
+heard_line seat None = []
+heard_line seat (Some reply) = heard_text seat.terminal (number_of (last_of seat.view.asked)) reply
 
 -- A terminal that waits has looked once for its answer, and the report shows what it heard: what it
 -- was told of, if that was an answer.
@@ -66,7 +66,7 @@ pub record HasHeard (old new : TerminalSeat) (line : List ℕ) : Type 0 where
   pub waited : Waits old.view
   pub looked : new ≡ seat_with old (with_hearing old.view word)
   pub hears : HearsOf old.view word reply
-  pub shown : line ≡ line_of old reply
+  pub shown : line ≡ heard_line old reply
   pub finds : (answer : Reply) → IsToldAnswer old.view answer → reply ≡ Some answer
 
 -- what a terminal does when all hear: one that doesn't wait rests

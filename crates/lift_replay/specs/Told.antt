@@ -146,7 +146,7 @@ pub record IsArmed (calls : ℕ) (old new : ScriptClerk) : Type 0 where
   pub rest : new ≡ record old { keeper = record old.keeper { writer = record old.keeper.writer { device = new.keeper.writer.device } } }
 
 -- the clerk and the terminals are as before
-pub record Rests (old new : ScriptClerk) (seats after : List TerminalSeat) : Type 0 where
+pub record ScriptRests (old new : ScriptClerk) (seats after : List TerminalSeat) : Type 0 where
   pub clerk : new ≡ old
   pub terminals : after ≡ seats
 
@@ -165,7 +165,7 @@ Tells plan old new seats after (Stop car number stop) text =
 Tells plan old new seats after Turn text = OutcomeTells old new seats after text
 Tells plan old new seats after (Stops car) text =
     (text ≡ shown_text old (codes "stops") (stops_text (view_of old.keeper.state) car))
-    × Rests old new seats after
+    × ScriptRests old new seats after
 Tells plan old new seats after (Cost kiosk floor party) text =
     (text ≡ shown_text old (codes "cost")
     (costs_text plan (view_of old.keeper.state) (record {
@@ -173,13 +173,13 @@ Tells plan old new seats after (Cost kiosk floor party) text =
       to = floor;
       party = party;
     })))
-    × Rests old new seats after
+    × ScriptRests old new seats after
 Tells plan old new seats after Rows text =
     (text ≡ shown_text old (codes "rows") (register_text old.keeper.state.register))
-    × Rests old new seats after
+    × ScriptRests old new seats after
 Tells plan old new seats after (Fuse calls) text = (text ≡ []) × IsArmed calls old new
     × (after ≡ seats)
-Tells plan old new seats after (Cut outcome) text = (text ≡ []) × Rests old new seats after
+Tells plan old new seats after (Cut outcome) text = (text ≡ []) × ScriptRests old new seats after
 
 -- a power cut ends the lines at this desk, and no other line does
 abbrev pub end_of : ScriptLine → Option End
@@ -190,25 +190,27 @@ end_of line = None
 abbrev pub Skips : (old new : ScriptClerk) → (seats after : List TerminalSeat) → List ℕ → Option End
     → List ℕ → Type 0
 Skips old new seats after line end text = IsSkipped line × (end ≡ None) × (text ≡ [])
-    × Rests old new seats after
+    × ScriptRests old new seats after
 
 -- the line asks for something that the building knows, and it is carried out
-abbrev pub CarriesOut : Plan → (old new : ScriptClerk) → (seats after : List TerminalSeat) → List ℕ
+abbrev pub CarriesOutLine : Plan → (old new : ScriptClerk) → (seats after : List TerminalSeat)
+    → List ℕ
     → Option End → List ℕ → Type 0
-CarriesOut plan old new seats after line end text =
+CarriesOutLine plan old new seats after line end text =
     (wanted : ScriptLine) × Spells line wanted × IsKnown plan wanted
     × Tells plan old new seats after wanted text × (end ≡ end_of wanted) × (¬ IsSkipped line)
 
 -- the line is malformed, and ends the run
-abbrev pub Refuses : Plan → (old new : ScriptClerk) → (seats after : List TerminalSeat) → List ℕ → ℕ
+abbrev pub RefusesLine : Plan → (old new : ScriptClerk) → (seats after : List TerminalSeat) → List ℕ
+    → ℕ
     → Option End → List ℕ → Type 0
-Refuses plan old new seats after line number end text =
+RefusesLine plan old new seats after line number end text =
     IsBadLine plan line × (end ≡ Some (Over Bad)) × (text ≡ bad_text number)
-    × Rests old new seats after
+    × ScriptRests old new seats after
 
 abbrev pub LineTells : Plan → (old new : ScriptClerk) → (seats after : List TerminalSeat) → List ℕ
     → ℕ → Option End → List ℕ → Type 0
 LineTells plan old new seats after line number end text =
     Skips old new seats after line end text
-    ⊎ (CarriesOut plan old new seats after line end text
-    ⊎ Refuses plan old new seats after line number end text)
+    ⊎ (CarriesOutLine plan old new seats after line end text
+    ⊎ RefusesLine plan old new seats after line number end text)

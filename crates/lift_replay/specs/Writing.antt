@@ -20,29 +20,29 @@ Took {W} gives (suc calls) before after =
     × gives between given (Some count) after × (0 < count)
 
 -- each call of the writer took a byte at least
-abbrev pub TakesEach : {W : Type 0} → (gives : W → List ℕ → Option ℕ → W → Type 0)
+abbrev pub TakesSomeEachCall : {W : Type 0} → (gives : W → List ℕ → Option ℕ → W → Type 0)
     → (before after : W) → Type 0
-TakesEach gives before after = (calls : ℕ) × Took gives calls before after
+TakesSomeEachCall gives before after = (calls : ℕ) × Took gives calls before after
 
 -- Each did but the last one: that failed, or took nothing of what it was given.
 abbrev pub FailsAtLast : {W : Type 0} → (gives : W → List ℕ → Option ℕ → W → Type 0)
     → (before after : W) → Type 0
 FailsAtLast {W} gives before after =
-    (between : W) × (given : List ℕ) × TakesEach gives before between × (0 < length given)
+    (between : W) × (given : List ℕ) × TakesSomeEachCall gives before between × (0 < length given)
     × (gives between given None after ⊎ gives between given (Some 0) after)
 
 -- How the writer was called, by the fault. The writer is told where a call failed or took nothing,
 -- and that call was the last; where the reading failed there was none at all.
 abbrev pub IsCalledTill : {W : Type 0} → (gives : W → List ℕ → Option ℕ → W → Type 0)
     → (before after : W) → ReplayFault → Type 0
-IsCalledTill gives before after (Memory no_memory) = TakesEach gives before after
+IsCalledTill gives before after (Memory no_memory) = TakesSomeEachCall gives before after
 IsCalledTill gives before after Read = after ≡ before
 IsCalledTill gives before after Write = FailsAtLast gives before after
 
 -- How it was called, by the end: with a report no call failed.
 abbrev pub IsCalled : {W T : Type 0} → (gives : W → List ℕ → Option ℕ → W → Type 0)
     → (before after : W) → Result T ReplayFault → Type 0
-IsCalled gives before after (Ok value) = TakesEach gives before after
+IsCalled gives before after (Ok value) = TakesSomeEachCall gives before after
 IsCalled gives before after (Err fault) = IsCalledTill gives before after fault
 
 -- What a function does that adds to a piece of the report and may write it, whatever it comes to:

@@ -6,7 +6,7 @@ ghost use Rattle.std.specs.Fmt.{decimal};
 ghost use Rattle.lift_base.specs.Text.{dir_text};
 ghost use Rattle.lift_base.specs.declared.travel.Dir.{Dir as Direction};
 ghost use Rattle.lift_base.specs.lemmas.Texts.{texts};
-ghost use Rattle.lift_replay.specs.Grammar.{Spells, IsReadAs, outcome_words, IsOutcomeInRange};
+ghost use Rattle.lift_replay.specs.Grammar.{Spells, AreReadAsLine, outcome_words, IsOutcomeInRange};
 ghost use Rattle.lift_disk.specs.declared.outcome.Outcome.{Outcome as Left};
 ghost use Rattle.lift_replay.specs.declared.line.ScriptLine.{ScriptLine as Wanted};
 
@@ -82,7 +82,7 @@ fn at_of(floor: &str, dir: &str) -> Option<(Floor, Dir)>
 }
 
 fn place_of(words: &[&str]) -> Option<ScriptLine>
-    ensures { IsReadAs (codes "place" ∷ texts words.now) result }
+    ensures { AreReadAsLine (codes "place" ∷ texts words.now) result }
 {
     let [car, floor, dir] = words else {
         return None;
@@ -94,7 +94,7 @@ fn place_of(words: &[&str]) -> Option<ScriptLine>
 }
 
 fn call_of(words: &[&str]) -> Option<ScriptLine>
-    ensures { IsReadAs (codes "call" ∷ texts words.now) result }
+    ensures { AreReadAsLine (codes "call" ∷ texts words.now) result }
 {
     let [kiosk, number, floor, party @ ..] = words else {
         return None;
@@ -108,7 +108,7 @@ fn call_of(words: &[&str]) -> Option<ScriptLine>
 }
 
 fn stop_of(words: &[&str]) -> Option<ScriptLine>
-    ensures { IsReadAs (codes "stop" ∷ texts words.now) result }
+    ensures { AreReadAsLine (codes "stop" ∷ texts words.now) result }
 {
     let [car, number, floor, dir] = words else {
         return None;
@@ -121,7 +121,7 @@ fn stop_of(words: &[&str]) -> Option<ScriptLine>
 }
 
 fn stops_of(words: &[&str]) -> Option<ScriptLine>
-    ensures { IsReadAs (codes "stops" ∷ texts words.now) result }
+    ensures { AreReadAsLine (codes "stops" ∷ texts words.now) result }
 {
     let [car] = words else { return None };
     let car = letter_of_word(car)?;
@@ -129,7 +129,7 @@ fn stops_of(words: &[&str]) -> Option<ScriptLine>
 }
 
 fn cost_of(words: &[&str]) -> Option<ScriptLine>
-    ensures { IsReadAs (codes "cost" ∷ texts words.now) result }
+    ensures { AreReadAsLine (codes "cost" ∷ texts words.now) result }
 {
     let [kiosk, floor, party @ ..] = words else {
         return None;
@@ -142,7 +142,7 @@ fn cost_of(words: &[&str]) -> Option<ScriptLine>
 }
 
 fn fuse_of(words: &[&str]) -> Option<ScriptLine>
-    ensures { IsReadAs (codes "fuse" ∷ texts words.now) result }
+    ensures { AreReadAsLine (codes "fuse" ∷ texts words.now) result }
 {
     let [calls] = words else { return None };
     let calls = number_up_to(calls, 1_000_000)?;
@@ -150,7 +150,7 @@ fn fuse_of(words: &[&str]) -> Option<ScriptLine>
 }
 
 fn cut_of(words: &[&str]) -> Option<ScriptLine>
-    ensures { IsReadAs (codes "cut" ∷ texts words.now) result }
+    ensures { AreReadAsLine (codes "cut" ∷ texts words.now) result }
 {
     let outcome = outcome_of(words)?;
     Some(ScriptLine::Cut { outcome })
@@ -166,7 +166,7 @@ fn alone(words: &[&str], line: ScriptLine) -> Option<ScriptLine>
 
 /// What a line's words ask for, by the first one.
 fn asked_by(first: &str, others: &[&str]) -> Option<ScriptLine>
-    ensures { IsReadAs (first.now ∷ texts others.now) result }
+    ensures { AreReadAsLine (first.now ∷ texts others.now) result }
 {
     match first {
         "place" => place_of(others),

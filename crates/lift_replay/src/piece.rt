@@ -3,7 +3,7 @@
 ghost use Rattle.std.specs.Prelude.{◌≡◌, ◌<◌, ◌++◌, List, ℕ, [], length, take, string_bytes};
 ghost use Rattle.std.specs.Prelude.{OnOk, OnErr, IfErr};
 ghost use Rattle.std.specs.Io.KnownBytes.{Appends};
-ghost use Rattle.lift_replay.specs.Writing.{FailsAtLast, TakesEach};
+ghost use Rattle.lift_replay.specs.Writing.{FailsAtLast, TakesSomeEachCall};
 
 use lift_base::text::{Outlet, WriteFault, put_all};
 
@@ -18,7 +18,7 @@ pub fn put_piece<W: Outlet>(writer: &mut W, piece: &mut String) -> Result<(), Wr
         Appends (W.contents writer.old) (W.contents writer.new)
         (take fault.written (string_bytes piece.old))) }
     ensures emptied { string_bytes piece.new ≡ [] }
-    ensures each_call { OnOk result (TakesEach W.gives writer.old writer.new) }
+    ensures each_call { OnOk result (TakesSomeEachCall W.gives writer.old writer.new) }
     ensures failed { OnErr result (FailsAtLast W.gives writer.old writer.new) }
     ensures idle { string_bytes piece.old ≡ [] → writer.new ≡ writer.old }
 {
@@ -37,7 +37,7 @@ pub fn put_large_piece<W: Outlet>(writer: &mut W, piece: &mut String) -> Result<
         (take fault.written (string_bytes piece.old))) }
     ensures small { OnOk result (length (string_bytes piece.new) < 32768) }
     ensures emptied { OnErr result (string_bytes piece.new ≡ []) }
-    ensures each_call { OnOk result (TakesEach W.gives writer.old writer.new) }
+    ensures each_call { OnOk result (TakesSomeEachCall W.gives writer.old writer.new) }
     ensures failed { OnErr result (FailsAtLast W.gives writer.old writer.new) }
 {
     if piece.len() < PIECE_BYTES {

@@ -3,12 +3,12 @@
 ghost use Rattle.std.specs.Prelude.{◌≡◌, ◌≢◌, ◌⊎◌, ◌+◌, ◌<◌, ◌≤◌, ◌++◌, ℕ, List, [], length};
 ghost use Rattle.std.specs.Prelude.{string_bytes, true, false, OnOk, OnErr, IfOk};
 ghost use Rattle.std.specs.Io.KnownBytes.{Appends};
-ghost use Rattle.lift_replay.specs.Reading.{IsRead, TakesByEach, TakesUpTo, most_bytes};
+ghost use Rattle.lift_replay.specs.Reading.{IsInputRead, TakesByEach, TakesUpTo, most_bytes};
 ghost use Rattle.lift_replay.specs.Report.{AppendsFront, Reports, building_text};
 ghost use Rattle.lift_replay.specs.Group.{first_group};
 ghost use Rattle.lift_replay.specs.Running.{TellsLines, TellsPart};
-ghost use Rattle.lift_replay.specs.Replaying.{IsTextReport, ReportsFront, ReportsInput, Writes};
-ghost use Rattle.lift_replay.specs.Replaying.{WritesFront};
+ghost use Rattle.lift_replay.specs.Replaying.{IsTextReport, ReportsFront, ReportsInput};
+ghost use Rattle.lift_replay.specs.Replaying.{WritesReport, WritesFront};
 ghost use Rattle.lift_replay.specs.Source.{lines_in};
 ghost use Rattle.lift_replay.specs.Writing.{IsCalled, WritesPieces, of_input};
 ghost use Rattle.lift_replay.specs.declared.script.ReplayFault.TheVariants.{Memory as Wanting};
@@ -155,7 +155,7 @@ fn run_lines<W: Outlet>(
     ensures output { result ≢ Err ReplayFault.Read }
     ensures calls { IsCalled W.gives writer.old writer.new result }
     ensures tells { IfOk result (λ verdict.
-        Writes (TellsLines building.now 0 (first_group building.now) (lines_in lines.now))
+        WritesReport (TellsLines building.now 0 (first_group building.now) (lines_in lines.now))
         (W.contents writer.old) (W.contents writer.new) verdict) }
     ensures front { OnErr result
         (WritesFront (TellsLines building.now 0 (first_group building.now) (lines_in lines.now))
@@ -172,7 +172,8 @@ fn run_text<W: Outlet>(alloc: Global, text: &str, writer: &mut W) -> Result<Verd
     ensures output { result ≢ Err ReplayFault.Read }
     ensures calls { IsCalled W.gives writer.old writer.new result }
     ensures tells { IfOk result (λ verdict.
-        Writes (IsTextReport text.now) (W.contents writer.old) (W.contents writer.new) verdict) }
+        WritesReport (IsTextReport text.now) (W.contents writer.old) (W.contents writer.new)
+        verdict) }
     ensures front { OnErr result
         (WritesFront (IsTextReport text.now) (W.contents writer.old) (W.contents writer.new)) }
 {
@@ -213,8 +214,8 @@ pub fn run<R: Read + Drop, W: Outlet>(
     ensures failed { input.new.failed ≡ true → result ≡ Err ReplayFault.Read }
     // A report is written, or refused by the writer, only of a script that was read; a good one was
     // read to its end.
-    ensures read { OnOk result (IsRead R.remaining input.old input.new) }
-    ensures output { result ≡ Err ReplayFault.Write → IsRead R.remaining input.old input.new }
+    ensures read { OnOk result (IsInputRead R.remaining input.old input.new) }
+    ensures output { result ≡ Err ReplayFault.Write → IsInputRead R.remaining input.old input.new }
     ensures good { result ≡ Ok Verdict.Good → input.new.ended ≡ true }
     // Reading stops a byte above what a script may have, and fails only below that.
     ensures taken { TakesUpTo (most_bytes + 1) R.remaining input.old.reader input.new.reader }

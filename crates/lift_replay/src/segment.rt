@@ -2,11 +2,11 @@
 
 ghost use Rattle.std.specs.Prelude.{◌≡◌, ◌≢◌, ◌<◌, ◌≤◌, List, ℕ, [], length, string_bytes, OnOk};
 ghost use Rattle.std.specs.Prelude.{OnErr, IfOk};
-ghost use Rattle.lift_replay.specs.Group.{GroupState, new_terminals};
+ghost use Rattle.lift_replay.specs.Group.{ScriptGroup, new_terminals};
 ghost use Rattle.lift_replay.specs.Report.{Reports, ReportsPart, cut_text};
 ghost use Rattle.lift_replay.specs.Running.{LinesEnd, SegmentEnds, TellsPart};
-ghost use Rattle.lift_replay.specs.Segment.{IfCut, IsCut};
-ghost use Rattle.lift_replay.specs.Shows.{Shows, IsKept};
+ghost use Rattle.lift_replay.specs.Segment.{IfCut, IsPowerCut};
+ghost use Rattle.lift_replay.specs.Shows.{Shows, IsKeeperOf};
 ghost use Rattle.lift_replay.specs.Source.{lines_in};
 ghost use Rattle.lift_replay.specs.Writing.{WritesPieces};
 
@@ -49,20 +49,20 @@ fn add_lines<W: Outlet>(
     ensures small { IfOk result (λ end. end ≢ End.Run Verdict.Bad
         → length (string_bytes piece.new) < 32768) }
     // What they tell is what is computed, of whichever group the station shows.
-    ensures tells { IfOk result (λ end. (g : GroupState)
+    ensures tells { IfOk result (λ end. (g : ScriptGroup)
         → Shows station.old.building.now g station.old.clerk station.old.terminals.seats.items
         → (added : List ℕ) × LinesEnd station.old.building.now lines.old.count g
         (lines_in lines.old.rest.now) added lines.new.count (lines_in lines.new.rest.now)
         station.new.clerk station.new.terminals.seats.items end
         × Reports (W.contents writer.old) (W.contents writer.new) (string_bytes piece.old)
         (string_bytes piece.new) added) }
-    ensures front { OnErr result ((g : GroupState)
+    ensures front { OnErr result ((g : ScriptGroup)
         → Shows station.old.building.now g station.old.clerk station.old.terminals.seats.items
         → TellsPart station.old.building.now lines.old.count g (lines_in lines.old.rest.now)
         (W.contents writer.old) (W.contents writer.new) (string_bytes piece.old)
         (string_bytes piece.new)) }
     ensures shorter { OnOk result (length lines.new.rest.now ≤ length lines.old.rest.now) }
-    ensures cut { IfOk result (λ end. IsCut end
+    ensures cut { IfOk result (λ end. IsPowerCut end
         → length lines.new.rest.now < length lines.old.rest.now) }
     ensures building { station.new.building ≡ station.old.building }
 {
@@ -121,13 +121,13 @@ pub fn add_segment<'b, W: Outlet>(
     requires small { length (string_bytes piece.old) < 32768 }
     ensures writes { WritesPieces W.gives writer.old writer.new (string_bytes piece.new) result }
     // What they tell is what is computed, of whichever group the keeper is of.
-    ensures tells { IfOk result (λ end. (g : GroupState) → IsKept building.now g keeper.entry
+    ensures tells { IfOk result (λ end. (g : ScriptGroup) → IsKeeperOf building.now g keeper.entry
         → g.terminals ≡ new_terminals building.now
         → (added : List ℕ) × SegmentEnds building.now lines.old.count g
         (lines_in lines.old.rest.now) added lines.new.count (lines_in lines.new.rest.now) end
         × Reports (W.contents writer.old) (W.contents writer.new) (string_bytes piece.old)
         (string_bytes piece.new) added) }
-    ensures front { OnErr result ((g : GroupState) → IsKept building.now g keeper.entry
+    ensures front { OnErr result ((g : ScriptGroup) → IsKeeperOf building.now g keeper.entry
         → g.terminals ≡ new_terminals building.now
         → TellsPart building.now lines.old.count g (lines_in lines.old.rest.now)
         (W.contents writer.old) (W.contents writer.new) (string_bytes piece.old)

@@ -9,9 +9,9 @@ ghost use Rattle.lift_register.specs.Register.{RegisterState, empty};
 ghost use Rattle.lift_desk.specs.Seats.{AreSeatsOf, IsClerkOf, OwesNothing, seats_from};
 ghost use Rattle.lift_decider.specs.Decider.{starting};
 ghost use Rattle.lift_keeper.specs.Prelude.{IsImageOf, Reopens, OpensByCalls};
-ghost use Rattle.lift_replay.specs.Group.{GroupState, first_group, left_by, recovered};
-ghost use Rattle.lift_replay.specs.Recovering.{Recovers};
-ghost use Rattle.lift_replay.specs.Shows.{Shows, IsKept};
+ghost use Rattle.lift_replay.specs.Group.{ScriptGroup, first_group, left_by, recovered};
+ghost use Rattle.lift_replay.specs.Recovering.{ReadsOnlyAs};
+ghost use Rattle.lift_replay.specs.Shows.{Shows, IsKeeperOf};
 
 use crate::refused::{NoMemory, empty_disk};
 use crate::terminals::Terminals;
@@ -48,7 +48,7 @@ fn keeper_over(disk: FuseDisk, building: &Building) -> Keeper<'_, FuseDisk>
         result.writer.register result.writer.half result.writer.is_second result.writer.used }
     ensures calls { OpensByCalls fuse_state_of (fuse_state_of disk) result.writer }
     ensures image { (fuse_state_of result.writer.device).image ≡ (fuse_state_of disk).image }
-    ensures recovers { Recovers building.now
+    ensures recovers { ReadsOnlyAs building.now
         (fuse_state_of result.writer.device).image result.writer.register }
     ensures unarmed { IsUnarmed (fuse_state_of result.writer.device) }
     ensures state { result.state ≡ starting result.writer.register }
@@ -72,7 +72,8 @@ pub fn first_keeper(alloc: Global, building: &Building) -> Result<Keeper<'_, Fus
         length (fuse_state_of keeper.writer.device).image ≡ 130) }
     ensures whole { IfOk result (λ keeper. (keeper.writer.is_broken ≡ false)
         × (keeper.writer.doubt ≡ [])) }
-    ensures kept { IfOk result (λ keeper. IsKept building.now (first_group building.now) keeper) }
+    ensures kept { IfOk result
+        (λ keeper. IsKeeperOf building.now (first_group building.now) keeper) }
 {
     let mut disk = FuseDisk::new(empty_disk(alloc, 2 * HALF + 2)?);
     match format(&mut disk, building.shape(HALF)) {
@@ -114,16 +115,17 @@ impl<'d, 'b> Station<'d, 'b> {
     pub fn cut(self, outcome: Outcome) -> Keeper<'b, FuseDisk>
         ensures left { IsLeftBy outcome (fuse_state_of self.entry.clerk.keeper.writer.device)
             (fuse_state_of result.writer.device).image }
-        ensures recovers { Recovers self.entry.building.now
+        ensures recovers { ReadsOnlyAs self.entry.building.now
             (fuse_state_of result.writer.device).image result.writer.register }
         ensures unarmed { IsUnarmed (fuse_state_of result.writer.device) }
         ensures state { result.state ≡ starting result.writer.register }
         ensures plan { result.writer.plan ≡ self.entry.building.now }
         ensures whole { (result.writer.is_broken ≡ false) × (result.writer.doubt ≡ []) }
         // It is the keeper of the group that the cut leaves, of whichever group the station shows.
-        ensures kept { (g : GroupState)
+        ensures kept { (g : ScriptGroup)
             → Shows self.entry.building.now g self.entry.clerk self.entry.terminals.seats.items
-            → IsKept self.entry.building.now (recovered self.entry.building.now (left_by outcome g))
+            → IsKeeperOf self.entry.building.now
+            (recovered self.entry.building.now (left_by outcome g))
             result }
     {
         let _placed = self.clerk.keeper().safe_register();

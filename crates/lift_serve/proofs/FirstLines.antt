@@ -8,7 +8,7 @@ use Rattle.std.proofs.lemmas.Str.Ascii.{IsAscii-nil}
 use Rattle.lift_base.specs.Text.{AreWords}
 use Rattle.lift_base.specs.lemmas.Words.{one_reading, same_text}
 use Rattle.lift_base.specs.lemmas.Texts.{none_weaker, pair, texts}
-use Rattle.lift_kiosk.specs.Lines.{AreAscii, Fails, FindsEnd, GivesPart, Source}
+use Rattle.lift_kiosk.specs.Lines.{AreAscii, FailsOnce, FindsEnd, GivesPart, Source}
 use Rattle.lift_kiosk.specs.declared.line.NoLine.{NoLine}
 use Rattle.lift_kiosk.specs.declared.line.NoLine.TheVariants.{AtEnd, NoCalls, Fault}
 use Rattle.lift_kiosk.specs.lemmas.Words.{ascii_with}
@@ -106,7 +106,7 @@ names_few_words cars kiosks line few many none terminal speaks =
 -- reading that ended without a line, by each of its reasons
 pub without_line : {L : Type 0} (result : Result L NoLine) (before after : Source) (left left' : ℕ) → left ≡ first_reads
     → (result ≡ Err AtEnd → (part : List ℕ) × (mid : Source) × GivesPart part before mid × FindsEnd mid after)
-    → (result ≡ Err Fault → (part : List ℕ) × (mid : Source) × GivesPart part before mid × Fails mid after)
+    → (result ≡ Err Fault → (part : List ℕ) × (mid : Source) × GivesPart part before mid × FailsOnce mid after)
     → (result ≡ Err NoCalls → (part : List ℕ) × GivesPart part before after × (left' ≡ 0))
     → after.calls + left' ≡ before.calls + left → IfErr result (λ reason. EndsWithoutLine first_reads reason before after)
 without_line (Ok line) before after left left' all closed fault limit calls = tt

@@ -7,7 +7,7 @@ use Rattle.atomic_table.specs.Seated.{TableId}
 use Rattle.lift_desk.specs.Rule.{no_asks}
 use Rattle.lift_desk.specs.Seats.{TerminalSeat, seats_from}
 use Rattle.lift_register.specs.Register.{RegisterState, last_of}
-use Rattle.lift_serve.specs.Lobby.{IsLobbyOf, all_found, found_at}
+use Rattle.lift_serve.specs.Lobby.{IsLobbyOf, found_seats, found_at}
 use Rattle.lift_serve.specs.Visits.{AreAsFound, AreAtTheirPlaces, HeldState, known_of}
 
 -- a list that is written back whole
@@ -90,17 +90,17 @@ next_terminal first (table ∷ desk) (one ∷ before) seat rest is =
     next_terminal (suc first) desk before seat rest behind ∙ omega arith
 
 all_found_more : (register : RegisterState) (desk : List TableId) (before : List TerminalSeat) (seat : TerminalSeat)
-    → all_found register desk before ++ Some (found_at register desk seat) ∷ [] ≡ all_found register desk (before ++ seat ∷ [])
+    → found_seats register desk before ++ Some (found_at register desk seat) ∷ [] ≡ found_seats register desk (before ++ seat ∷ [])
 all_found_more register desk [] seat = refl
 all_found_more register desk (one ∷ before) seat = ap (λ (l : List (Option HeldState)). Some (found_at register desk one) ∷ l) (all_found_more register desk before seat)
 
 -- one seat more was received
 pub one_found_more : (register : RegisterState) (desk : List TableId) (before : List TerminalSeat) (seat : TerminalSeat) (held : HeldState) (places places' : List (Option HeldState))
-    → places ≡ all_found register desk before → held ≡ found_at register desk seat → places' ≡ places ++ Some held ∷ [] → places' ≡ all_found register desk (before ++ seat ∷ [])
+    → places ≡ found_seats register desk before → held ≡ found_at register desk seat → places' ≡ places ++ Some held ∷ [] → places' ≡ found_seats register desk (before ++ seat ∷ [])
 one_found_more register desk before seat held places places' are is more =
     more ∙ (ap₂ (λ (l : List (Option HeldState)) (h : HeldState). l ++ Some h ∷ []) are is ∙ all_found_more register desk before seat)
 
-so_many : (register : RegisterState) (desk : List TableId) (seats : List TerminalSeat) → length (all_found register desk seats) ≡ length seats
+so_many : (register : RegisterState) (desk : List TableId) (seats : List TerminalSeat) → length (found_seats register desk seats) ≡ length seats
 so_many register desk [] = refl
 so_many register desk (seat ∷ seats) = ap suc (so_many register desk seats)
 
@@ -116,7 +116,7 @@ one_taken_more desk before seat left rest split first =
 
 -- the next seat's place is behind those that were received
 pub next_place : (register : RegisterState) (desk : List TableId) (before : List TerminalSeat) (seat : TerminalSeat) (left rest : List TerminalSeat) (held : HeldState) (places : List (Option HeldState))
-    → before ++ left ≡ seats_from 0 desk → left ≡ seat ∷ rest → held ≡ found_at register desk seat → places ≡ all_found register desk before
+    → before ++ left ≡ seats_from 0 desk → left ≡ seat ∷ rest → held ≡ found_at register desk seat → places ≡ found_seats register desk before
     → held.seat.terminal ≡ length places
 next_place register desk before seat left rest held places split first is are =
     let many : length places ≡ length before = ap length are ∙ so_many register desk before in
@@ -125,7 +125,7 @@ next_place register desk before seat left rest held places split first is are =
     own ∙ (at ∙ (omega arith ∙ sym many))
 
 found_each : (register : RegisterState) (desk tables : List TableId) (first : ℕ) (place : ℕ) (held : HeldState)
-    → slice_get (all_found register desk (seats_from first tables)) place ≡ Some (Some held)
+    → slice_get (found_seats register desk (seats_from first tables)) place ≡ Some (Some held)
     → (held.desk ≡ desk) × (held.found ≡ known_of (last_of register (first + place))) × (held.last ≡ held.found)
 found_each register desk [] first zero held is = absurd (cc)
 found_each register desk [] first (suc place) held is = absurd (cc)
@@ -140,7 +140,7 @@ found_each register desk (table ∷ tables) first (suc place) held is =
     (there.0, there.1 ∙ ap (λ (t : ℕ). known_of (last_of register t)) at, there.2)
 
 front_found : (register : RegisterState) (desk : List TableId) (before rest : List TerminalSeat) (place : ℕ) (held : HeldState)
-    → slice_get (all_found register desk before) place ≡ Some (Some held) → slice_get (all_found register desk (before ++ rest)) place ≡ Some (Some held)
+    → slice_get (found_seats register desk before) place ≡ Some (Some held) → slice_get (found_seats register desk (before ++ rest)) place ≡ Some (Some held)
 front_found register desk [] rest zero held is = absurd (cc)
 front_found register desk [] rest (suc place) held is = absurd (cc)
 front_found register desk (one ∷ before) rest zero held is = is
@@ -148,16 +148,16 @@ front_found register desk (one ∷ before) rest (suc place) held is = front_foun
 
 -- seats of a desk, from the first one on, with what a register knows of their terminals
 pub all_as_found : (register : RegisterState) (desk : List TableId) (before rest : List TerminalSeat) (places : List (Option HeldState)) → before ++ rest ≡ seats_from 0 desk
-    → places ≡ all_found register desk before → AreAsFound register desk places
+    → places ≡ found_seats register desk before → AreAsFound register desk places
 all_as_found register desk before rest places split are place held is =
-    let here : slice_get (all_found register desk before) place ≡ Some (Some held) = subst (λ (l : List (Option HeldState)). slice_get l place ≡ Some (Some held)) are is in
+    let here : slice_get (found_seats register desk before) place ≡ Some (Some held) = subst (λ (l : List (Option HeldState)). slice_get l place ≡ Some (Some held)) are is in
     let whole = front_found register desk before rest place held here in
-    let there = found_each register desk desk 0 place held (subst (λ (seats : List TerminalSeat). slice_get (all_found register desk seats) place ≡ Some (Some held)) split whole) in
+    let there = found_each register desk desk 0 place held (subst (λ (seats : List TerminalSeat). slice_get (found_seats register desk seats) place ≡ Some (Some held)) split whole) in
     let at : 0 + place ≡ place = omega arith in
     (there.0, there.1 ∙ ap (λ (t : ℕ). known_of (last_of register t)) at, there.2)
 
 own_each : (register : RegisterState) (desk tables : List TableId) (first : ℕ) (place : ℕ) (held : HeldState)
-    → slice_get (all_found register desk (seats_from first tables)) place ≡ Some (Some held) → held.seat.terminal ≡ first + place
+    → slice_get (found_seats register desk (seats_from first tables)) place ≡ Some (Some held) → held.seat.terminal ≡ first + place
 own_each register desk [] first zero held is = absurd (cc)
 own_each register desk [] first (suc place) held is = absurd (cc)
 own_each register desk (table ∷ tables) first zero held is =
@@ -173,10 +173,10 @@ as_many first [] = refl
 as_many first (table ∷ tables) = ap suc (as_many (suc first) tables)
 
 -- the places of all seats of a desk are a lobby
-pub is_lobby : (register : RegisterState) (desk : List TableId) (seats : List TerminalSeat) (places : List (Option HeldState)) → places ≡ all_found register desk seats
+pub is_lobby : (register : RegisterState) (desk : List TableId) (seats : List TerminalSeat) (places : List (Option HeldState)) → places ≡ found_seats register desk seats
     → seats ≡ seats_from 0 desk → IsLobbyOf desk places
 is_lobby register desk seats places are all =
-    let whole : places ≡ all_found register desk (seats_from 0 desk) = are ∙ ap (all_found register desk) all in
+    let whole : places ≡ found_seats register desk (seats_from 0 desk) = are ∙ ap (found_seats register desk) all in
     record {
       own = λ place held is. own_each register desk desk 0 place held (subst (λ (l : List (Option HeldState)). slice_get l place ≡ Some (Some held)) whole is) ∙ omega arith;
       all = ap length whole ∙ (so_many register desk (seats_from 0 desk) ∙ as_many 0 desk);
@@ -188,7 +188,7 @@ no_more (seat ∷ l) is = absurd (omega (arith, is))
 
 -- as far as nothing is left behind those that came
 pub is_lobby_behind : (register : RegisterState) (desk : List TableId) (before rest : List TerminalSeat) (places : List (Option HeldState)) → before ++ rest ≡ seats_from 0 desk
-    → length rest ≡ 0 → places ≡ all_found register desk before → IsLobbyOf desk places
+    → length rest ≡ 0 → places ≡ found_seats register desk before → IsLobbyOf desk places
 is_lobby_behind register desk before rest places split none are =
     let all : before ≡ seats_from 0 desk = sym (append-nil before) ∙ (ap (λ (l : List TerminalSeat). before ++ l) (sym (no_more rest none)) ∙ split) in
     is_lobby register desk before places are all

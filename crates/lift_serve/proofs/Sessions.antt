@@ -15,7 +15,7 @@ use Rattle.lift_kiosk.specs.Session.{Converses, Standing, standing}
 use Rattle.lift_kiosk.specs.declared.terms.End.{End}
 use Rattle.lift_kiosk.specs.declared.terms.LastLetter.{LastLetter}
 use Rattle.lift_car.specs.Lines.{WantsMove, keeps_stop}
-use Rattle.lift_serve.specs.Visits.{AreVisits, HeldState, IsNewSeat, IsServed, IsVisit, IsVisitAs, Visit, Visits, limits, unrested, view_of}
+use Rattle.lift_serve.specs.Visits.{AreVisits, HeldState, IsNewSeat, IsServedSeat, IsVisit, IsVisitAs, SessionVisit, Visits, limits, unrested, view_of}
 
 pub are_new : (first : ℕ) (desk : List TableId) → All IsNewSeat (seats_from first desk)
 are_new first [] = All-nil IsNewSeat
@@ -37,20 +37,20 @@ car_visit terminal end before after near session =
 pub visit_of : (own terminal : ℕ) (end : End) (before after : Standing) → terminal ≡ own → IsVisit terminal end before after → IsVisit own end before after
 visit_of own terminal end before after same visit = subst (λ (t : ℕ). IsVisit t end before after) same visit
 
-one_more : (terminal : ℕ) (last : LastLetter) (port : PortView) (vs : List Visit) (last' : LastLetter) (port' : PortView) → AreVisits terminal last port vs last' port'
-    → (v : Visit) → v.before.last ≡ last' → v.before.port ≡ port' → IsVisit terminal v.end v.before v.after
+one_more : (terminal : ℕ) (last : LastLetter) (port : PortView) (vs : List SessionVisit) (last' : LastLetter) (port' : PortView) → AreVisits terminal last port vs last' port'
+    → (v : SessionVisit) → v.before.last ≡ last' → v.before.port ≡ port' → IsVisit terminal v.end v.before v.after
     → AreVisits terminal last port (vs ++ v ∷ []) v.after.last (unrested v.after.port)
 one_more terminal last port [] last' port' are v begins at visit = (begins ∙ are.0, at ∙ are.1, visit, (refl, refl))
 one_more terminal last port (w ∷ ws) last' port' are v begins at visit =
     (are.0, are.1, are.2, one_more terminal w.after.last (unrested w.after.port) ws last' port' are.3 v begins at visit)
 
 -- the place behind a session
-pub served_on : (held held' : HeldState) (end : End) (source source' : Source) (sink sink' : Sink) → IsServed held → Visits held end held' source source' sink sink'
-    → IsSeatOf held'.desk held'.seat → IsServed held'
+pub served_on : (held held' : HeldState) (end : End) (source source' : Source) (sink sink' : Sink) → IsServedSeat held → Visits held end held' source source' sink sink'
+    → IsSeatOf held'.desk held'.seat → IsServedSeat held'
 served_on held held' end source source' sink sink' served visits seated =
     let before : Standing = standing held.last (view_of held.seat) source sink in
     let after : Standing = standing held'.last (port_view held'.seat.view visits.rests) source' sink' in
-    let all : List Visit = served.visits ++ record { end = end; before = before; after = after } ∷ [] in
+    let all : List SessionVisit = served.visits ++ record { end = end; before = before; after = after } ∷ [] in
     let more : AreVisits held.seat.terminal held.found (port_view no_asks 0) all held'.last (view_of held'.seat) =
     one_more held.seat.terminal held.found (port_view no_asks 0) served.visits held.last (view_of held.seat) served.are_visits
     (record { end = end; before = before; after = after }) refl refl visits.visit in

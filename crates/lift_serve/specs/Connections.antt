@@ -2,11 +2,11 @@
 use Rattle.std.specs.Prelude.{ℕ, ◌≡◌, ◌≤◌, ◌+◌, ◌⊎◌, List, [], ◌∷◌, ◌++◌, codes, length}
 use Rattle.std.specs.Str.Lines.{strip_carriage_return}
 use Rattle.lift_base.specs.Output.{Sink, Takes, TakesFront}
-use Rattle.lift_kiosk.specs.Lines.{Fails, FindsEnd, GivesLine, GivesPart, Source}
+use Rattle.lift_kiosk.specs.Lines.{FailsOnce, FindsEnd, GivesLine, GivesPart, Source}
 use Rattle.lift_kiosk.specs.declared.line.NoLine.{NoLine as LineMissing}
 use Rattle.lift_kiosk.specs.declared.line.NoLine.TheVariants.{AtEnd, NoCalls, Fault}
 use Rattle.lift_serve.specs.FirstLine.{SpeaksFor}
-use Rattle.lift_serve.specs.Visits.{HeldState, IsServed, Visits}
+use Rattle.lift_serve.specs.Visits.{HeldState, IsServedSeat, Visits}
 use Rattle.lift_serve.specs.declared.attending.Outcome.{Outcome}
 use Rattle.lift_serve.specs.declared.attending.Outcome.TheVariants.{NoLine, Bad, Busy, Unseated}
 use Rattle.lift_serve.specs.declared.attending.Outcome.TheVariants.{Visited}
@@ -44,7 +44,7 @@ abbrev pub EndsWithoutLine : (calls : ℕ) → LineMissing → (before after : S
 EndsWithoutLine calls AtEnd before after = (part : List ℕ) × (mid : Source)
     × GivesPart part before mid × FindsEnd mid after × CallsUpTo calls before after
 EndsWithoutLine calls Fault before after = (part : List ℕ) × (mid : Source)
-    × GivesPart part before mid × Fails mid after × CallsUpTo calls before after
+    × GivesPart part before mid × FailsOnce mid after × CallsUpTo calls before after
 EndsWithoutLine calls NoCalls before after = (part : List ℕ) × GivesPart part before after
     × (after.calls ≡ before.calls + calls)
 
@@ -64,5 +64,5 @@ Attends cars kiosks (Unseated missing) source source' sink sink' =
     × IsSaid (codes "BAD" ++ 10 ∷ []) sink sink'
 Attends cars kiosks (Visited held' end) source source' sink sink' = (terminal : ℕ) × (mid : Source)
     × Names cars kiosks terminal source mid
-    × (held : HeldState) × IsServed held × (held.seat.terminal ≡ terminal)
+    × (held : HeldState) × IsServedSeat held × (held.seat.terminal ≡ terminal)
     × Visits held end held' mid source' sink sink'

@@ -11,7 +11,7 @@ use Rattle.lift_journal.specs.Journal.{ReadsAs}
 use Rattle.lift_keeper.specs.Images.{IsImageOf}
 use Rattle.lift_keeper.specs.Keeper.{KeeperView}
 use Rattle.lift_world.specs.declared.event.Taken.{Taken}
-use Rattle.lift_clerk.specs.Keeping.{Keeps, KeepsFront}
+use Rattle.lift_clerk.specs.Keeping.{ImageKeeps, KeepsFront}
 use Rattle.lift_serve.specs.declared.serving.ServeFault.{ServeFault}
 use Rattle.lift_serve.specs.Relaying.{ComesTo, IsServedKeeper, IsUnserved, KeptRelay}
 
@@ -36,7 +36,7 @@ pub data KeptServing {D P : Type 0} (chooses : P → Choice) (state : D
 -- The image keeps all these answers, with some entries, and maybe later answers too.
 abbrev pub KeepsAll : Type 0 → Plan → RegisterState → List Taken → Image → Type 0
 KeepsAll D plan base given left = (entries : List Entry) × (now : List Taken) × IsPrefix given now
-    × Keeps D plan base entries now left
+    × ImageKeeps D plan base entries now left
 
 -- A device was opened, and the building served over it. Had its journal begun with this register, had
 -- these entries been accepted since and these commands been answered, and does each image that the recovery may have found keep a front of

@@ -51,8 +51,8 @@ found_at register desk seat =
     }
 
 -- each of these seats, at its place
-abbrev pub all_found : RegisterState → List TableId → List TerminalSeat → List (Option HeldState)
-all_found register desk seats =
+abbrev pub found_seats : RegisterState → List TableId → List TerminalSeat → List (Option HeldState)
+found_seats register desk seats =
     map (λ (seat : TerminalSeat). Some (found_at register desk seat)) seats
 
 -- each pager is that of its place's terminal

@@ -16,8 +16,8 @@ rung_last begun None = begun
 rung_last begun (Some asks) = asks
 
 -- a terminal's port that rested so often
-abbrev pub view_at : DeskPortState → (rests : ℕ) → PortView
-view_at port rests = port_view port.seat.view rests
+abbrev pub port_view_after : DeskPortState → (rests : ℕ) → PortView
+port_view_after port rests = port_view port.seat.view rests
 
 -- how many were stored at a port
 abbrev pub asks_at : DeskPortState → ℕ

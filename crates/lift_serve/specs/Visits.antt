@@ -35,7 +35,7 @@ IsVisitAs false end before after = Converses WantsCall keeps_letter limits end b
 abbrev pub IsVisit : (terminal : ℕ) → End → (before after : Standing) → Type 0
 IsVisit terminal end before after = IsVisitAs (nat_lt terminal 16) end before after
 
-pub record Visit : Type 0 where
+pub record SessionVisit : Type 0 where
   pub end : End
   pub before : Standing
   pub after : Standing
@@ -45,7 +45,8 @@ abbrev pub unrested : PortView → PortView
 unrested port = record port { rests = 0 }
 
 -- Each session began where the one before it ended, with the last command and the seat alike.
-abbrev pub AreVisits : (terminal : ℕ) → LastLetter → PortView → List Visit → LastLetter → PortView
+abbrev pub AreVisits : (terminal : ℕ) → LastLetter → PortView → List SessionVisit → LastLetter
+    → PortView
     → Type 0
 AreVisits terminal last port [] last' port' = (last' ≡ last) × (port' ≡ port)
 AreVisits terminal last port (v ∷ vs) last' port' = (v.before.last ≡ last) × (v.before.port ≡ port)
@@ -66,9 +67,9 @@ view_of seat = port_view seat.view 0
 
 -- The seat is of the desk, and what is known came from what the recovery found, at a new seat, by
 -- sessions one after the other.
-pub record IsServed (held : HeldState) : Type 0 where
+pub record IsServedSeat (held : HeldState) : Type 0 where
   pub seated : IsSeatOf held.desk held.seat
-  pub visits : List Visit
+  pub visits : List SessionVisit
   pub are_visits : AreVisits held.seat.terminal held.found (port_view no_asks 0) visits held.last
       (view_of held.seat)
 

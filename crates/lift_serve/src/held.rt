@@ -63,14 +63,14 @@ pub struct Held<'d> {
 }
 
 impl<'d> Model for Held<'d> {
-    ghost use Rattle.lift_serve.specs.HeldInside.{IsHeld, seen};
+    ghost use Rattle.lift_serve.specs.HeldInside.{IsHeldSeat, seen};
     ghost use Rattle.lift_serve.specs.Visits.{HeldState};
 
     ghost Value = { HeldState };
 
     ghost view = { seen };
 
-    ghost invariant = { IsHeld };
+    ghost invariant = { IsHeldSeat };
 }
 
 impl<'d> Held<'d> {

@@ -3,7 +3,7 @@
 ghost use Rattle.std.specs.Prelude.{◌≡◌, ◌≢◌, ◌↔◌, ◌+◌, OnOk, OnErr, None, Err, true};
 ghost use Rattle.lift_kiosk.specs.Desk.{place_of};
 ghost use Rattle.lift_kiosk.specs.Port.{AsksOne};
-ghost use Rattle.lift_serve.specs.Rung.{asks_at, view_at};
+ghost use Rattle.lift_serve.specs.Rung.{asks_at, port_view_after};
 
 use crate::pace::AskBell;
 use crate::pager::Pager;
@@ -71,7 +71,7 @@ impl<'d, 'r, R: Wait + Clock> RestingPort<'d, 'r, R> {
 }
 
 impl<'d, 'r, R: Wait + Clock> Port for RestingPort<'d, 'r, R> {
-    ghost view = { λ p. view_at p.port p.rests };
+    ghost view = { λ p. port_view_after p.port p.rests };
 
     ghost place = { λ p. place_of p.port };
 
@@ -82,14 +82,16 @@ impl<'d, 'r, R: Wait + Clock> Port for RestingPort<'d, 'r, R> {
     // The port's clauses, and that it rings just once for an ask that is stored, and for no other.
     fn ask(&mut self, number: Number, body: Body) -> Result<(), AskRefusal>
         ensures waiting { (result ≡ Err AskRefusal.Waiting)
-            ↔ ((view_at self.old.port self.old.rests).pending ≢ None) }
+            ↔ ((port_view_after self.old.port self.old.rests).pending ≢ None) }
         ensures spent { (result ≡ Err AskRefusal.Spent)
-            ↔ (((view_at self.old.port self.old.rests).pending ≡ None)
-            × ((view_at self.old.port self.old.rests).spent ≡ true)) }
-        ensures ok { OnOk result (AsksOne (view_at self.old.port self.old.rests)
-            (record { number = number; body = body }) (view_at self.new.port self.new.rests)) }
+            ↔ (((port_view_after self.old.port self.old.rests).pending ≡ None)
+            × ((port_view_after self.old.port self.old.rests).spent ≡ true)) }
+        ensures ok { OnOk result (AsksOne (port_view_after self.old.port self.old.rests)
+            (record { number = number; body = body })
+            (port_view_after self.new.port self.new.rests)) }
         ensures err { OnErr result
-            (view_at self.new.port self.new.rests ≡ view_at self.old.port self.old.rests) }
+            (port_view_after self.new.port self.new.rests
+            ≡ port_view_after self.old.port self.old.rests) }
         ensures stays { place_of self.new.port ≡ place_of self.old.port }
         ensures rung { OnOk result (self.new.rung.times ≡ self.old.rung.times + 1) }
         ensures unrung { OnErr result (self.new.rung.times ≡ self.old.rung.times) }

@@ -3,7 +3,7 @@
 ghost use Rattle.std.specs.Prelude.{◌≡◌, ◌≤◌, ◌++◌, ◌∷◌, [], All, Some, IfOk, IfErr, length};
 ghost use Rattle.lift_desk.specs.Seats.{AreSeatsOf, IsSeatOf, seats_from};
 ghost use Rattle.lift_register.specs.Register.{last_of as last_in};
-ghost use Rattle.lift_serve.specs.Lobby.{AreInOrder, all_found, found_at};
+ghost use Rattle.lift_serve.specs.Lobby.{AreInOrder, found_seats, found_at};
 ghost use Rattle.lift_serve.specs.Visits.{AreAsFound, IsNewSeat, known_of, letter_in as letter_of};
 
 use crate::held::Held;
@@ -100,7 +100,7 @@ pub(crate) fn lobby_of<'d>(
     requires seats { AreSeatsOf desk.now seats.items }
     requires all { seats.items ≡ seats_from 0 desk.now }
     ensures desk { result.desk ≡ desk.now }
-    ensures all { result.places ≡ all_found register.now desk.now seats.items }
+    ensures all { result.places ≡ found_seats register.now desk.now seats.items }
     ensures found { AreAsFound register.now desk.now result.places }
 {
     let mut places = ArrayVec::new();

@@ -4,7 +4,7 @@ ghost use Rattle.std.specs.Prelude.{◌≡◌, ◌≤◌, ◌+◌, [], All, Opti
 ghost use Rattle.std.specs.Prelude.{IsSome, length};
 ghost use Rattle.std.specs.Thread.{IsSend, IsSync};
 ghost use Rattle.lift_desk.specs.Seats.{AreSeatsOf, clerk_of, seats_from};
-ghost use Rattle.lift_serve.specs.Lobby.{AreInOrder, all_found};
+ghost use Rattle.lift_serve.specs.Lobby.{AreInOrder, found_seats};
 ghost use Rattle.lift_relay.specs.declared.pair.RunFault.{RunFault as Fault};
 ghost use Rattle.lift_serve.specs.Open.{AreEndedAt, IsEndAt};
 ghost use Rattle.lift_serve.specs.Relaying.{ComesTo, HaveRunOn, Relayed, undone};
@@ -425,7 +425,7 @@ where
     requires desk { lobby.desk ≡ clerk.desk }
     requires unused { clerk.seat ≡ clerk_of clerk.desk }
     requires all { lobby.places
-        ≡ all_found clerk.keeper.state.register clerk.desk (seats_from 0 clerk.desk) }
+        ≡ found_seats clerk.keeper.state.register clerk.desk (seats_from 0 clerk.desk) }
     requires count { length clerk.desk ≡ 16 + length clerk.keeper.writer.plan.kiosks }
     ensures comes { ComesTo P.chooses D.state clerk.entry.policy clerk.entry.keeper result.keeper
         result.fault }

@@ -25,9 +25,9 @@ struct Recorder<'a> {
 }
 
 impl Car for Recorder<'_> {
-    ghost use Rattle.lift_car.specs.Model.{place_of, IsSentTo};
+    ghost use Rattle.lift_car.specs.Model.{position_of_car, IsSentTo};
 
-    ghost told = { λ r. place_of r.car };
+    ghost told = { λ r. position_of_car r.car };
 
     ghost goes = { λ before stop after. IsSentTo before.car stop after.car };
 

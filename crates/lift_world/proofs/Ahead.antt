@@ -13,8 +13,8 @@ use Rattle.lift_world.specs.declared.event.Event.{Event}
 use Rattle.lift_world.specs.declared.event.Event.TheVariants.{Ask, Take, Seal, Pull, Fold, Body as BodyWrite, FirstSync, Gate, SecondSync, Answer as Answering, Hear, Fault, Cut, Reopen}
 use Rattle.lift_world.specs.declared.event.Phase.TheVariants.{Writing, Synced, GateWritten}
 use Rattle.lift_world.specs.Decided.{Decision, when, decided}
-use Rattle.lift_world.specs.World.{World, Batch, is_running, is_broken, is_off, is_idle, is_synced, is_gate_written, written, is_taken_of, is_answer_to, asks, batch_of, state_of}
-use Rattle.lift_world.specs.Next.{next, taking, deciding, sealing, unanswered, unknown_to, answer_of, may_take, pulled, may_pull, in_phase, settling, failing, answering, bodies, may_write, may_sync, may_fail}
+use Rattle.lift_world.specs.World.{World, SealedBatch, is_running, is_broken, is_off, is_idle, is_synced, is_gate_written, written, is_taken_of, is_answer_to, asks, batch_in_flight, state_of}
+use Rattle.lift_world.specs.Next.{next, taking, deciding, sealing, unanswered, unknown_to, answer_of, may_take, pulled, may_pull, in_phase, settling, failing, answering, sectors_for_body, may_write, may_sync, may_fail}
 use Rattle.lift_world.specs.Possible.{CanBeLookedAt}
 use Rattle.lift_world.specs.Relay.{is_flushers, FlusherPassesScans, FlusherComesFirst, FlusherPassesSeals}
 use Rattle.lift_world.specs.lemmas.Phases.{writing_busy}
@@ -41,7 +41,7 @@ module _ (w : World) (state : State) (more : List Taken) where
   behind x = decided_on x state more
 
   -- the batch in flight is sealed, and stays
-  same_batch : Ordered w → is_idle w.phase ≡ false → batch_of (behind w) ≡ batch_of w
+  same_batch : Ordered w → is_idle w.phase ≡ false → batch_in_flight (behind w) ≡ batch_in_flight w
   same_batch order busy =
       let front : List Entry = take w.sealed w.accepted in
       let flown_is = flies_to w busy in
@@ -52,7 +52,7 @@ module _ (w : World) (state : State) (more : List Taken) where
       ∙ sym (part_of front (drop w.sealed w.accepted) w.safe w.flight.upto (omega arith) (omega arith))
       ∙ ap (λ (xs : List Entry). take (w.flight.upto - w.safe) (drop w.safe xs)) (take-append-drop w.sealed w.accepted)
 
-  lift_pulled : (queue : List Batch) → pulled (behind w) queue ≡ option_map behind (pulled w queue)
+  lift_pulled : (queue : List SealedBatch) → pulled (behind w) queue ≡ option_map behind (pulled w queue)
   lift_pulled [] = refl
   lift_pulled (batch ∷ rest) = ap (λ (x : World). Some x) (lift_pull behind (is_broken w.power) (nat_lt w.safe batch.upto) _ _ _)
 
@@ -60,14 +60,14 @@ module _ (w : World) (state : State) (more : List Taken) where
       → option_and_then (λ n. when (may_write (behind w) n) (behind (in_phase w (Writing (n + 1))))) o ≡ option_map behind (option_and_then (λ n. when (may_write w n) (in_phase w (Writing (n + 1)))) o)
   lift_body None order at = refl
   lift_body (Some n) order at =
-      ap (λ (xs : List Entry). when (is_running w.power && nat_lt n (bodies (length xs) + 1)) (behind (in_phase w (Writing (n + 1))))) (same_batch order (writing_busy w.phase n at))
+      ap (λ (xs : List Entry). when (is_running w.power && nat_lt n (sectors_for_body (length xs) + 1)) (behind (in_phase w (Writing (n + 1))))) (same_batch order (writing_busy w.phase n at))
       ∙ lift_when behind (may_write w n) (in_phase w (Writing (n + 1)))
 
   lift_sync : (o : Option ℕ) → Ordered w → written w.phase ≡ o
       → option_and_then (λ n. when (may_sync (behind w) n) (behind (in_phase w Synced))) o ≡ option_map behind (option_and_then (λ n. when (may_sync w n) (in_phase w Synced)) o)
   lift_sync None order at = refl
   lift_sync (Some n) order at =
-      ap (λ (xs : List Entry). when (is_running w.power && eqb n (bodies (length xs) + 1)) (behind (in_phase w Synced))) (same_batch order (writing_busy w.phase n at))
+      ap (λ (xs : List Entry). when (is_running w.power && eqb n (sectors_for_body (length xs) + 1)) (behind (in_phase w Synced))) (same_batch order (writing_busy w.phase n at))
       ∙ lift_when behind (may_sync w n) (in_phase w Synced)
 
   pub passes : (event : Event) → Ordered w → IsTrue (is_flushers event) → next (behind w) event ≡ option_map behind (next w event)
@@ -108,10 +108,10 @@ module _ (terminal : ℕ) (w : World) (event : Event) (is : IsTrue (is_flushers 
       let a : answered_by y terminal ≡ answered_by w terminal = ap (λ (xs : List Answer). count_by (is_answer_to terminal) xs) answered in
       record { same_asked = asked; same_building = building; same_state = state; no_more_queued = queue; owes = omega arith }
 
-  first_owed : (batch : Batch) (rest : List Batch) → w.queue ≡ batch ∷ rest → owed terminal (in_queue w.queue) ≡ owed terminal batch.commands + owed terminal (in_queue rest)
-  first_owed batch rest at = ap (λ (q : List Batch). owed terminal (in_queue q)) at ∙ count_both (is_taken_of terminal) batch.commands (in_queue rest)
+  first_owed : (batch : SealedBatch) (rest : List SealedBatch) → w.queue ≡ batch ∷ rest → owed terminal (in_queue w.queue) ≡ owed terminal batch.commands + owed terminal (in_queue rest)
+  first_owed batch rest at = ap (λ (q : List SealedBatch). owed terminal (in_queue q)) at ∙ count_both (is_taken_of terminal) batch.commands (in_queue rest)
 
-  longer : (batch : Batch) (rest : List Batch) → w.queue ≡ batch ∷ rest → length rest ≤ length w.queue
+  longer : (batch : SealedBatch) (rest : List SealedBatch) → w.queue ≡ batch ∷ rest → length rest ≤ length w.queue
   longer batch rest at = let l : length w.queue ≡ length rest + 1 = ap length at ∙ omega arith in omega arith
 
   pub works : (y : World) → next w event ≡ Some y → Works terminal w y
@@ -203,10 +203,10 @@ flusher_comes_first w terminal letter event taken later order is takes h =
 
 -- Behind a seal the flusher works on as before it.
 module _ (w : World) where
-  abbrev last : Batch
+  abbrev last : SealedBatch
   last = record { commands = w.taken; upto = length w.accepted }
 
-  pull_behind : (queue : List Batch) → queue ≢ [] → pulled (sealing w) (queue ++ last ∷ []) ≡ option_map sealing (pulled w queue)
+  pull_behind : (queue : List SealedBatch) → queue ≢ [] → pulled (sealing w) (queue ++ last ∷ []) ≡ option_map sealing (pulled w queue)
   pull_behind [] some = absurd (some refl)
   pull_behind (batch ∷ rest) some = ap (λ (x : World). Some x) (lift_pull sealing (is_broken w.power) (nat_lt w.safe batch.upto) _ _ _)
 

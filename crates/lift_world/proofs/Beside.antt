@@ -15,7 +15,7 @@ use Rattle.lift_world.specs.declared.event.Power.TheVariants.{Running, Broken, O
 use Rattle.lift_world.specs.declared.event.Event.{Event}
 use Rattle.lift_world.specs.declared.event.Event.TheVariants.{Ask, Take, Seal, Pull, Fold, Body as BodyWrite, FirstSync, Gate, SecondSync, Answer as Answering, Hear, Fault, Cut, Reopen}
 use Rattle.lift_world.specs.Decided.{Decision, when, decided}
-use Rattle.lift_world.specs.World.{World, Batch, is_running, is_broken, is_off, is_synced, is_gate_written, written, asks, is_taken_of, is_answer_to, state_of}
+use Rattle.lift_world.specs.World.{World, SealedBatch, is_running, is_broken, is_off, is_synced, is_gate_written, written, asks, is_taken_of, is_answer_to, state_of}
 use Rattle.lift_world.specs.Next.{next, goes, asking, taking, deciding, sealing, pulled, pulling, in_phase, settling, failing, answering, hearing, next_answer, reopened, unanswered, unknown_to, may_ask, may_take, may_seal, may_pull, may_write, may_sync, may_fail, may_reopen}
 use Rattle.lift_world.specs.Relay.{is_flushers}
 use Rattle.lift_world.specs.Beside.{is_of_terminals, terminals_part, own_part, with_words, StandBeside, PassesThrough, TerminalsPass}
@@ -95,7 +95,7 @@ module _ (w : World) (asked : List Command) (heard : List Answer) where
   abbrev on_words : World → World
   on_words x = with_words x asked heard
 
-  lift_pulled : (queue : List Batch) → pulled (on_words w) queue ≡ option_map on_words (pulled w queue)
+  lift_pulled : (queue : List SealedBatch) → pulled (on_words w) queue ≡ option_map on_words (pulled w queue)
   lift_pulled [] = refl
   lift_pulled (batch ∷ rest) = ap (λ (x : World). Some x) (lift_pull on_words (is_broken w.power) (nat_lt w.safe batch.upto) _ _ _)
 

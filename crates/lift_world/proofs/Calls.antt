@@ -10,7 +10,7 @@ use Rattle.lift_world.specs.declared.event.Event.{Event}
 use Rattle.lift_world.specs.declared.event.Event.TheVariants.{Ask, Take, Seal, Pull, Fold, Body as BodyWrite, FirstSync, Gate, SecondSync, Answer as Answering, Hear, Fault, Cut, Reopen}
 use Rattle.lift_world.specs.Decided.{when}
 use Rattle.lift_world.specs.World.{World, is_running, is_synced, is_gate_written, written}
-use Rattle.lift_world.specs.Next.{next, in_phase, settling, writes_of}
+use Rattle.lift_world.specs.Next.{next, in_phase, settling, writes_before_sync}
 use Rattle.lift_world.specs.Possible.{is_device_call, CallsInOrder}
 use Rattle.lift_world.specs.lemmas.Decisions.{some_is}
 use Rattle.lift_world.specs.lemmas.Steps.{then_from}
@@ -63,11 +63,11 @@ module _ (w : World) where
   folds : (after : World) → next w Fold ≡ Some after → Counted w (λ n. eqb n 0) (λ n. w) after
   folds after h = counted w (λ n. eqb n 0) (λ n. w) after h
 
-  writes : (after : World) → next w BodyWrite ≡ Some after → Counted w (λ n. nat_lt n (writes_of w)) (λ n. in_phase w (Writing (n + 1))) after
-  writes after h = counted w (λ n. nat_lt n (writes_of w)) (λ n. in_phase w (Writing (n + 1))) after h
+  writes : (after : World) → next w BodyWrite ≡ Some after → Counted w (λ n. nat_lt n (writes_before_sync w)) (λ n. in_phase w (Writing (n + 1))) after
+  writes after h = counted w (λ n. nat_lt n (writes_before_sync w)) (λ n. in_phase w (Writing (n + 1))) after h
 
-  syncs : (after : World) → next w FirstSync ≡ Some after → Counted w (λ n. eqb n (writes_of w)) (λ n. in_phase w Synced) after
-  syncs after h = counted w (λ n. eqb n (writes_of w)) (λ n. in_phase w Synced) after h
+  syncs : (after : World) → next w FirstSync ≡ Some after → Counted w (λ n. eqb n (writes_before_sync w)) (λ n. in_phase w Synced) after
+  syncs after h = counted w (λ n. eqb n (writes_before_sync w)) (λ n. in_phase w Synced) after h
 
   running_at : (call : Event) (after : World) → IsTrue (is_device_call call) → next w call ≡ Some after → is_running w.power ≡ true
   running_at (Ask terminal number body) after is h = absurd (false≢true is)
@@ -97,13 +97,13 @@ module _ (w : World) where
   calls_in_order = record {
     only_running = λ call after is h. runs w.power (running_at call after is h);
     checkpoint = λ after h. let c = folds after h in (c.here ∙ ap (λ (n : ℕ). Writing n) (eqb-true c.count 0 c.waits.passes), c.waits.is);
-    body = λ after h. let c = writes after h in (c.count, c.here, ltb-true c.count (writes_of w) c.waits.passes, c.waits.is);
-    first_sync = λ after h. let c = syncs after h in (c.here ∙ ap (λ (n : ℕ). Writing n) (eqb-true c.count (writes_of w) c.waits.passes), c.waits.is);
+    body = λ after h. let c = writes after h in (c.count, c.here, ltb-true c.count (writes_before_sync w) c.waits.passes, c.waits.is);
+    first_sync = λ after h. let c = syncs after h in (c.here ∙ ap (λ (n : ℕ). Writing n) (eqb-true c.count (writes_before_sync w) c.waits.passes), c.waits.is);
     gate = λ after h. let c = waited w (is_synced w.phase) (in_phase w GateWritten) after h in (synced_is w.phase c.passes, c.is);
     second_sync = λ after h. let c = waited w (is_gate_written w.phase) (settling w) after h in (gate_is w.phase c.passes, c.is);
     folds = λ on there. made_at (λ n. eqb n 0) (λ n. w) 0 on there refl;
-    writes = λ n on there less. made_at (λ m. nat_lt m (writes_of w)) (λ m. in_phase w (Writing (m + 1))) n on there (lt-ltb n (writes_of w) less);
-    syncs = λ on there. made_at (λ n. eqb n (writes_of w)) (λ n. in_phase w Synced) (writes_of w) on there (eq-eqb (writes_of w) (writes_of w) refl);
+    writes = λ n on there less. made_at (λ m. nat_lt m (writes_before_sync w)) (λ m. in_phase w (Writing (m + 1))) n on there (lt-ltb n (writes_before_sync w) less);
+    syncs = λ on there. made_at (λ n. eqb n (writes_before_sync w)) (λ n. in_phase w Synced) (writes_before_sync w) on there (eq-eqb (writes_before_sync w) (writes_before_sync w) refl);
     writes_gate = λ on there. made (is_synced w.phase) (in_phase w GateWritten) on (ap is_synced there);
     settles = λ on there. made (is_gate_written w.phase) (settling w) on (ap is_gate_written there);
   }

@@ -20,7 +20,7 @@ use Rattle.lift_policy.specs.Step.{State, first_cause, is_new, stopping, next_fr
 use Rattle.lift_policy.specs.declared.command.Command.{Command}
 use Rattle.lift_world.specs.declared.decide.Decided.{Decided}
 use Rattle.lift_world.specs.Decided.{Decision, decided, decided_after}
-use Rattle.lift_world.specs.Carries.{Carries, state_with, joined}
+use Rattle.lift_world.specs.Carries.{CarriesDecision, state_with, with_new_stop}
 use Rattle.lift_world.specs.World.{World, state_of}
 use Rattle.lift_world.specs.Next.{taking, deciding}
 use Rattle.lift_world.specs.Replays.{FitAfter, IsTight, MovesTo}
@@ -54,14 +54,14 @@ module _ (building : Plan) (state : State) (terminal number : ℕ) where
 
 -- a repeated stop joins nothing, a new one joins
 pub joins_none : (register : RegisterState) (positions : List (Option Position)) (batch : List Entry) (terminal number floor : ℕ) (dir : Dir) → is_new (state_with register positions batch) terminal number ≡ false
-    → state_with register positions (batch ++ []) ≡ joined (state_with register positions batch) terminal number floor dir
+    → state_with register positions (batch ++ []) ≡ with_new_stop (state_with register positions batch) terminal number floor dir
 joins_none register positions batch terminal number floor dir old =
     ap (λ (xs : List Entry). state_with register positions xs) (append-nil batch)
     ∙ ap (λ (b : Bool). cond b (accepting (state_with register positions batch) (Stopping terminal number floor dir)) (state_with register positions batch)) (sym old)
 
 pub joins_one : (register after : RegisterState) (positions : List (Option Position)) (batch : List Entry) (terminal number floor car : ℕ) (dir : Dir) → is_new (state_with register positions batch) terminal number ≡ true → car ≡ terminal
     → after ≡ register_of register (Stopping car number floor dir ∷ [])
-    → state_with after positions (batch ++ Stopping car number floor dir ∷ []) ≡ joined (state_with register positions batch) terminal number floor dir
+    → state_with after positions (batch ++ Stopping car number floor dir ∷ []) ≡ with_new_stop (state_with register positions batch) terminal number floor dir
 joins_one register after positions batch terminal number floor car dir new own is =
     ap (λ (r : RegisterState). state_with r positions (batch ++ Stopping car number floor dir ∷ [])) is
     ∙ ap (λ (t : ℕ). accepting (state_with register positions batch) (Stopping t number floor dir)) own
@@ -79,12 +79,12 @@ no_move (Some w) old new is possible e same = absurd (false≢true (sym e ∙ po
 -- a take in the code
 module _ (w : World) (register : RegisterState) (command : Command) (letter : Option ℕ) (tight : IsTight w.building w.base register w.accepted) (result : Option Decided)
     (after : RegisterState) (positions : List (Option Position))
-    (h : (batch : List Entry) → Carries (decided w.building (state_with register w.positions batch) command.terminal command.number command.body letter) register w.positions batch result after positions) where
-  carried : Carries (decided w.building (state_of w) command.terminal command.number command.body letter) register w.positions (drop w.sealed w.accepted) result after positions
-  carried = subst (λ (r : RegisterState). Carries (decided w.building (state_with r w.positions (drop w.sealed w.accepted)) command.terminal command.number command.body letter) register w.positions (drop w.sealed w.accepted) result after positions)
+    (h : (batch : List Entry) → CarriesDecision (decided w.building (state_with register w.positions batch) command.terminal command.number command.body letter) register w.positions batch result after positions) where
+  carried : CarriesDecision (decided w.building (state_of w) command.terminal command.number command.body letter) register w.positions (drop w.sealed w.accepted) result after positions
+  carried = subst (λ (r : RegisterState). CarriesDecision (decided w.building (state_with r w.positions (drop w.sealed w.accepted)) command.terminal command.number command.body letter) register w.positions (drop w.sealed w.accepted) result after positions)
       tight.register_is (h (drop w.sealed w.accepted))
 
-  none_by : (o : Option Decision) → Carries o register w.positions (drop w.sealed w.accepted) result after positions → result ≡ None
+  none_by : (o : Option Decision) → CarriesDecision o register w.positions (drop w.sealed w.accepted) result after positions → result ≡ None
       → MovesTo (option_map (deciding w command) o) w false (record w { positions = positions }) × (after ≡ register)
   none_by None k q = ((refl, ap (λ (ps : List (Option Position)). record w { positions = ps }) k.2), k.1)
   none_by (Some d) k q = let e = k.1 in cc
@@ -92,7 +92,7 @@ module _ (w : World) (register : RegisterState) (command : Command) (letter : Op
   pub undecided : result ≡ None → MovesTo (taking w letter command) w false (record w { positions = positions }) × (after ≡ register)
   undecided q = none_by (decided w.building (state_of w) command.terminal command.number command.body letter) carried q
 
-  both_by : (o : Option Decision) → Carries o register w.positions (drop w.sealed w.accepted) result after positions
+  both_by : (o : Option Decision) → CarriesDecision o register w.positions (drop w.sealed w.accepted) result after positions
       → (IsSome result → IsSome (option_map (deciding w command) o)) × (IsSome (option_map (deciding w command) o) → IsSome result)
   both_by None k = ((λ s. subst (λ (r : Option Decided). IsSome r) k.0 s), (λ s. absurd (false≢true s)))
   both_by (Some d) k = ((λ _. refl), (λ _. subst (λ (r : Option Decided). IsSome r) (sym k.1) refl))
@@ -104,7 +104,7 @@ module _ (w : World) (register : RegisterState) (command : Command) (letter : Op
   some_is : (x y : Decided) → Some x ≡ Some y → x ≡ y
   some_is x y e = cc
 
-  some_by : (o : Option Decision) (d : Decided) → decided w.building (state_of w) command.terminal command.number command.body letter ≡ o → Carries o register w.positions (drop w.sealed w.accepted) result after positions → result ≡ Some d → IsBuilding w.building
+  some_by : (o : Option Decision) (d : Decided) → decided w.building (state_of w) command.terminal command.number command.body letter ≡ o → CarriesDecision o register w.positions (drop w.sealed w.accepted) result after positions → result ≡ Some d → IsBuilding w.building
       → MovesTo (option_map (deciding w command) o) w true (record w { accepted = w.accepted ++ option_to_list d.entry; positions = positions; taken = w.taken ++ record { terminal = command.terminal; number = command.number; body = command.body; reply = d.reply } ∷ [] })
       × FitAfter w.building w.base [] (w.accepted ++ option_to_list d.entry) × (after ≡ register_of w.base (w.accepted ++ option_to_list d.entry))
   some_by None d at k q sound = let e = k.0 in cc

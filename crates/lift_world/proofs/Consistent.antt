@@ -20,7 +20,7 @@ use Rattle.lift_world.specs.declared.event.Event.TheVariants.{Ask, Take, Seal, P
 use Rattle.lift_world.specs.declared.event.Phase.{Phase}
 use Rattle.lift_world.specs.declared.event.Phase.TheVariants.{Writing, Synced, GateWritten}
 use Rattle.lift_world.specs.Decided.{Decision, when, decided}
-use Rattle.lift_world.specs.World.{World, Batch, no_batch, start, outcome, batch_of, state_of, acknowledged, told_in, is_running, is_broken, is_off, asks, is_taken_of, may_keep, written, is_idle, is_synced, is_gate_written}
+use Rattle.lift_world.specs.World.{World, SealedBatch, no_batch, start, outcome, batch_in_flight, state_of, acknowledged, told_in, is_running, is_broken, is_off, asks, is_taken_of, may_keep, written, is_idle, is_synced, is_gate_written}
 use Rattle.lift_world.specs.Next.{run, next, unknown_to, deciding, taking, asking, sealing, pulled, in_phase, settling, failing, answering, hearing, cutting, reopened, may_ask, may_take, may_seal, may_pull, may_write, may_sync, may_fail, may_reopen, next_answer}
 use Rattle.lift_world.specs.Headline.{RecoversAcknowledged, IsHeld, IsOfBuilding}
 use Rattle.lift_world.specs.Replays.{FitAfter}
@@ -35,10 +35,10 @@ abbrev pub Tells : Plan → RegisterState → List Entry → Taken → Type 0
 Tells building base entries c = All (IsHeld base entries) (told_in building c)
 
 -- a sealed batch tells of entries accepted up to its end
-abbrev pub IsSealed : Plan → RegisterState → List Entry → Batch → Type 0
+abbrev pub IsSealed : Plan → RegisterState → List Entry → SealedBatch → Type 0
 IsSealed building base accepted b = (b.upto ≤ length accepted) × All (Tells building base (take b.upto accepted)) b.commands
 
-pub record Holds (building : Plan) (base : RegisterState) (accepted : List Entry) (safe : ℕ) (shown : List Entry) (flight : Batch) (phase : Phase) (queue : List Batch) (taken due : List Taken) : Type 0 where
+pub record Holds (building : Plan) (base : RegisterState) (accepted : List Entry) (safe : ℕ) (shown : List Entry) (flight : SealedBatch) (phase : Phase) (queue : List SealedBatch) (taken due : List Taken) : Type 0 where
   pub sound : IsBuilding building
   pub of_building : IsOfBuilding building base
   pub in_range : safe ≤ length accepted
@@ -105,7 +105,7 @@ accepted_after w added batch e =
     ap (λ (xs : List Entry). take w.sealed w.accepted ++ xs) e ∙ sym (append_assoc (take w.sealed w.accepted) (drop w.sealed w.accepted) added)
     ∙ ap (λ (xs : List Entry). xs ++ added) (take-append-drop w.sealed w.accepted)
 
-sealed_still : (building : Plan) (base : RegisterState) (old added : List Entry) (b : Batch) → IsSealed building base old b → IsSealed building base (old ++ added) b
+sealed_still : (building : Plan) (base : RegisterState) (old added : List Entry) (b : SealedBatch) → IsSealed building base old b → IsSealed building base (old ++ added) b
 sealed_still building base old added b h =
     (let l = length-append old added in let a = h.0 in omega arith, subst (λ (xs : List Entry). All (Tells building base xs) b.commands) (sym (take-append-le b.upto old added h.0)) h.1)
 
@@ -145,12 +145,12 @@ sealing_keeps w k = record {
   taken_told = All-nil (Tells w.building w.base w.accepted);
 }
 
-with_queue : (w : World) (batch : Batch) (rest : List Batch) → w.queue ≡ batch ∷ rest → IsConsistent w → IsSealed w.building w.base w.accepted batch × All (IsSealed w.building w.base w.accepted) rest
+with_queue : (w : World) (batch : SealedBatch) (rest : List SealedBatch) → w.queue ≡ batch ∷ rest → IsConsistent w → IsSealed w.building w.base w.accepted batch × All (IsSealed w.building w.base w.accepted) rest
 with_queue w batch rest e k =
-    let all = subst (λ (bs : List Batch). All (IsSealed w.building w.base w.accepted) bs) e k.queue_sealed in
+    let all = subst (λ (bs : List SealedBatch). All (IsSealed w.building w.base w.accepted) bs) e k.queue_sealed in
     (All-head (IsSealed w.building w.base w.accepted) batch rest all, All-tail (IsSealed w.building w.base w.accepted) batch rest all)
 
-pull_broken : (w : World) (batch : Batch) (rest : List Batch) → w.queue ≡ batch ∷ rest → IsConsistent w → IsConsistent (record w { queue = rest; due = w.due ++ map unknown_to batch.commands })
+pull_broken : (w : World) (batch : SealedBatch) (rest : List SealedBatch) → w.queue ≡ batch ∷ rest → IsConsistent w → IsConsistent (record w { queue = rest; due = w.due ++ map unknown_to batch.commands })
 pull_broken w batch rest e k = record {
   sound = k.sound;
   of_building = k.of_building;
@@ -164,7 +164,7 @@ pull_broken w batch rest e k = record {
   queue_sealed = (with_queue w batch rest e k).1;
 }
 
-pull_due : (w : World) (batch : Batch) (rest : List Batch) → w.queue ≡ batch ∷ rest → batch.upto ≤ w.safe → IsConsistent w → IsConsistent (record w { queue = rest; due = w.due ++ batch.commands })
+pull_due : (w : World) (batch : SealedBatch) (rest : List SealedBatch) → w.queue ≡ batch ∷ rest → batch.upto ≤ w.safe → IsConsistent w → IsConsistent (record w { queue = rest; due = w.due ++ batch.commands })
 pull_due w batch rest e le k = record {
   sound = k.sound;
   of_building = k.of_building;
@@ -179,7 +179,7 @@ pull_due w batch rest e le k = record {
   queue_sealed = (with_queue w batch rest e k).1;
 }
 
-pull_flight : (w : World) (batch : Batch) (rest : List Batch) → w.queue ≡ batch ∷ rest → w.safe < batch.upto → IsConsistent w → IsConsistent (record w { queue = rest; flight = batch; phase = Writing 0 })
+pull_flight : (w : World) (batch : SealedBatch) (rest : List SealedBatch) → w.queue ≡ batch ∷ rest → w.safe < batch.upto → IsConsistent w → IsConsistent (record w { queue = rest; flight = batch; phase = Writing 0 })
 pull_flight w batch rest e less k = record {
   sound = k.sound;
   of_building = k.of_building;
@@ -193,18 +193,18 @@ pull_flight w batch rest e less k = record {
   queue_sealed = (with_queue w batch rest e k).1;
 }
 
-pull_whole : (w : World) (batch : Batch) (rest : List Batch) (more : Bool) → w.queue ≡ batch ∷ rest → ltb w.safe batch.upto ≡ more → IsConsistent w
+pull_whole : (w : World) (batch : SealedBatch) (rest : List SealedBatch) (more : Bool) → w.queue ≡ batch ∷ rest → ltb w.safe batch.upto ≡ more → IsConsistent w
     → IsConsistent (cond more (record w { queue = rest; flight = batch; phase = Writing 0 }) (record w { queue = rest; due = w.due ++ batch.commands }))
 pull_whole w batch rest true e q k = pull_flight w batch rest e (ltb-true w.safe batch.upto q) k
 pull_whole w batch rest false e q k = pull_due w batch rest e (ltb-false w.safe batch.upto q) k
 
-pulling_keeps : (w : World) (batch : Batch) (rest : List Batch) (broken : Bool) → w.queue ≡ batch ∷ rest → IsConsistent w
+pulling_keeps : (w : World) (batch : SealedBatch) (rest : List SealedBatch) (broken : Bool) → w.queue ≡ batch ∷ rest → IsConsistent w
     → IsConsistent (cond broken (record w { queue = rest; due = w.due ++ map unknown_to batch.commands })
     (cond (ltb w.safe batch.upto) (record w { queue = rest; flight = batch; phase = Writing 0 }) (record w { queue = rest; due = w.due ++ batch.commands })))
 pulling_keeps w batch rest true e k = pull_broken w batch rest e k
 pulling_keeps w batch rest false e k = pull_whole w batch rest (ltb w.safe batch.upto) e refl k
 
-pulled_keeps : (w : World) (queue : List Batch) → w.queue ≡ queue → IsConsistent w → IsConsistent (unwrap_or (pulled w queue) w)
+pulled_keeps : (w : World) (queue : List SealedBatch) → w.queue ≡ queue → IsConsistent w → IsConsistent (unwrap_or (pulled w queue) w)
 pulled_keeps w [] e k = k
 pulled_keeps w (batch ∷ rest) e k = pulling_keeps w batch rest (is_broken w.power) e k
 
@@ -289,7 +289,7 @@ cutting_keeps w kept k = record {
 
 pub outcome_holds : (w : World) (kept : Kept) (e : Entry) → Contains (take w.safe w.accepted) e → Contains (outcome w kept) e
 outcome_holds w Safe e h = h
-outcome_holds w WithBatch e h = Contains-append_left (take w.safe w.accepted) (batch_of w) e h
+outcome_holds w WithBatch e h = Contains-append_left (take w.safe w.accepted) (batch_in_flight w) e h
 
 pub rest_of : World → Kept → List Entry
 rest_of w Safe = drop w.safe w.accepted
@@ -299,7 +299,7 @@ pub rest_is : (w : World) (kept : Kept) → outcome w kept ++ rest_of w kept ≡
 unfolding rest_of
 rest_is w Safe = take-append-drop w.safe w.accepted
 rest_is w WithBatch =
-    append_assoc (take w.safe w.accepted) (batch_of w) (drop (w.flight.upto - w.safe) (drop w.safe w.accepted))
+    append_assoc (take w.safe w.accepted) (batch_in_flight w) (drop (w.flight.upto - w.safe) (drop w.safe w.accepted))
     ∙ ap (λ (xs : List Entry). take w.safe w.accepted ++ xs) (take-append-drop (w.flight.upto - w.safe) (drop w.safe w.accepted)) ∙ take-append-drop w.safe w.accepted
 
 pub outcome_fits : (w : World) (kept : Kept) → FitAfter w.building w.base [] w.accepted → FitAfter w.building w.base [] (outcome w kept)

@@ -12,7 +12,7 @@ use Rattle.lift_world.specs.declared.event.Power.TheVariants.{Running, Broken, O
 use Rattle.lift_world.specs.declared.event.Event.{Event}
 use Rattle.lift_world.specs.declared.event.Event.TheVariants.{Ask, Take, Seal, Pull, Fold, Body as BodyWrite, FirstSync, Gate, SecondSync, Answer as Answering, Hear, Fault, Cut, Reopen}
 use Rattle.lift_world.specs.Decided.{decided, when}
-use Rattle.lift_world.specs.World.{World, Batch, is_running, is_broken, is_off, is_synced, is_gate_written, written, asks, is_taken_of, state_of, may_keep}
+use Rattle.lift_world.specs.World.{World, SealedBatch, is_running, is_broken, is_off, is_synced, is_gate_written, written, asks, is_taken_of, state_of, may_keep}
 use Rattle.lift_world.specs.Next.{next, unknown_to, asking, taking, deciding, sealing, pulled, in_phase, settling, failing, answering, hearing, next_answer, cutting, reopened, may_ask, may_take, may_seal, may_pull, may_write, may_sync, may_fail, may_reopen}
 use Rattle.lift_world.specs.Headline.{HoldsNothingWhileOff}
 use Rattle.lift_world.specs.Due.{IsOfSafeBatch, GetsUnknown, DueOnceSafe}
@@ -41,33 +41,33 @@ module _ (w : World) where
   due_unknown : (x : World) (cs : List Taken) → (is_broken w.power || is_broken x.power) ≡ true → All (Became x) (map unknown_to cs)
   due_unknown x cs stops = All-map (Became x) unknown_to cs (λ k d lt. inr (inr (record { reply = refl; fails = stops })))
 
-  due_safe : (x : World) (batch : Batch) → Contains (w.flight ∷ w.queue) batch → batch.upto ≤ x.safe → All (Became x) batch.commands
+  due_safe : (x : World) (batch : SealedBatch) → Contains (w.flight ∷ w.queue) batch → batch.upto ≤ x.safe → All (Became x) batch.commands
   due_safe x batch sealed le =
       All-weaker (Contains batch.commands) (Became x) (λ c h. inr (inl (record { batch = batch; sealed = sealed; held = h; safe = le }))) batch.commands (All-contains_itself batch.commands)
 
-  abbrev failed_one : Batch → List Batch → World
+  abbrev failed_one : SealedBatch → List SealedBatch → World
   failed_one batch rest = record w { queue = rest; due = w.due ++ map unknown_to batch.commands }
 
-  abbrev landed_one : Batch → List Batch → World
+  abbrev landed_one : SealedBatch → List SealedBatch → World
   landed_one batch rest = record w { queue = rest; due = w.due ++ batch.commands }
 
-  abbrev flying_one : Batch → List Batch → World
+  abbrev flying_one : SealedBatch → List SealedBatch → World
   flying_one batch rest = record w { queue = rest; flight = batch; phase = Writing 0 }
 
-  pulls_running : (batch : Batch) (rest : List Batch) (more : Bool) → w.queue ≡ batch ∷ rest → ltb w.safe batch.upto ≡ more → AllBecame (cond more (flying_one batch rest) (landed_one batch rest))
+  pulls_running : (batch : SealedBatch) (rest : List SealedBatch) (more : Bool) → w.queue ≡ batch ∷ rest → ltb w.safe batch.upto ≡ more → AllBecame (cond more (flying_one batch rest) (landed_one batch rest))
   pulls_running batch rest true at less = due_before (flying_one batch rest)
   pulls_running batch rest false at less =
-      let queued : Contains (w.flight ∷ w.queue) batch = Contains-append_right (w.flight ∷ []) w.queue batch (subst (λ (bs : List Batch). Contains bs batch) (sym at) (head_of batch rest)) in
+      let queued : Contains (w.flight ∷ w.queue) batch = Contains-append_right (w.flight ∷ []) w.queue batch (subst (λ (bs : List SealedBatch). Contains bs batch) (sym at) (head_of batch rest)) in
       All-append (Became (landed_one batch rest)) w.due batch.commands (due_before (landed_one batch rest)) (due_safe (landed_one batch rest) batch queued (ltb-false w.safe batch.upto less))
 
-  pulls : (batch : Batch) (rest : List Batch) (broken : Bool) → w.queue ≡ batch ∷ rest → is_broken w.power ≡ broken
+  pulls : (batch : SealedBatch) (rest : List SealedBatch) (broken : Bool) → w.queue ≡ batch ∷ rest → is_broken w.power ≡ broken
       → AllBecame (cond broken (failed_one batch rest) (cond (ltb w.safe batch.upto) (flying_one batch rest) (landed_one batch rest)))
   pulls batch rest true at broken =
       All-append (Became (failed_one batch rest)) w.due (map unknown_to batch.commands) (due_before (failed_one batch rest))
       (due_unknown (failed_one batch rest) batch.commands (left_true (is_broken w.power) (is_broken w.power) broken))
   pulls batch rest false at broken = pulls_running batch rest (ltb w.safe batch.upto) at refl
 
-  pulls_first : (queue : List Batch) → w.queue ≡ queue → AllBecame (unwrap_or (pulled w queue) w)
+  pulls_first : (queue : List SealedBatch) → w.queue ≡ queue → AllBecame (unwrap_or (pulled w queue) w)
   pulls_first [] at = due_before w
   pulls_first (batch ∷ rest) at = pulls batch rest (is_broken w.power) at refl
 

@@ -13,7 +13,7 @@ use Rattle.lift_world.specs.declared.event.Power.TheVariants.{Running, Broken}
 use Rattle.lift_world.specs.declared.event.Event.{Event}
 use Rattle.lift_world.specs.declared.event.Event.TheVariants.{Ask, Take, Seal, Pull, Fold, Body as BodyWrite, FirstSync, Gate, SecondSync, Answer as Answering, Hear, Fault, Cut, Reopen}
 use Rattle.lift_world.specs.Decided.{when, decided}
-use Rattle.lift_world.specs.World.{World, Batch, no_batch, is_running, is_broken, is_off, is_synced, is_gate_written, written, asks, is_taken_of, state_of}
+use Rattle.lift_world.specs.World.{World, SealedBatch, no_batch, is_running, is_broken, is_off, is_synced, is_gate_written, written, asks, is_taken_of, state_of}
 use Rattle.lift_world.specs.Next.{run, next, unknown_to, asking, taking, deciding, sealing, pulled, in_phase, settling, failing, answering, hearing, next_answer, reopened, may_ask, may_take, may_seal, may_pull, may_write, may_sync, may_fail, may_reopen}
 use Rattle.lift_world.specs.Faults.{IsFailed, FaultsLeaveDoubt, goes_on, WasDueOrUnknown, OnlyUnknownSince, UnknownAfterFault, UnknownOverReopening}
 use Rattle.lift_world.specs.lemmas.Moves.{hold_when, hold_if, hold_then, hold_map}
@@ -36,9 +36,9 @@ fails_in w phase on there unsynced =
 -- with no batch in flight a fault leaves none in doubt
 fails_alone : (w : World) → w.flight ≡ no_batch → failing w ≡ record w { power = Broken }
 fails_alone w none =
-    ap (λ (b : Batch). record w { power = Broken; flight = record { commands = []; upto = b.upto }; due = w.due ++ map unknown_to b.commands }) none
+    ap (λ (b : SealedBatch). record w { power = Broken; flight = record { commands = []; upto = b.upto }; due = w.due ++ map unknown_to b.commands }) none
     ∙ ap (λ (cs : List Taken). record w { power = Broken; flight = no_batch; due = cs }) (append-nil w.due)
-    ∙ ap (λ (b : Batch). record w { power = Broken; flight = b }) (sym none)
+    ∙ ap (λ (b : SealedBatch). record w { power = Broken; flight = b }) (sym none)
 
 pub faults_leave_doubt : (w : World) → FaultsLeaveDoubt w
 faults_leave_doubt w = record {
@@ -110,13 +110,13 @@ module _ (old : World) where
     all_due = All-filter _ (WasDueOrUnknown old) w.due k.all_due;
   }
 
-  pulling_since : (w : World) (batch : Batch) (rest : List Batch) (broken more : Bool) → is_broken w.power ≡ broken → IsSince old w
+  pulling_since : (w : World) (batch : SealedBatch) (rest : List SealedBatch) (broken more : Bool) → is_broken w.power ≡ broken → IsSince old w
       → IsSince old (cond broken (record w { queue = rest; due = w.due ++ map unknown_to batch.commands })
       (cond more (record w { queue = rest; flight = batch; phase = Writing 0 }) (record w { queue = rest; due = w.due ++ batch.commands })))
   pulling_since w batch rest true more e k = more_due w (map unknown_to batch.commands) k (all_unknown batch.commands)
   pulling_since w batch rest false more e k = absurd (false≢true (sym e ∙ ap is_broken k.broken))
 
-  pulled_since : (w : World) (queue : List Batch) → IsSince old w → IsSince old (unwrap_or (pulled w queue) w)
+  pulled_since : (w : World) (queue : List SealedBatch) → IsSince old w → IsSince old (unwrap_or (pulled w queue) w)
   pulled_since w [] k = k
   pulled_since w (batch ∷ rest) k = pulling_since w batch rest (is_broken w.power) (ltb w.safe batch.upto) refl k
 

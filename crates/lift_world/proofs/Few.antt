@@ -10,7 +10,7 @@ use Rattle.lift_register.specs.Register.{RegisterState}
 use Rattle.lift_policy.specs.declared.command.Command.{Command}
 use Rattle.lift_world.specs.declared.event.Taken.{Taken}
 use Rattle.lift_world.specs.declared.event.Event.{Event}
-use Rattle.lift_world.specs.World.{World, Batch, start, asks, is_taken_of}
+use Rattle.lift_world.specs.World.{World, SealedBatch, start, asks, is_taken_of}
 use Rattle.lift_world.specs.Next.{run, next, others, unanswered}
 use Rattle.lift_world.specs.Headline.{IsOfTerminal, HoldsFew}
 use Rattle.lift_world.specs.lemmas.Counted.{count_cons, count_both, count_filter, owed, in_queue, asked_by, all_ask_one_by_one}
@@ -85,11 +85,11 @@ run_beyond : (terminal : ℕ) (events : List Event) (w : World) → 63 ≤ termi
 run_beyond terminal [] w above all k = k
 run_beyond terminal (event ∷ events) w above all k = run_beyond terminal events (unwrap_or (next w event) w) above all.1 (beyond terminal w event above all.0 k)
 
-queue_few : (queue : List Batch) → length (in_queue queue) ≤ 63 → All (λ (b : Batch). length b.commands ≤ 63) queue
-queue_few [] few = All-nil (λ (b : Batch). length b.commands ≤ 63)
+queue_few : (queue : List SealedBatch) → length (in_queue queue) ≤ 63 → All (λ (b : SealedBatch). length b.commands ≤ 63) queue
+queue_few [] few = All-nil (λ (b : SealedBatch). length b.commands ≤ 63)
 queue_few (b ∷ queue) few =
     let whole = length-append b.commands (in_queue queue) in
-    All-cons (λ (x : Batch). length x.commands ≤ 63) b queue (omega arith) (queue_few queue (omega arith))
+    All-cons (λ (x : SealedBatch). length x.commands ≤ 63) b queue (omega arith) (queue_few queue (omega arith))
 
 pub holds_few : (building : Plan) (base : RegisterState) (events : List Event) → AllByRecursion IsOfTerminal events → HoldsFew (run events (start building base))
 holds_few building base events all =
@@ -104,5 +104,5 @@ holds_few building base events all =
     let c = length-append (w.due ++ w.flight.commands ++ in_queue w.queue) w.taken in
     record {
       on_their_way = few;
-      batches = All-cons (λ (x : Batch). length x.commands ≤ 63) w.flight w.queue (omega arith) (queue_few w.queue (omega arith));
+      batches = All-cons (λ (x : SealedBatch). length x.commands ≤ 63) w.flight w.queue (omega arith) (queue_few w.queue (omega arith));
     }

@@ -9,7 +9,7 @@ use Rattle.lift_world.specs.declared.event.Event.{Event}
 use Rattle.lift_world.specs.declared.event.Event.TheVariants.{Ask, Take, Seal, Pull, Fold, Body as BodyWrite, FirstSync, Gate, SecondSync, Answer as Answering, Hear, Fault, Cut, Reopen}
 use Rattle.lift_world.specs.declared.event.Phase.TheVariants.{Writing, Synced, GateWritten}
 use Rattle.lift_world.specs.Decided.{when}
-use Rattle.lift_world.specs.World.{World, Batch, is_off}
+use Rattle.lift_world.specs.World.{World, SealedBatch, is_off}
 use Rattle.lift_world.specs.Next.{next, goes, deciding, sealing, pulled, in_phase, settling, failing, answering, is_empty, may_seal, may_pull, may_fail}
 use Rattle.lift_world.specs.Beside.{with_words, is_of_terminals}
 use Rattle.lift_world.specs.Faults.{goes_on}
@@ -171,7 +171,7 @@ pull_after w after h =
       reopened = λ kept may e. cc;
     }) h
   where
-    one_less : (batch : Batch) (rest : List Batch) → w.queue ≡ batch ∷ rest → length w.queue ≤ 1 + length rest
+    one_less : (batch : SealedBatch) (rest : List SealedBatch) → w.queue ≡ batch ∷ rest → length w.queue ≤ 1 + length rest
     one_less batch rest at = let l : length w.queue ≡ length rest + 1 = ap length at ∙ omega arith in omega arith
 
 no_less : (w after made : World) → after ≡ made → made.queue ≡ w.queue → length w.queue ≤ 0 + length after.queue

@@ -15,7 +15,7 @@ use Rattle.lift_world.specs.declared.event.Power.TheVariants.{Running, Broken, O
 use Rattle.lift_world.specs.declared.event.Event.{Event}
 use Rattle.lift_world.specs.declared.event.Event.TheVariants.{Ask, Take, Seal, Pull, Fold, Body as BodyWrite, FirstSync, Gate, SecondSync, Answer as Answering, Hear, Fault, Cut, Reopen}
 use Rattle.lift_world.specs.Decided.{Decision, decided, when}
-use Rattle.lift_world.specs.World.{World, Batch, is_running, is_broken, is_off, is_idle, is_synced, is_gate_written, written, same_kept, asks, is_taken_of, state_of, safe_list, batch_of, may_keep, outcome}
+use Rattle.lift_world.specs.World.{World, SealedBatch, is_running, is_broken, is_off, is_idle, is_synced, is_gate_written, written, same_kept, asks, is_taken_of, state_of, safe_list, batch_in_flight, may_keep, outcome}
 use Rattle.lift_world.specs.Next.{next, unknown_to, asking, taking, deciding, sealing, pulled, in_phase, settling, failing, answering, hearing, next_answer, cutting, reopened, is_empty, is_quiet, may_ask, may_take, may_seal, may_pull, may_write, may_sync, may_fail, may_reopen}
 use Rattle.lift_world.specs.Relay.{IsQueueInOrder, flown}
 use Rattle.lift_world.specs.Outcomes.{moves_outcomes, SameOutcomes, OutcomesStay, GateOffersBatch, GatesOfferBatches, SyncKeepsBatch, SyncsKeepBatches, ReopeningKeepsOne, ReopeningsKeepOne}
@@ -73,7 +73,7 @@ module _ (w : World) (order : IsQueueInOrder w) (event : Event) where
   Same x = SameOutcomes w event x
 
   -- the safe list and the batch in flight stay, and whether it can be kept
-  same_by : (x : World) → is_gate_written x.phase ≡ is_gate_written w.phase → safe_list x ≡ safe_list w → batch_of x ≡ batch_of w → Same x
+  same_by : (x : World) → is_gate_written x.phase ≡ is_gate_written w.phase → safe_list x ≡ safe_list w → batch_in_flight x ≡ batch_in_flight w → Same x
   same_by x gate safe batch = record { same_choice = choice; same_outcome = λ kept _. list kept; same_batch = λ _. batch }
     where
       choice : (kept : Kept) → may_keep x kept ≡ may_keep w kept
@@ -82,7 +82,7 @@ module _ (w : World) (order : IsQueueInOrder w) (event : Event) where
 
       list : (kept : Kept) → outcome x kept ≡ outcome w kept
       list Safe = safe
-      list WithBatch = ap (λ (es : List Entry). es ++ batch_of x) safe ∙ ap (λ (es : List Entry). safe_list w ++ es) batch
+      list WithBatch = ap (λ (es : List Entry). es ++ batch_in_flight x) safe ∙ ap (λ (es : List Entry). safe_list w ++ es) batch
 
   stays : Same w
   stays = same_by w refl refl refl
@@ -101,7 +101,7 @@ module _ (w : World) (order : IsQueueInOrder w) (event : Event) where
       (entries_kept w.safe (w.flight.upto - w.safe) w.sealed w.accepted d.next.batch sealed_first (omega arith) order.all_accepted)
 
   -- a pull brings a batch that can't be kept, where none was in flight
-  flies : (batch : Batch) (rest : List Batch) → event ≡ Pull → is_gate_written w.phase ≡ false → Same (record w { queue = rest; flight = batch; phase = Writing 0 })
+  flies : (batch : SealedBatch) (rest : List SealedBatch) → event ≡ Pull → is_gate_written w.phase ≡ false → Same (record w { queue = rest; flight = batch; phase = Writing 0 })
   flies batch rest is before = record { same_choice = choice; same_outcome = list; same_batch = λ isnt. absurd (isnt is) }
     where
       choice : (kept : Kept) → may_keep (record w { phase = Writing 0 }) kept ≡ may_keep w kept
@@ -112,14 +112,14 @@ module _ (w : World) (order : IsQueueInOrder w) (event : Event) where
       list Safe may = refl
       list WithBatch may = absurd (false≢true (sym before ∙ true_of (is_gate_written w.phase) may))
 
-  pulls : (batch : Batch) (rest : List Batch) (broken more : Bool) → event ≡ Pull → is_broken w.power ≡ broken → may_pull w ≡ true
+  pulls : (batch : SealedBatch) (rest : List SealedBatch) (broken more : Bool) → event ≡ Pull → is_broken w.power ≡ broken → may_pull w ≡ true
       → Same (cond broken (record w { queue = rest; due = w.due ++ map unknown_to batch.commands })
       (cond more (record w { queue = rest; flight = batch; phase = Writing 0 }) (record w { queue = rest; due = w.due ++ batch.commands })))
   pulls batch rest true more is e may = same_by _ refl refl refl
   pulls batch rest false false is e may = same_by _ refl refl refl
   pulls batch rest false true is e may = flies batch rest is (idle_closed w.phase (pulls_idle w.power (is_idle w.phase) e may))
 
-  pulls_first : (queue : List Batch) → event ≡ Pull → may_pull w ≡ true → Same (unwrap_or (pulled w queue) w)
+  pulls_first : (queue : List SealedBatch) → event ≡ Pull → may_pull w ≡ true → Same (unwrap_or (pulled w queue) w)
   pulls_first [] is may = stays
   pulls_first (batch ∷ rest) is may = pulls batch rest (is_broken w.power) (ltb w.safe batch.upto) is refl may
 

@@ -8,7 +8,7 @@ use Rattle.lift_world.specs.declared.event.Taken.{Taken}
 use Rattle.lift_world.specs.declared.event.Event.{Event}
 use Rattle.lift_world.specs.declared.event.Event.TheVariants.{Take}
 use Rattle.lift_world.specs.Decided.{Decision}
-use Rattle.lift_world.specs.World.{World, Batch, asks, is_taken_of}
+use Rattle.lift_world.specs.World.{World, SealedBatch, asks, is_taken_of}
 use Rattle.lift_world.specs.Next.{next, unknown_to, unanswered, deciding, may_take}
 use Rattle.lift_world.specs.lemmas.Counted.{count_cons, count_both, owed, owed_unknown, owed_none, owed_parts, owed_others, in_queue, owed_to}
 use Rattle.lift_world.specs.lemmas.Entries.{find_held}
@@ -16,8 +16,8 @@ use Rattle.lift_world.proofs.Given.{led}
 use Rattle.lift_world.specs.lemmas.Looks.{can_be_looked_at}
 
 module _ (terminal : ℕ) (most : ℕ) (w : World) (k : owed_to w terminal ≤ most) where
-  first_owed : (batch : Batch) (rest : List Batch) → w.queue ≡ batch ∷ rest → owed terminal (in_queue w.queue) ≡ owed terminal batch.commands + owed terminal (in_queue rest)
-  first_owed batch rest at = ap (λ (q : List Batch). owed terminal (in_queue q)) at ∙ count_both (is_taken_of terminal) batch.commands (in_queue rest)
+  first_owed : (batch : SealedBatch) (rest : List SealedBatch) → w.queue ≡ batch ∷ rest → owed terminal (in_queue w.queue) ≡ owed terminal batch.commands + owed terminal (in_queue rest)
+  first_owed batch rest at = ap (λ (q : List SealedBatch). owed terminal (in_queue q)) at ∙ count_both (is_taken_of terminal) batch.commands (in_queue rest)
 
   -- a take of it, where one is possible, and one of another
   took_one : (t : ℕ) (command : Command) (d : Decision) (b : Bool) → eqb t terminal ≡ b → command.terminal ≡ t → may_take w t ≡ true → (t ≡ terminal → 1 ≤ most)
@@ -47,9 +47,9 @@ module _ (terminal : ℕ) (most : ℕ) (w : World) (k : owed_to w terminal ≤ m
             took_one t command d (eqb t terminal) refl (eqb-true command.terminal t (find_held (asks t) (reverse w.asked) command at).1) may
             (λ here. room letter (is_take ∙ ap (λ (x : ℕ). Take x letter) here));
         sealed = λ on some is_seal.
-            let b : Batch = record { commands = w.taken; upto = length w.accepted } in
+            let b : SealedBatch = record { commands = w.taken; upto = length w.accepted } in
             let q : owed terminal (in_queue (w.queue ++ b ∷ [])) ≡ owed terminal (in_queue w.queue) + owed terminal (in_queue (b ∷ [])) =
-            ap (owed terminal) (flat_map-append (λ (x : Batch). x.commands) w.queue (b ∷ [])) ∙ count_both (is_taken_of terminal) (in_queue w.queue) (in_queue (b ∷ [])) in
+            ap (owed terminal) (flat_map-append (λ (x : SealedBatch). x.commands) w.queue (b ∷ [])) ∙ count_both (is_taken_of terminal) (in_queue w.queue) (in_queue (b ∷ [])) in
             let one = count_both (is_taken_of terminal) w.taken [] in
             omega arith;
         fails = λ batch rest on at broken.

@@ -12,9 +12,9 @@ use Rattle.lift_world.specs.declared.event.Event.{Event}
 use Rattle.lift_world.specs.declared.event.Event.TheVariants.{Ask, Take, Seal, Pull, Fold, Body as BodyWrite, FirstSync, Gate, SecondSync, Answer as Answering, Hear, Fault, Cut, Reopen}
 use Rattle.lift_world.specs.declared.event.Taken.{Taken}
 use Rattle.lift_world.specs.Decided.{when}
-use Rattle.lift_world.specs.World.{World, Batch, may_keep, is_gate_written, is_broken, is_off, is_running, is_idle, written, same_kept, is_taken_of}
+use Rattle.lift_world.specs.World.{World, SealedBatch, may_keep, is_gate_written, is_broken, is_off, is_running, is_idle, written, same_kept, is_taken_of}
 use Rattle.lift_world.specs.Next.{next, run, sealing, cutting, reopened, answering, pulled, unknown_to, may_reopen, is_quiet, is_empty}
-use Rattle.lift_world.specs.Possible.{CutsToSafe, CutsWithBatch, IsCut, CutsGive, Seals, ReopensAfterCut, OnlyReopensAfterCut, IsReopened, ReopensAfterFault, ReopeningsGive, IsQuiet, ReopensWhileQuiet, PullsInTurn, AnswersDue, AnswersOnlyDue}
+use Rattle.lift_world.specs.Possible.{CutsToSafe, CutsWithBatch, IsCutTo, CutsGive, Seals, ReopensAfterCut, OnlyReopensAfterCut, IsReopened, ReopensAfterFault, ReopeningsGive, IsQuiet, ReopensWhileQuiet, PullsInTurn, AnswersDue, AnswersOnlyDue}
 use Rattle.lift_world.specs.lemmas.Moves.{never}
 use Rattle.lift_world.specs.lemmas.Entries.{find_held}
 use Rattle.lift_world.specs.lemmas.Steps.{if_from, mapped}
@@ -105,10 +105,10 @@ only_reopens_after_cut w last event after off h = off_at w last event after (sub
 pub broken_opens : (w : World) (kept : Kept) → w.power ≡ Broken → w.queue ≡ [] → may_keep w kept ≡ true → next w (Reopen kept) ≡ Some (reopened w kept)
 broken_opens w kept broken empty may =
     ap (λ (p : Power). when (may_reopen w p kept) (reopened w kept)) broken
-    ∙ ap (λ (q : List Batch). when (is_empty q && may_keep w kept) (reopened w kept)) empty
+    ∙ ap (λ (q : List SealedBatch). when (is_empty q && may_keep w kept) (reopened w kept)) empty
     ∙ ap (λ (b : Bool). when b (reopened w kept)) may
 
-not_empty : (queue : List Batch) → queue ≢ [] → is_empty queue ≡ false
+not_empty : (queue : List SealedBatch) → queue ≢ [] → is_empty queue ≡ false
 not_empty [] h = absurd (h refl)
 not_empty (b ∷ queue) h = refl
 
@@ -126,7 +126,7 @@ empty_is (x ∷ xs) h = cc
 quiet_as : (w : World) → IsQuiet w → is_quiet w ≡ true
 quiet_as w k =
     ap (λ (p : Phase). is_idle p && is_empty w.queue && is_empty w.taken) k.idle
-    ∙ ap (λ (q : List Batch). is_empty q && is_empty w.taken) k.nothing_queued ∙ ap (λ (cs : List Taken). is_empty cs) k.nothing_taken
+    ∙ ap (λ (q : List SealedBatch). is_empty q && is_empty w.taken) k.nothing_queued ∙ ap (λ (cs : List Taken). is_empty cs) k.nothing_taken
 
 quiet_from : (w : World) → is_quiet w ≡ true → IsQuiet w
 quiet_from w h =
@@ -179,7 +179,7 @@ reopenings_give w kept after h =
 pub cuts_give : (w : World) → CutsGive w
 cuts_give w kept after h =
     let s = when_some (may_keep w kept) (cutting w kept) after h in
-    subst (λ (x : World). IsCut w kept x) s.1 (record {
+    subst (λ (x : World). IsCutTo w kept x) s.1 (record {
       off = refl;
       same_accepted = refl;
       same_safe = refl;
@@ -215,27 +215,27 @@ busy Synced h = refl
 busy GateWritten h = refl
 
 module _ (w : World) where
-  abbrev landing : Batch → List Batch → World
+  abbrev landing : SealedBatch → List SealedBatch → World
   landing batch rest = record w { queue = rest; due = w.due ++ batch.commands }
 
-  abbrev taking_off : Batch → List Batch → World
+  abbrev taking_off : SealedBatch → List SealedBatch → World
   taking_off batch rest = record w { queue = rest; flight = batch; phase = Writing 0 }
 
-  abbrev failed_one : Batch → List Batch → World
+  abbrev failed_one : SealedBatch → List SealedBatch → World
   failed_one batch rest = record w { queue = rest; due = w.due ++ map unknown_to batch.commands }
 
-  pulls_running : (batch : Batch) (rest : List Batch) → w.power ≡ Running → w.phase ≡ Idle → w.queue ≡ batch ∷ rest
+  pulls_running : (batch : SealedBatch) (rest : List SealedBatch) → w.power ≡ Running → w.phase ≡ Idle → w.queue ≡ batch ∷ rest
       → next w Pull ≡ Some (cond (nat_lt w.safe batch.upto) (taking_off batch rest) (landing batch rest))
   pulls_running batch rest on idle queued =
       ap (λ (p : Power). cond (is_broken p || (is_running p && is_idle w.phase)) (pulled w w.queue) None) on
       ∙ ap (λ (p : Phase). cond (is_idle p) (pulled w w.queue) None) idle
-      ∙ ap (λ (q : List Batch). pulled w q) queued
+      ∙ ap (λ (q : List SealedBatch). pulled w q) queued
       ∙ ap (λ (p : Power). Some (cond (is_broken p) (failed_one batch rest) (cond (nat_lt w.safe batch.upto) (taking_off batch rest) (landing batch rest)))) on
 
-  pulls_broken : (batch : Batch) (rest : List Batch) → w.power ≡ Broken → w.queue ≡ batch ∷ rest → next w Pull ≡ Some (failed_one batch rest)
+  pulls_broken : (batch : SealedBatch) (rest : List SealedBatch) → w.power ≡ Broken → w.queue ≡ batch ∷ rest → next w Pull ≡ Some (failed_one batch rest)
   pulls_broken batch rest broken queued =
       ap (λ (p : Power). cond (is_broken p || (is_running p && is_idle w.phase)) (pulled w w.queue) None) broken
-      ∙ ap (λ (q : List Batch). pulled w q) queued
+      ∙ ap (λ (q : List SealedBatch). pulled w q) queued
       ∙ ap (λ (p : Power). Some (cond (is_broken p) (failed_one batch rest) (cond (nat_lt w.safe batch.upto) (taking_off batch rest) (landing batch rest)))) broken
 
   pub pulls_in_turn : PullsInTurn w
@@ -244,7 +244,7 @@ module _ (w : World) where
         ap (λ (p : Power). cond (is_broken p || (is_running p && is_idle w.phase)) (pulled w w.queue) None) on
         ∙ ap (λ (b : Bool). cond b (pulled w w.queue) None) (busy w.phase there);
     nothing = λ empty.
-        ap (λ (q : List Batch). cond (is_broken w.power || (is_running w.power && is_idle w.phase)) (pulled w q) None) empty
+        ap (λ (q : List SealedBatch). cond (is_broken w.power || (is_running w.power && is_idle w.phase)) (pulled w q) None) empty
         ∙ never (is_broken w.power || (is_running w.power && is_idle w.phase));
     flies = λ batch rest on idle queued less.
         pulls_running batch rest on idle queued
@@ -255,7 +255,7 @@ module _ (w : World) where
     fails = λ batch rest broken queued. pulls_broken batch rest broken queued;
   }
 
-drained : (queue : List Batch) (w : World) → w.power ≡ Broken → w.queue ≡ queue → (run (replicate (length queue) Pull) w).queue ≡ []
+drained : (queue : List SealedBatch) (w : World) → w.power ≡ Broken → w.queue ≡ queue → (run (replicate (length queue) Pull) w).queue ≡ []
 drained [] w broken queued = queued
 drained (batch ∷ rest) w broken queued =
     let after : World = record w { queue = rest; due = w.due ++ map unknown_to batch.commands } in

@@ -7,7 +7,7 @@ use Rattle.lift_building.specs.Plan.{Plan}
 use Rattle.lift_register.specs.Register.{RegisterState}
 use Rattle.lift_world.specs.declared.event.Taken.{Taken}
 use Rattle.lift_world.specs.declared.event.Event.{Event}
-use Rattle.lift_world.specs.World.{World, Batch, start, is_off}
+use Rattle.lift_world.specs.World.{World, SealedBatch, start, is_off}
 use Rattle.lift_world.specs.Next.{run, next, is_empty}
 use Rattle.lift_world.specs.Headline.{QueuesFew, HoldsNothingWhileOff}
 use Rattle.lift_world.specs.lemmas.Leads.{leads, running_on}
@@ -16,7 +16,7 @@ use Rattle.lift_world.specs.lemmas.Looks.{can_be_looked_at}
 not_none : (cs : List Taken) → is_empty cs ≡ false → cs ≢ []
 not_none cs some none = false≢true (sym some ∙ ap is_empty none)
 
-queues_rest : (w x : World) (batch : Batch) (rest : List Batch) → QueuesFew w → w.queue ≡ batch ∷ rest → x.queue ≡ rest → x.taken ≡ w.taken → QueuesFew x
+queues_rest : (w x : World) (batch : SealedBatch) (rest : List SealedBatch) → QueuesFew w → w.queue ≡ batch ∷ rest → x.queue ≡ rest → x.taken ≡ w.taken → QueuesFew x
 queues_rest w x batch rest k at q t =
     let longer : length w.queue ≡ length rest + 1 = ap length at ∙ omega arith in
     let same : length x.queue ≡ length rest = ap length q in

@@ -13,7 +13,7 @@ use Rattle.lift_world.specs.declared.event.Phase.{Phase}
 use Rattle.lift_world.specs.declared.event.Phase.TheVariants.{Idle, Writing}
 use Rattle.lift_world.specs.declared.event.Power.TheVariants.{Running}
 use Rattle.lift_world.specs.declared.event.Event.{Event}
-use Rattle.lift_world.specs.World.{World, Batch, start, unplaced, is_idle, is_off, is_running}
+use Rattle.lift_world.specs.World.{World, SealedBatch, start, unplaced, is_idle, is_off, is_running}
 use Rattle.lift_world.specs.Next.{run, next, reopened, may_reopen}
 use Rattle.lift_world.specs.Headline.{FliesNothingWhileIdle, ReopensInPlace}
 use Rattle.lift_world.specs.Possible.{IsQuiet}
@@ -40,8 +40,8 @@ flies_nothing w event k = leads FliesNothingWhileIdle w event (record {
   settled = λ on gate idle. refl;
   answered = λ terminal c on at. k;
   heard = λ a on. k;
-  failed = λ on is idle. ap (λ (b : Batch). record { commands = []; upto = b.upto }) (k idle);
-  cut = λ kept is_cut idle. ap (λ (b : Batch). record { commands = []; upto = b.upto }) (k idle);
+  failed = λ on is idle. ap (λ (b : SealedBatch). record { commands = []; upto = b.upto }) (k idle);
+  cut = λ kept is_cut idle. ap (λ (b : SealedBatch). record { commands = []; upto = b.upto }) (k idle);
   reopened = λ kept may is_reopen idle. refl;
 })
 
@@ -88,7 +88,7 @@ module _ (w : World) (order : IsQueueInOrder w) (flies : FliesNothingWhileIdle w
   rests_but_due quiet =
       let sealed : w.sealed ≡ length w.accepted = seals (ap is_off on) quiet.nothing_taken in
       let safe : w.safe ≡ w.sealed =
-      ap (λ (p : Phase). cond (is_idle p) w.safe w.flight.upto) (sym quiet.idle) ∙ ap (λ (q : List Batch). last_end (flown w) q) (sym quiet.nothing_queued) ∙ order.ends (ap is_running on) in
+      ap (λ (p : Phase). cond (is_idle p) w.safe w.flight.upto) (sym quiet.idle) ∙ ap (λ (q : List SealedBatch). last_end (flown w) q) (sym quiet.nothing_queued) ∙ order.ends (ap is_running on) in
       record {
         running = ap is_running on;
         idle = quiet.idle;

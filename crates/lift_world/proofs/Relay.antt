@@ -17,10 +17,10 @@ use Rattle.lift_world.specs.declared.event.Phase.{Phase}
 use Rattle.lift_world.specs.declared.event.Phase.TheVariants.{Idle, Writing, GateWritten}
 use Rattle.lift_world.specs.declared.event.Power.{Power}
 use Rattle.lift_world.specs.declared.event.Power.TheVariants.{Running, Broken}
-use Rattle.lift_world.specs.World.{World, Batch, no_batch, batch_of, is_idle, is_running, is_off, is_taken_of}
-use Rattle.lift_world.specs.Next.{goes, next, in_phase, failing, unknown_to, bodies, unanswered, others, answering, answer_of, sealing}
+use Rattle.lift_world.specs.World.{World, SealedBatch, no_batch, batch_in_flight, is_idle, is_running, is_off, is_taken_of}
+use Rattle.lift_world.specs.Next.{goes, next, in_phase, failing, unknown_to, sectors_for_body, unanswered, others, answering, answer_of, sealing}
 use Rattle.lift_world.specs.Turns.{with_replies, scanned, take_events, calls_to, device_calls, MayFailIn}
-use Rattle.lift_world.specs.Relay.{AreApart, EndInOrder, last_end, flown, IsQueueInOrder, allocated, AllocationsAreEvents, FullQueueWaits, IsBetweenScans, IsBetweenFlushes, answers_to, answered_of, left_of, flusher_events, flushed, FlushesAreEvents, failing_flush, flush_failed, FailedFlushesAreEvents, IsBrokenBetween, broken_flush, flushed_broken, BrokenFlushesAreEvents, TurnsMeet, PartsMeet}
+use Rattle.lift_world.specs.Relay.{AreApart, EndInOrder, last_end, flown, IsQueueInOrder, allocated, AllocationsAreEvents, FullQueueWaits, IsBetweenScans, IsBetweenFlushes, events_of_answers, answered_of, left_unanswered, flusher_events, flushed, FlushesAreEvents, failing_flush, flush_failed, FailedFlushesAreEvents, IsBrokenBetween, broken_flush, flushed_broken, BrokenFlushesAreEvents, TurnsMeet, PartsMeet}
 use Rattle.lift_world.specs.lemmas.Goes.{one, joined}
 use Rattle.lift_world.specs.lemmas.Ordered.{end_above}
 use Rattle.lift_world.proofs.Scans.{runs_are_takes, taken_as}
@@ -28,7 +28,7 @@ use Rattle.lift_world.specs.lemmas.Looks.{can_be_looked_at, takes_need_looks}
 use Rattle.lift_world.proofs.Possibilities.{seals}
 use Rattle.lift_world.proofs.Turns.{runs, folded, reached, made_safe, fails, keep_one, others-first, answering_on, terminals_of, unknown_terminals, unknown_apart}
 
-answers_map : (cs : List Taken) → answers_to cs ≡ terminals_of cs
+answers_map : (cs : List Taken) → events_of_answers cs ≡ terminals_of cs
 answers_map [] = refl
 answers_map (c ∷ cs) = ap (λ (es : List Event). Answering c.terminal ∷ es) (answers_map cs)
 
@@ -42,13 +42,13 @@ apart_front [] ys h = tt
 apart_front (x ∷ xs) ys h = (others_front x.terminal xs ys h.0, apart_front xs ys h.1)
 
 -- the commands of the queue's first batch are apart, also from those that are due
-first_apart : (w : World) (batch : Batch) (rest : List Batch) → w.flight.commands ≡ [] → w.queue ≡ batch ∷ rest → AreApart (unanswered w) → AreApart (w.due ++ batch.commands)
+first_apart : (w : World) (batch : SealedBatch) (rest : List SealedBatch) → w.flight.commands ≡ [] → w.queue ≡ batch ∷ rest → AreApart (unanswered w) → AreApart (w.due ++ batch.commands)
 first_apart w batch rest flying at h =
-    let later : List Taken = flat_map (λ (b : Batch). b.commands) rest in
-    let queued : List Taken = flat_map (λ (b : Batch). b.commands) w.queue in
+    let later : List Taken = flat_map (λ (b : SealedBatch). b.commands) rest in
+    let queued : List Taken = flat_map (λ (b : SealedBatch). b.commands) w.queue in
     let is : unanswered w ≡ ((w.due ++ batch.commands) ++ later) ++ w.taken =
     ap (λ (cs : List Taken). (w.due ++ cs) ++ queued ++ w.taken) flying ∙ ap (λ (cs : List Taken). cs ++ queued ++ w.taken) (append-nil w.due)
-    ∙ ap (λ (q : List Batch). w.due ++ flat_map (λ (b : Batch). b.commands) q ++ w.taken) at
+    ∙ ap (λ (q : List SealedBatch). w.due ++ flat_map (λ (b : SealedBatch). b.commands) q ++ w.taken) at
     ∙ ap (λ (cs : List Taken). cs ++ w.taken) (sym (append_assoc w.due batch.commands later)) in
     apart_front (w.due ++ batch.commands) later (apart_front ((w.due ++ batch.commands) ++ later) w.taken (subst AreApart is h))
 
@@ -91,12 +91,12 @@ module _ (w : World) (on : is_off w.power ≡ false) where
 
   -- those that the look gave are answered, and the rest stays due
   gives_by : (gave : ℕ → Bool) (front : List Taken) (c : Taken) (cs : List Taken) (answered : List Answer) (given : List Taken) (b : Bool) → AreApart (front ++ c ∷ cs)
-      → (AreApart (front ++ cs) → Gives gave front cs (answered ++ answer_of c ∷ []) (given ++ c ∷ []) (answered_of gave cs) (left_of gave cs))
-      → (AreApart ((front ++ c ∷ []) ++ cs) → Gives gave (front ++ c ∷ []) cs answered given (answered_of gave cs) (left_of gave cs))
-      → Gives gave front (c ∷ cs) answered given (cond b (c ∷ answered_of gave cs) (answered_of gave cs)) (cond (not b) (c ∷ left_of gave cs) (left_of gave cs))
+      → (AreApart (front ++ cs) → Gives gave front cs (answered ++ answer_of c ∷ []) (given ++ c ∷ []) (answered_of gave cs) (left_unanswered gave cs))
+      → (AreApart ((front ++ c ∷ []) ++ cs) → Gives gave (front ++ c ∷ []) cs answered given (answered_of gave cs) (left_unanswered gave cs))
+      → Gives gave front (c ∷ cs) answered given (cond b (c ∷ answered_of gave cs) (answered_of gave cs)) (cond (not b) (c ∷ left_unanswered gave cs) (left_unanswered gave cs))
   gives_by gave front c cs answered given true apart first later =
       let now = answered_of gave cs in
-      let left = left_of gave cs in
+      let left = left_unanswered gave cs in
       one (Answering c.terminal) (terminals_of now) (answering_on w (front ++ c ∷ cs) answered given) (answering_on w (front ++ cs) (answered ++ answer_of c ∷ []) (given ++ c ∷ []))
       (answered_behind front c cs answered given apart)
       ∙ first (apart_without front c cs apart)
@@ -104,12 +104,12 @@ module _ (w : World) (on : is_off w.power ≡ false) where
       ∙ ap (λ (xs : List Taken). Some (answering_on w (front ++ left) (answered ++ map answer_of (c ∷ now)) xs)) (append_assoc given (c ∷ []) now)
   gives_by gave front c cs answered given false apart first later =
       let now = answered_of gave cs in
-      let left = left_of gave cs in
+      let left = left_unanswered gave cs in
       ap (λ (xs : List Taken). goes (terminals_of now) (answering_on w xs answered given)) (sym (append_assoc front (c ∷ []) cs))
       ∙ later (subst AreApart (sym (append_assoc front (c ∷ []) cs)) apart)
       ∙ ap (λ (xs : List Taken). Some (answering_on w xs (answered ++ map answer_of now) (given ++ now))) (append_assoc front (c ∷ []) left)
 
-  gives : (gave : ℕ → Bool) (cs front : List Taken) (answered : List Answer) (given : List Taken) → AreApart (front ++ cs) → Gives gave front cs answered given (answered_of gave cs) (left_of gave cs)
+  gives : (gave : ℕ → Bool) (cs front : List Taken) (answered : List Answer) (given : List Taken) → AreApart (front ++ cs) → Gives gave front cs answered given (answered_of gave cs) (left_unanswered gave cs)
   gives gave [] front answered given apart =
       ap (λ (xs : List Answer). Some (answering_on w (front ++ []) xs given)) (sym (append-nil answered)) ∙ ap (λ (xs : List Taken). Some (answering_on w (front ++ []) (answered ++ []) xs)) (sym (append-nil given))
   gives gave (c ∷ cs) front answered given apart =
@@ -125,10 +125,10 @@ unknown_answered gave [] = refl
 unknown_answered gave (c ∷ cs) =
     ap (λ (xs : List Taken). cond (gave c.terminal) (unknown_to c ∷ xs) xs) (unknown_answered gave cs) ∙ unknown_if (gave c.terminal) c (answered_of gave cs)
 
-unknown_left : (gave : ℕ → Bool) (cs : List Taken) → left_of gave (map unknown_to cs) ≡ map unknown_to (left_of gave cs)
+unknown_left : (gave : ℕ → Bool) (cs : List Taken) → left_unanswered gave (map unknown_to cs) ≡ map unknown_to (left_unanswered gave cs)
 unknown_left gave [] = refl
 unknown_left gave (c ∷ cs) =
-    ap (λ (xs : List Taken). cond (not (gave c.terminal)) (unknown_to c ∷ xs) xs) (unknown_left gave cs) ∙ unknown_if (not (gave c.terminal)) c (left_of gave cs)
+    ap (λ (xs : List Taken). cond (not (gave c.terminal)) (unknown_to c ∷ xs) xs) (unknown_left gave cs) ∙ unknown_if (not (gave c.terminal)) c (left_unanswered gave cs)
 
 unknown_all : (terminal : ℕ) (front cs : List Taken) → AllByRecursion (λ (d : Taken). d.terminal ≢ terminal) (front ++ cs) → AllByRecursion (λ (d : Taken). d.terminal ≢ terminal) (front ++ map unknown_to cs)
 unknown_all terminal [] [] h = tt
@@ -141,32 +141,32 @@ unknown_behind (x ∷ front) cs h = (unknown_all x.terminal front cs h.0, unknow
 
 -- Unknown to those that the look gave
 unknown_gives : (gave : ℕ → Bool) (w : World) (cs front : List Taken) (answered : List Answer) (given : List Taken) → is_off w.power ≡ false → AreApart (front ++ cs)
-    → goes (answers_to (answered_of gave cs)) (answering_on w (front ++ map unknown_to cs) answered given)
-    ≡ Some (answering_on w (front ++ map unknown_to (left_of gave cs)) (answered ++ map answer_of (map unknown_to (answered_of gave cs))) (given ++ map unknown_to (answered_of gave cs)))
+    → goes (events_of_answers (answered_of gave cs)) (answering_on w (front ++ map unknown_to cs) answered given)
+    ≡ Some (answering_on w (front ++ map unknown_to (left_unanswered gave cs)) (answered ++ map answer_of (map unknown_to (answered_of gave cs))) (given ++ map unknown_to (answered_of gave cs)))
 unknown_gives gave w cs front answered given on apart =
     let x : World = answering_on w (front ++ map unknown_to cs) answered given in
     let now = unknown_answered gave cs in
-    let left = map unknown_to (left_of gave cs) in
+    let left = map unknown_to (left_unanswered gave cs) in
     ap (λ (es : List Event). goes es x) (answers_map (answered_of gave cs) ∙ sym (unknown_terminals (answered_of gave cs)) ∙ ap terminals_of (sym now))
     ∙ gives w on gave (map unknown_to cs) front answered given (unknown_behind front cs apart)
     ∙ ap (λ (xs : List Taken). Some (answering_on w (front ++ xs) (answered ++ map answer_of (answered_of gave (map unknown_to cs))) (given ++ answered_of gave (map unknown_to cs)))) (unknown_left gave cs)
     ∙ ap (λ (xs : List Taken). Some (answering_on w (front ++ left) (answered ++ map answer_of xs) (given ++ xs))) now
 
 -- where the queue's first batch ends
-pub record FirstEnds (w : World) (batch : Batch) : Type 0 where
+pub record FirstEnds (w : World) (batch : SealedBatch) : Type 0 where
   pub above : w.safe ≤ batch.upto
   pub within : batch.upto ≤ length w.accepted
 
-first_ends : (w : World) (batch : Batch) (rest : List Batch) → IsQueueInOrder w → w.queue ≡ batch ∷ rest → FirstEnds w batch
+first_ends : (w : World) (batch : SealedBatch) (rest : List SealedBatch) → IsQueueInOrder w → w.queue ≡ batch ∷ rest → FirstEnds w batch
 first_ends w batch rest k at =
-    let o = subst (λ (q : List Batch). EndInOrder (flown w) q w.sealed) at k.in_order in
+    let o = subst (λ (q : List SealedBatch). EndInOrder (flown w) q w.sealed) at k.in_order in
     let low = o.0 in
     let high = end_above batch.upto rest w.sealed o.1 in
     let s = k.safe_first in
     let a = k.all_accepted in
     record { above = omega arith; within = omega arith }
 
-module _ (w : World) (gave : ℕ → Bool) (batch : Batch) (rest : List Batch) where
+module _ (w : World) (gave : ℕ → Bool) (batch : SealedBatch) (rest : List SealedBatch) where
   -- a world between two turns of the flusher, with what that means put in
   abbrev between : World
   between = record w { power = Running; phase = Idle; flight = no_batch; queue = batch ∷ rest }
@@ -174,7 +174,7 @@ module _ (w : World) (gave : ℕ → Bool) (batch : Batch) (rest : List Batch) w
   is_between : IsBetweenFlushes w → w.queue ≡ batch ∷ rest → between ≡ w
   is_between k at =
       ap (λ (p : Power). record between { power = p }) (sym k.running) ∙ ap (λ (p : Phase). record between { power = w.power; phase = p }) (sym k.idle)
-      ∙ ap (λ (b : Batch). record w { flight = b; queue = batch ∷ rest }) (sym k.nothing_flies) ∙ ap (λ (q : List Batch). record w { queue = q }) (sym at)
+      ∙ ap (λ (b : SealedBatch). record w { flight = b; queue = batch ∷ rest }) (sym k.nothing_flies) ∙ ap (λ (q : List SealedBatch). record w { queue = q }) (sym at)
 
   -- the batch in flight, and safe
   abbrev flying : World
@@ -186,10 +186,10 @@ module _ (w : World) (gave : ℕ → Bool) (batch : Batch) (rest : List Batch) w
   abbrev count : ℕ
   count = batch.upto - w.safe
 
-  writes_are : batch.upto ≤ length w.accepted → bodies (length (batch_of flying)) + 1 ≡ bodies count + 1
+  writes_are : batch.upto ≤ length w.accepted → sectors_for_body (length (batch_in_flight flying)) + 1 ≡ sectors_for_body count + 1
   writes_are within =
       let l = length-drop w.safe w.accepted in
-      ap (λ (n : ℕ). bodies n + 1) (length-take-le count (drop w.safe w.accepted) (omega arith))
+      ap (λ (n : ℕ). sectors_for_body n + 1) (length-take-le count (drop w.safe w.accepted) (omega arith))
 
   flies : (events : List Event) → w.safe < batch.upto → goes (Pull ∷ events) between ≡ goes events (in_phase flying (Writing 0))
   flies events more =
@@ -202,9 +202,9 @@ module _ (w : World) (gave : ℕ → Bool) (batch : Batch) (rest : List Batch) w
       ∙ ap (λ (n : ℕ). goes events (record landed { safe = n })) same
 
   written : (folds : ℕ) (events : List Event) → batch.upto ≤ length w.accepted
-      → goes ((replicate folds Fold ++ (calls_to (bodies count + 1) GateWritten ++ SecondSync ∷ [])) ++ events) (in_phase flying (Writing 0)) ≡ goes events landed
+      → goes ((replicate folds Fold ++ (calls_to (sectors_for_body count + 1) GateWritten ++ SecondSync ∷ [])) ++ events) (in_phase flying (Writing 0)) ≡ goes events landed
   written folds events within =
-      let calls = calls_to (bodies count + 1) GateWritten in
+      let calls = calls_to (sectors_for_body count + 1) GateWritten in
       ap (λ (es : List Event). goes es (in_phase flying (Writing 0))) (append_assoc (replicate folds Fold) (calls ++ SecondSync ∷ []) events)
       ∙ folded flying refl folds ((calls ++ SecondSync ∷ []) ++ events)
       ∙ ap (λ (es : List Event). goes es (in_phase flying (Writing 0))) (append_assoc calls (SecondSync ∷ []) events)
@@ -216,8 +216,8 @@ module _ (w : World) (gave : ℕ → Bool) (batch : Batch) (rest : List Batch) w
   by_count folds events zero above within q = lands events above (omega arith)
   by_count folds events (suc n) above within q =
       flies (device_calls folds (suc n) ++ events) (omega arith)
-      ∙ ap (λ (b : Bool). goes (cond b [] (replicate folds Fold ++ (calls_to (bodies (suc n) + 1) GateWritten ++ SecondSync ∷ [])) ++ events) (in_phase flying (Writing 0))) (ne_eqb (suc n) 0 (λ e. absurd (omega arith)))
-      ∙ ap (λ (m : ℕ). goes ((replicate folds Fold ++ (calls_to (bodies m + 1) GateWritten ++ SecondSync ∷ [])) ++ events) (in_phase flying (Writing 0))) (sym q)
+      ∙ ap (λ (b : Bool). goes (cond b [] (replicate folds Fold ++ (calls_to (sectors_for_body (suc n) + 1) GateWritten ++ SecondSync ∷ [])) ++ events) (in_phase flying (Writing 0))) (ne_eqb (suc n) 0 (λ e. absurd (omega arith)))
+      ∙ ap (λ (m : ℕ). goes ((replicate folds Fold ++ (calls_to (sectors_for_body m + 1) GateWritten ++ SecondSync ∷ [])) ++ events) (in_phase flying (Writing 0))) (sym q)
       ∙ written folds events within
 
   flush_at : (folds : ℕ) → FirstEnds w batch → AreApart (w.due ++ batch.commands) → goes (flusher_events gave batch folds count) between ≡ Some (flushed between gave batch rest)
@@ -229,13 +229,13 @@ module _ (w : World) (gave : ℕ → Bool) (batch : Batch) (rest : List Batch) w
   abbrev lost : Phase → World
   lost phase = record w { power = Broken; phase = phase; flight = record { commands = []; upto = batch.upto }; due = w.due ++ map unknown_to batch.commands; queue = rest }
 
-  fall_at : (folds : ℕ) (phase : Phase) → batch.upto ≤ length w.accepted → w.safe < batch.upto → MayFailIn (bodies count + 1) phase → AreApart (w.due ++ batch.commands)
+  fall_at : (folds : ℕ) (phase : Phase) → batch.upto ≤ length w.accepted → w.safe < batch.upto → MayFailIn (sectors_for_body count + 1) phase → AreApart (w.due ++ batch.commands)
       → goes (failing_flush gave batch folds phase count) between ≡ Some (flush_failed between gave batch rest phase)
   fall_at folds phase within more fail apart =
-      let answers = answers_to (answered_of gave batch.commands) in
-      let there : MayFailIn (bodies (length (batch_of flying)) + 1) phase = subst (λ (n : ℕ). MayFailIn n phase) (sym (writes_are within)) fail in
-      flies (replicate folds Fold ++ (calls_to (bodies count + 1) phase ++ Fault ∷ answers)) more
-      ∙ folded flying refl folds (calls_to (bodies count + 1) phase ++ Fault ∷ answers)
+      let answers = events_of_answers (answered_of gave batch.commands) in
+      let there : MayFailIn (sectors_for_body (length (batch_in_flight flying)) + 1) phase = subst (λ (n : ℕ). MayFailIn n phase) (sym (writes_are within)) fail in
+      flies (replicate folds Fold ++ (calls_to (sectors_for_body count + 1) phase ++ Fault ∷ answers)) more
+      ∙ folded flying refl folds (calls_to (sectors_for_body count + 1) phase ++ Fault ∷ answers)
       ∙ ap (λ (n : ℕ). goes (calls_to n phase ++ Fault ∷ answers) (in_phase flying (Writing 0))) (sym (writes_are within))
       ∙ reached flying refl phase (Fault ∷ answers) there
       ∙ one Fault answers (in_phase flying phase) (failing (in_phase flying phase)) (fails flying refl phase there)
@@ -247,7 +247,7 @@ module _ (w : World) (gave : ℕ → Bool) (batch : Batch) (rest : List Batch) w
 
   is_broken_between : IsBrokenBetween w → w.queue ≡ batch ∷ rest → broken_between ≡ w
   is_broken_between k at =
-      ap (λ (p : Power). record broken_between { power = p }) (sym k.broken) ∙ ap (λ (q : List Batch). record w { queue = q }) (sym at)
+      ap (λ (p : Power). record broken_between { power = p }) (sym k.broken) ∙ ap (λ (q : List SealedBatch). record w { queue = q }) (sym at)
 
   broken_at : AreApart (w.due ++ batch.commands) → goes (broken_flush gave batch) broken_between ≡ Some (flushed_broken broken_between gave batch rest)
   broken_at apart = unknown_gives gave (record broken_between { queue = rest; due = w.due ++ map unknown_to batch.commands }) batch.commands w.due w.answered w.given refl apart
@@ -255,12 +255,12 @@ module _ (w : World) (gave : ℕ → Bool) (batch : Batch) (rest : List Batch) w
 pub flushes_are_events : (w : World) → FlushesAreEvents w
 flushes_are_events w gave batch rest folds k order at =
     subst (λ (v : World). goes (flusher_events gave batch folds (batch.upto - w.safe)) v ≡ Some (flushed v gave batch rest)) (is_between w gave batch rest k at)
-    (flush_at w gave batch rest folds (first_ends w batch rest order at) (first_apart w batch rest (ap (λ (b : Batch). b.commands) k.nothing_flies) at order.apart))
+    (flush_at w gave batch rest folds (first_ends w batch rest order at) (first_apart w batch rest (ap (λ (b : SealedBatch). b.commands) k.nothing_flies) at order.apart))
 
 pub failed_flushes_are_events : (w : World) → FailedFlushesAreEvents w
 failed_flushes_are_events w gave batch rest folds phase k order at more fail =
     subst (λ (v : World). goes (failing_flush gave batch folds phase (batch.upto - w.safe)) v ≡ Some (flush_failed v gave batch rest phase)) (is_between w gave batch rest k at)
-    (fall_at w gave batch rest folds phase (first_ends w batch rest order at).within more fail (first_apart w batch rest (ap (λ (b : Batch). b.commands) k.nothing_flies) at order.apart))
+    (fall_at w gave batch rest folds phase (first_ends w batch rest order at).within more fail (first_apart w batch rest (ap (λ (b : SealedBatch). b.commands) k.nothing_flies) at order.apart))
 
 pub broken_flushes_are_events : (w : World) → BrokenFlushesAreEvents w
 broken_flushes_are_events w gave batch rest k order at =
@@ -334,7 +334,7 @@ turns_meet w = record {
 all_is_safe : (w : World) → IsQueueInOrder w → w.power ≡ Running → w.phase ≡ Idle → w.queue ≡ [] → w.safe ≡ w.sealed
 all_is_safe w order running idle none =
     sym (ap (λ (p : Phase). cond (is_idle p) w.safe w.flight.upto) idle)
-    ∙ subst (λ (q : List Batch). last_end (flown w) q ≡ w.sealed) none (order.ends (ap is_running running))
+    ∙ subst (λ (q : List SealedBatch). last_end (flown w) q ≡ w.sealed) none (order.ends (ap is_running running))
 
 pub parts_meet : (w : World) → PartsMeet w
 parts_meet w = record {

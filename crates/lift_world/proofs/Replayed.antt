@@ -8,7 +8,7 @@ use Rattle.lift_building.specs.Plan.{Plan}
 use Rattle.lift_register.specs.Register.{RegisterState, register_of}
 use Rattle.lift_register.specs.Fits.{Fits}
 use Rattle.lift_world.specs.declared.event.Taken.{Taken}
-use Rattle.lift_world.specs.World.{World, Batch}
+use Rattle.lift_world.specs.World.{World, SealedBatch}
 use Rattle.lift_world.specs.Next.{unanswered}
 use Rattle.lift_world.specs.Replays.{FitAfter}
 
@@ -31,16 +31,16 @@ fits_front building base before (x ∷ xs) zero h = tt
 fits_front building base before (x ∷ xs) (suc n) h = (h.0, fits_front building base (before ++ x ∷ []) xs n h.1)
 
 -- a search through all batches
-flat_any : (p : Taken → Bool) (queue : List Batch) → list_any p (flat_map (λ (b : Batch). b.commands) queue) ≡ list_any (λ (b : Batch). list_any p b.commands) queue
+flat_any : (p : Taken → Bool) (queue : List SealedBatch) → list_any p (flat_map (λ (b : SealedBatch). b.commands) queue) ≡ list_any (λ (b : SealedBatch). list_any p b.commands) queue
 flat_any p [] = refl
-flat_any p (b ∷ queue) = list_any-append p b.commands (flat_map (λ (c : Batch). c.commands) queue) ∙ ap (λ (x : Bool). list_any p b.commands || x) (flat_any p queue)
+flat_any p (b ∷ queue) = list_any-append p b.commands (flat_map (λ (c : SealedBatch). c.commands) queue) ∙ ap (λ (x : Bool). list_any p b.commands || x) (flat_any p queue)
 
 pub unanswered_any : (p : Taken → Bool) (w : World) → list_any p (unanswered w)
-    ≡ (((list_any p w.due || list_any p w.flight.commands) || list_any (λ (b : Batch). list_any p b.commands) w.queue) || list_any p w.taken)
+    ≡ (((list_any p w.due || list_any p w.flight.commands) || list_any (λ (b : SealedBatch). list_any p b.commands) w.queue) || list_any p w.taken)
 unanswered_any p w =
-    list_any-append p (w.due ++ w.flight.commands ++ flat_map (λ (b : Batch). b.commands) w.queue) w.taken
-    ∙ ap (λ (x : Bool). x || list_any p w.taken) (list_any-append p (w.due ++ w.flight.commands) (flat_map (λ (b : Batch). b.commands) w.queue)
-    ∙ ap (λ (x : Bool). x || list_any p (flat_map (λ (b : Batch). b.commands) w.queue)) (list_any-append p w.due w.flight.commands)
+    list_any-append p (w.due ++ w.flight.commands ++ flat_map (λ (b : SealedBatch). b.commands) w.queue) w.taken
+    ∙ ap (λ (x : Bool). x || list_any p w.taken) (list_any-append p (w.due ++ w.flight.commands) (flat_map (λ (b : SealedBatch). b.commands) w.queue)
+    ∙ ap (λ (x : Bool). x || list_any p (flat_map (λ (b : SealedBatch). b.commands) w.queue)) (list_any-append p w.due w.flight.commands)
     ∙ ap (λ (x : Bool). (list_any p w.due || list_any p w.flight.commands) || x) (flat_any p w.queue))
 
 -- the front that a recovery with the batch gives

@@ -18,7 +18,7 @@ use Rattle.lift_world.specs.declared.event.Kept.TheVariants.{Safe, WithBatch}
 use Rattle.lift_world.specs.declared.event.Taken.{Taken}
 use Rattle.lift_world.specs.declared.event.Power.{Power}
 use Rattle.lift_world.specs.declared.event.Power.TheVariants.{Broken}
-use Rattle.lift_world.specs.World.{World, Batch, unplaced, start, state_of, may_keep, outcome}
+use Rattle.lift_world.specs.World.{World, SealedBatch, unplaced, start, state_of, may_keep, outcome}
 use Rattle.lift_world.specs.Next.{next, goes, cutting, reopened, may_reopen, answer_of, unknown_to}
 use Rattle.lift_world.specs.Turns.{AreFound, IsAtRest, with_replies, take_events, answer_events, IsBrokenAtRest, broken_events, with_unknown, turned_broken, BrokenTurnsAreRuns, ChangesAnswersAlone, BrokenTurnsChangeNothing, TurnsEndAtRest, FailuresEndAtRest, BrokenTurnsEndAtRest, ReopeningsEndAtRest, CutsEndAtRest, RunningReopeningsEndAtRest, FailedReopeningsEndAtRest}
 use Rattle.lift_world.proofs.Scans.{runs_are_takes, taken_as}
@@ -113,13 +113,13 @@ failed_reopenings_rest w = record {
   fails = λ k. subst (λ (v : World). next v Fault ≡ Some (record v { power = Broken })) (is_at_rest w k) refl;
   rests = λ k. record {
     broken = refl;
-    nothing_flies = ap (λ (b : Batch). b.commands) k.nothing_flies;
+    nothing_flies = ap (λ (b : SealedBatch). b.commands) k.nothing_flies;
     nothing_queued = k.nothing_queued;
     nothing_taken = k.nothing_taken;
     nothing_due = k.nothing_due;
     all_sealed = k.all_sealed;
     safe_in_range = let s = k.all_safe in omega arith;
-    doubt_in_range = let none : w.flight.upto ≡ 0 = ap (λ (b : Batch). b.upto) k.nothing_flies in omega arith;
+    doubt_in_range = let none : w.flight.upto ≡ 0 = ap (λ (b : SealedBatch). b.upto) k.nothing_flies in omega arith;
   };
   opens = λ k. subst (λ (v : World). next (record v { power = Broken }) (Reopen Safe) ≡ Some (record v { positions = unplaced })) (is_at_rest w k)
       (ap (λ (xs : List Entry). Some (record (at_rest w) { accepted = xs; safe = length xs; sealed = length xs; positions = unplaced })) (take-length w.accepted));
@@ -140,7 +140,7 @@ is_broken_rest : (w : World) → IsBrokenAtRest w → broken_rest w ≡ w
 is_broken_rest w k =
     ap (λ (n : ℕ). record (broken_rest w) { sealed = n }) (sym k.all_sealed)
     ∙ ap (λ (cs : List Taken). record (broken_rest w) { sealed = w.sealed; flight = record { commands = cs; upto = w.flight.upto } }) (sym k.nothing_flies)
-    ∙ ap (λ (q : List Batch). record w { queue = q; power = Broken; taken = []; due = [] }) (sym k.nothing_queued)
+    ∙ ap (λ (q : List SealedBatch). record w { queue = q; power = Broken; taken = []; due = [] }) (sym k.nothing_queued)
     ∙ ap (λ (p : Power). record w { power = p; taken = []; due = [] }) (sym k.broken)
     ∙ ap (λ (xs : List Taken). record w { taken = xs; due = [] }) (sym k.nothing_taken) ∙ ap (λ (xs : List Taken). record w { due = xs }) (sym k.nothing_due)
 

@@ -14,9 +14,9 @@ use Rattle.lift_policy.specs.Step.{State}
 use Rattle.lift_policy.specs.Run.{Run}
 use Rattle.lift_world.specs.declared.event.Taken.{Taken}
 use Rattle.lift_world.specs.Decided.{Decision}
-use Rattle.lift_world.specs.World.{World, Batch, is_off, state_of, is_taken_of, is_answer_to, asks}
+use Rattle.lift_world.specs.World.{World, SealedBatch, is_off, state_of, is_taken_of, is_answer_to, asks}
 use Rattle.lift_world.specs.Next.{deciding, is_waiting, unanswered}
-use Rattle.lift_world.specs.Tie.{Finds}
+use Rattle.lift_world.specs.Tie.{TakeFinds}
 use Rattle.lift_world.specs.Turns.{AreFound, with_replies, take_events, scanned, RunsAreTakes}
 use Rattle.lift_world.specs.declared.event.Event.TheVariants.{Take}
 use Rattle.lift_world.specs.lemmas.Goes.{one}
@@ -28,10 +28,10 @@ taken_as command reply = record { terminal = command.terminal; number = command.
 -- one command more is taken
 one_more : (w : World) (command : Command) (d : Decision) → unanswered (deciding w command d) ≡ unanswered w ++ taken_as command d.reply ∷ []
 one_more w command d =
-    sym (append_assoc (w.due ++ w.flight.commands ++ flat_map (λ (b : Batch). b.commands) w.queue) w.taken (taken_as command d.reply ∷ []))
+    sym (append_assoc (w.due ++ w.flight.commands ++ flat_map (λ (b : SealedBatch). b.commands) w.queue) w.taken (taken_as command d.reply ∷ []))
 
 -- an ask still stands after another terminal's take
-pub found_still : (w : World) (command : Command) (d : Decision) (other : Command) → Finds w other.terminal other → other.terminal ≢ command.terminal → Finds (deciding w command d) other.terminal other
+pub found_still : (w : World) (command : Command) (d : Decision) (other : Command) → TakeFinds w other.terminal other → other.terminal ≢ command.terminal → TakeFinds (deciding w command d) other.terminal other
 found_still w command d other finds apart =
     let test = is_taken_of other.terminal in
     let may = and_parts (not (is_off w.power) && nat_le (length w.queue) 4) (is_waiting w other.terminal) finds.0 in

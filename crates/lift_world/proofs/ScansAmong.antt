@@ -20,7 +20,7 @@ use Rattle.lift_world.specs.World.{World, is_off, state_of, state_at}
 use Rattle.lift_world.specs.Next.{next, goes, asking, hearing, next_answer, deciding, sealing, may_ask}
 use Rattle.lift_world.specs.Turns.{with_replies, scanned}
 use Rattle.lift_world.specs.Relay.{IsBetweenScans, allocated, is_flushers}
-use Rattle.lift_world.specs.Among.{is_beside, AreBeside, Look, commands_of, LooksStand, look_events, ScansGoAmong, AllocationsGoAmong}
+use Rattle.lift_world.specs.Among.{is_beside, AreBeside, Look, looked_commands, LooksStand, look_events, ScansGoAmong, AllocationsGoAmong}
 use Rattle.lift_world.specs.lemmas.Decisions.{some_is}
 use Rattle.lift_world.specs.lemmas.Goes.{one, joined, goes-append}
 use Rattle.lift_world.specs.lemmas.Steps.{GoesOn, then_from, state_goes_on, steps_go_on, state_after, steps_are_takes}
@@ -129,7 +129,7 @@ untouched_looks [] w last s = never_touched w last s
 untouched_looks (look ∷ looks) w last s = still_untouched w s.0 last (untouched_goes look.before w s.0 s.1 s.2) (untouched_looks looks s.0 last s.5)
 
 -- behind a take the looks at other terminals stand
-looks_behind : (command : Command) (d : Decision) (looks : List Look) (w last : World) → Ordered w → AllByRecursion (λ (c : Command). c.terminal ≢ command.terminal) (commands_of looks)
+looks_behind : (command : Command) (d : Decision) (looks : List Look) (w last : World) → Ordered w → AllByRecursion (λ (c : Command). c.terminal ≢ command.terminal) (looked_commands looks)
     → LooksStand w looks last → LooksStand (deciding w command d) looks (deciding last command d)
 looks_behind command d [] w last order apart s = ap (λ (x : World). deciding x command d) s
 looks_behind command d (look ∷ looks) w last order apart s = (
@@ -141,8 +141,8 @@ looks_behind command d (look ∷ looks) w last order apart s = (
   looks_behind command d looks s.0 last (ordered_goes look.before w s.0 order s.2) apart.1 s.5,
 )
 
-scan_goes : (looks : List Look) (w last : World) (replies : List Reply) (state : State) → Ordered w → LooksStand w looks last → Run w.building any_eligible (state_of w) (commands_of looks) replies state
-    → (letters : List (Option ℕ)) × (goes (look_events looks letters) w ≡ Some (scanned last (commands_of looks) replies state))
+scan_goes : (looks : List Look) (w last : World) (replies : List Reply) (state : State) → Ordered w → LooksStand w looks last → Run w.building any_eligible (state_of w) (looked_commands looks) replies state
+    → (letters : List (Option ℕ)) × (goes (look_events looks letters) w ≡ Some (scanned last (looked_commands looks) replies state))
 scan_goes [] w last [] state order s r =
     ([], ap (λ (x : World). Some x) (sym (scanned_none w) ∙ ap (λ (st : State). scanned w [] [] st) (sym r) ∙ ap (λ (x : World). scanned x [] [] state) s))
 scan_goes [] w last (reply ∷ replies) state order s r = absurd r
@@ -160,22 +160,22 @@ scan_goes (look ∷ looks) w last (reply ∷ replies) state order s r =
     steps_go_on there.building any_eligible there.base (take there.sealed there.accepted) (state_of there) c.terminal c.number c.body reply r.0 (state_goes_on there) step in
     let taken = steps_are_takes there c.terminal c reply r.0 s.3 step in
     let later : World = deciding there c d in
-    let run : Run there.building any_eligible (state_of later) (commands_of looks) replies state =
-    subst (λ (p : Plan). Run p any_eligible (state_of later) (commands_of looks) replies state) (sym u.same_building)
-    (subst (λ (st : State). Run w.building any_eligible st (commands_of looks) replies state) (sym (state_after there c reply r.0 here.accepted on)) r.2) in
+    let run : Run there.building any_eligible (state_of later) (looked_commands looks) replies state =
+    subst (λ (p : Plan). Run p any_eligible (state_of later) (looked_commands looks) replies state) (sym u.same_building)
+    (subst (λ (st : State). Run w.building any_eligible st (looked_commands looks) replies state) (sym (state_after there c reply r.0 here.accepted on)) r.2) in
     let rest = scan_goes looks later (deciding last c d) replies state (ordered_next there (Take c.terminal taken.0) later here taken.1) (looks_behind c d looks there last here s.4 s.5) run in (
       taken.0 ∷ rest.0,
       joined look.before (Take c.terminal taken.0 ∷ look_events looks rest.0) w there s.2
           ∙ one (Take c.terminal taken.0) (look_events looks rest.0) there later taken.1 ∙ rest.1
-          ∙ ap (λ (x : World). Some x) (scanned_rest last c d (commands_of looks) replies state (ordered_looks looks there last here s.5).accepted),
+          ∙ ap (λ (x : World). Some x) (scanned_rest last c d (looked_commands looks) replies state (ordered_looks looks there last here s.5).accepted),
     )
 
 pub scans_go_among : (w : World) → ScansGoAmong w
 scans_go_among w looks replies state last order s r =
     let scan = scan_goes looks w last replies state (ordered_from w order) s r in
-    let more = with_replies (commands_of looks) replies in (
+    let more = with_replies (looked_commands looks) replies in (
       scan.0,
-      λ behind after are h. joined (look_events looks scan.0) behind w (scanned last (commands_of looks) replies state) scan.1
+      λ behind after are h. joined (look_events looks scan.0) behind w (scanned last (looked_commands looks) replies state) scan.1
           ∙ decided_goes state more behind last after (ordered_looks looks w last (ordered_from w order) s) are h,
     )
 
@@ -212,6 +212,6 @@ allocations_go_among w look looks reply replies state last order k s r =
     let on = (untouched_looks looks s.0 last s.5).stays_on (can_be_looked_at s.0 look.command.terminal s.3.0).powered in (
       scan.0,
       λ between behind after are h.
-          joined (look_events (look ∷ looks) scan.0) (between ++ Seal ∷ behind) w (scanned last (commands_of (look ∷ looks)) (reply ∷ replies) state) scan.1
-          ∙ seal_goes between behind w last after look.command (commands_of looks) reply replies state here (untouched_looks (look ∷ looks) w last s) k on are h,
+          joined (look_events (look ∷ looks) scan.0) (between ++ Seal ∷ behind) w (scanned last (looked_commands (look ∷ looks)) (reply ∷ replies) state) scan.1
+          ∙ seal_goes between behind w last after look.command (looked_commands looks) reply replies state here (untouched_looks (look ∷ looks) w last s) k on are h,
     )

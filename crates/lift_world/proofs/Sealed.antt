@@ -9,7 +9,7 @@ use Rattle.lift_world.specs.declared.event.Event.{Event}
 use Rattle.lift_world.specs.declared.event.Event.TheVariants.{Ask, Take, Seal, Pull, Fold, Body as BodyWrite, FirstSync, Gate, SecondSync, Answer as Answering, Hear, Fault, Cut, Reopen}
 use Rattle.lift_world.specs.declared.event.Phase.TheVariants.{Writing, Synced, GateWritten}
 use Rattle.lift_world.specs.Decided.{Decision, when, decided}
-use Rattle.lift_world.specs.World.{World, Batch, start, is_taken_of, asks, written, is_running, is_broken, is_off, is_synced, is_gate_written, state_of, may_keep}
+use Rattle.lift_world.specs.World.{World, SealedBatch, start, is_taken_of, asks, written, is_running, is_broken, is_off, is_synced, is_gate_written, state_of, may_keep}
 use Rattle.lift_world.specs.Next.{run, next, next_answer, hearing, answering, asking, taking, deciding, sealing, pulled, in_phase, settling, failing, cutting, reopened, unknown_to, may_ask, may_take, may_seal, may_pull, may_write, may_sync, may_fail, may_reopen}
 use Rattle.lift_world.specs.Headline.{SealsAccepted}
 use Rattle.lift_world.specs.lemmas.Moves.{hold_when, hold_if, hold_then, hold_map}
@@ -20,14 +20,14 @@ deciding_seals w command d k =
     let whole = length-append (take w.sealed w.accepted) d.next.batch in
     omega arith
 
-pulling_seals : (w : World) (batch : Batch) (rest : List Batch) (broken more : Bool) → SealsAccepted w
+pulling_seals : (w : World) (batch : SealedBatch) (rest : List SealedBatch) (broken more : Bool) → SealsAccepted w
     → SealsAccepted (cond broken (record w { queue = rest; due = w.due ++ map unknown_to batch.commands })
     (cond more (record w { queue = rest; flight = batch; phase = Writing 0 }) (record w { queue = rest; due = w.due ++ batch.commands })))
 pulling_seals w batch rest true more k = k
 pulling_seals w batch rest false true k = k
 pulling_seals w batch rest false false k = k
 
-pulled_seals : (w : World) (queue : List Batch) → SealsAccepted w → SealsAccepted (unwrap_or (pulled w queue) w)
+pulled_seals : (w : World) (queue : List SealedBatch) → SealsAccepted w → SealsAccepted (unwrap_or (pulled w queue) w)
 pulled_seals w [] k = k
 pulled_seals w (batch ∷ rest) k = pulling_seals w batch rest (is_broken w.power) (ltb w.safe batch.upto) k
 

@@ -14,7 +14,7 @@ use Rattle.lift_world.specs.declared.event.Event.{Event}
 use Rattle.lift_world.specs.declared.event.Phase.{Phase}
 use Rattle.lift_world.specs.declared.event.Power.{Power}
 use Rattle.lift_world.specs.Decided.{Decision, decided}
-use Rattle.lift_world.specs.World.{World, Batch, start, is_idle, is_off, is_running, state_of, batch_of}
+use Rattle.lift_world.specs.World.{World, SealedBatch, start, is_idle, is_off, is_running, state_of, batch_in_flight}
 use Rattle.lift_world.specs.Next.{run, next}
 use Rattle.lift_world.specs.Headline.{IsOfTerminal, HoldsFew}
 use Rattle.lift_world.specs.Relay.{last_end, flown}
@@ -29,20 +29,20 @@ use Rattle.lift_world.specs.lemmas.Phases.{not_idle}
 use Rattle.lift_world.specs.lemmas.Steps.{decided_step}
 
 -- each of these batches, from here or from where the one before it ends, has at most one entry for each of its commands
-abbrev pub AreCounted : ℕ → List Batch → Type 0
+abbrev pub AreCounted : ℕ → List SealedBatch → Type 0
 AreCounted low [] = Unit {0}
 AreCounted low (batch ∷ queue) = (batch.upto ≤ low + length batch.commands) × AreCounted batch.upto queue
 
-counted_push : (low : ℕ) (queue : List Batch) (b : Batch) → b.upto ≤ last_end low queue + length b.commands → AreCounted low queue → AreCounted low (queue ++ b ∷ [])
+counted_push : (low : ℕ) (queue : List SealedBatch) (b : SealedBatch) → b.upto ≤ last_end low queue + length b.commands → AreCounted low queue → AreCounted low (queue ++ b ∷ [])
 counted_push low [] b le h = (le, tt)
 counted_push low (x ∷ queue) b le h = (h.0, counted_push x.upto queue b le h.1)
 
-short_by : (low : ℕ) (queue : List Batch) → AreCounted low queue → All (λ (b : Batch). length b.commands ≤ 63) queue → AreShort low queue
+short_by : (low : ℕ) (queue : List SealedBatch) → AreCounted low queue → All (λ (b : SealedBatch). length b.commands ≤ 63) queue → AreShort low queue
 short_by low [] counted few = tt
 short_by low (b ∷ queue) counted few =
     let one = counted.0 in
-    let at = All-head (λ (x : Batch). length x.commands ≤ 63) b queue few in
-    (omega arith, short_by b.upto queue counted.1 (All-tail (λ (x : Batch). length x.commands ≤ 63) b queue few))
+    let at = All-head (λ (x : SealedBatch). length x.commands ≤ 63) b queue few in
+    (omega arith, short_by b.upto queue counted.1 (All-tail (λ (x : SealedBatch). length x.commands ≤ 63) b queue few))
 
 -- a decision accepts at most one entry
 decided_one : (w : World) (command : Command) (letter : Rattle.std.specs.Prelude.Option ℕ) (d : Decision) → decided w.building (state_of w) command.terminal command.number command.body letter ≡ Rattle.std.specs.Prelude.Some d
@@ -60,7 +60,7 @@ decided_one w command letter d made =
     ]
 
 -- where the first queued batch begins, and that no batch has more entries than commands; behind a fault or a cut no more than 63
-pub record Counts (accepted safe sealed : ℕ) (flight : Batch) (phase : Phase) (queue : List Batch) (power : Power) (taken : List Taken) : Type 0 where
+pub record Counts (accepted safe sealed : ℕ) (flight : SealedBatch) (phase : Phase) (queue : List SealedBatch) (power : Power) (taken : List Taken) : Type 0 where
   pub flying : flight.upto ≤ safe + 63
   pub begins : ℕ
   pub behind : cond (is_idle phase) safe flight.upto ≤ begins
@@ -79,21 +79,21 @@ taken_few w few =
     let all = few.on_their_way in
     omega arith
 
-first_few : (w : World) (batch : Batch) (rest : List Batch) → HoldsFew w → w.queue ≡ batch ∷ rest → length batch.commands ≤ 63
+first_few : (w : World) (batch : SealedBatch) (rest : List SealedBatch) → HoldsFew w → w.queue ≡ batch ∷ rest → length batch.commands ≤ 63
 first_few w batch rest few at =
-    All-head (λ (x : Batch). length x.commands ≤ 63) batch rest
-    (subst (λ (q : List Batch). All (λ (x : Batch). length x.commands ≤ 63) q) at (All-tail (λ (x : Batch). length x.commands ≤ 63) w.flight w.queue few.batches))
+    All-head (λ (x : SealedBatch). length x.commands ≤ 63) batch rest
+    (subst (λ (q : List SealedBatch). All (λ (x : SealedBatch). length x.commands ≤ 63) q) at (All-tail (λ (x : SealedBatch). length x.commands ≤ 63) w.flight w.queue few.batches))
 
 gathered_few : (w : World) (b : Bool) → is_off w.power ≡ b → HoldsFew w → AreFew w → length w.accepted ≤ w.sealed + 63
 gathered_few w true e few k = k.lost e
 gathered_few w false e few k = let t = taken_few w few in let g = k.gathered e in omega arith
 
 module _ (w : World) (few : HoldsFew w) (order : Ordered w) (k : AreFew w) where
-  counted_first : (batch : Batch) (rest : List Batch) → w.queue ≡ batch ∷ rest → (batch.upto ≤ k.begins + length batch.commands) × AreCounted batch.upto rest
-  counted_first batch rest at = subst (λ (q : List Batch). AreCounted k.begins q) at k.counted
+  counted_first : (batch : SealedBatch) (rest : List SealedBatch) → w.queue ≡ batch ∷ rest → (batch.upto ≤ k.begins + length batch.commands) × AreCounted batch.upto rest
+  counted_first batch rest at = subst (λ (q : List SealedBatch). AreCounted k.begins q) at k.counted
 
-  ends_first : (batch : Batch) (rest : List Batch) → w.queue ≡ batch ∷ rest → is_off w.power ≡ false → last_end batch.upto rest ≡ w.sealed
-  ends_first batch rest at on = subst (λ (q : List Batch). last_end k.begins q ≡ w.sealed) at (k.ends on)
+  ends_first : (batch : SealedBatch) (rest : List SealedBatch) → w.queue ≡ batch ∷ rest → is_off w.power ≡ false → last_end batch.upto rest ≡ w.sealed
+  ends_first batch rest at on = subst (λ (q : List SealedBatch). last_end k.begins q ≡ w.sealed) at (k.ends on)
 
   on_again : {A : Type 0} → is_off w.power ≡ false → is_off w.power ≡ true → A
   on_again on off = absurd (false≢true (sym on ∙ off))
@@ -108,7 +108,7 @@ module _ (w : World) (few : HoldsFew w) (order : Ordered w) (k : AreFew w) where
         let g = k.gathered on in
         record { flying = k.flying; begins = k.begins; behind = k.behind; first = k.first; ends = k.ends; counted = k.counted; gathered = λ _. omega arith; lost = λ off. on_again on off };
     sealed = λ on some is_seal.
-        let b : Batch = record { commands = w.taken; upto = length w.accepted } in
+        let b : SealedBatch = record { commands = w.taken; upto = length w.accepted } in
         let g = k.gathered on in
         let e = k.ends on in
         record {
@@ -253,6 +253,6 @@ holds_few_entries building base events all =
       begins = k.begins;
       behind = k.behind;
       first = k.first;
-      queued = short_by k.begins w.queue k.counted (All-tail (λ (x : Batch). length x.commands ≤ 63) w.flight w.queue few.batches);
+      queued = short_by k.begins w.queue k.counted (All-tail (λ (x : SealedBatch). length x.commands ≤ 63) w.flight w.queue few.batches);
       gathered = omega arith;
     }

@@ -10,7 +10,7 @@ use Rattle.lift_world.specs.declared.event.Kept.{Kept}
 use Rattle.lift_world.specs.declared.event.Taken.{Taken}
 use Rattle.lift_world.specs.declared.event.Event.{Event}
 use Rattle.lift_world.specs.declared.event.Event.TheVariants.{Ask, Cut}
-use Rattle.lift_world.specs.World.{World, Batch, is_off, asks, is_answer_to, is_taken_of}
+use Rattle.lift_world.specs.World.{World, SealedBatch, is_off, asks, is_answer_to, is_taken_of}
 use Rattle.lift_world.specs.Next.{next, asking, deciding, sealing, in_phase, settling, failing, answering, answer_of, hearing, reopened, may_ask, unanswered}
 use Rattle.lift_world.specs.Headline.{HearsInOrder}
 use Rattle.lift_world.specs.Among.{StandsAsk, AsksStandAtOnce, AsksStandOn, LooksFindAsks, SealsAloneQueue}
@@ -135,7 +135,7 @@ looks_find_asks w terminal command = record {
 }
 
 -- a queue without its first batch
-shorter : (w : World) (batch : Batch) (rest : List Batch) → w.queue ≡ batch ∷ rest → length rest ≤ length w.queue
+shorter : (w : World) (batch : SealedBatch) (rest : List SealedBatch) → w.queue ≡ batch ∷ rest → length rest ≤ length w.queue
 shorter w batch rest at = let l : length w.queue ≡ length rest + 1 = ap length at ∙ omega arith in omega arith
 
 pub seals_alone_queue : (w : World) → SealsAloneQueue w

@@ -7,7 +7,7 @@ use Rattle.lift_world.specs.declared.event.Taken.{Taken}
 use Rattle.lift_world.specs.declared.event.Phase.{Phase}
 use Rattle.lift_world.specs.declared.event.Event.{Event}
 use Rattle.lift_world.specs.declared.event.Event.TheVariants.{Ask, Take, Seal, Pull, Fold, Body as BodyWrite, FirstSync, Gate, SecondSync, Answer as Answering, Hear, Fault, Cut, Reopen}
-use Rattle.lift_world.specs.World.{World, Batch, is_off, is_idle, is_taken_of}
+use Rattle.lift_world.specs.World.{World, SealedBatch, is_off, is_idle, is_taken_of}
 use Rattle.lift_world.specs.Next.{next, asking, sealing, hearing, next_answer, unanswered, is_empty, may_ask, may_seal}
 use Rattle.lift_world.specs.Faults.{goes_on}
 use Rattle.lift_world.specs.Headline.{HearsInOrder}
@@ -82,7 +82,7 @@ stays_between_flushes w event after k isnt on h =
 pub stays_broken_between : (w : World) → StaysBrokenBetween w
 stays_broken_between w event after k isnt on h =
     let left = others_leave w event after isnt on h in
-    record { broken = left.same_power ∙ k.broken; nothing_flies = ap (λ (b : Batch). b.commands) left.same_flight ∙ k.nothing_flies }
+    record { broken = left.same_power ∙ k.broken; nothing_flies = ap (λ (b : SealedBatch). b.commands) left.same_flight ∙ k.nothing_flies }
 
 -- of commands that are apart a terminal has at most one
 one_by : (terminal : ℕ) (c : Taken) (cs : List Taken) (b : Bool) → eqb c.terminal terminal ≡ b → AllByRecursion (λ (d : Taken). d.terminal ≢ c.terminal) cs → owed terminal cs ≤ 1 → owed terminal (c ∷ cs) ≤ 1
@@ -130,7 +130,7 @@ asks_on_one_by_one w terminal event after k h =
     record { answered = omega arith; one_on_its_way = one_stays terminal w event after k.one_on_its_way h; asked = b.hears }
 
 -- at rest
-rests : (w : World) (rest : IsAtRest w) (queue : List Batch) → queue ≡ [] → EndInOrder w.safe queue w.sealed × (last_end w.safe queue ≡ w.sealed)
+rests : (w : World) (rest : IsAtRest w) (queue : List SealedBatch) → queue ≡ [] → EndInOrder w.safe queue w.sealed × (last_end w.safe queue ≡ w.sealed)
 rests w rest [] none = let a = rest.all_sealed in let b = rest.all_safe in (omega arith, b ∙ sym a)
 rests w rest (batch ∷ queue) none = cc
 
@@ -140,11 +140,11 @@ rests_in_order w rest =
     let queue = rests w rest w.queue rest.nothing_queued in
     let none : unanswered w ≡ [] =
     ap (λ (cs : List Taken). cs ++ w.flight.commands ++ in_queue w.queue ++ w.taken) rest.nothing_due
-    ∙ ap (λ (b : Batch). b.commands ++ in_queue w.queue ++ w.taken) rest.nothing_flies
-    ∙ ap (λ (q : List Batch). in_queue q ++ w.taken) rest.nothing_queued
+    ∙ ap (λ (b : SealedBatch). b.commands ++ in_queue w.queue ++ w.taken) rest.nothing_flies
+    ∙ ap (λ (q : List SealedBatch). in_queue q ++ w.taken) rest.nothing_queued
     ∙ rest.nothing_taken in
     let a = rest.all_sealed in
-    let no_flight : w.flight.upto ≡ 0 = ap (λ (b : Batch). b.upto) rest.nothing_flies in
+    let no_flight : w.flight.upto ≡ 0 = ap (λ (b : SealedBatch). b.upto) rest.nothing_flies in
     record {
       safe_first = omega arith;
       in_order = subst (λ (n : ℕ). EndInOrder n w.queue w.sealed) (sym is) queue.0;

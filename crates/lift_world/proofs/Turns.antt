@@ -19,9 +19,9 @@ use Rattle.lift_world.specs.declared.event.Phase.TheVariants.{Idle, Writing, Syn
 use Rattle.lift_world.specs.declared.event.Power.{Power}
 use Rattle.lift_world.specs.declared.event.Power.TheVariants.{Running, Broken, Off}
 use Rattle.lift_world.specs.Decided.{when}
-use Rattle.lift_world.specs.World.{World, Batch, no_batch, is_running, is_off, is_taken_of, batch_of, state_of}
-use Rattle.lift_world.specs.Next.{goes, next, in_phase, settling, answering, answer_of, unknown_to, failing, others, bodies}
-use Rattle.lift_world.specs.Turns.{AreFound, IsAtRest, with_replies, take_events, answer_events, calls_to, device_calls, turn_events, turned, TurnsAreRuns, MayFailIn, failed_events, failed, FailuresAreRuns}
+use Rattle.lift_world.specs.World.{World, SealedBatch, no_batch, is_running, is_off, is_taken_of, batch_in_flight, state_of}
+use Rattle.lift_world.specs.Next.{goes, next, in_phase, settling, answering, answer_of, unknown_to, failing, others, sectors_for_body}
+use Rattle.lift_world.specs.Turns.{AreFound, IsAtRest, with_replies, take_events, answer_events, calls_to, device_calls, turn_events, world_after_turn, TurnsAreRuns, MayFailIn, failed_events, failed, FailuresAreRuns}
 use Rattle.lift_world.specs.Relay.{AreApart}
 use Rattle.lift_world.specs.lemmas.Goes.{one, goes-append}
 use Rattle.lift_world.proofs.Scans.{runs_are_takes, taken_as}
@@ -36,31 +36,31 @@ module _ (w : World) (on : is_running w.power ≡ true) where
   folded (suc folds) events = one Fold (replicate folds Fold ++ events) (in_phase w (Writing 0)) (in_phase w (Writing 0)) (may (is_running w.power) true _ on refl) ∙ folded folds events
 
   -- so many writes, from some on
-  wrote : (n m : ℕ) (events : List Event) → m + n ≤ bodies (length (batch_of w)) + 1 → goes (replicate n BodyWrite ++ events) (in_phase w (Writing m)) ≡ goes events (in_phase w (Writing (m + n)))
+  wrote : (n m : ℕ) (events : List Event) → m + n ≤ sectors_for_body (length (batch_in_flight w)) + 1 → goes (replicate n BodyWrite ++ events) (in_phase w (Writing m)) ≡ goes events (in_phase w (Writing (m + n)))
   wrote zero m events le = ap (λ (k : ℕ). goes events (in_phase w (Writing k))) (omega arith)
   wrote (suc n) m events le =
-      one BodyWrite (replicate n BodyWrite ++ events) (in_phase w (Writing m)) (in_phase w (Writing (m + 1))) (may (is_running w.power) _ _ on (lt-ltb m (bodies (length (batch_of w)) + 1) (omega arith)))
+      one BodyWrite (replicate n BodyWrite ++ events) (in_phase w (Writing m)) (in_phase w (Writing (m + 1))) (may (is_running w.power) _ _ on (lt-ltb m (sectors_for_body (length (batch_in_flight w)) + 1) (omega arith)))
       ∙ wrote n (m + 1) events (omega arith) ∙ ap (λ (k : ℕ). goes events (in_phase w (Writing k))) (omega arith)
 
-  synced : (events : List Event) → goes (FirstSync ∷ events) (in_phase w (Writing (bodies (length (batch_of w)) + 1))) ≡ goes events (in_phase w Synced)
-  synced events = one FirstSync events (in_phase w (Writing (bodies (length (batch_of w)) + 1))) (in_phase w Synced) (may (is_running w.power) _ _ on (eq-eqb (bodies (length (batch_of w)) + 1) (bodies (length (batch_of w)) + 1) refl))
+  synced : (events : List Event) → goes (FirstSync ∷ events) (in_phase w (Writing (sectors_for_body (length (batch_in_flight w)) + 1))) ≡ goes events (in_phase w Synced)
+  synced events = one FirstSync events (in_phase w (Writing (sectors_for_body (length (batch_in_flight w)) + 1))) (in_phase w Synced) (may (is_running w.power) _ _ on (eq-eqb (sectors_for_body (length (batch_in_flight w)) + 1) (sectors_for_body (length (batch_in_flight w)) + 1) refl))
 
   gate : (events : List Event) → goes (Gate ∷ events) (in_phase w Synced) ≡ goes events (in_phase w GateWritten)
   gate events = one Gate events (in_phase w Synced) (in_phase w GateWritten) (may (is_running w.power) true _ on refl)
 
-  pub reached : (phase : Phase) (events : List Event) → MayFailIn (bodies (length (batch_of w)) + 1) phase → goes (calls_to (bodies (length (batch_of w)) + 1) phase ++ events) (in_phase w (Writing 0)) ≡ goes events (in_phase w phase)
+  pub reached : (phase : Phase) (events : List Event) → MayFailIn (sectors_for_body (length (batch_in_flight w)) + 1) phase → goes (calls_to (sectors_for_body (length (batch_in_flight w)) + 1) phase ++ events) (in_phase w (Writing 0)) ≡ goes events (in_phase w phase)
   reached Idle events h = absurd h
-  reached (Writing n) events h = let le : 0 + n ≤ bodies (length (batch_of w)) + 1 = omega (arith, h) in wrote n 0 events le ∙ ap (λ (k : ℕ). goes events (in_phase w (Writing k))) (omega arith)
+  reached (Writing n) events h = let le : 0 + n ≤ sectors_for_body (length (batch_in_flight w)) + 1 = omega (arith, h) in wrote n 0 events le ∙ ap (λ (k : ℕ). goes events (in_phase w (Writing k))) (omega arith)
   reached Synced events h = absurd h
   reached GateWritten events h =
-      ap (λ (es : List Event). goes es (in_phase w (Writing 0))) (append_assoc (replicate (bodies (length (batch_of w)) + 1) BodyWrite) (FirstSync ∷ Gate ∷ []) events)
-      ∙ wrote (bodies (length (batch_of w)) + 1) 0 (FirstSync ∷ Gate ∷ events) (omega arith)
+      ap (λ (es : List Event). goes es (in_phase w (Writing 0))) (append_assoc (replicate (sectors_for_body (length (batch_in_flight w)) + 1) BodyWrite) (FirstSync ∷ Gate ∷ []) events)
+      ∙ wrote (sectors_for_body (length (batch_in_flight w)) + 1) 0 (FirstSync ∷ Gate ∷ events) (omega arith)
       ∙ ap (λ (k : ℕ). goes (FirstSync ∷ Gate ∷ events) (in_phase w (Writing k))) (omega arith) ∙ synced (Gate ∷ events) ∙ gate events
 
   pub made_safe : (events : List Event) → goes (SecondSync ∷ events) (in_phase w GateWritten) ≡ goes events (settling w)
   made_safe events = one SecondSync events (in_phase w GateWritten) (settling w) (may (is_running w.power) true _ on refl)
 
-  pub fails : (phase : Phase) → MayFailIn (bodies (length (batch_of w)) + 1) phase → next (in_phase w phase) Fault ≡ Some (failing (in_phase w phase))
+  pub fails : (phase : Phase) → MayFailIn (sectors_for_body (length (batch_in_flight w)) + 1) phase → next (in_phase w phase) Fault ≡ Some (failing (in_phase w phase))
   fails Idle h = absurd h
   fails (Writing n) h = may (is_running w.power) true _ on refl
   fails Synced h = absurd h
@@ -161,9 +161,9 @@ runs (Off kept) h = absurd (false≢true h)
 pub is_at_rest : (w : World) → IsAtRest w → at_rest w ≡ w
 is_at_rest w k =
     ap (λ (n : ℕ). record (at_rest w) { safe = n }) (sym k.all_safe) ∙ ap (λ (n : ℕ). record (at_rest w) { safe = w.safe; sealed = n }) (sym k.all_sealed)
-    ∙ ap (λ (b : Batch). record (at_rest w) { safe = w.safe; sealed = w.sealed; flight = b }) (sym k.nothing_flies)
+    ∙ ap (λ (b : SealedBatch). record (at_rest w) { safe = w.safe; sealed = w.sealed; flight = b }) (sym k.nothing_flies)
     ∙ ap (λ (p : Phase). record w { phase = p; queue = []; power = Running; taken = []; due = [] }) (sym k.idle)
-    ∙ ap (λ (q : List Batch). record w { queue = q; power = Running; taken = []; due = [] }) (sym k.nothing_queued)
+    ∙ ap (λ (q : List SealedBatch). record w { queue = q; power = Running; taken = []; due = [] }) (sym k.nothing_queued)
     ∙ ap (λ (p : Power). record w { power = p; taken = []; due = [] }) (sym (runs w.power k.running))
     ∙ ap (λ (xs : List Taken). record w { taken = xs; due = [] }) (sym k.nothing_taken) ∙ ap (λ (xs : List Taken). record w { due = xs }) (sym k.nothing_due)
 
@@ -204,11 +204,11 @@ module _ (w : World) (batch : List Entry) (positions : List (Option Position)) (
       ∙ ap (λ (n : ℕ). goes events (record (at_rest w) { accepted = now; positions = positions; safe = n; sealed = length now; due = c ∷ cs })) (sym same)
 
   written : (folds : ℕ) (events : List Event) → 0 < length batch
-      → goes ((replicate folds Fold ++ (calls_to (bodies (length batch) + 1) GateWritten ++ SecondSync ∷ [])) ++ events) (in_phase flying (Writing 0)) ≡ goes events landed
+      → goes ((replicate folds Fold ++ (calls_to (sectors_for_body (length batch) + 1) GateWritten ++ SecondSync ∷ [])) ++ events) (in_phase flying (Writing 0)) ≡ goes events landed
   written folds events some =
-      let is : batch_of flying ≡ batch = batch_is w.accepted batch in
-      let count : bodies (length (batch_of flying)) + 1 ≡ bodies (length batch) + 1 = ap (λ (xs : List Entry). bodies (length xs) + 1) is in
-      let calls = calls_to (bodies (length batch) + 1) GateWritten in
+      let is : batch_in_flight flying ≡ batch = batch_is w.accepted batch in
+      let count : sectors_for_body (length (batch_in_flight flying)) + 1 ≡ sectors_for_body (length batch) + 1 = ap (λ (xs : List Entry). sectors_for_body (length xs) + 1) is in
+      let calls = calls_to (sectors_for_body (length batch) + 1) GateWritten in
       ap (λ (es : List Event). goes es (in_phase flying (Writing 0))) (append_assoc (replicate folds Fold) (calls ++ SecondSync ∷ []) events)
       ∙ folded flying refl folds ((calls ++ SecondSync ∷ []) ++ events)
       ∙ ap (λ (es : List Event). goes es (in_phase flying (Writing 0))) (append_assoc calls (SecondSync ∷ []) events)
@@ -219,8 +219,8 @@ module _ (w : World) (batch : List Entry) (positions : List (Option Position)) (
   by_count folds events zero q = is_due events (nil_from_length batch q)
   by_count folds events (suc n) q =
       flies (device_calls folds (suc n) ++ events) (omega arith)
-      ∙ ap (λ (b : Bool). goes (cond b [] (replicate folds Fold ++ (calls_to (bodies (suc n) + 1) GateWritten ++ SecondSync ∷ [])) ++ events) (in_phase flying (Writing 0))) (ne_eqb (suc n) 0 (λ e. absurd (omega arith)))
-      ∙ ap (λ (m : ℕ). goes ((replicate folds Fold ++ (calls_to (bodies m + 1) GateWritten ++ SecondSync ∷ [])) ++ events) (in_phase flying (Writing 0))) (sym q)
+      ∙ ap (λ (b : Bool). goes (cond b [] (replicate folds Fold ++ (calls_to (sectors_for_body (suc n) + 1) GateWritten ++ SecondSync ∷ [])) ++ events) (in_phase flying (Writing 0))) (ne_eqb (suc n) 0 (λ e. absurd (omega arith)))
+      ∙ ap (λ (m : ℕ). goes ((replicate folds Fold ++ (calls_to (sectors_for_body m + 1) GateWritten ++ SecondSync ∷ [])) ++ events) (in_phase flying (Writing 0))) (sym q)
       ∙ written folds events (omega arith)
 
   pub turn_after : (folds : ℕ) → AreApart (c ∷ cs)
@@ -231,16 +231,16 @@ module _ (w : World) (batch : List Entry) (positions : List (Option Position)) (
   abbrev lost : Phase → World
   lost phase = record (at_rest w) { accepted = now; positions = positions; sealed = length now; flight = record { commands = []; upto = length now }; phase = phase; power = Broken; due = map unknown_to (c ∷ cs) }
 
-  pub failure_after : (folds : ℕ) (phase : Phase) → 0 < length batch → MayFailIn (bodies (length batch) + 1) phase → AreApart (c ∷ cs)
-      → goes (Seal ∷ Pull ∷ (replicate folds Fold ++ (calls_to (bodies (length batch) + 1) phase ++ Fault ∷ terminals_of (map unknown_to (c ∷ cs))))) looked
+  pub failure_after : (folds : ℕ) (phase : Phase) → 0 < length batch → MayFailIn (sectors_for_body (length batch) + 1) phase → AreApart (c ∷ cs)
+      → goes (Seal ∷ Pull ∷ (replicate folds Fold ++ (calls_to (sectors_for_body (length batch) + 1) phase ++ Fault ∷ terminals_of (map unknown_to (c ∷ cs))))) looked
       ≡ Some (answering_on (lost phase) [] (w.answered ++ map answer_of (map unknown_to (c ∷ cs))) (w.given ++ map unknown_to (c ∷ cs)))
   failure_after folds phase some fail apart =
-      let is : batch_of flying ≡ batch = batch_is w.accepted batch in
-      let count : bodies (length (batch_of flying)) + 1 ≡ bodies (length batch) + 1 = ap (λ (xs : List Entry). bodies (length xs) + 1) is in
+      let is : batch_in_flight flying ≡ batch = batch_is w.accepted batch in
+      let count : sectors_for_body (length (batch_in_flight flying)) + 1 ≡ sectors_for_body (length batch) + 1 = ap (λ (xs : List Entry). sectors_for_body (length xs) + 1) is in
       let answers = terminals_of (map unknown_to (c ∷ cs)) in
-      let there : MayFailIn (bodies (length (batch_of flying)) + 1) phase = subst (λ (n : ℕ). MayFailIn n phase) (sym count) fail in
-      flies (replicate folds Fold ++ (calls_to (bodies (length batch) + 1) phase ++ Fault ∷ answers)) some
-      ∙ folded flying refl folds (calls_to (bodies (length batch) + 1) phase ++ Fault ∷ answers)
+      let there : MayFailIn (sectors_for_body (length (batch_in_flight flying)) + 1) phase = subst (λ (n : ℕ). MayFailIn n phase) (sym count) fail in
+      flies (replicate folds Fold ++ (calls_to (sectors_for_body (length batch) + 1) phase ++ Fault ∷ answers)) some
+      ∙ folded flying refl folds (calls_to (sectors_for_body (length batch) + 1) phase ++ Fault ∷ answers)
       ∙ ap (λ (n : ℕ). goes (calls_to n phase ++ Fault ∷ answers) (in_phase flying (Writing 0))) (sym count)
       ∙ reached flying refl phase (Fault ∷ answers) there
       ∙ one Fault answers (in_phase flying phase) (failing (in_phase flying phase)) (fails flying refl phase there)
@@ -259,7 +259,7 @@ module _ (w : World) (command : Command) (commands : List Command) (reply : Repl
   apart : AreApart (taken_as command reply ∷ with_replies commands replies)
   apart = all_apart (at_rest w) (command ∷ commands) (reply ∷ replies) found
 
-  pub turn_at : (letters : List (Option ℕ)) × ((folds : ℕ) → goes (turn_events (command ∷ commands) letters folds (length state.batch)) (at_rest w) ≡ Some (turned (at_rest w) (command ∷ commands) (reply ∷ replies) state))
+  pub turn_at : (letters : List (Option ℕ)) × ((folds : ℕ) → goes (turn_events (command ∷ commands) letters folds (length state.batch)) (at_rest w) ≡ Some (world_after_turn (at_rest w) (command ∷ commands) (reply ∷ replies) state))
   turn_at = (
     scan.0,
     λ folds.
@@ -269,14 +269,14 @@ module _ (w : World) (command : Command) (commands : List Command) (reply : Repl
         ∙ turn_after w state.batch state.positions (taken_as command reply) (with_replies commands replies) folds apart,
   )
 
-  pub failure_at : (phase : Phase) → 0 < length state.batch → MayFailIn (bodies (length state.batch) + 1) phase
+  pub failure_at : (phase : Phase) → 0 < length state.batch → MayFailIn (sectors_for_body (length state.batch) + 1) phase
       → (letters : List (Option ℕ)) × ((folds : ℕ) → goes (failed_events (command ∷ commands) letters folds phase (length state.batch)) (at_rest w) ≡ Some (failed (at_rest w) (command ∷ commands) (reply ∷ replies) state phase))
   failure_at phase some fail = (
     scan.0,
     λ folds.
-        let events : List Event = Seal ∷ Pull ∷ (replicate folds Fold ++ (calls_to (bodies (length state.batch) + 1) phase ++ Fault ∷ answer_events (command ∷ commands))) in
+        let events : List Event = Seal ∷ Pull ∷ (replicate folds Fold ++ (calls_to (sectors_for_body (length state.batch) + 1) phase ++ Fault ∷ answer_events (command ∷ commands))) in
         goes-append (take_events (command ∷ commands) scan.0) events (at_rest w) ∙ ap (option_and_then (goes events)) scan.1
-        ∙ ap (λ (es : List Event). goes (Seal ∷ Pull ∷ (replicate folds Fold ++ (calls_to (bodies (length state.batch) + 1) phase ++ Fault ∷ es))) (looked w state.batch state.positions (taken_as command reply) (with_replies commands replies)))
+        ∙ ap (λ (es : List Event). goes (Seal ∷ Pull ∷ (replicate folds Fold ++ (calls_to (sectors_for_body (length state.batch) + 1) phase ++ Fault ∷ es))) (looked w state.batch state.positions (taken_as command reply) (with_replies commands replies)))
         (same_answers ∙ sym (unknown_terminals (taken_as command reply ∷ with_replies commands replies)))
         ∙ failure_after w state.batch state.positions (taken_as command reply) (with_replies commands replies) folds phase some fail apart,
   )
@@ -284,7 +284,7 @@ module _ (w : World) (command : Command) (commands : List Command) (reply : Repl
 pub turns_are_runs : (w : World) → TurnsAreRuns w
 turns_are_runs w command commands reply replies state rest found r =
     let e = is_at_rest w rest in
-    subst (λ (v : World). (letters : List (Option ℕ)) × ((folds : ℕ) → goes (turn_events (command ∷ commands) letters folds (length state.batch)) v ≡ Some (turned v (command ∷ commands) (reply ∷ replies) state))) e
+    subst (λ (v : World). (letters : List (Option ℕ)) × ((folds : ℕ) → goes (turn_events (command ∷ commands) letters folds (length state.batch)) v ≡ Some (world_after_turn v (command ∷ commands) (reply ∷ replies) state))) e
     (turn_at w command commands reply replies state (subst (λ (v : World). AreFound v (command ∷ commands)) (sym e) found)
     (subst (λ (v : World). Rattle.lift_policy.specs.Run.Run v.building Rattle.lift_policy.specs.Eligible.any_eligible (state_of v) (command ∷ commands) (reply ∷ replies) state) (sym e) r))
 

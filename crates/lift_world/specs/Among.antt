@@ -16,7 +16,7 @@ use Rattle.lift_world.specs.declared.event.Event.{Event}
 use Rattle.lift_world.specs.declared.event.Event.TheVariants.{Ask, Take, Seal, Pull, Cut}
 use Rattle.lift_world.specs.World.{World, is_off, is_answer_to, asks, state_of}
 use Rattle.lift_world.specs.Next.{next, goes, unanswered}
-use Rattle.lift_world.specs.Tie.{Finds}
+use Rattle.lift_world.specs.Tie.{TakeFinds}
 use Rattle.lift_world.specs.Headline.{HearsInOrder, AsksOneByOne}
 use Rattle.lift_world.specs.Turns.{scanned}
 use Rattle.lift_world.specs.Beside.{is_of_terminals}
@@ -100,9 +100,9 @@ AsksStandOn w = (terminal : ℕ) (command : Command) (event : Event) (after : Wo
 
 -- A look finds an ask exactly where it stands and at most four batches are queued.
 pub record LooksFindAsks (w : World) (terminal : ℕ) (command : Command) : Type 0 where
-  pub stands : Finds w terminal command → StandsAsk w terminal command
-  pub few_queued : Finds w terminal command → length w.queue ≤ 4
-  pub finds : StandsAsk w terminal command → length w.queue ≤ 4 → Finds w terminal command
+  pub stands : TakeFinds w terminal command → StandsAsk w terminal command
+  pub few_queued : TakeFinds w terminal command → length w.queue ≤ 4
+  pub finds : StandsAsk w terminal command → length w.queue ≤ 4 → TakeFinds w terminal command
 
 -- The queue grows by seals alone: so an ask that a look finds is found until it is taken, something
 -- is sealed or the power is cut.
@@ -115,8 +115,8 @@ pub record Look : Type 0 where
   pub before : List Event
   pub command : Command
 
-abbrev pub commands_of : List Look → List Command
-commands_of looks = map (λ (l : Look). l.command) looks
+abbrev pub looked_commands : List Look → List Command
+looked_commands looks = map (λ (l : Look). l.command) looks
 
 -- Each look finds its ask in the world that the others' events alone have made by then, which is
 -- this one at the last look. No terminal is looked at twice.
@@ -124,8 +124,8 @@ abbrev pub LooksStand : World → List Look → World → Type 0
 LooksStand w [] last = w ≡ last
 LooksStand w (look ∷ looks) last =
     (there : World) × AreBeside look.before × (goes look.before w ≡ Some there)
-    × Finds there look.command.terminal look.command
-    × AllByRecursion (λ (d : Command). d.terminal ≢ look.command.terminal) (commands_of looks)
+    × TakeFinds there look.command.terminal look.command
+    × AllByRecursion (λ (d : Command). d.terminal ≢ look.command.terminal) (looked_commands looks)
     × LooksStand there looks last
 
 -- the scan's takes, with others' events between them
@@ -142,11 +142,11 @@ look_events (look ∷ looks) (letter ∷ letters) =
 abbrev pub ScansGoAmong : World → Type 0
 ScansGoAmong w = (looks : List Look) (replies : List Reply) (state : State) (last : World)
     → IsQueueInOrder w → LooksStand w looks last
-    → Run w.building any_eligible (state_of w) (commands_of looks) replies state
+    → Run w.building any_eligible (state_of w) (looked_commands looks) replies state
     → (letters : List (Option ℕ)) × ((behind : List Event) (after : World) → AreBeside behind
     → goes behind last ≡ Some after
     → goes (look_events looks letters ++ behind) w
-    ≡ Some (scanned after (commands_of looks) replies state))
+    ≡ Some (scanned after (looked_commands looks) replies state))
 
 -- An allocator's turn among others' events, some of them between its looks and its seal and some
 -- behind that. There the flusher goes on with the batches queued before; from the world left here
@@ -155,9 +155,9 @@ abbrev pub AllocationsGoAmong : World → Type 0
 AllocationsGoAmong w = (look : Look) (looks : List Look) (reply : Reply) (replies : List Reply)
     (state : State) (last : World) → IsQueueInOrder w → IsBetweenScans w
     → LooksStand w (look ∷ looks) last
-    → Run w.building any_eligible (state_of w) (commands_of (look ∷ looks))
+    → Run w.building any_eligible (state_of w) (looked_commands (look ∷ looks))
     (reply ∷ replies) state
     → (letters : List (Option ℕ)) × ((between behind : List Event) (after : World)
     → AreBeside (between ++ behind) → goes (between ++ behind) last ≡ Some after
     → goes (look_events (look ∷ looks) letters ++ (between ++ Seal ∷ behind)) w
-    ≡ Some (allocated after (commands_of (look ∷ looks)) (reply ∷ replies) state))
+    ≡ Some (allocated after (looked_commands (look ∷ looks)) (reply ∷ replies) state))

@@ -17,8 +17,8 @@ GoesAreRuns w = (events : List Event) (after : World) → goes events w ≡ Some
     → run events w ≡ after
 
 -- A run goes on where another has ended.
-abbrev pub RunsJoin : World → Type 0
-RunsJoin w = (events later : List Event) → run (events ++ later) w ≡ run later (run events w)
+abbrev pub EventsJoin : World → Type 0
+EventsJoin w = (events later : List Event) → run (events ++ later) w ≡ run later (run events w)
 
 -- what a terminal does
 abbrev pub is_of_terminals : Event → Bool

@@ -15,26 +15,26 @@ use Rattle.lift_world.specs.Decided.{Decision, decided}
 use Rattle.lift_world.specs.declared.decide.Decided.{Decided}
 
 -- what a policy sees
-abbrev pub seen : RegisterState → List (Option Position) → ViewState
-seen register positions = record { register = register; positions = positions }
+abbrev pub policy_sees : RegisterState → List (Option Position) → ViewState
+policy_sees register positions = record { register = register; positions = positions }
 
 abbrev pub state_with : RegisterState → List (Option Position) → List Entry → State
 state_with register positions batch =
     record { register = register; positions = positions; batch = batch }
 
 -- a stop of a new number joins
-abbrev pub joined : State → ℕ → ℕ → ℕ → Dir → State
-joined state terminal number floor dir =
+abbrev pub with_new_stop : State → ℕ → ℕ → ℕ → Dir → State
+with_new_stop state terminal number floor dir =
     if is_new state terminal number then accepting state
     (Stopping terminal number floor dir) else state
 
 -- the decision's reply, its entry behind the batch, and its register and positions; or nothing,
 -- where there is none
-abbrev pub Carries : Option Decision → RegisterState → List (Option Position) → List Entry
+abbrev pub CarriesDecision : Option Decision → RegisterState → List (Option Position) → List Entry
     → Option Decided → RegisterState → List (Option Position) → Type 0
-Carries None register positions batch result register_after positions_after =
+CarriesDecision None register positions batch result register_after positions_after =
     (result ≡ None) × (register_after ≡ register) × (positions_after ≡ positions)
-Carries (Some d) register positions batch result register_after positions_after =
+CarriesDecision (Some d) register positions batch result register_after positions_after =
     (entry : Option Entry) × (result ≡ Some (record { reply = d.reply; entry = entry }))
     × (d.next ≡ state_with register_after positions_after (batch ++ option_to_list entry))
 
@@ -46,17 +46,18 @@ IsCauseOf building register positions command cause = (batch : List Entry)
     command.body ≡ cause
 
 -- a stop of a new number joins the register and the batch, whatever that is
-abbrev pub Joins : RegisterState → List (Option Position) → Command → Position → Option Entry
+abbrev pub StopJoins : RegisterState → List (Option Position) → Command → Position → Option Entry
     → RegisterState → Type 0
-Joins register positions command at result register_after = (batch : List Entry)
+StopJoins register positions command at result register_after = (batch : List Entry)
     → state_with register_after positions (batch ++ option_to_list result)
-    ≡ joined (state_with register positions batch) command.terminal command.number at.floor at.dir
+    ≡ with_new_stop (state_with register positions batch) command.terminal command.number at.floor
+    at.dir
 
 -- the command is decided with this letter and carried out, whatever the batch
 abbrev pub CarriesOut : Plan → RegisterState → List (Option Position) → Command → Option ℕ
     → Option Decided → RegisterState → List (Option Position) → Type 0
 CarriesOut building register positions command letter result register_after positions_after =
     (batch : List Entry)
-    → Carries (decided building (state_with register positions batch) command.terminal
+    → CarriesDecision (decided building (state_with register positions batch) command.terminal
     command.number command.body letter)
     register positions batch result register_after positions_after

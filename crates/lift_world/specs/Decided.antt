@@ -14,7 +14,7 @@ use Rattle.lift_base.specs.declared.command.Reply.TheVariants.{Car, Stopped, Pla
 use Rattle.lift_building.specs.Plan.{Plan}
 use Rattle.lift_register.specs.Register.{last_of}
 use Rattle.lift_policy.specs.Terminals.{kiosk_floor}
-use Rattle.lift_policy.specs.Step.{State, cars_for, is_new, first_cause, accepting, standing}
+use Rattle.lift_policy.specs.Step.{State, cars_for, is_new, first_cause, accepting, with_car_at}
 use Rattle.lift_policy.specs.Step.{stopping, next_from}
 
 -- a reply and the state after it
@@ -68,8 +68,8 @@ proceeding building state terminal number (Stop floor dir) letter =
 proceeding building state terminal number (Place floor dir) letter =
     when (is_none letter)
     (record {
-      reply = Placed (next_from (standing state terminal floor dir) terminal floor dir);
-      next = standing state terminal floor dir;
+      reply = Placed (next_from (with_car_at state terminal floor dir) terminal floor dir);
+      next = with_car_at state terminal floor dir;
     })
 
 abbrev pub decided_after : Option Reason → Plan → State → ℕ → ℕ → Body → Option ℕ → Option Decision

@@ -3,13 +3,13 @@ use Rattle.std.specs.Prelude.{◌≡◌, ◌⊎◌, ◌≤◌, ◌||◌, true, �
 use Rattle.lift_base.specs.declared.command.Reply.TheVariants.{Unknown}
 use Rattle.lift_world.specs.declared.event.Taken.{Taken}
 use Rattle.lift_world.specs.declared.event.Event.{Event}
-use Rattle.lift_world.specs.World.{World, Batch, is_broken}
+use Rattle.lift_world.specs.World.{World, SealedBatch, is_broken}
 use Rattle.lift_world.specs.Next.{next}
 use Rattle.lift_world.specs.Headline.{HoldsNothingWhileOff}
 
 -- its batch, the one in flight or a queued one, is safe now
 pub record IsOfSafeBatch (w after : World) (c : Taken) : Type 0 where
-  pub batch : Batch
+  pub batch : SealedBatch
   pub sealed : Contains (w.flight ∷ w.queue) batch
   pub held : Contains batch.commands c
   pub safe : batch.upto ≤ after.safe

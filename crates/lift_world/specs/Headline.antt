@@ -21,7 +21,7 @@ use Rattle.lift_world.specs.declared.event.Answer.{Answer}
 use Rattle.lift_world.specs.declared.event.Taken.{Taken}
 use Rattle.lift_world.specs.declared.event.Event.{Event}
 use Rattle.lift_world.specs.declared.event.Event.TheVariants.{Ask, Take, Reopen}
-use Rattle.lift_world.specs.World.{World, Batch, no_batch, unplaced, outcome}
+use Rattle.lift_world.specs.World.{World, SealedBatch, no_batch, unplaced, outcome}
 use Rattle.lift_world.specs.World.{may_keep, acknowledged, is_off, asks, is_taken_of, is_answer_to}
 use Rattle.lift_world.specs.Next.{next, answer_of, unanswered}
 
@@ -169,4 +169,4 @@ IsOfTerminal event = Unit {0}
 -- no more commands are on their way than there are terminals, and so no batch holds more
 pub record HoldsFew (w : World) : Type 0 where
   pub on_their_way : length (unanswered w) ≤ 63
-  pub batches : All (λ (b : Batch). length b.commands ≤ 63) (w.flight ∷ w.queue)
+  pub batches : All (λ (b : SealedBatch). length b.commands ≤ 63) (w.flight ∷ w.queue)

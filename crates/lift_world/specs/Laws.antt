@@ -20,7 +20,7 @@ use Rattle.lift_world.specs.Faults.{FaultsLeaveDoubt, OnlyFaultsBreak, UnknownAf
 use Rattle.lift_world.specs.Faults.{UnknownOverReopening}
 use Rattle.lift_world.specs.Outcomes.{OutcomesStay, GatesOfferBatches, SyncsKeepBatches}
 use Rattle.lift_world.specs.Outcomes.{ReopeningsKeepOne}
-use Rattle.lift_world.specs.Beside.{GoesAreRuns, RunsJoin, TerminalsPass, TerminalsStandBeside}
+use Rattle.lift_world.specs.Beside.{GoesAreRuns, EventsJoin, TerminalsPass, TerminalsStandBeside}
 use Rattle.lift_world.specs.Relay.{IsQueueInOrder, AllocationsAreEvents, FullQueueWaits}
 use Rattle.lift_world.specs.Relay.{FlushesAreEvents, FailedFlushesAreEvents}
 use Rattle.lift_world.specs.Relay.{BrokenFlushesAreEvents, TurnsMeet, PartsMeet}
@@ -144,6 +144,6 @@ pub record PartsStay (w : World) : Type 0 where
 -- through.
 pub record TerminalsPassThrough (w : World) : Type 0 where
   pub possible : GoesAreRuns w
-  pub joined : RunsJoin w
+  pub joined : EventsJoin w
   pub beside : TerminalsPass w
   pub stand : TerminalsStandBeside w

@@ -19,9 +19,10 @@ use Rattle.lift_world.specs.declared.event.Event.TheVariants.{Body as BodyWrite,
 use Rattle.lift_world.specs.declared.event.Event.TheVariants.{SecondSync, Answer as Answering, Hear}
 use Rattle.lift_world.specs.declared.event.Event.TheVariants.{Fault, Cut, Reopen}
 use Rattle.lift_world.specs.Decided.{Decision, decided, when}
-use Rattle.lift_world.specs.World.{World, Batch, no_batch, unplaced, is_running, is_broken, is_off}
-use Rattle.lift_world.specs.World.{is_idle, is_synced, is_gate_written, written, same_kept, asks}
-use Rattle.lift_world.specs.World.{is_taken_of, is_answer_to, state_of, batch_of, may_keep, outcome}
+use Rattle.lift_world.specs.World.{World, SealedBatch, no_batch, unplaced, is_running, is_broken}
+use Rattle.lift_world.specs.World.{is_off, is_idle, is_synced, is_gate_written, written, same_kept}
+use Rattle.lift_world.specs.World.{asks, is_taken_of, is_answer_to, state_of, batch_in_flight}
+use Rattle.lift_world.specs.World.{may_keep, outcome}
 
 abbrev pub is_empty : {A : Type 0} → List A → Bool
 is_empty [] = true
@@ -37,7 +38,8 @@ asking w command = record w { asked = w.asked ++ command ∷ [] }
 
 -- the commands that were taken and aren't answered, from the oldest batch on
 abbrev pub unanswered : World → List Taken
-unanswered w = w.due ++ w.flight.commands ++ flat_map (λ (b : Batch). b.commands) w.queue ++ w.taken
+unanswered w = w.due ++ w.flight.commands ++ flat_map (λ (b : SealedBatch). b.commands) w.queue
+    ++ w.taken
 
 -- the terminal has an ask that isn't taken
 abbrev pub is_waiting : World → ℕ → Bool
@@ -87,7 +89,7 @@ may_pull w = is_broken w.power || (is_running w.power && is_idle w.phase)
 
 -- the batch is in flight; one without entries is due at once, and after a fault so is each,
 -- answered Unknown
-abbrev pub pulling : World → Batch → List Batch → World
+abbrev pub pulling : World → SealedBatch → List SealedBatch → World
 pulling w batch rest =
     if is_broken w.power
     then record w { queue = rest; due = w.due ++ map unknown_to batch.commands }
@@ -95,7 +97,7 @@ pulling w batch rest =
     then record w { queue = rest; flight = batch; phase = Writing 0 }
     else record w { queue = rest; due = w.due ++ batch.commands })
 
-abbrev pub pulled : World → List Batch → Option World
+abbrev pub pulled : World → List SealedBatch → Option World
 pulled w [] = None
 pulled w (batch ∷ rest) = Some (pulling w batch rest)
 
@@ -103,18 +105,18 @@ abbrev pub in_phase : World → Phase → World
 in_phase w phase = record w { phase = phase }
 
 -- the body of a batch takes one sector up to 31 entries, else two
-abbrev pub bodies : ℕ → ℕ
-bodies count = if nat_le count 31 then 1 else 2
+abbrev pub sectors_for_body : ℕ → ℕ
+sectors_for_body count = if nat_le count 31 then 1 else 2
 
 -- the writes before the first sync: the body sectors and the gate after them
-abbrev pub writes_of : World → ℕ
-writes_of w = bodies (length (batch_of w)) + 1
+abbrev pub writes_before_sync : World → ℕ
+writes_before_sync w = sectors_for_body (length (batch_in_flight w)) + 1
 
 abbrev pub may_write : World → ℕ → Bool
-may_write w n = is_running w.power && nat_lt n (writes_of w)
+may_write w n = is_running w.power && nat_lt n (writes_before_sync w)
 
 abbrev pub may_sync : World → ℕ → Bool
-may_sync w n = is_running w.power && n == writes_of w
+may_sync w n = is_running w.power && n == writes_before_sync w
 
 -- the batch in flight is safe, and its commands are due
 abbrev pub settling : World → World

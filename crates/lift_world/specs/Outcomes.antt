@@ -4,7 +4,7 @@ use Rattle.lift_world.specs.declared.event.Kept.{Kept}
 use Rattle.lift_world.specs.declared.event.Kept.TheVariants.{Safe, WithBatch}
 use Rattle.lift_world.specs.declared.event.Event.{Event}
 use Rattle.lift_world.specs.declared.event.Event.TheVariants.{Pull, Gate, SecondSync, Reopen}
-use Rattle.lift_world.specs.World.{World, batch_of, may_keep, outcome}
+use Rattle.lift_world.specs.World.{World, batch_in_flight, may_keep, outcome}
 use Rattle.lift_world.specs.Next.{next}
 use Rattle.lift_world.specs.Relay.{IsQueueInOrder}
 
@@ -20,7 +20,7 @@ moves_outcomes event = false
 pub record SameOutcomes (w : World) (event : Event) (after : World) : Type 0 where
   pub same_choice : (kept : Kept) → may_keep after kept ≡ may_keep w kept
   pub same_outcome : (kept : Kept) → IsTrue (may_keep w kept) → outcome after kept ≡ outcome w kept
-  pub same_batch : event ≢ Pull → batch_of after ≡ batch_of w
+  pub same_batch : event ≢ Pull → batch_in_flight after ≡ batch_in_flight w
 
 -- no other event moves them: no ask, look or seal, no other device call, no answer, no fault and no
 -- cut

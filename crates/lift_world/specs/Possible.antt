@@ -15,7 +15,7 @@ use Rattle.lift_world.specs.declared.event.Event.TheVariants.{Ask, Take, Seal, P
 use Rattle.lift_world.specs.declared.event.Event.TheVariants.{Body as BodyWrite, FirstSync, Gate}
 use Rattle.lift_world.specs.declared.event.Event.TheVariants.{SecondSync, Answer as Answering, Hear}
 use Rattle.lift_world.specs.declared.event.Event.TheVariants.{Cut, Reopen}
-use Rattle.lift_world.specs.World.{World, Batch, no_batch, unplaced, is_off, is_taken_of}
+use Rattle.lift_world.specs.World.{World, SealedBatch, no_batch, unplaced, is_off, is_taken_of}
 use Rattle.lift_world.specs.World.{is_answer_to, asks, outcome, acknowledged}
 use Rattle.lift_base.specs.declared.travel.Position.{Position}
 use Rattle.lift_base.specs.declared.travel.Dir.{Dir}
@@ -24,8 +24,9 @@ use Rattle.lift_base.specs.declared.history.Entry.TheVariants.{Allot, Stop as St
 use Rattle.lift_base.specs.declared.command.Body.TheVariants.{Call, Stop as StopBody}
 use Rattle.lift_base.specs.declared.command.Reply.TheVariants.{Car, Stopped}
 use Rattle.lift_policy.specs.Terminals.{kiosk_floor}
-use Rattle.lift_world.specs.Next.{bodies, next, run, asking, unanswered, unknown_to, writes_of}
-use Rattle.lift_world.specs.Next.{in_phase, settling, hearing, cutting, reopened, answering}
+use Rattle.lift_world.specs.Next.{sectors_for_body, next, run, asking, unanswered, unknown_to}
+use Rattle.lift_world.specs.Next.{writes_before_sync, in_phase, settling, hearing, cutting}
+use Rattle.lift_world.specs.Next.{reopened, answering}
 
 -- the power may fail at any moment and leave the safe list
 abbrev pub CutsToSafe : World → Type 0
@@ -39,7 +40,7 @@ pub record CutsWithBatch (w : World) : Type 0 where
 -- what a cut leaves: what was accepted, what of it is safe, the batch in doubt with its phase, and
 -- what was given. All else is gone: the words, the queue, what was taken or due, and where the cars
 -- are.
-pub record IsCut (w : World) (kept : Kept) (after : World) : Type 0 where
+pub record IsCutTo (w : World) (kept : Kept) (after : World) : Type 0 where
   pub off : after.power ≡ Off kept
   pub same_accepted : after.accepted ≡ w.accepted
   pub same_safe : after.safe ≡ w.safe
@@ -57,7 +58,7 @@ pub record IsCut (w : World) (kept : Kept) (after : World) : Type 0 where
 
 -- whatever cut is possible leaves this
 abbrev pub CutsGive : World → Type 0
-CutsGive w = (kept : Kept) (after : World) → next w (Cut kept) ≡ Some after → IsCut w kept after
+CutsGive w = (kept : Kept) (after : World) → next w (Cut kept) ≡ Some after → IsCutTo w kept after
 
 -- after a cut its own recovery is possible, which gives just what that cut left
 pub record ReopensAfterCut (w : World) : Type 0 where
@@ -170,13 +171,14 @@ pub record Seals (w : World) : Type 0 where
 pub record PullsInTurn (w : World) : Type 0 where
   pub waits : w.power ≡ Running → w.phase ≢ Idle → next w Pull ≡ None
   pub nothing : w.queue ≡ [] → next w Pull ≡ None
-  pub flies : (batch : Batch) (rest : List Batch) → w.power ≡ Running → w.phase ≡ Idle
+  pub flies : (batch : SealedBatch) (rest : List SealedBatch) → w.power ≡ Running → w.phase ≡ Idle
       → w.queue ≡ batch ∷ rest → w.safe < batch.upto
       → next w Pull ≡ Some (record w { queue = rest; flight = batch; phase = Writing 0 })
-  pub is_due : (batch : Batch) (rest : List Batch) → w.power ≡ Running → w.phase ≡ Idle
+  pub is_due : (batch : SealedBatch) (rest : List SealedBatch) → w.power ≡ Running → w.phase ≡ Idle
       → w.queue ≡ batch ∷ rest → batch.upto ≤ w.safe
       → next w Pull ≡ Some (record w { queue = rest; due = w.due ++ batch.commands })
-  pub fails : (batch : Batch) (rest : List Batch) → w.power ≡ Broken → w.queue ≡ batch ∷ rest
+  pub fails : (batch : SealedBatch) (rest : List SealedBatch) → w.power ≡ Broken
+      → w.queue ≡ batch ∷ rest
       → next w Pull ≡ Some (record w { queue = rest; due = w.due ++ map unknown_to batch.commands })
 
 -- a device call: one of a checkpoint or of a batch
@@ -197,17 +199,18 @@ pub record CallsInOrder (w : World) : Type 0 where
       → next w call ≡ Some after → w.power ≡ Running
   pub checkpoint : (after : World) → next w Fold ≡ Some after → (w.phase ≡ Writing 0) × (after ≡ w)
   pub body : (after : World) → next w BodyWrite ≡ Some after
-      → (n : ℕ) × (w.phase ≡ Writing n) × (n < writes_of w) × (after ≡ in_phase w (Writing (n + 1)))
+      → (n : ℕ) × (w.phase ≡ Writing n) × (n < writes_before_sync w)
+      × (after ≡ in_phase w (Writing (n + 1)))
   pub first_sync : (after : World) → next w FirstSync ≡ Some after
-      → (w.phase ≡ Writing (writes_of w)) × (after ≡ in_phase w Synced)
+      → (w.phase ≡ Writing (writes_before_sync w)) × (after ≡ in_phase w Synced)
   pub gate : (after : World) → next w Gate ≡ Some after
       → (w.phase ≡ Synced) × (after ≡ in_phase w GateWritten)
   pub second_sync : (after : World) → next w SecondSync ≡ Some after
       → (w.phase ≡ GateWritten) × (after ≡ settling w)
   pub folds : w.power ≡ Running → w.phase ≡ Writing 0 → next w Fold ≡ Some w
-  pub writes : (n : ℕ) → w.power ≡ Running → w.phase ≡ Writing n → n < writes_of w
+  pub writes : (n : ℕ) → w.power ≡ Running → w.phase ≡ Writing n → n < writes_before_sync w
       → next w BodyWrite ≡ Some (in_phase w (Writing (n + 1)))
-  pub syncs : w.power ≡ Running → w.phase ≡ Writing (writes_of w)
+  pub syncs : w.power ≡ Running → w.phase ≡ Writing (writes_before_sync w)
       → next w FirstSync ≡ Some (in_phase w Synced)
   pub writes_gate : w.power ≡ Running → w.phase ≡ Synced
       → next w Gate ≡ Some (in_phase w GateWritten)
@@ -234,8 +237,8 @@ AnswersOnlyDue w = (terminal : ℕ) (after : World) → next w (Answering termin
 -- the header and the records of a batch, sixteen bytes each, take so many sectors of 512 bytes, and
 -- none of these is empty
 pub record FillsSectors (count : ℕ) : Type 0 where
-  pub enough : 16 * (1 + count) ≤ 512 * bodies count
-  pub none_empty : 512 * bodies count < 16 * (1 + count) + 512
+  pub enough : 16 * (1 + count) ≤ 512 * sectors_for_body count
+  pub none_empty : 512 * sectors_for_body count < 16 * (1 + count) + 512
 
 -- the reply that is stored is the one that the command was due with
 abbrev pub StoresTheReply : World → Type 0

@@ -17,9 +17,9 @@ use Rattle.lift_world.specs.declared.event.Phase.{Phase}
 use Rattle.lift_world.specs.declared.event.Phase.TheVariants.{Idle}
 use Rattle.lift_world.specs.declared.event.Power.TheVariants.{Running, Broken}
 use Rattle.lift_world.specs.Decided.{Decision}
-use Rattle.lift_world.specs.World.{World, Batch, no_batch, state_of, is_idle, is_running}
-use Rattle.lift_world.specs.Next.{next, goes, bodies, answer_of, unknown_to, unanswered, deciding}
-use Rattle.lift_world.specs.Next.{sealing}
+use Rattle.lift_world.specs.World.{World, SealedBatch, no_batch, state_of, is_idle, is_running}
+use Rattle.lift_world.specs.Next.{next, goes, sectors_for_body, answer_of, unknown_to, unanswered}
+use Rattle.lift_world.specs.Next.{deciding, sealing}
 use Rattle.lift_world.specs.Turns.{AreFound, with_replies, take_events, calls_to, device_calls}
 use Rattle.lift_world.specs.Turns.{MayFailIn, IsAtRest, IsBrokenAtRest}
 
@@ -29,7 +29,7 @@ AreApart [] = Unit {0}
 AreApart (c ∷ cs) = AllByRecursion (λ (d : Taken). d.terminal ≢ c.terminal) cs × AreApart cs
 
 -- batches end one behind the other, from here to there
-abbrev pub EndInOrder : ℕ → List Batch → ℕ → Type 0
+abbrev pub EndInOrder : ℕ → List SealedBatch → ℕ → Type 0
 EndInOrder low [] high = low ≤ high
 EndInOrder low (batch ∷ queue) high = (low ≤ batch.upto) × EndInOrder batch.upto queue high
 
@@ -38,7 +38,7 @@ abbrev pub flown : World → ℕ
 flown w = if is_idle w.phase then w.safe else w.flight.upto
 
 -- where the last of these batches ends, and from here, where there is none
-abbrev pub last_end : ℕ → List Batch → ℕ
+abbrev pub last_end : ℕ → List SealedBatch → ℕ
 last_end low [] = low
 last_end low (batch ∷ queue) = last_end batch.upto queue
 
@@ -96,29 +96,29 @@ pub record IsBetweenFlushes (w : World) : Type 0 where
   pub idle : w.phase ≡ Idle
   pub nothing_flies : w.flight ≡ no_batch
 
-abbrev pub answers_to : List Taken → List Event
-answers_to commands = map (λ (c : Taken). Answer c.terminal) commands
+abbrev pub events_of_answers : List Taken → List Event
+events_of_answers commands = map (λ (c : Taken). Answer c.terminal) commands
 
 -- The flusher looks at the terminals of its batch too, and answers only where its look gave the
 -- ask: of these commands those that it answers, and those that it leaves due.
 abbrev pub answered_of : (ℕ → Bool) → List Taken → List Taken
 answered_of gave commands = filter (λ (c : Taken). gave c.terminal) commands
 
-abbrev pub left_of : (ℕ → Bool) → List Taken → List Taken
-left_of gave commands = filter (λ (c : Taken). not (gave c.terminal)) commands
+abbrev pub left_unanswered : (ℕ → Bool) → List Taken → List Taken
+left_unanswered gave commands = filter (λ (c : Taken). not (gave c.terminal)) commands
 
 -- a flusher's turn: the first batch of the queue, with so many entries, is made safe, and those of
 -- its commands are answered whose asks its look gave
-abbrev pub flusher_events : (ℕ → Bool) → Batch → ℕ → ℕ → List Event
+abbrev pub flusher_events : (ℕ → Bool) → SealedBatch → ℕ → ℕ → List Event
 flusher_events gave batch folds count =
-    Pull ∷ (device_calls folds count ++ answers_to (answered_of gave batch.commands))
+    Pull ∷ (device_calls folds count ++ events_of_answers (answered_of gave batch.commands))
 
 -- the world after it: what isn't answered is due behind what was due before
-abbrev pub flushed : World → (ℕ → Bool) → Batch → List Batch → World
+abbrev pub flushed : World → (ℕ → Bool) → SealedBatch → List SealedBatch → World
 flushed w gave batch rest = record w {
   safe = batch.upto;
   queue = rest;
-  due = w.due ++ left_of gave batch.commands;
+  due = w.due ++ left_unanswered gave batch.commands;
   answered = w.answered ++ map answer_of (answered_of gave batch.commands);
   given = w.given ++ answered_of gave batch.commands;
 }
@@ -126,26 +126,26 @@ flushed w gave batch rest = record w {
 -- A flusher's turn that answers Ok is its list of events, whatever the allocator has taken or
 -- queued before it, and whatever was due and its look gives.
 abbrev pub FlushesAreEvents : World → Type 0
-FlushesAreEvents w = (gave : ℕ → Bool) (batch : Batch) (rest : List Batch) (folds : ℕ)
+FlushesAreEvents w = (gave : ℕ → Bool) (batch : SealedBatch) (rest : List SealedBatch) (folds : ℕ)
     → IsBetweenFlushes w → IsQueueInOrder w → w.queue ≡ batch ∷ rest
     → goes (flusher_events gave batch folds (batch.upto - w.safe)) w
     ≡ Some (flushed w gave batch rest)
 
 -- one in which a device call fails
-abbrev pub failing_flush : (ℕ → Bool) → Batch → ℕ → Phase → ℕ → List Event
+abbrev pub failing_flush : (ℕ → Bool) → SealedBatch → ℕ → Phase → ℕ → List Event
 failing_flush gave batch folds phase count =
     Pull ∷ (replicate folds Fold
-    ++ (calls_to (bodies count + 1) phase ++ Fault
-    ∷ answers_to (answered_of gave batch.commands)))
+    ++ (calls_to (sectors_for_body count + 1) phase ++ Fault
+    ∷ events_of_answers (answered_of gave batch.commands)))
 
 -- the world after it: each command of the batch gets Unknown, and the batch is in doubt
-abbrev pub flush_failed : World → (ℕ → Bool) → Batch → List Batch → Phase → World
+abbrev pub flush_failed : World → (ℕ → Bool) → SealedBatch → List SealedBatch → Phase → World
 flush_failed w gave batch rest phase = record w {
   flight = record { commands = []; upto = batch.upto };
   phase = phase;
   power = Broken;
   queue = rest;
-  due = w.due ++ map unknown_to (left_of gave batch.commands);
+  due = w.due ++ map unknown_to (left_unanswered gave batch.commands);
   answered = w.answered ++ map answer_of (map unknown_to (answered_of gave batch.commands));
   given = w.given ++ map unknown_to (answered_of gave batch.commands);
 }
@@ -153,9 +153,9 @@ flush_failed w gave batch rest phase = record w {
 -- A flusher's turn that fails is its list of events, whichever device call it was.
 abbrev pub FailedFlushesAreEvents : World → Type 0
 FailedFlushesAreEvents w =
-    (gave : ℕ → Bool) (batch : Batch) (rest : List Batch) (folds : ℕ) (phase : Phase)
+    (gave : ℕ → Bool) (batch : SealedBatch) (rest : List SealedBatch) (folds : ℕ) (phase : Phase)
     → IsBetweenFlushes w → IsQueueInOrder w → w.queue ≡ batch ∷ rest
-    → w.safe < batch.upto → MayFailIn (bodies (batch.upto - w.safe) + 1) phase
+    → w.safe < batch.upto → MayFailIn (sectors_for_body (batch.upto - w.safe) + 1) phase
     → goes (failing_flush gave batch folds phase (batch.upto - w.safe)) w
     ≡ Some (flush_failed w gave batch rest phase)
 
@@ -165,21 +165,22 @@ pub record IsBrokenBetween (w : World) : Type 0 where
   pub nothing_flies : w.flight.commands ≡ []
 
 -- a flusher's turn after a fault: no device call
-abbrev pub broken_flush : (ℕ → Bool) → Batch → List Event
-broken_flush gave batch = Pull ∷ answers_to (answered_of gave batch.commands)
+abbrev pub broken_flush : (ℕ → Bool) → SealedBatch → List Event
+broken_flush gave batch = Pull ∷ events_of_answers (answered_of gave batch.commands)
 
 -- the world after it: each command of the batch gets Unknown, and nothing else changes
-abbrev pub flushed_broken : World → (ℕ → Bool) → Batch → List Batch → World
+abbrev pub flushed_broken : World → (ℕ → Bool) → SealedBatch → List SealedBatch → World
 flushed_broken w gave batch rest = record w {
   queue = rest;
-  due = w.due ++ map unknown_to (left_of gave batch.commands);
+  due = w.due ++ map unknown_to (left_unanswered gave batch.commands);
   answered = w.answered ++ map answer_of (map unknown_to (answered_of gave batch.commands));
   given = w.given ++ map unknown_to (answered_of gave batch.commands);
 }
 
 -- A flusher's turn after a fault is its list of events.
 abbrev pub BrokenFlushesAreEvents : World → Type 0
-BrokenFlushesAreEvents w = (gave : ℕ → Bool) (batch : Batch) (rest : List Batch) → IsBrokenBetween w
+BrokenFlushesAreEvents w = (gave : ℕ → Bool) (batch : SealedBatch) (rest : List SealedBatch)
+    → IsBrokenBetween w
     → IsQueueInOrder w → w.queue ≡ batch ∷ rest
     → goes (broken_flush gave batch) w ≡ Some (flushed_broken w gave batch rest)
 
@@ -189,17 +190,20 @@ pub record TurnsMeet (w : World) : Type 0 where
       → IsBetweenScans (allocated w commands replies state)
   pub scanned_beside : (commands : List Command) (replies : List Reply) (state : State)
       → IsBetweenFlushes w → IsBetweenFlushes (allocated w commands replies state)
-  pub wrote : (gave : ℕ → Bool) (batch : Batch) (rest : List Batch) → IsBetweenFlushes w
+  pub wrote : (gave : ℕ → Bool) (batch : SealedBatch) (rest : List SealedBatch) → IsBetweenFlushes w
       → IsBetweenFlushes (flushed w gave batch rest)
-  pub wrote_beside : (gave : ℕ → Bool) (batch : Batch) (rest : List Batch) → IsBetweenScans w
+  pub wrote_beside : (gave : ℕ → Bool) (batch : SealedBatch) (rest : List SealedBatch)
+      → IsBetweenScans w
       → IsBetweenScans (flushed w gave batch rest)
-  pub fell : (gave : ℕ → Bool) (batch : Batch) (rest : List Batch) (phase : Phase)
+  pub fell : (gave : ℕ → Bool) (batch : SealedBatch) (rest : List SealedBatch) (phase : Phase)
       → IsBetweenFlushes w → IsBrokenBetween (flush_failed w gave batch rest phase)
-  pub fell_beside : (gave : ℕ → Bool) (batch : Batch) (rest : List Batch) (phase : Phase)
+  pub fell_beside : (gave : ℕ → Bool) (batch : SealedBatch) (rest : List SealedBatch)
+      (phase : Phase)
       → IsBetweenScans w → IsBetweenScans (flush_failed w gave batch rest phase)
-  pub stayed : (gave : ℕ → Bool) (batch : Batch) (rest : List Batch) → IsBrokenBetween w
+  pub stayed : (gave : ℕ → Bool) (batch : SealedBatch) (rest : List SealedBatch) → IsBrokenBetween w
       → IsBrokenBetween (flushed_broken w gave batch rest)
-  pub stayed_beside : (gave : ℕ → Bool) (batch : Batch) (rest : List Batch) → IsBetweenScans w
+  pub stayed_beside : (gave : ℕ → Bool) (batch : SealedBatch) (rest : List SealedBatch)
+      → IsBetweenScans w
       → IsBetweenScans (flushed_broken w gave batch rest)
 
 -- what a flusher does

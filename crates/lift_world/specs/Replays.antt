@@ -16,7 +16,7 @@ use Rattle.lift_world.specs.declared.event.Event.TheVariants.{Ask, Take, Seal, P
 use Rattle.lift_world.specs.declared.event.Event.TheVariants.{Body as BodyWrite, FirstSync, Gate}
 use Rattle.lift_world.specs.declared.event.Event.TheVariants.{SecondSync, Answer as Answering, Hear}
 use Rattle.lift_world.specs.declared.event.Event.TheVariants.{Fault, Cut, Reopen}
-use Rattle.lift_world.specs.World.{World, Batch}
+use Rattle.lift_world.specs.World.{World, SealedBatch}
 use Rattle.lift_world.specs.Next.{next}
 
 -- each of these entries fits the register of the base and of those before it
@@ -34,7 +34,7 @@ pub record IsTight (building : Plan) (base register : RegisterState)
   pub balanced : IsBalanced register
 
 -- over an empty journal
-abbrev pub view_of : Plan → List Entry → ℕ → ℕ → Batch → Phase → List Batch → Power
+abbrev pub view_of : Plan → List Entry → ℕ → ℕ → SealedBatch → Phase → List SealedBatch → Power
     → List (Option Position) → List Taken → List Taken → List Command → List Answer → List Answer
     → List Taken → World
 view_of building accepted safe sealed flight phase queue power positions taken due asked answered

@@ -1,10 +1,10 @@
 -- How many entries a batch has.
 use Rattle.std.specs.Prelude.{ℕ, ◌≡◌, ◌≤◌, ◌+◌, true, List, [], ◌∷◌, length}
-use Rattle.lift_world.specs.World.{World, Batch, is_running, state_of, batch_of}
+use Rattle.lift_world.specs.World.{World, SealedBatch, is_running, state_of, batch_in_flight}
 use Rattle.lift_world.specs.Relay.{flown}
 
 -- each of these batches, from here or from where the one before it ends, has at most 63 entries
-abbrev pub AreShort : ℕ → List Batch → Type 0
+abbrev pub AreShort : ℕ → List SealedBatch → Type 0
 AreShort low [] = Unit {0}
 AreShort low (batch ∷ queue) = (batch.upto ≤ low + 63) × AreShort batch.upto queue
 
@@ -15,7 +15,7 @@ AreShort low (batch ∷ queue) = (batch.upto ≤ low + 63) × AreShort batch.upt
 -- in doubt lies at most 63 before its end, which bounds no count of its entries; each one behind it
 -- has at most 63.
 pub record HoldsFewEntries (w : World) : Type 0 where
-  pub flying : length (batch_of w) ≤ 63
+  pub flying : length (batch_in_flight w) ≤ 63
   pub begins : ℕ
   pub behind : flown w ≤ begins
   pub first : is_running w.power ≡ true → begins ≡ flown w

@@ -15,8 +15,8 @@ abbrev pub naming : Option ℕ → Choice
 naming letter plan view call eligible car = letter ≡ Some car
 
 -- the ask that a take finds
-abbrev pub Finds : World → ℕ → Command → Type 0
-Finds w terminal command = (may_take w terminal ≡ true)
+abbrev pub TakeFinds : World → ℕ → Command → Type 0
+TakeFinds w terminal command = (may_take w terminal ≡ true)
     × (find (asks terminal) (reverse w.asked) ≡ Some command)
 
 -- the take decides that ask by the rules, under the policy that names its letter
@@ -24,7 +24,7 @@ pub record IsStep (w : World) (terminal : ℕ) (letter : Option ℕ) (after : Wo
   pub command : Command
   pub reply : Reply
   pub state : State
-  pub finds : Finds w terminal command
+  pub finds : TakeFinds w terminal command
   pub step : Step w.building (naming letter)
       (state_of w) command.terminal command.number command.body reply state
   pub decided : after ≡ deciding w command (record { reply = reply; next = state })
@@ -38,7 +38,7 @@ TakesAreSteps w = (terminal : ℕ) (letter : Option ℕ) (after : World)
 -- outcome
 abbrev pub StepsAreTakes : World → Type 0
 StepsAreTakes w = (terminal : ℕ) (command : Command) (reply : Reply) (state : State)
-    → Finds w terminal command
+    → TakeFinds w terminal command
     → Step w.building any_eligible (state_of w) command.terminal command.number command.body reply
     state
     → (letter : Option ℕ) × (next w (Take terminal letter)
@@ -50,7 +50,7 @@ pub record HasTake (w : World) (terminal : ℕ) : Type 0 where
   pub letter : Option ℕ
   pub reply : Reply
   pub state : State
-  pub finds : Finds w terminal command
+  pub finds : TakeFinds w terminal command
   pub takes : next w (Take terminal letter)
       ≡ Some (deciding w command (record { reply = reply; next = state }))
 

@@ -23,14 +23,14 @@ use Rattle.lift_world.specs.declared.event.Phase.TheVariants.{Idle, Writing, Syn
 use Rattle.lift_world.specs.declared.event.Power.TheVariants.{Running, Broken}
 use Rattle.lift_world.specs.World.{World, no_batch, unplaced, is_running, state_of, may_keep}
 use Rattle.lift_world.specs.World.{outcome}
-use Rattle.lift_world.specs.Next.{next, goes, bodies, answer_of, unknown_to, reopened}
-use Rattle.lift_world.specs.Tie.{Finds}
+use Rattle.lift_world.specs.Next.{next, goes, sectors_for_body, answer_of, unknown_to, reopened}
+use Rattle.lift_world.specs.Tie.{TakeFinds}
 
 -- the asks of these commands stand, and no terminal is looked at twice
 abbrev pub AreFound : World → List Command → Type 0
 AreFound w [] = Unit {0}
 AreFound w (c ∷ commands) =
-    Finds w c.terminal c × AllByRecursion (λ (d : Command). d.terminal ≢ c.terminal) commands
+    TakeFinds w c.terminal c × AllByRecursion (λ (d : Command). d.terminal ≢ c.terminal) commands
     × AreFound w commands
 
 -- the commands with their replies
@@ -100,7 +100,7 @@ calls_to writes GateWritten = replicate writes BodyWrite ++ FirstSync ∷ Gate �
 abbrev pub device_calls : ℕ → ℕ → List Event
 device_calls folds count =
     if count == 0 then [] else (replicate folds Fold
-    ++ (calls_to (bodies count + 1) GateWritten ++ SecondSync ∷ []))
+    ++ (calls_to (sectors_for_body count + 1) GateWritten ++ SecondSync ∷ []))
 
 abbrev pub answer_events : List Command → List Event
 answer_events commands = map (λ (c : Command). Answer c.terminal) commands
@@ -112,8 +112,8 @@ turn_events commands letters folds count =
     ++ (Seal ∷ Pull ∷ (device_calls folds count ++ answer_events commands))
 
 -- the world after a turn: what was decided is safe, and each command has its reply
-abbrev pub turned : World → List Command → List Reply → State → World
-turned w commands replies state = record w {
+abbrev pub world_after_turn : World → List Command → List Reply → State → World
+world_after_turn w commands replies state = record w {
   accepted = w.accepted ++ state.batch;
   safe = length (w.accepted ++ state.batch);
   sealed = length (w.accepted ++ state.batch);
@@ -130,7 +130,7 @@ TurnsAreRuns w = (command : Command) (commands : List Command) (reply : Reply)
     → Run w.building any_eligible (state_of w) (command ∷ commands) (reply ∷ replies) state
     → (letters : List (Option ℕ))
     × ((folds : ℕ) → goes (turn_events (command ∷ commands) letters folds (length state.batch)) w
-    ≡ Some (turned w (command ∷ commands) (reply ∷ replies) state))
+    ≡ Some (world_after_turn w (command ∷ commands) (reply ∷ replies) state))
 
 -- the phases in which a device call of a batch may fail: one of the checkpoint's, one of the writes
 -- or the first sync; the gate's write or the second sync
@@ -145,7 +145,7 @@ abbrev pub failed_events : List Command → List (Option ℕ) → ℕ → Phase 
 failed_events commands letters folds phase count =
     take_events commands letters
     ++ (Seal ∷ Pull ∷ (replicate folds Fold
-    ++ (calls_to (bodies count + 1) phase ++ Fault ∷ answer_events commands)))
+    ++ (calls_to (sectors_for_body count + 1) phase ++ Fault ∷ answer_events commands)))
 
 -- the world after it: each command is answered Unknown, and the batch is in doubt
 abbrev pub failed : World → List Command → List Reply → State → Phase → World
@@ -166,7 +166,7 @@ FailuresAreRuns w = (command : Command) (commands : List Command) (reply : Reply
     (replies : List Reply) (state : State) (phase : Phase) → IsAtRest w
     → AreFound w (command ∷ commands)
     → Run w.building any_eligible (state_of w) (command ∷ commands) (reply ∷ replies) state
-    → 0 < length state.batch → MayFailIn (bodies (length state.batch) + 1) phase
+    → 0 < length state.batch → MayFailIn (sectors_for_body (length state.batch) + 1) phase
     → (letters : List (Option ℕ))
     × ((folds : ℕ) → goes (failed_events (command ∷ commands) letters folds phase
     (length state.batch)) w ≡ Some (failed w (command ∷ commands) (reply ∷ replies) state phase))
@@ -235,7 +235,7 @@ HasRun building state commands = (replies : List Reply) × (next : State)
 -- After a turn that answers Ok the world is at rest again.
 abbrev pub TurnsEndAtRest : World → Type 0
 TurnsEndAtRest w = (commands : List Command) (replies : List Reply) (state : State) → IsAtRest w
-    → IsAtRest (turned w commands replies state)
+    → IsAtRest (world_after_turn w commands replies state)
 
 -- After one whose batch failed all of it is answered, and after each turn while broken too.
 abbrev pub FailuresEndAtRest : World → Type 0

@@ -24,7 +24,7 @@ use Rattle.lift_world.specs.declared.event.Taken.{Taken}
 use Rattle.lift_world.specs.declared.event.Answer.{Answer}
 
 -- a sealed batch: its commands with their replies, and how many entries were accepted up to its end
-pub record Batch : Type 0 where
+pub record SealedBatch : Type 0 where
   pub commands : List Taken
   pub upto : ℕ
 
@@ -34,9 +34,9 @@ pub record World : Type 0 where
   pub accepted : List Entry  -- all entries accepted since; a recovery sets it to what it recovered
   pub safe : ℕ  -- how many of them are safe
   pub sealed : ℕ  -- how many of them are in sealed batches
-  pub flight : Batch  -- the batch in flight, or in doubt
+  pub flight : SealedBatch  -- the batch in flight, or in doubt
   pub phase : Phase  -- how far it is
-  pub queue : List Batch  -- the sealed batches behind it, the next one first
+  pub queue : List SealedBatch  -- the sealed batches behind it, the next one first
   pub power : Power
   pub positions : List (Option Position)
   pub taken : List Taken  -- taken and not sealed
@@ -46,7 +46,7 @@ pub record World : Type 0 where
   pub heard : List Answer
   pub given : List Taken  -- each command that was answered, with that answer, over all power cuts
 
-abbrev pub no_batch : Batch
+abbrev pub no_batch : SealedBatch
 no_batch = record { commands = []; upto = 0 }
 
 -- no car has told its position
@@ -146,8 +146,8 @@ state_of w = state_at w.base w.accepted w.sealed w.positions
 abbrev pub safe_list : World → List Entry
 safe_list w = take w.safe w.accepted
 
-abbrev pub batch_of : World → List Entry
-batch_of w = take (w.flight.upto - w.safe) (drop w.safe w.accepted)
+abbrev pub batch_in_flight : World → List Entry
+batch_in_flight w = take (w.flight.upto - w.safe) (drop w.safe w.accepted)
 
 -- what a power cut, or a reopening after a fault, may keep: the batch only where its gate was
 -- written
@@ -157,7 +157,7 @@ may_keep w WithBatch = is_gate_written w.phase
 
 abbrev pub outcome : World → Kept → List Entry
 outcome w Safe = safe_list w
-outcome w WithBatch = safe_list w ++ batch_of w
+outcome w WithBatch = safe_list w ++ batch_in_flight w
 
 -- the entry that a reply tells of
 abbrev pub told_by : Plan → ℕ → ℕ → Body → Reply → List Entry

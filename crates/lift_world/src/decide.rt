@@ -5,7 +5,7 @@ ghost use Rattle.lift_base.specs.declared.command.Reply.{Reply as ReplyValue};
 ghost use Rattle.lift_register.specs.Prelude.{rows_of, last_of, IsBalanced};
 ghost use Rattle.lift_stops.specs.StopList.{next_stop};
 ghost use Rattle.lift_policy.specs.Eligible.{eligible_cars};
-ghost use Rattle.lift_world.specs.Carries.{IsCauseOf, Joins, CarriesOut, seen};
+ghost use Rattle.lift_world.specs.Carries.{IsCauseOf, StopJoins, CarriesOut, policy_sees};
 ghost use Rattle.lift_world.specs.Decided.{kept_letter, is_among};
 
 use lift_base::{Body, Content, Entry, Letter, Position, Reason, Reply};
@@ -47,7 +47,7 @@ fn is_eligible(
     car: Letter,
 ) -> bool
     ensures { result ≡ is_among car
-        (eligible_cars building.now (seen register.now positions.now) call.now) }
+        (eligible_cars building.now (policy_sees register.now positions.now) call.now) }
 {
     positions[usize::from(car.get())].is_some() && can_take(building, register, *call, car)
 }
@@ -121,7 +121,7 @@ fn join(
     requires stop { command.now.body ≡ BodyValue.Stop at.now.floor at.now.dir }
     requires own { car ≡ command.now.terminal }
     requires balanced { IsBalanced register.old }
-    ensures joined { Joins register.old positions.now command.now at.now result register.new }
+    ensures joined { StopJoins register.old positions.now command.now at.now result register.new }
     ensures balanced { IsBalanced register.new }
 {
     if !is_next(register, command.terminal, command.number) {

@@ -33,7 +33,7 @@ ghost use Rattle.lift_world.specs.Laws.{IsOrderly, EventsArePossible, TurnsAreEv
 ghost use Rattle.lift_world.specs.Laws.{RepliesAreSafe, OutcomesMove, RelaysAreEvents};
 ghost use Rattle.lift_world.specs.Laws.{PartsInterleave, PartsStay, TerminalsPassThrough};
 ghost use Rattle.lift_world.specs.Turns.{HasRun, IsFresh, MayFailIn, IsAtRest};
-ghost use Rattle.lift_world.specs.Tie.{Finds};
+ghost use Rattle.lift_world.specs.Tie.{TakeFinds};
 ghost use Rattle.lift_world.specs.Policies.{StepsAreAny, RunsAreAny};
 ghost use Rattle.lift_world.specs.Possible.{FillsSectors, is_device_call};
 ghost use Rattle.lift_world.specs.Among.{LooksFindAsks, Look, LooksStand};
@@ -250,7 +250,7 @@ pub fn premises_are_exact()
         ↔ ((there : World)
         × AllByRecursion (λ (e : Event). IsTrue (is_of_terminals e || is_flushers e)) look.before
         × (goes look.before w ≡ Some there)
-        × Finds there look.command.terminal look.command
+        × TakeFinds there look.command.terminal look.command
         × AllByRecursion (λ (d : Command). d.terminal ≢ look.command.terminal)
         (map (λ (l : Look). l.command) looks)
         × LooksStand there looks last) }

@@ -9,7 +9,7 @@ ghost use Rattle.lift_building.specs.Plan.{IsBuilding};
 ghost use Rattle.lift_register.specs.Balanced.{IsBalanced};
 ghost use Rattle.lift_register.specs.Register.{register_of, empty};
 ghost use Rattle.lift_world.specs.World.{unplaced, is_taken_of};
-ghost use Rattle.lift_world.specs.Next.{bodies};
+ghost use Rattle.lift_world.specs.Next.{sectors_for_body};
 ghost use Rattle.lift_world.specs.Replays.{FitAfter};
 
 use crate::decide::decide;
@@ -34,9 +34,9 @@ pub struct Sealed {
 }
 
 impl Model for Sealed {
-    ghost use Rattle.lift_world.specs.World.{Batch};
+    ghost use Rattle.lift_world.specs.World.{SealedBatch};
 
-    ghost Value = { Batch };
+    ghost Value = { SealedBatch };
 
     ghost view = { λ b. record { commands = b.commands.items; upto = b.upto } };
 }
@@ -103,7 +103,7 @@ fn unplaced() -> [Option<Position>; 16]
 
 /// The sectors that a batch's body takes.
 fn bodies(count: usize) -> u64
-    ensures { result ≡ bodies count }
+    ensures { result ≡ sectors_for_body count }
 {
     if count <= 31 { 1 } else { 2 }
 }
@@ -160,7 +160,7 @@ impl<'b> World<'b> {
     ghost use Rattle.lift_register.specs.Register.{empty};
     ghost use Rattle.lift_world.specs.World.{start, may_keep, is_taken_of, outcome};
     ghost use Rattle.lift_world.specs.Next.{taking, unanswered, may_take, may_pull, is_quiet};
-    ghost use Rattle.lift_world.specs.Next.{may_reopen, writes_of};
+    ghost use Rattle.lift_world.specs.Next.{may_reopen, writes_before_sync};
     ghost use Rattle.lift_world.specs.Replays.{Moves, MovesTo, Steps};
     ghost use Rattle.lift_world.specs.declared.event.Event.{Event};
 
@@ -416,7 +416,7 @@ impl<'b> World<'b> {
 
     /// How many writes the batch in flight has before its first sync.
     fn writes(&self) -> u64
-        ensures { result ≡ writes_of self.now }
+        ensures { result ≡ writes_before_sync self.now }
     {
         let behind = self.accepted.len().saturating_sub(self.safe);
         let batch = self.flight.upto().saturating_sub(self.safe);

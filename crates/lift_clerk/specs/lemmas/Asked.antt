@@ -17,7 +17,7 @@ use Rattle.lift_world.specs.declared.event.Event.{Event}
 use Rattle.lift_world.specs.declared.event.Power.{Power}
 use Rattle.lift_world.specs.declared.event.Power.TheVariants.{Running, Broken, Off}
 use Rattle.lift_world.specs.declared.event.Taken.{Taken}
-use Rattle.lift_world.specs.World.{World, Batch, start, state_of, is_running, is_off}
+use Rattle.lift_world.specs.World.{World, SealedBatch, start, state_of, is_running, is_off}
 use Rattle.lift_world.specs.Next.{next, run, goes, unanswered}
 use Rattle.lift_world.specs.Asking.{asked_on}
 use Rattle.lift_world.specs.Beside.{is_of_terminals}
@@ -50,9 +50,10 @@ nothing_left : (w : World) → w.due ≡ [] → w.flight.commands ≡ [] → w.q
     → unanswered w ≡ []
 nothing_left w d f q t =
     ap (λ (xs : List Taken).
-    xs ++ w.flight.commands ++ flat_map (λ (b : Batch). b.commands) w.queue ++ w.taken) d
-    ∙ ap (λ (xs : List Taken). xs ++ flat_map (λ (b : Batch). b.commands) w.queue ++ w.taken) f
-    ∙ ap (λ (xs : List Batch). flat_map (λ (b : Batch). b.commands) xs ++ w.taken) q ∙ t
+    xs ++ w.flight.commands ++ flat_map (λ (b : SealedBatch). b.commands) w.queue ++ w.taken) d
+    ∙ ap (λ (xs : List Taken). xs ++ flat_map (λ (b : SealedBatch). b.commands) w.queue ++ w.taken)
+    f
+    ∙ ap (λ (xs : List SealedBatch). flat_map (λ (b : SealedBatch). b.commands) xs ++ w.taken) q ∙ t
 
 is_on : (p : Power) → is_running p ≡ true → is_off p ≡ false
 is_on Running e = refl
@@ -65,7 +66,7 @@ none_few w q = let l : length w.queue ≡ 0 = ap length q in omega arith
 pub rests : (w : World) → IsAtRest w → IsResting w
 rests w k = record {
   nothing = nothing_left w k.nothing_due
-      (ap (λ (b : Batch). b.commands) k.nothing_flies) k.nothing_queued k.nothing_taken;
+      (ap (λ (b : SealedBatch). b.commands) k.nothing_flies) k.nothing_queued k.nothing_taken;
   on = is_on w.power k.running;
   few = none_few w k.nothing_queued;
 }

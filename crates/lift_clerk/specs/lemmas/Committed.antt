@@ -14,7 +14,7 @@ use Rattle.lift_keeper.specs.Writer.{WriterView}
 use Rattle.lift_keeper.specs.lemmas.Committed.{safe_register, whole_before}
 use Rattle.lift_clerk.specs.declared.counts.Counts.{Counts}
 use Rattle.lift_clerk.specs.Clerk.{ClerkState}
-use Rattle.lift_clerk.specs.Machine.{Turns, Fails}
+use Rattle.lift_clerk.specs.Machine.{Turns, TurnFails}
 use Rattle.lift_clerk.specs.Turn.{IsTurn, IsFailedTurn, entries_in}
 
 -- at each moment of one that begins whole, of any batch that leads to its register
@@ -61,11 +61,12 @@ module _ {D P : Type 0} (state : D → DiskState) (choice : Choice) (before afte
       whole_before state before.keeper.writer c.batch after.keeper.writer (Err fault) c.is
       (λ other. absurd (cc))
 
-  pub never_failed : (counts : Counts) → the_answer (Ok counts) ≡ Err (Journal Disk) → Fails choice before after
+  pub never_failed : (counts : Counts) → the_answer (Ok counts) ≡ Err (Journal Disk) → TurnFails choice before after
   never_failed counts is = absurd (cc)
 
   abbrev pub fails_of : (result : Result Counts KeeperFault) → Committed result
-      → result ≡ Err (Journal Disk) → IsFailedTurn choice before after → Fails choice before after
+      → result ≡ Err (Journal Disk) → IsFailedTurn choice before after
+      → TurnFails choice before after
   fails_of (Ok counts) c is turn = never_failed counts is
   fails_of (Err fault) c is turn = record {
     turn = turn;

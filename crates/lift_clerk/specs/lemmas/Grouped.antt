@@ -2,13 +2,14 @@
 use Rattle.lift_building.specs.Plan.{Plan}
 use Rattle.lift_disk.specs.Disk.{Image}
 use Rattle.lift_clerk.specs.Clerk.{ClerkState}
-use Rattle.lift_clerk.specs.Steps.{group_of, MakesSafe, LeavesInDoubt, AnswersUnknown}
-use Rattle.lift_clerk.specs.Steps.{Rests}
-use Rattle.lift_clerk.specs.Machine.{Reopens, Begins}
+use Rattle.lift_clerk.specs.Steps.{group_of, TurnMakesSafe, LeavesInDoubt, AnswersUnknown}
+use Rattle.lift_clerk.specs.Steps.{ClerkRests}
+use Rattle.lift_clerk.specs.Machine.{ClerkReopens, IsNewClerk}
 use Rattle.lift_clerk.specs.History.{BeginsOver}
 
 module _ {D P : Type 0} (before after : ClerkState D P) where
-  abbrev pub grouped_safe : MakesSafe before after → MakesSafe (group_of before) (group_of after)
+  abbrev pub grouped_safe : TurnMakesSafe before after
+      → TurnMakesSafe (group_of before) (group_of after)
   grouped_safe t = record {
     commands = t.commands;
     replies = t.replies;
@@ -45,7 +46,7 @@ module _ {D P : Type 0} (before after : ClerkState D P) where
     rests = t.rests;
   }
 
-  abbrev pub grouped_rests : Rests before after → Rests (group_of before) (group_of after)
+  abbrev pub grouped_rests : ClerkRests before after → ClerkRests (group_of before) (group_of after)
   grouped_rests s = record {
     desk = s.desk;
     words = s.words;
@@ -56,7 +57,8 @@ module _ {D P : Type 0} (before after : ClerkState D P) where
     broken = s.broken;
   }
 
-  abbrev pub grouped_reopens : Reopens before after → Reopens (group_of before) (group_of after)
+  abbrev pub grouped_reopens : ClerkReopens before after
+      → ClerkReopens (group_of before) (group_of after)
   grouped_reopens r = record {
     desk = r.desk;
     same_seat = r.same_seat;
@@ -68,7 +70,7 @@ module _ {D P : Type 0} (before after : ClerkState D P) where
   }
 
 module _ {D P : Type 0} (clerk : ClerkState D P) where
-  abbrev pub grouped_begins : Begins clerk → Begins (group_of clerk)
+  abbrev pub grouped_begins : IsNewClerk clerk → IsNewClerk (group_of clerk)
   grouped_begins b =
       record { seat = b.seat; state = b.state; is_whole = b.is_whole; no_doubt = b.no_doubt }
 

@@ -20,16 +20,17 @@ use Rattle.lift_world.specs.declared.event.Kept.{Kept}
 use Rattle.lift_world.specs.declared.event.Kept.TheVariants.{Safe, WithBatch}
 use Rattle.lift_world.specs.declared.event.Power.TheVariants.{Broken}
 use Rattle.lift_world.specs.Decided.{when}
-use Rattle.lift_world.specs.World.{World, Batch, start, unplaced, safe_list, batch_of, outcome}
-use Rattle.lift_world.specs.World.{may_keep, asks, is_answer_to}
+use Rattle.lift_world.specs.World.{World, SealedBatch, start, unplaced, safe_list, batch_in_flight}
+use Rattle.lift_world.specs.World.{outcome, may_keep, asks, is_answer_to}
 use Rattle.lift_world.specs.Next.{next, goes, reopened, cutting}
 use Rattle.lift_world.specs.Turns.{IsAtRest, IsBrokenAtRest}
 use Rattle.lift_world.specs.Headline.{IsOfBuilding}
 use Rattle.lift_world.specs.lemmas.Entries.{over_nothing}
 use Rattle.lift_clerk.specs.Clerk.{ClerkState}
-use Rattle.lift_clerk.specs.Machine.{IsMachineOf, ShowsWords, ShowsWhole, ShowsBroken, Follows}
-use Rattle.lift_clerk.specs.Machine.{IsReached, WaitsNowhere, Reopens, Stays, Begins, kept_of}
-use Rattle.lift_clerk.specs.Steps.{Rests}
+use Rattle.lift_clerk.specs.Machine.{IsMachineOf, ShowsWords, ShowsWhole, ShowsBroken, LeadsToClerk}
+use Rattle.lift_clerk.specs.Machine.{IsReached, WaitsNowhere, ClerkReopens, Stays, IsNewClerk}
+use Rattle.lift_clerk.specs.Machine.{kept_after}
+use Rattle.lift_clerk.specs.Steps.{ClerkRests}
 use Rattle.lift_clerk.specs.Laws.{Laws}
 use Rattle.lift_clerk.specs.lemmas.Asked.{reaches, not_both}
 use Rattle.lift_clerk.specs.lemmas.Turned.{register_with, safe_all, state_is}
@@ -59,7 +60,7 @@ goes_once w end event e = ap (option_and_then (goes [])) e
 
 -- of no batch nothing is kept
 pub nothing_kept : {A B : Type 0} (safe batch : List Entry) (o : A ⊎ B) → batch ≡ []
-    → kept_of safe batch o ≡ safe
+    → kept_after safe batch o ≡ safe
 nothing_kept safe batch (inl without) e = refl
 nothing_kept safe batch (inr whole) e = ap (λ (xs : List Entry). safe ++ xs) e ∙ append-nil safe
 
@@ -82,25 +83,25 @@ opened end clerk k p r s d = record {
 }
 
 module _ {D P : Type 0} (laws : Laws) (w : World) (before after : ClerkState D P)
-    (r : Reopens before after) (m : IsMachineOf w before) where
+    (r : ClerkReopens before after) (m : IsMachineOf w before) where
   abbrev OneOf : Type 0
   OneOf = (after.keeper.writer.register ≡ before.keeper.writer.register)
       ⊎ (after.keeper.writer.register
       ≡ register_of before.keeper.writer.register before.keeper.writer.doubt)
 
   abbrev safe : OneOf → List Entry
-  safe o = kept_of (safe_list w) before.keeper.writer.doubt o
+  safe o = kept_after (safe_list w) before.keeper.writer.doubt o
 
   abbrev Keeps : OneOf → Type 0
   Keeps o = (kept : Kept) × IsTrue (may_keep w kept)
       × (after.keeper.writer.register ≡ register_of w.base (outcome w kept))
-      × Follows w (Reopen kept ∷ []) [] (safe o) after
+      × LeadsToClerk w (Reopen kept ∷ []) [] (safe o) after
 
   leads_to : (o : OneOf) (kept : Kept) (end : World) → next w (Reopen kept) ≡ Some end
       → IsAtRest end → end.building ≡ w.building → end.base ≡ w.base → end.asked ≡ w.asked → end.heard ≡ w.heard
       → end.answered ≡ w.answered → end.given ≡ w.given
       → end.positions ≡ unplaced → register_of end.base end.accepted ≡ after.keeper.writer.register
-      → end.accepted ≡ safe o → Follows w (Reopen kept ∷ []) [] (safe o) after
+      → end.accepted ≡ safe o → LeadsToClerk w (Reopen kept ∷ []) [] (safe o) after
   leads_to o kept end e k b base a h s g p reg same_safe = record {
     before = [];
     of_terminals = tt;
@@ -185,10 +186,11 @@ module _ {D P : Type 0} (laws : Laws) (w : World) (before after : ClerkState D P
 
 -- A reopening is one of the machine, which keeps what the register tells that it kept.
 pub reopenings_are_reopenings : {D P : Type 0} → Laws → (w : World) (before after : ClerkState D P)
-    (r : Reopens before after) → IsMachineOf w before
+    (r : ClerkReopens before after) → IsMachineOf w before
     → (kept : Kept) × IsTrue (may_keep w kept)
     × (after.keeper.writer.register ≡ register_of w.base (outcome w kept))
-    × Follows w (Reopen kept ∷ []) [] (kept_of (safe_list w) before.keeper.writer.doubt r.one_of)
+    × LeadsToClerk w (Reopen kept ∷ []) []
+    (kept_after (safe_list w) before.keeper.writer.doubt r.one_of)
     after
 reopenings_are_reopenings laws w before after r m =
     by_state laws w before after r m before.keeper.writer.is_broken refl
@@ -206,7 +208,7 @@ rested_words w t old new a b k = record {
 }
 
 pub rests_are_no_events : {D P : Type 0} → (w : World) (before after : ClerkState D P)
-    → Rests before after → after.keeper.writer.is_broken ≡ before.keeper.writer.is_broken
+    → ClerkRests before after → after.keeper.writer.is_broken ≡ before.keeper.writer.is_broken
     → IsMachineOf w before → IsMachineOf w after
 rests_are_no_events w before after s same m = record {
   building = m.building ∙ sym s.plan;
@@ -235,7 +237,7 @@ rests_are_no_events w before after s same m = record {
 abbrev pub rests_of : {D P : Type 0} → (before after : ClerkState D P) → Stays before after
     → (after.keeper.writer.is_broken ≡ true)
     ⊎ (after.keeper.writer.is_broken ≡ before.keeper.writer.is_broken)
-    → Rests before after
+    → ClerkRests before after
 rests_of before after s broken = record {
   desk = s.desk;
   words = λ t. (
@@ -250,16 +252,17 @@ rests_of before after s broken = record {
 }
 
 pub faults_are_events : {D P : Type 0} → Laws → (w : World) (before after : ClerkState D P)
-    → Rests before after → before.keeper.writer.is_broken ≡ false
+    → ClerkRests before after → before.keeper.writer.is_broken ≡ false
     → after.keeper.writer.is_broken ≡ true → IsMachineOf w before
-    → Follows w (Fault ∷ []) [] (safe_list w) after
+    → LeadsToClerk w (Fault ∷ []) [] (safe_list w) after
 faults_are_events laws w before after s was is m =
     let wh = m.whole was in
     let end : World = record w { power = Broken } in
     let fault = (laws.failed_reopenings w).fails wh.at_rest in
-    let upto : w.flight.upto ≡ 0 = ap (λ (b : Batch). b.upto) wh.at_rest.nothing_flies in
+    let upto : w.flight.upto ≡ 0 = ap (λ (b : SealedBatch). b.upto) wh.at_rest.nothing_flies in
     let count : w.flight.upto - w.safe ≡ 0 = omega arith in
-    let nothing : batch_of end ≡ [] = ap (λ (n : ℕ). take n (drop w.safe w.accepted)) count in
+    let nothing : batch_in_flight end
+    ≡ [] = ap (λ (n : ℕ). take n (drop w.safe w.accepted)) count in
     record {
       before = [];
       of_terminals = tt;
@@ -307,7 +310,7 @@ new_words w clerk t e a b =
     })
 
 -- Over an empty journal a clerk begins in the machine's start, where no ask waits.
-pub begins_at_start : {D P : Type 0} → Laws → (clerk : ClerkState D P) → Begins clerk
+pub begins_at_start : {D P : Type 0} → Laws → (clerk : ClerkState D P) → IsNewClerk clerk
     → IsOfBuilding clerk.keeper.writer.plan clerk.keeper.writer.register
     → IsMachineOf (start clerk.keeper.writer.plan clerk.keeper.writer.register) clerk
     × WaitsNowhere (start clerk.keeper.writer.plan clerk.keeper.writer.register)
@@ -331,7 +334,7 @@ same_outcome w WithBatch = refl
 -- After a crash it begins in the world that the machine's power cut and recovery leave.
 pub begins_after_cut : {D P : Type 0} → Laws → (w : World) (clerk : ClerkState D P) (kept : Kept)
     → IsReached w → w.building ≡ clerk.keeper.writer.plan → IsTrue (may_keep w kept)
-    → Begins clerk → clerk.keeper.writer.register ≡ register_of w.base (outcome w kept)
+    → IsNewClerk clerk → clerk.keeper.writer.register ≡ register_of w.base (outcome w kept)
     → (after : World) × (goes (Cut kept ∷ Reopen kept ∷ []) w ≡ Some after)
     × (after.given ≡ w.given) × (after.base ≡ w.base) × IsMachineOf after clerk
     × (safe_list after ≡ outcome w kept) × WaitsNowhere after

@@ -15,7 +15,7 @@ use Rattle.lift_desk.specs.Words.{last_of, number_of}
 use Rattle.lift_desk.specs.Spelled.{IsAsk}
 use Rattle.lift_desk.specs.Steps.{with_taking}
 use Rattle.lift_desk.specs.Seats.{ClerkPlace, no_place, view_at, clerk_with, TakesOf, IsToldAsk}
-use Rattle.lift_desk.specs.Seats.{Owes, Tells}
+use Rattle.lift_desk.specs.Seats.{Owes, LookTells}
 use Rattle.lift_desk.specs.lemmas.Places.{view_at-here}
 use Rattle.lift_policy.specs.declared.command.Command.{Command}
 use Rattle.lift_policy.specs.Eligible.{Choice}
@@ -124,12 +124,12 @@ scans-more choice plan is_broken places seat next before mid after answers other
 
 pub looked-at : (seat next : List ClerkPlace) (n word : ℕ) (found : Option Ask) → n < length seat
     → next ≡ clerk_with seat n (with_taking (view_at seat n) word)
-    → TakesOf (view_at seat n) word found → Tells (view_at seat n) (view_at next n) found
+    → TakesOf (view_at seat n) word found → LookTells (view_at seat n) (view_at next n) found
     → Looked seat next n word found
 looked-at seat next n word found inside is takes tells =
     let here : view_at next n ≡ with_taking (view_at seat n) word =
     ap (λ l. view_at l n) is ∙ view_at-here seat n (with_taking (view_at seat n) word) inside in
-    let there = subst (λ (w : ClerkView). Tells (view_at seat n) w found) here tells in
+    let there = subst (λ (w : ClerkView). LookTells (view_at seat n) w found) here tells in
     record {
       seat_is = is;
       takes = takes;

@@ -14,7 +14,7 @@ use Rattle.lift_desk.specs.declared.view.ClerkView.{ClerkView}
 use Rattle.lift_desk.specs.declared.words.Ask.{Ask}
 use Rattle.lift_desk.specs.Words.{ask_word, reply_word}
 use Rattle.lift_desk.specs.Spelled.{IsAsk}
-use Rattle.lift_desk.specs.Steps.{is_new, with_taking, with_answer}
+use Rattle.lift_desk.specs.Steps.{is_new_word, with_taking, with_answer}
 use Rattle.lift_desk.specs.Seats.{ClerkPlace, view_at}
 use Rattle.lift_policy.specs.declared.command.Command.{Command}
 use Rattle.lift_world.specs.declared.event.Answer.{Answer}
@@ -56,7 +56,7 @@ module _ (place : ClerkPlace) (word t first k : ℕ) where
   abbrev looked : ClerkView
   looked = with_taking place.view word
 
-  nothing : is_new place.view word ≡ false → Grows place.view looked [] []
+  nothing : is_new_word place.view word ≡ false → Grows place.view looked [] []
   nothing old =
       let same : looked.taken ≡ place.view.taken =
       ap (λ (b : Bool). cond b (place.view.taken ++ word ∷ []) place.view.taken) old in
@@ -70,7 +70,7 @@ module _ (place : ClerkPlace) (word t first k : ℕ) where
   abbrev asking : Ask → Command
   asking ask = record { terminal = first; number = ask.number; body = ask.body }
 
-  one_more : (ask : Ask) (reply : Reply) → is_new place.view word ≡ true
+  one_more : (ask : Ask) (reply : Reply) → is_new_word place.view word ≡ true
       → length place.view.answered ≡ length place.view.taken
       → word ≡ ask_word (suc (length place.view.taken)) ask.number ask.body
       → Grows place.view (with_answer looked (reply_word (length looked.taken) ask.number reply))

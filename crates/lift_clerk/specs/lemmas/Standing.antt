@@ -17,7 +17,7 @@ use Rattle.lift_world.specs.declared.event.Taken.{Taken}
 use Rattle.lift_world.specs.World.{World, is_off, asks, is_answer_to}
 use Rattle.lift_world.specs.Next.{unanswered}
 use Rattle.lift_world.specs.Turns.{AreFound, with_replies}
-use Rattle.lift_world.specs.Tie.{Finds}
+use Rattle.lift_world.specs.Tie.{TakeFinds}
 use Rattle.lift_world.specs.Asking.{AreAnswered, asked_on}
 use Rattle.lift_world.specs.Among.{LooksFindAsks}
 use Rattle.lift_clerk.specs.Machine.{waiting_in, LooksAgree}
@@ -161,7 +161,8 @@ module _ (w : World) (splits : (t : ℕ) → Splits w t) (nothing : unanswered w
     asked_now = asked_on w (fresh w all) heard
 
     -- an ask that waits is found
-    finds_waiting : (c : Command) → waiting_in w c.terminal ≡ c ∷ [] → Finds asked_now c.terminal c
+    finds_waiting : (c : Command) → waiting_in w c.terminal ≡ c ∷ []
+        → TakeFinds asked_now c.terminal c
     finds_waiting c e =
         let t : ℕ = c.terminal in
         let s = splits t in

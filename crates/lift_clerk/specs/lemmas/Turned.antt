@@ -22,15 +22,15 @@ use Rattle.lift_world.specs.Next.{goes}
 use Rattle.lift_world.specs.Asking.{asked_on}
 use Rattle.lift_world.specs.Beside.{is_of_terminals}
 use Rattle.lift_world.specs.Policies.{RunsAreAny}
-use Rattle.lift_world.specs.Turns.{IsAtRest, with_replies, turned, turn_events}
+use Rattle.lift_world.specs.Turns.{IsAtRest, with_replies, world_after_turn, turn_events}
 use Rattle.lift_clerk.specs.Clerk.{ClerkState}
 use Rattle.lift_clerk.specs.Visits.{commands_of}
 use Rattle.lift_clerk.specs.Answered.{Answers}
-use Rattle.lift_clerk.specs.Steps.{DecidesOn, MakesSafe}
+use Rattle.lift_clerk.specs.Steps.{DecidesOn, TurnMakesSafe}
 use Rattle.lift_clerk.specs.declared.counts.Counts.{Counts}
 use Rattle.lift_building.specs.Plan.{Plan}
 use Rattle.lift_clerk.specs.Machine.{IsMachineOf, ShowsWords, ShowsWhole, ShowsBroken, LooksAgree}
-use Rattle.lift_clerk.specs.Machine.{WaitsNowhere, waiting_in, Follows, events_of_turn}
+use Rattle.lift_clerk.specs.Machine.{WaitsNowhere, waiting_in, LeadsToClerk, events_of_turn}
 use Rattle.lift_clerk.specs.Machine.{Turns, TurnsAreTurns}
 use Rattle.lift_clerk.specs.Laws.{Laws}
 use Rattle.lift_clerk.specs.lemmas.Served.{answers_of}
@@ -84,7 +84,7 @@ module _ {D P : Type 0} (laws : Laws) (w : World) (before after : ClerkState D P
 
       pub follows : (after.keeper.writer.is_broken ≡ false → ShowsWhole end after.keeper)
           → (after.keeper.writer.is_broken ≡ true → ShowsBroken end after.keeper)
-          → Follows w own (with_replies found rs) safe after
+          → LeadsToClerk w own (with_replies found rs) safe after
       follows whole broken = record {
         before = k.first;
         of_terminals = k.theirs;
@@ -194,7 +194,7 @@ module _ (laws : Laws) (w : World) (rest : IsAtRest w) where
         λ folds. record {
           before = a.events;
           theirs = a.theirs;
-          end = turned w1 (c ∷ cs) (reply ∷ rs) state;
+          end = world_after_turn w1 (c ∷ cs) (reply ∷ rs) state;
           possible = goes_behind a.events (turn_events (c ∷ cs) t.0 folds (length state.batch)) w w1
               a.possible ∙ t.1 folds;
           ends = record { building = refl; base = refl; asked = refl; answered = refl; given = refl };
@@ -208,7 +208,7 @@ module _ (laws : Laws) (w : World) (rest : IsAtRest w) where
 -- what a clerk's turn makes safe
 abbrev pub makes_safe : {D P : Type 0} → (choice : Choice) → RunsAreAny choice
     → (before after : ClerkState D P) (counts : Counts) → Turns choice before after counts
-    → MakesSafe before after
+    → TurnMakesSafe before after
 makes_safe choice any before after counts t = record {
   commands = commands_of 0 t.turn.visits;
   replies = t.turn.replies;
@@ -238,9 +238,9 @@ decided_in w clerk b s cs rs decided d =
 
 -- A batch that is made safe is a turn of the machine.
 pub batches_are_turns : {D P : Type 0} → Laws → (w : World) (before after : ClerkState D P)
-    → (t : MakesSafe before after) → IsMachineOf w before → LooksAgree w t.commands
+    → (t : TurnMakesSafe before after) → IsMachineOf w before → LooksAgree w t.commands
     → (letters : List (Option ℕ))
-    × ((folds : ℕ) → Follows w
+    × ((folds : ℕ) → LeadsToClerk w
     (events_of_turn t.commands letters folds (length t.decided.batch))
     (with_replies t.commands t.replies) (safe_list w ++ t.decided.batch) after)
 batches_are_turns laws w before after t m agree =

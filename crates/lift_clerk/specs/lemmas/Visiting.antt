@@ -10,7 +10,7 @@ use Rattle.lift_desk.specs.declared.view.ClerkView.{ClerkView}
 use Rattle.lift_desk.specs.declared.words.Ask.{Ask}
 use Rattle.lift_desk.specs.Words.{last_of, number_of, reply_word}
 use Rattle.lift_desk.specs.Spelled.{IsAsk}
-use Rattle.lift_desk.specs.Steps.{is_new, with_taking, with_answer}
+use Rattle.lift_desk.specs.Steps.{is_new_word, with_taking, with_answer}
 use Rattle.lift_desk.specs.Seats.{ClerkPlace, no_place, view_at, clerk_with, placed_at, TakesOf}
 use Rattle.lift_desk.specs.Seats.{IsToldAsk, Owes, OwesNothing}
 use Rattle.lift_desk.specs.lemmas.WordLists.{last_of-push}
@@ -85,11 +85,11 @@ length-served [] (u ∷ visits) replies = refl
 length-served (p ∷ places) (u ∷ visits) replies =
     ap suc (length-served places visits (replies_behind u.found replies))
 
-pub taken-new : (view : ClerkView) (word : ℕ) → is_new view word ≡ true
+pub taken-new : (view : ClerkView) (word : ℕ) → is_new_word view word ≡ true
     → (with_taking view word).taken ≡ view.taken ++ word ∷ []
 taken-new view word new = rw new
 
-pub taken-old : (view : ClerkView) (word : ℕ) → is_new view word ≡ false
+pub taken-old : (view : ClerkView) (word : ℕ) → is_new_word view word ≡ false
     → (with_taking view word).taken ≡ view.taken
 taken-old view word old = rw old
 

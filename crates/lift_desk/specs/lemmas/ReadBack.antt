@@ -12,14 +12,15 @@ use Rattle.lift_base.specs.declared.command.Reason.TheVariants.{NoSuchFloor, Sam
 use Rattle.lift_base.specs.declared.command.Reply.{Reply}
 use Rattle.lift_base.specs.declared.command.Reply.TheVariants.{Car, Stopped, Placed, Refused, Unknown}
 use Rattle.lift_base.specs.Command.{reason_number}
-use Rattle.lift_desk.specs.Words.{dir_bit, body_bits, ask_word, stop_bits, reply_bits, reply_word, IsBody, IsNext, IsReply}
-use Rattle.lift_desk.specs.Words.{dir_of, body_of, ask_of, stop_of, reason_of, reply_by, reply_of}
+use Rattle.lift_desk.specs.Words.{dir_bit, body_bits, ask_word, stop_bits, reply_bits, reply_word}
+use Rattle.lift_desk.specs.Words.{IsBodyInRange, IsNextStop, IsReply, dir_by_bit, body_of, ask_of}
+use Rattle.lift_desk.specs.Words.{stop_by_bits, reason_of, reply_by, reply_of}
 
 dir_bit_small : (dir : Dir) → dir_bit dir < 2
 dir_bit_small Up = omega arith
 dir_bit_small Down = omega arith
 
-pub dir_of_bit : (dir : Dir) → dir_of (dir_bit dir) ≡ dir
+pub dir_of_bit : (dir : Dir) → dir_by_bit (dir_bit dir) ≡ dir
 dir_of_bit Up = refl
 dir_of_bit Down = refl
 
@@ -39,12 +40,12 @@ read_stop_ask bits floor dir kind at way = rw (kind, at, way, dir_of_bit dir) re
 read_place : (bits floor : ℕ) (dir : Dir) → bits / 2 ^ 18 ≡ 3 → bits % 64 ≡ floor → bits / 64 % 2 ≡ dir_bit dir → body_of bits ≡ Place floor dir
 read_place bits floor dir kind at way = rw (kind, at, way, dir_of_bit dir) refl
 
-body_small : (body : Body) → IsBody body → body_bits body < 2 ^ 20
+body_small : (body : Body) → IsBodyInRange body → body_bits body < 2 ^ 20
 body_small (Call floor party) range = omega arith
 body_small (Stop floor dir) range = omega (arith, dir_bit_small dir)
 body_small (Place floor dir) range = omega (arith, dir_bit_small dir)
 
-body_back : (body : Body) → IsBody body → body_of (body_bits body) ≡ body
+body_back : (body : Body) → IsBodyInRange body → body_of (body_bits body) ≡ body
 body_back (Call floor party) range = read_call (body_bits (Call floor party)) floor party (omega arith) (omega arith) (omega arith)
 body_back (Stop floor dir) range =
     read_stop_ask (body_bits (Stop floor dir)) floor dir (omega (arith, dir_bit_small dir)) (omega (arith, dir_bit_small dir)) (omega (arith, dir_bit_small dir))
@@ -52,7 +53,7 @@ body_back (Place floor dir) range =
     read_place (body_bits (Place floor dir)) floor dir (omega (arith, dir_bit_small dir)) (omega (arith, dir_bit_small dir)) (omega (arith, dir_bit_small dir))
 
 -- an ask's word reads as that ask
-pub ask_back : (turn number : ℕ) (body : Body) → number < 2 ^ 24 → IsBody body → ask_of (ask_word turn number body) ≡ record { number = number; body = body }
+pub ask_back : (turn number : ℕ) (body : Body) → number < 2 ^ 24 → IsBodyInRange body → ask_of (ask_word turn number body) ≡ record { number = number; body = body }
 ask_back turn number body few range =
     let small = body_small body range in
     let n = middle turn number (body_bits body) few small in
@@ -81,14 +82,14 @@ reason_small WrongKind = omega arith
 reason_small Full = omega arith
 reason_small NotServed = omega arith
 
-next_small : (next : Option StopAt) → IsNext next → stop_bits next < 2 ^ 12
+next_small : (next : Option StopAt) → IsNextStop next → stop_bits next < 2 ^ 12
 next_small None range = omega arith
 next_small (Some stop) range = omega (arith, dir_bit_small stop.dir)
 
-read_next : (bits floor : ℕ) (dir : Dir) → bits == 0 ≡ false → bits % 64 ≡ floor → bits / 64 % 2 ≡ dir_bit dir → stop_of bits ≡ Some (record { floor = floor; dir = dir })
+read_next : (bits floor : ℕ) (dir : Dir) → bits == 0 ≡ false → bits % 64 ≡ floor → bits / 64 % 2 ≡ dir_bit dir → stop_by_bits bits ≡ Some (record { floor = floor; dir = dir })
 read_next bits floor dir some at way = rw (some, at, way, dir_of_bit dir) refl
 
-next_back : (next : Option StopAt) → IsNext next → stop_of (stop_bits next) ≡ next
+next_back : (next : Option StopAt) → IsNextStop next → stop_by_bits (stop_bits next) ≡ next
 next_back None range = refl
 next_back (Some stop) range =
     read_next (stop_bits (Some stop)) stop.floor stop.dir (grind (arith, nat_tests)) (omega (arith, dir_bit_small stop.dir)) (omega (arith, dir_bit_small stop.dir))

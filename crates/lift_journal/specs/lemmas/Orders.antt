@@ -10,8 +10,8 @@ use Rattle.lift_base.specs.declared.history.Record.TheVariants.{Entry, Row, Last
 use Rattle.lift_record.specs.declared.version.Version.{Version}
 use Rattle.lift_record.specs.declared.version.Version.TheVariants.{One, Two}
 use Rattle.lift_record.specs.Version.{version_number}
-use Rattle.lift_journal.specs.Order.{IsEntry, IsOfBase, MayFollow, IsInOrderBehind, IsInOrder}
-use Rattle.lift_journal.specs.Order.{last_behind, MayEnd}
+use Rattle.lift_journal.specs.Order.{IsEntry, IsOfBase, MayFollow, IsInOrderBehind}
+use Rattle.lift_journal.specs.Order.{AreRecordsInOrder, last_behind, MayEnd}
 use Rattle.lift_journal.specs.Layout.{Batch, records_of, NeverFall, IsSound}
 use Rattle.lift_journal.specs.Walk.{IsSoundFront, version_behind}
 
@@ -109,7 +109,7 @@ pub front_push : (batches : List Batch) (batch : Batch) → IsSoundFront batches
     → IsSoundFront (batches ++ batch ∷ [])
 front_push batches batch sound rises order = record {
   versions = fall_push One batches batch sound.versions rises;
-  ordered = subst IsInOrder (sym (records_push batches batch))
+  ordered = subst AreRecordsInOrder (sym (records_push batches batch))
       (order_join None (records_of batches) batch.records sound.ordered order);
 }
 
@@ -121,7 +121,7 @@ pub front_order : (batches : List Batch) (batch : Batch) → IsSoundFront (batch
     → IsInOrderBehind (last_behind None (records_of batches)) batch.records
 front_order batches batch sound =
     order_back None (records_of batches) batch.records
-    (subst IsInOrder (records_push batches batch) sound.ordered)
+    (subst AreRecordsInOrder (records_push batches batch) sound.ordered)
 
 pub last_push : (batches : List Batch) (batch : Batch)
     → last_behind None (records_of (batches ++ batch ∷ []))
@@ -169,7 +169,7 @@ sound_push batches entries sound kinds =
     let last = last_behind None (records_of batches) in
     record {
       versions = fall_push One batches batch sound.versions (fall_to_second One batches);
-      ordered = subst IsInOrder (sym (records_push batches batch))
+      ordered = subst AreRecordsInOrder (sym (records_push batches batch))
           (order_join None (records_of batches) entries sound.ordered
           (entries_follow last entries sound.complete each));
       complete = subst MayEnd (sym (last_push batches batch))

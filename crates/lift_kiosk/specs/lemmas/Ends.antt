@@ -17,8 +17,8 @@ use Rattle.lift_kiosk.specs.declared.outcome.Outcome.TheVariants.{NotAnswered, R
 use Rattle.lift_desk.specs.declared.words.Ask.{Ask}
 use Rattle.lift_kiosk.specs.Port.{PortView}
 use Rattle.lift_base.specs.Output.{Takes}
-use Rattle.lift_kiosk.specs.Session.{Standing, PortDid, PortOpened, Run, LastStep, EndsLines}
-use Rattle.lift_kiosk.specs.Session.{Opens, opening_line, Converses}
+use Rattle.lift_kiosk.specs.Session.{Standing, PortDid, PortOpened, AnswersLines, LastStep}
+use Rattle.lift_kiosk.specs.Session.{EndsLines, SessionOpens, opening_line, Converses}
 
 -- no line takes looks back
 pub looks_grow : (looks : ℕ) (before : PortView) (outcome : Outcome) (after : PortView)
@@ -34,7 +34,7 @@ looks_grow looks before (Refused ask) after did =
 
 run_grows : (wants : List ℕ → Wanted → Type 0) (keeps : LastLetter → ℕ → Reply
     → LastLetter) (limits : Limits) (xs : List (List ℕ × Outcome)) (before after : Standing)
-    → Run wants keeps limits xs before after → before.port.looks ≤ after.port.looks
+    → AnswersLines wants keeps limits xs before after → before.port.looks ≤ after.port.looks
 run_grows wants keeps limits [] before after run =
     omega (arith, ap (λ (s : Standing). s.port.looks) run)
 run_grows wants keeps limits (x ∷ xs) before after run =
@@ -163,7 +163,7 @@ unwritten_lines wants keeps limits calls end before after lines failed =
 pub behind_greeting : (wants : List ℕ → Wanted → Type 0) (keeps : LastLetter → ℕ → Reply
     → LastLetter) (limits : Limits) (end : End) (opening : Opening)
     (before greeted after : Standing)
-    → Opens keeps limits opening before greeted
+    → SessionOpens keeps limits opening before greeted
     → Takes (opening_line greeted.last opening) before.sink greeted.sink
     → opening ≢ StillWaits
     → EndsLines wants keeps limits (before.source.calls + limits.reads) end greeted after

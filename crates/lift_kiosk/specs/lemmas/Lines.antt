@@ -7,10 +7,11 @@ use Rattle.std.specs.Prelude.{slice_index, ◌-◌, ◌==◌, cond}
 use Rattle.std.proofs.lemmas.List.{take_all, take-append-le}
 use Rattle.std.proofs.lemmas.Bool.Decides.{nat_tests}
 use Rattle.std.proofs.KnownBytes.{Consumes-trans, Consumes-nil}
-use Rattle.lift_kiosk.specs.Lines.{Source, Gives, GivesLine, GivesPart, HasNoFeed, Keeps65}
+use Rattle.lift_kiosk.specs.Lines.{Source, GivesBytes, GivesLine, GivesPart, HasNoFeed, Keeps65}
 
-pub gives_more : (bytes : List ℕ) (byte : ℕ) (before mid after : Source) → Gives bytes before mid
-    → Gives (byte ∷ []) mid after → Gives (bytes ++ byte ∷ []) before after
+pub gives_more : (bytes : List ℕ) (byte : ℕ) (before mid after : Source)
+    → GivesBytes bytes before mid
+    → GivesBytes (byte ∷ []) mid after → GivesBytes (bytes ++ byte ∷ []) before after
 gives_more bytes byte before mid after so_far one = record {
   calls = omega (arith, so_far.calls, one.calls, length_push bytes byte);
   failed = one.failed ∙ so_far.failed;
@@ -24,14 +25,14 @@ no_feed_more [] byte none here = (here, tt)
 no_feed_more (b ∷ bytes) byte none here = (none.0, no_feed_more bytes byte none.1 here)
 
 pub part_more : (part : List ℕ) (byte : ℕ) (before mid after : Source) → GivesPart part before mid
-    → Gives (byte ∷ []) mid after → byte ≢ 10 → GivesPart (part ++ byte ∷ []) before after
+    → GivesBytes (byte ∷ []) mid after → byte ≢ 10 → GivesPart (part ++ byte ∷ []) before after
 part_more part byte before mid after so_far one here = record {
   whole = no_feed_more part byte so_far.whole here;
   bytes = gives_more part byte before mid after so_far.bytes one;
 }
 
 pub part_ends : (part : List ℕ) (byte : ℕ) (before mid after : Source) → GivesPart part before mid
-    → Gives (byte ∷ []) mid after → byte ≡ 10 → GivesLine part before after
+    → GivesBytes (byte ∷ []) mid after → byte ≡ 10 → GivesLine part before after
 part_ends part byte before mid after so_far one feed = record {
   whole = so_far.whole;
   bytes = let more = gives_more part byte before mid after so_far.bytes one in rw feed at more;

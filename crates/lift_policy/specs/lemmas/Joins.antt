@@ -19,7 +19,7 @@ use Rattle.lift_register.specs.Prelude.{cars, kept_of, Fits}
 use Rattle.lift_policy.specs.Terminals.{has_car, has_kiosk, kiosk_floor}
 use Rattle.lift_policy.specs.Eligible.{Choice, is_eligible, eligible_cars}
 use Rattle.lift_policy.specs.Step.{State, Step, Proceeds, Allots, Repeats, view_of, call_at}
-use Rattle.lift_policy.specs.Step.{cars_for, is_new, is_same, accepting, standing}
+use Rattle.lift_policy.specs.Step.{cars_for, is_new, is_same, accepting, with_car_at}
 use Rattle.lift_policy.specs.Laws.{JoinsAtMostOne}
 use Rattle.lift_policy.specs.lemmas.Steps.{NoCause, no_cause, HasStepped, has_stepped, Proceeded}
 use Rattle.lift_policy.specs.lemmas.Steps.{WasRefused}
@@ -143,7 +143,7 @@ same_dir-refl Down = refl
 stop_joins : (plan : Plan) (state next : State) (car number floor : ℕ) (dir : Dir) (b : Bool)
     → NoCause plan state car number (Stop floor dir)
     → is_new state car number ≡ b
-    → next ≡ standing (cond b (accepting state (Stopping car number floor dir)) state) car floor
+    → next ≡ with_car_at (cond b (accepting state (Stopping car number floor dir)) state) car floor
     dir → JoinsAtMostOne plan state car number (Stop floor dir) next
 stop_joins plan state next car number floor dir true none new is =
     joined plan state next car number (Stop floor dir) (Stopping car number floor dir) refl refl

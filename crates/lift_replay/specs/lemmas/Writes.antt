@@ -3,28 +3,29 @@ use Rattle.std.proofs.Common.{◌≡◌, ℕ, zero, suc, ◌<◌, List, [], leng
 use Rattle.std.specs.Prelude.{Option, Result, Ok, Err, OnOk, OnErr, IfErr, IsErrAnd}
 use Rattle.lift_base.specs.Output.{Wrote, WroteAll, WroteUpToFault}
 use Rattle.lift_base.specs.declared.text.output.WriteFault.{WriteFault}
-use Rattle.lift_replay.specs.Writing.{Took, TakesEach, FailsAtLast, IsCalled, IsCalledTill, WritesPieces}
+use Rattle.lift_replay.specs.Writing.{Took, TakesSomeEachCall, FailsAtLast, IsCalled, IsCalledTill}
+use Rattle.lift_replay.specs.Writing.{WritesPieces}
 use Rattle.lift_replay.specs.declared.script.ReplayFault.{ReplayFault}
 use Rattle.lift_replay.specs.declared.script.ReplayFault.TheVariants.{Memory, Read, Write}
 
 -- no call was made
-pub takes_none : {W : Type 0} (gives : W → List ℕ → Option ℕ → W → Type 0) (before after : W) → after ≡ before → TakesEach gives before after
+pub takes_none : {W : Type 0} (gives : W → List ℕ → Option ℕ → W → Type 0) (before after : W) → after ≡ before → TakesSomeEachCall gives before after
 takes_none gives before after same = (0, same)
 
-took_more : {W : Type 0} (gives : W → List ℕ → Option ℕ → W → Type 0) (first second : ℕ) (before between after : W) → Took gives first before between → Took gives second between after → TakesEach gives before after
+took_more : {W : Type 0} (gives : W → List ℕ → Option ℕ → W → Type 0) (first second : ℕ) (before between after : W) → Took gives first before between → Took gives second between after → TakesSomeEachCall gives before after
 took_more gives first zero before between after took same = (first, subst (Took gives first before) (sym same) took)
 took_more gives first (suc second) before between after took (last, given, count, earlier, step, some) =
     let more = took_more gives first second before between last took earlier in
     (suc more.0, (last, given, count, more.1, step, some))
 
 -- first some calls, then others
-pub takes_more : {W : Type 0} (gives : W → List ℕ → Option ℕ → W → Type 0) (before between after : W) → TakesEach gives before between → TakesEach gives between after → TakesEach gives before after
+pub takes_more : {W : Type 0} (gives : W → List ℕ → Option ℕ → W → Type 0) (before between after : W) → TakesSomeEachCall gives before between → TakesSomeEachCall gives between after → TakesSomeEachCall gives before after
 takes_more gives before between after first second = took_more gives first.0 second.0 before between after first.1 second.1
 
-pub fails_more : {W : Type 0} (gives : W → List ℕ → Option ℕ → W → Type 0) (before between after : W) → TakesEach gives before between → FailsAtLast gives between after → FailsAtLast gives before after
+pub fails_more : {W : Type 0} (gives : W → List ℕ → Option ℕ → W → Type 0) (before between after : W) → TakesSomeEachCall gives before between → FailsAtLast gives between after → FailsAtLast gives before after
 fails_more gives before between after first (last, given, takes, some, fails) = (last, given, takes_more gives before between last first takes, some, fails)
 
-pub till_more : {W : Type 0} (gives : W → List ℕ → Option ℕ → W → Type 0) (before between after : W) (fault : ReplayFault) → (fault ≡ Read → ⊥) → TakesEach gives before between → IsCalledTill gives between after fault → IsCalledTill gives before after fault
+pub till_more : {W : Type 0} (gives : W → List ℕ → Option ℕ → W → Type 0) (before between after : W) (fault : ReplayFault) → (fault ≡ Read → ⊥) → TakesSomeEachCall gives before between → IsCalledTill gives between after fault → IsCalledTill gives before after fault
 till_more gives before between after (Memory m) other first second = takes_more gives before between after first second
 till_more gives before between after Read other first second = absurd (other refl)
 till_more gives before between after Write other first second = fails_more gives before between after first second
@@ -41,7 +42,7 @@ took_of gives (suc calls) written bytes before after (between, earlier, count, w
     (between, drop earlier bytes, count, took_of gives calls earlier bytes before between wrote, step, some)
 
 -- all of some bytes were written
-pub takes_of : {W : Type 0} (gives : W → List ℕ → Option ℕ → W → Type 0) (bytes : List ℕ) (before after : W) → (calls : ℕ) × WroteAll gives bytes 0 calls before after → TakesEach gives before after
+pub takes_of : {W : Type 0} (gives : W → List ℕ → Option ℕ → W → Type 0) (bytes : List ℕ) (before after : W) → (calls : ℕ) × WroteAll gives bytes 0 calls before after → TakesSomeEachCall gives before after
 takes_of gives bytes before after (calls, (made, wrote, count)) = (made, took_of gives made (length bytes) bytes before after wrote)
 
 -- or a front of them
@@ -52,7 +53,7 @@ fails_of gives bytes before after fault within (calls, (made, between, wrote, fa
 
 -- by what a put came to
 pub takes_all : {W : Type 0} (gives : W → List ℕ → Option ℕ → W → Type 0) (bytes : List ℕ) (before after : W) (result : Result Unit WriteFault)
-    → OnOk result ((calls : ℕ) × WroteAll gives bytes 0 calls before after) → OnOk result (TakesEach gives before after)
+    → OnOk result ((calls : ℕ) × WroteAll gives bytes 0 calls before after) → OnOk result (TakesSomeEachCall gives before after)
 takes_all gives bytes before after (Ok done) told = takes_of gives bytes before after told
 takes_all gives bytes before after (Err fault) told = tt
 
@@ -75,7 +76,7 @@ none_taken gives bytes before after (Err fault) none within told = absurd (omega
 
 -- the last piece was written behind what came before
 pub called_behind : {W T : Type 0} (gives : W → List ℕ → Option ℕ → W → Type 0) (before between after : W) (end : Result T ReplayFault) (piece : List ℕ) → (end ≡ Err Read → ⊥) → IsCalled gives before between end
-    → (end ≡ Err Write → piece ≡ []) → (piece ≡ [] → after ≡ between) → TakesEach gives between after → IsCalled gives before after end
+    → (end ≡ Err Write → piece ≡ []) → (piece ≡ [] → after ≡ between) → TakesSomeEachCall gives between after → IsCalled gives before after end
 called_behind gives before between after (Ok value) piece other first empty idle takes = takes_more gives before between after first takes
 called_behind gives before between after (Err (Memory m)) piece other first empty idle takes = takes_more gives before between after first takes
 called_behind gives before between after (Err Read) piece other first empty idle takes = absurd (other refl)
@@ -90,7 +91,7 @@ fails_behind gives before between after (Err Read) piece other first empty idle 
 fails_behind gives before between after (Err Write) piece other first empty idle fails = subst (FailsAtLast gives before) (sym (idle (empty refl))) first
 
 -- by what a function came to that adds to a piece: no call failed
-pub pieces_ok : {W T : Type 0} (gives : W → List ℕ → Option ℕ → W → Type 0) (before after : W) (piece : List ℕ) (value : T) → TakesEach gives before after → WritesPieces gives before after piece (Ok value)
+pub pieces_ok : {W T : Type 0} (gives : W → List ℕ → Option ℕ → W → Type 0) (before after : W) (piece : List ℕ) (value : T) → TakesSomeEachCall gives before after → WritesPieces gives before after piece (Ok value)
 pieces_ok gives before after piece value takes = record { output = λ is. cc; calls = takes; emptied = λ is. absurd cc }
 
 -- or a fault is handed on
@@ -103,14 +104,14 @@ pieces_err gives before after piece (Err told) fault is other called empty = rec
   emptied = λ write. empty (let same : told ≡ fault = is in cc);
 }
 
-pub pieces_memory : {W T : Type 0} (gives : W → List ℕ → Option ℕ → W → Type 0) (before after : W) (piece : List ℕ) (result : Result T ReplayFault) → IsErrAnd result (λ told. told ≡ Memory tt) → TakesEach gives before after → WritesPieces gives before after piece result
+pub pieces_memory : {W T : Type 0} (gives : W → List ℕ → Option ℕ → W → Type 0) (before after : W) (piece : List ℕ) (result : Result T ReplayFault) → IsErrAnd result (λ told. told ≡ Memory tt) → TakesSomeEachCall gives before after → WritesPieces gives before after piece result
 pieces_memory gives before after piece result is takes = pieces_err gives before after piece result (Memory tt) is (λ read. cc) takes (λ write. absurd cc)
 
 pub pieces_failed : {W T : Type 0} (gives : W → List ℕ → Option ℕ → W → Type 0) (before after : W) (piece : List ℕ) (result : Result T ReplayFault) → IsErrAnd result (λ told. told ≡ Write) → FailsAtLast gives before after → piece ≡ [] → WritesPieces gives before after piece result
 pieces_failed gives before after piece result is fails empty = pieces_err gives before after piece result Write is (λ read. cc) fails (λ write. empty)
 
 -- one of such a function, behind other calls
-pub pieces_behind : {W T U : Type 0} (gives : W → List ℕ → Option ℕ → W → Type 0) (before between after : W) (piece : List ℕ) (result : Result T ReplayFault) (fault : ReplayFault) → IsErrAnd result (λ told. told ≡ fault) → TakesEach gives before between
+pub pieces_behind : {W T U : Type 0} (gives : W → List ℕ → Option ℕ → W → Type 0) (before between after : W) (piece : List ℕ) (result : Result T ReplayFault) (fault : ReplayFault) → IsErrAnd result (λ told. told ≡ fault) → TakesSomeEachCall gives before between
     → WritesPieces {T = U} gives between after piece (Err fault) → WritesPieces gives before after piece result
 pieces_behind gives before between after piece result fault is first writes =
     let other : fault ≡ Read → ⊥ = λ read. writes.output (ap Err read) in

@@ -19,10 +19,10 @@ use Rattle.lift_keeper.specs.Writer.{WriterView}
 use Rattle.lift_policy.specs.Eligible.{Choice}
 use Rattle.lift_world.specs.declared.event.Taken.{Taken}
 use Rattle.lift_clerk.specs.Clerk.{ClerkState}
-use Rattle.lift_clerk.specs.Machine.{Begins}
+use Rattle.lift_clerk.specs.Machine.{IsNewClerk}
 use Rattle.lift_clerk.specs.Steps.{group_of}
 use Rattle.lift_clerk.specs.History.{History}
-use Rattle.lift_clerk.specs.Keeping.{Keeps, KeepsEither, KeepsFront}
+use Rattle.lift_clerk.specs.Keeping.{ImageKeeps, KeepsEither, KeepsFront}
 use Rattle.lift_clerk.specs.lemmas.Keeps.{either_front}
 use Rattle.lift_parts.specs.Flusher.{FlusherState}
 use Rattle.lift_parts.specs.Keeping.{KeepingTurns, NoneYet, OneKept}
@@ -35,9 +35,9 @@ keeps_first : {D : Type 0} (plan other : Plan) (base : RegisterState) (safe batc
     (left : Image) → other ≡ plan → IsPrefix given now → KeepsEither D other base safe batch now left
     → KeepsAll D plan base given left
 keeps_first {D} plan other base safe batch given now left same front (inl keeps) =
-    (safe, now, front, subst (λ (p : Plan). Keeps D p base safe now left) same keeps)
+    (safe, now, front, subst (λ (p : Plan). ImageKeeps D p base safe now left) same keeps)
 keeps_first {D} plan other base safe batch given now left same front (inr keeps) =
-    (safe ++ batch, now, front, subst (λ (p : Plan). Keeps D p base (safe ++ batch) now left) same keeps)
+    (safe ++ batch, now, front, subst (λ (p : Plan). ImageKeeps D p base (safe ++ batch) now left) same keeps)
 
 -- Behind these turns, all that was given at the opening has been kept since.
 record Always {D : Type 0} (state : D → DiskState) (plan : Plan) (base : RegisterState) (first : DiskState)
@@ -103,12 +103,12 @@ module _ {D P : Type 0} (chooses : P → Choice) (state : D → DiskState) (plan
   now same left may = (
     safe,
     (keeper.writer.doubt, refl),
-    subst (λ (i : Image). Keeps D plan base safe given i)
+    subst (λ (i : Image). ImageKeeps D plan base safe given i)
         (sym (all_same new.is_loose new.image left (reopens.synced honest).none_loose may)) found.2,
   )
 
   -- whoever begins at a new desk goes on with it
-  goes_on : (clerk : ClerkState D P) → clerk.keeper ≡ keeper → Begins clerk
+  goes_on : (clerk : ClerkState D P) → clerk.keeper ≡ keeper → IsNewClerk clerk
       → History base (group_of clerk) safe given
   goes_on clerk is begins = found.2.goes_on (group_of clerk) (record {
     begins = record {
@@ -131,7 +131,7 @@ module _ {D P : Type 0} (chooses : P → Choice) (state : D → DiskState) (plan
 
   -- it was served
   module _ (policy : P) (last : KeeperView D) (r : IsRelayedKeeper chooses state policy keeper last) where
-    begins : Begins r.before
+    begins : IsNewClerk r.before
     begins = record {
       seat = r.unused;
       state = subst (λ (k : KeeperView D). k.state ≡ starting k.writer.register) (sym r.begins)

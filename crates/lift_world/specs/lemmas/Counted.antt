@@ -12,7 +12,8 @@ use Rattle.lift_register.specs.Register.{RegisterState}
 use Rattle.lift_policy.specs.declared.command.Command.{Command}
 use Rattle.lift_world.specs.declared.event.Taken.{Taken}
 use Rattle.lift_world.specs.declared.event.Event.{Event}
-use Rattle.lift_world.specs.World.{World, Batch, start, is_off, asks, is_taken_of, is_answer_to}
+use Rattle.lift_world.specs.World.{World, SealedBatch, start, is_off, asks, is_taken_of}
+use Rattle.lift_world.specs.World.{is_answer_to}
 use Rattle.lift_world.specs.Next.{run, next, others, unanswered, unknown_to, answering, answer_of}
 use Rattle.lift_world.specs.Next.{may_take, deciding}
 use Rattle.lift_world.specs.Decided.{Decision}
@@ -102,8 +103,8 @@ module _ (terminal : ℕ) where
   owed_others other c (x ∷ xs) h =
       owed_drop other c x (is_taken_of other x) xs refl (λ g. owed_others other c xs g) h
 
-abbrev pub in_queue : List Batch → List Taken
-in_queue queue = flat_map (λ (b : Batch). b.commands) queue
+abbrev pub in_queue : List SealedBatch → List Taken
+in_queue queue = flat_map (λ (b : SealedBatch). b.commands) queue
 
 -- what a terminal was answered and is owed, it asked; and it asked at most one more than it heard
 abbrev pub asked_by : World → ℕ → ℕ
@@ -184,11 +185,11 @@ module _ (w : World) (terminal : ℕ) (k : Balances w terminal) where
         hears = (let b = k.hears in omega arith);
       }
 
-  queue_is : (batch : Batch) (rest : List Batch) → w.queue ≡ batch ∷ rest
+  queue_is : (batch : SealedBatch) (rest : List SealedBatch) → w.queue ≡ batch ∷ rest
       → owed terminal (in_queue w.queue)
       ≡ owed terminal batch.commands + owed terminal (in_queue rest)
   queue_is batch rest at =
-      ap (λ (q : List Batch). owed terminal (in_queue q)) at ∙ count_both
+      ap (λ (q : List SealedBatch). owed terminal (in_queue q)) at ∙ count_both
       (is_taken_of terminal) batch.commands (in_queue rest)
 
   answered_one : (t : ℕ) (c : Taken) → find (is_taken_of t) w.due ≡ Some c
@@ -213,10 +214,10 @@ balances terminal w event k =
           took w terminal k t command d (eqb command.terminal terminal) refl
           (eqb-true command.terminal t (find_held (asks t) (reverse w.asked) command at).1) may;
       sealed = λ on some is_seal.
-          let b : Batch = record { commands = w.taken; upto = length w.accepted } in
+          let b : SealedBatch = record { commands = w.taken; upto = length w.accepted } in
           let q : owed terminal (in_queue (w.queue ++ b ∷ []))
           ≡ owed terminal (in_queue w.queue) + owed terminal (in_queue (b ∷ [])) =
-          ap (owed terminal) (flat_map-append (λ (x : Batch). x.commands) w.queue (b ∷ [])) ∙
+          ap (owed terminal) (flat_map-append (λ (x : SealedBatch). x.commands) w.queue (b ∷ [])) ∙
           count_both (is_taken_of terminal) (in_queue w.queue) (in_queue (b ∷ [])) in
           let one = count_both (is_taken_of terminal) w.taken [] in
           owes w terminal k _ refl refl refl (omega arith);

@@ -40,7 +40,7 @@ use Rattle.lift_policy.specs.Terminals.{kiosk_floor, has_kiosk, has_car}
 use Rattle.lift_policy.specs.View.{ViewState, position_of}
 use Rattle.lift_policy.specs.Eligible.{is_eligible, can_take, eligible_cars}
 use Rattle.lift_policy.specs.Step.{State, has_cause, first_cause, is_new, is_same, is_kept}
-use Rattle.lift_policy.specs.Step.{accepting, standing, next_from, cars_for, call_at, view_of}
+use Rattle.lift_policy.specs.Step.{accepting, with_car_at, next_from, cars_for, call_at, view_of}
 use Rattle.lift_world.specs.Decided.{Decision, when, letter_in, kept_letter, is_among, allotted}
 use Rattle.lift_world.specs.Decided.{repeated, proceeding, decided, decided_after}
 use Rattle.lift_world.specs.World.{told_by, state_at}
@@ -471,9 +471,11 @@ module _ (building : Plan) (sound : IsBuilding building) (base : RegisterState) 
       → NoCause building here terminal number (Stop floor dir) → is_new here terminal number ≡ b
       → DecidesWell building base accepted sealed terminal number (Stop floor dir) (record {
         reply = Stopped (next_from
-            (standing (cond b (accepting here (Stopping terminal number floor dir)) here) terminal
+            (with_car_at (cond b (accepting here (Stopping terminal number floor dir)) here)
+            terminal
             floor dir) terminal floor dir);
-        next = standing (cond b (accepting here (Stopping terminal number floor dir)) here) terminal
+        next = with_car_at (cond b (accepting here (Stopping terminal number floor dir)) here)
+            terminal
             floor dir;
       })
   stop_at floor dir true clear new =
@@ -508,8 +510,8 @@ module _ (building : Plan) (sound : IsBuilding building) (base : RegisterState) 
       subst (DecidesWell building base accepted sealed terminal number (Place floor dir)) (some_is _ d h)
       (stays (Place floor dir)
       (record {
-        reply = Placed (next_from (standing here terminal floor dir) terminal floor dir);
-        next = standing here terminal floor dir;
+        reply = Placed (next_from (with_car_at here terminal floor dir) terminal floor dir);
+        next = with_car_at here terminal floor dir;
       }) refl refl (λ all. All-nil (IsHeld base accepted)))
   proceeds_well (Place floor dir) (Some car) d clear h = cc
 

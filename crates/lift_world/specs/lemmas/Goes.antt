@@ -4,7 +4,7 @@ use Rattle.std.specs.Prelude.{unwrap_or, option_and_then}
 use Rattle.lift_world.specs.declared.event.Event.{Event}
 use Rattle.lift_world.specs.World.{World}
 use Rattle.lift_world.specs.Next.{next, run, goes}
-use Rattle.lift_world.specs.Beside.{GoesAreRuns, RunsJoin}
+use Rattle.lift_world.specs.Beside.{GoesAreRuns, EventsJoin}
 use Rattle.lift_world.specs.lemmas.Steps.{then_from}
 
 -- one event that is possible
@@ -33,6 +33,6 @@ goes_are_runs w (e ∷ events) after h =
     let t = then_from (goes events) (next w e) after h in
     ap (λ (o : Option World). run events (unwrap_or o w)) t.1 ∙ goes_are_runs t.0 events after t.2
 
-pub runs_join : (w : World) → RunsJoin w
+pub runs_join : (w : World) → EventsJoin w
 runs_join w [] later = refl
 runs_join w (e ∷ events) later = runs_join (unwrap_or (next w e) w) events later

@@ -18,9 +18,9 @@ use Rattle.lift_world.specs.declared.event.Answer.{Answer}
 use Rattle.lift_world.specs.declared.event.Taken.{Taken}
 use Rattle.lift_world.specs.declared.event.Phase.TheVariants.{Writing, Synced, GateWritten}
 use Rattle.lift_world.specs.Decided.{when, decided}
-use Rattle.lift_world.specs.World.{World, Batch, start, is_answer_to, is_taken_of, asks, written}
-use Rattle.lift_world.specs.World.{is_running, is_broken, is_off, is_synced, is_gate_written}
-use Rattle.lift_world.specs.World.{state_of, may_keep}
+use Rattle.lift_world.specs.World.{World, SealedBatch, start, is_answer_to, is_taken_of, asks}
+use Rattle.lift_world.specs.World.{written, is_running, is_broken, is_off, is_synced}
+use Rattle.lift_world.specs.World.{is_gate_written, state_of, may_keep}
 use Rattle.lift_world.specs.Next.{run, next, next_answer, hearing, answering, answer_of, asking}
 use Rattle.lift_world.specs.Next.{taking, deciding, sealing, pulled, in_phase, settling, failing}
 use Rattle.lift_world.specs.Next.{cutting, reopened, unknown_to, may_ask, may_take, may_seal}
@@ -104,7 +104,7 @@ answering_hears w terminal c k other =
           (filter-append (is_answer_to other) w.answered (new ∷ [])),
     )
 
-pulling_hears : (w : World) (batch : Batch) (rest : List Batch) (broken more : Bool)
+pulling_hears : (w : World) (batch : SealedBatch) (rest : List SealedBatch) (broken more : Bool)
     → HearsInOrder w
     → HearsInOrder (cond broken (record w {
       queue = rest;
@@ -116,7 +116,7 @@ pulling_hears w batch rest true more k = k
 pulling_hears w batch rest false true k = k
 pulling_hears w batch rest false false k = k
 
-pulled_hears : (w : World) (queue : List Batch) → HearsInOrder w
+pulled_hears : (w : World) (queue : List SealedBatch) → HearsInOrder w
     → HearsInOrder (unwrap_or (pulled w queue) w)
 pulled_hears w [] k = k
 pulled_hears w (batch ∷ rest) k =

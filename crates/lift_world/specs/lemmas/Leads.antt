@@ -17,8 +17,9 @@ use Rattle.lift_world.specs.declared.event.Event.TheVariants.{Body as BodyWrite,
 use Rattle.lift_world.specs.declared.event.Event.TheVariants.{SecondSync, Answer as Answering, Hear}
 use Rattle.lift_world.specs.declared.event.Event.TheVariants.{Fault, Cut, Reopen}
 use Rattle.lift_world.specs.Decided.{Decision, when, decided}
-use Rattle.lift_world.specs.World.{World, Batch, is_running, is_broken, is_off, is_idle, is_synced}
-use Rattle.lift_world.specs.World.{is_gate_written, written, asks, is_taken_of, state_of, may_keep}
+use Rattle.lift_world.specs.World.{World, SealedBatch, is_running, is_broken, is_off, is_idle}
+use Rattle.lift_world.specs.World.{is_synced, is_gate_written, written, asks, is_taken_of, state_of}
+use Rattle.lift_world.specs.World.{may_keep}
 use Rattle.lift_world.specs.Next.{next, unknown_to, asking, taking, deciding, sealing, pulled}
 use Rattle.lift_world.specs.Next.{in_phase, settling, failing, answering, hearing, next_answer}
 use Rattle.lift_world.specs.Next.{cutting, reopened, is_waiting, is_empty, may_ask, may_take}
@@ -47,13 +48,14 @@ pub record Leads (P : World → Type 0) (w : World) (event : Event) : Type 0 whe
       → decided w.building (state_of w) command.terminal command.number command.body letter ≡ Some d
       → event ≡ Take terminal letter → P (deciding w command d)
   pub sealed : is_off w.power ≡ false → is_empty w.taken ≡ false → event ≡ Seal → P (sealing w)
-  pub fails : (batch : Batch) (rest : List Batch) → is_off w.power ≡ false → w.queue ≡ batch ∷ rest
+  pub fails : (batch : SealedBatch) (rest : List SealedBatch) → is_off w.power ≡ false
+      → w.queue ≡ batch ∷ rest
       → is_broken w.power ≡ true
       → P (record w { queue = rest; due = w.due ++ map unknown_to batch.commands })
-  pub flies : (batch : Batch) (rest : List Batch) → is_running w.power ≡ true
+  pub flies : (batch : SealedBatch) (rest : List SealedBatch) → is_running w.power ≡ true
       → w.queue ≡ batch ∷ rest → is_idle w.phase ≡ true → ltb w.safe batch.upto ≡ true
       → P (record w { queue = rest; flight = batch; phase = Writing 0 })
-  pub lands : (batch : Batch) (rest : List Batch) → is_running w.power ≡ true
+  pub lands : (batch : SealedBatch) (rest : List SealedBatch) → is_running w.power ≡ true
       → w.queue ≡ batch ∷ rest → is_idle w.phase ≡ true → ltb w.safe batch.upto ≡ false
       → P (record w { queue = rest; due = w.due ++ batch.commands })
   pub goes_on : (phase : Phase) → is_off w.power ≡ false → is_idle w.phase ≡ false
@@ -68,7 +70,7 @@ pub record Leads (P : World → Type 0) (w : World) (event : Event) : Type 0 whe
       → P (reopened w kept)
 
 module _ (P : World → Type 0) (w : World) where
-  pull_running : (event : Event) (batch : Batch) (rest : List Batch) (more : Bool)
+  pull_running : (event : Event) (batch : SealedBatch) (rest : List SealedBatch) (more : Bool)
       → ltb w.safe batch.upto ≡ more → is_idle w.phase ≡ true → is_running w.power ≡ true
       → w.queue ≡ batch ∷ rest → Leads P w event
       → P (cond more (record w { queue = rest; flight = batch; phase = Writing 0 })
@@ -76,7 +78,7 @@ module _ (P : World → Type 0) (w : World) where
   pull_running event batch rest true e idle on at k = k.flies batch rest on at idle e
   pull_running event batch rest false e idle on at k = k.lands batch rest on at idle e
 
-  pull_first : (event : Event) (batch : Batch) (rest : List Batch) (broken : Bool)
+  pull_first : (event : Event) (batch : SealedBatch) (rest : List SealedBatch) (broken : Bool)
       → is_broken w.power ≡ broken → (broken || (is_running w.power && is_idle w.phase)) ≡ true
       → is_off w.power ≡ false → w.queue ≡ batch ∷ rest → Leads P w event
       → P (cond broken (record w { queue = rest; due = w.due ++ map unknown_to batch.commands })
@@ -87,7 +89,7 @@ module _ (P : World → Type 0) (w : World) where
       let parts = and_parts (is_running w.power) (is_idle w.phase) may in
       pull_running event batch rest (ltb w.safe batch.upto) refl parts.1 parts.0 at k
 
-  pulls : (event : Event) (queue : List Batch) → w.queue ≡ queue → may_pull w ≡ true
+  pulls : (event : Event) (queue : List SealedBatch) → w.queue ≡ queue → may_pull w ≡ true
       → is_off w.power ≡ false → Leads P w event → P (unwrap_or (pulled w queue) w)
   pulls event [] at may on k = k.stays
   pulls event (batch ∷ rest) at may on k =

@@ -26,12 +26,12 @@ use Rattle.lift_policy.specs.declared.command.Command.{Command}
 use Rattle.lift_policy.specs.Terminals.{kiosk_floor}
 use Rattle.lift_policy.specs.Eligible.{any_eligible}
 use Rattle.lift_policy.specs.Step.{State, Step, Proceeds, first_cause, is_new, is_same, is_kept}
-use Rattle.lift_policy.specs.Step.{accepting, stopping, standing, next_from, cars_for}
+use Rattle.lift_policy.specs.Step.{accepting, stopping, with_car_at, next_from, cars_for}
 use Rattle.lift_world.specs.declared.event.Taken.{Taken}
 use Rattle.lift_world.specs.World.{World, state_of, asks, is_off, is_taken_of, is_answer_to}
 use Rattle.lift_world.specs.Next.{taking, may_take, is_waiting, unanswered}
 use Rattle.lift_world.specs.Possible.{CanBeLookedAt, TakesNeedLooks}
-use Rattle.lift_world.specs.Tie.{Finds, LooksAreTakes}
+use Rattle.lift_world.specs.Tie.{TakeFinds, LooksAreTakes}
 use Rattle.lift_world.specs.Turns.{HasRun}
 use Rattle.lift_world.specs.lemmas.Entries.{head_of}
 use Rattle.lift_world.specs.lemmas.Decisions.{NoCause, no_cause, is_last, kept_at, kept_some}
@@ -116,8 +116,8 @@ module _ (building : Plan) (state : State) (terminal number : ℕ) where
     (refl, refl),
   )
   goes (Place floor dir) clear = (
-    Placed (next_from (standing state terminal floor dir) terminal floor dir),
-    standing state
+    Placed (next_from (with_car_at state terminal floor dir) terminal floor dir),
+    with_car_at state
         terminal floor dir,
     (refl, refl),
   )
@@ -233,7 +233,7 @@ pub looks_are_takes : (w : World) → LooksAreTakes w
 looks_are_takes w terminal can =
     let ask = finds_some (asks terminal) w.asked (let m = can.asks_more in omega arith) in
     let command : Command = ask.0 in
-    let finds : Finds w terminal command = (may_be_taken w terminal can, ask.1) in
+    let finds : TakeFinds w terminal command = (may_be_taken w terminal can, ask.1) in
     let d = is_decided w.building (state_of w) command.terminal command.number command.body in
     let take = steps_are_takes w terminal command d.0 d.1 finds d.2 in
     record {

@@ -11,29 +11,31 @@ use Rattle.lift_world.specs.declared.event.Taken.{Taken}
 use Rattle.lift_world.specs.declared.event.Event.{Event}
 use Rattle.lift_world.specs.declared.event.Power.{Power}
 use Rattle.lift_world.specs.declared.event.Power.TheVariants.{Running, Broken, Off}
-use Rattle.lift_world.specs.World.{World, Batch, start, is_idle, is_taken_of, is_running, is_broken}
+use Rattle.lift_world.specs.World.{World, SealedBatch, start, is_idle, is_taken_of, is_running}
+use Rattle.lift_world.specs.World.{is_broken}
 use Rattle.lift_world.specs.Next.{run, next, unanswered}
 use Rattle.lift_world.specs.Relay.{AreApart, EndInOrder, last_end, flown, IsQueueInOrder}
 use Rattle.lift_world.specs.lemmas.Counted.{count_cons, owed, all_ask_one_by_one}
 use Rattle.lift_world.specs.lemmas.Phases.{not_idle}
 use Rattle.lift_world.specs.lemmas.Leads.{leads}
 
-end_lower : (low other : ℕ) (queue : List Batch) (high : ℕ) → other ≤ low
+end_lower : (low other : ℕ) (queue : List SealedBatch) (high : ℕ) → other ≤ low
     → EndInOrder low queue high → EndInOrder other queue high
 end_lower low other [] high le h = omega arith
 end_lower low other (b ∷ queue) high le h = (let first = h.0 in omega arith, h.1)
 
-pub end_above : (low : ℕ) (queue : List Batch) (high : ℕ) → EndInOrder low queue high → low ≤ high
+pub end_above : (low : ℕ) (queue : List SealedBatch) (high : ℕ) → EndInOrder low queue high
+    → low ≤ high
 end_above low [] high h = h
 end_above low (b ∷ queue) high h = let first = h.0 in let rest = end_above b.upto queue high h.1 in
     omega arith
 
-end_push : (low : ℕ) (queue : List Batch) (high : ℕ) (b : Batch) → high ≤ b.upto
+end_push : (low : ℕ) (queue : List SealedBatch) (high : ℕ) (b : SealedBatch) → high ≤ b.upto
     → EndInOrder low queue high → EndInOrder low (queue ++ b ∷ []) b.upto
 end_push low [] high b le h = (omega arith, omega arith)
 end_push low (x ∷ queue) high b le h = (h.0, end_push x.upto queue high b le h.1)
 
-pub last_pushed : (low : ℕ) (queue : List Batch) (b : Batch)
+pub last_pushed : (low : ℕ) (queue : List SealedBatch) (b : SealedBatch)
     → last_end low (queue ++ b ∷ []) ≡ b.upto
 last_pushed low [] b = refl
 last_pushed low (x ∷ queue) b = last_pushed x.upto queue b
@@ -60,12 +62,14 @@ ordered_from w k = record {
 }
 
 -- a queue without its first batch
-pub first_of : (w : World) (batch : Batch) (rest : List Batch) → Ordered w → w.queue ≡ batch ∷ rest
+pub first_of : (w : World) (batch : SealedBatch) (rest : List SealedBatch) → Ordered w
+    → w.queue ≡ batch ∷ rest
     → (flown w ≤ batch.upto) × EndInOrder batch.upto rest w.sealed
 first_of w batch rest k at =
-    subst (λ (q : List Batch). EndInOrder (flown w) q w.sealed) at k.in_order
+    subst (λ (q : List SealedBatch). EndInOrder (flown w) q w.sealed) at k.in_order
 
-rest_of : (w : World) (batch : Batch) (rest : List Batch) → Ordered w → w.queue ≡ batch ∷ rest
+rest_of : (w : World) (batch : SealedBatch) (rest : List SealedBatch) → Ordered w
+    → w.queue ≡ batch ∷ rest
     → EndInOrder (flown w) rest w.sealed
 rest_of w batch rest k at = let f = first_of w batch rest k at in
     end_lower batch.upto (flown w) rest w.sealed f.0 f.1
@@ -75,7 +79,8 @@ pub flies_to : (w : World) → is_idle w.phase ≡ false → flown w ≡ w.fligh
 flies_to w busy = ap (λ (b : Bool). cond b w.safe w.flight.upto) busy
 
 -- a batch without entries ends where it begins
-pub none_ends : (w : World) (batch : Batch) (rest : List Batch) → Ordered w → w.queue ≡ batch ∷ rest
+pub none_ends : (w : World) (batch : SealedBatch) (rest : List SealedBatch) → Ordered w
+    → w.queue ≡ batch ∷ rest
     → is_idle w.phase ≡ true → ltb w.safe batch.upto ≡ false → batch.upto ≡ flown w
 none_ends w batch rest k at idle none =
     let low = (first_of w batch rest k at).0 in
@@ -83,10 +88,11 @@ none_ends w batch rest k at idle none =
     let same : flown w ≡ w.safe = ap (λ (b : Bool). cond b w.safe w.flight.upto) idle in
     omega arith
 
-ends_at : (w : World) (batch : Batch) (rest : List Batch) → Ordered w → w.queue ≡ batch ∷ rest
+ends_at : (w : World) (batch : SealedBatch) (rest : List SealedBatch) → Ordered w
+    → w.queue ≡ batch ∷ rest
     → is_running w.power ≡ true → last_end batch.upto rest ≡ w.sealed
 ends_at w batch rest k at on =
-    subst (λ (q : List Batch). last_end (flown w) q ≡ w.sealed) at (k.ends on)
+    subst (λ (q : List SealedBatch). last_end (flown w) q ≡ w.sealed) at (k.ends on)
 
 ordered : (w : World) (event : Event) → Ordered w → Ordered (unwrap_or (next w event) w)
 ordered w event k = leads Ordered w event (record {

@@ -24,7 +24,7 @@ use Rattle.lift_policy.specs.declared.command.Command.{Command}
 use Rattle.lift_policy.specs.Terminals.{kiosk_floor}
 use Rattle.lift_policy.specs.Eligible.{Choice, any_eligible}
 use Rattle.lift_policy.specs.Step.{State, Step, Proceeds, Allots, Repeats, first_cause, is_new}
-use Rattle.lift_policy.specs.Step.{is_same, is_kept, accepting, stopping, standing, next_from}
+use Rattle.lift_policy.specs.Step.{is_same, is_kept, accepting, stopping, with_car_at, next_from}
 use Rattle.lift_policy.specs.Step.{cars_for}
 use Rattle.lift_world.specs.declared.event.Event.TheVariants.{Take}
 use Rattle.lift_world.specs.Decided.{Decision, when, letter_in, kept_letter, is_among, allotted}
@@ -277,7 +277,7 @@ proceeds_on building choice base prefix s terminal number (Stop floor dir) reply
     goes_on_same base prefix (stopping s terminal number floor dir) next h.0
     (goes_on_if base prefix s (Stopping terminal number floor dir) (is_new s terminal number) k)
 proceeds_on building choice base prefix s terminal number (Place floor dir) reply next k h =
-    goes_on_same base prefix (standing s terminal floor dir) next h.0 k
+    goes_on_same base prefix (with_car_at s terminal floor dir) next h.0 k
 
 step_on : (building : Plan) (choice : Choice) (base : RegisterState) (prefix : List Entry) (s : State)
     (terminal number : ℕ) (body : Body) (reply : Reply) (next : State) (o : Option Reason)

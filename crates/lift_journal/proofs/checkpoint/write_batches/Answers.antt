@@ -10,7 +10,7 @@ use Rattle.lift_journal.specs.Walk.{Reaches}
 use Rattle.lift_journal.specs.Checkpoint.{in_batches, batch_count, sectors_for}
 use Rattle.lift_journal.proofs.Bases.{base_in_order}
 use Rattle.lift_journal.proofs.Checkpoints.{Drafted, drafted_touched, drafted_more, lawful_part, next_size, next_body, next_exact, next_room, draft_stops, used_most, used_within, used_checkpoint}
-use Rattle.lift_journal.specs.Calls.{body_of, draft_calls, StopsIn}
+use Rattle.lift_journal.specs.Calls.{batch_body, draft_calls, StopsIn}
 use Rattle.lift_journal.proofs.Following.{err_follows}
 use Rattle.lift_journal.specs.lemmas.Telling.{fails_then, err_stops}
 use Rattle.lift_journal.proofs.checkpoint.write_batches.Goals as goal
@@ -66,9 +66,9 @@ loop-index-preserved g c =
     let long = next_size n items c.sectors_of-body.result.now is c.sectors_of-body.ensures.length in
     let room = next_room c.args.start c.loop-index.gate k n c.batches_for-index-end.result records items c.loop-index.invariant.at c.loop-index-test.true c.batches_for-index-end.ensures.limit is in
     let written = subst (λ (s : Image). IsBody (k + 1) (record { version = Two; records = items }) (take (bodies (length items)) s)) (sym c.sectors_of-body.ensures.cut) (subst (λ (l : List Record). IsBody (k + 1) (record { version = Two; records = l }) (take (bodies (length l)) (take 512 c.put_body.new.text ∷ drop 512 c.put_body.new.text ∷ []))) c.deref.ensures.0 c.put_body.ensures.spelled) in
-    let exact : take (bodies (length items)) c.sectors_of-body.result.now ≡ body_of (k + 1) (record { version = Two; records = items }) =
+    let exact : take (bodies (length items)) c.sectors_of-body.result.now ≡ batch_body (k + 1) (record { version = Two; records = items }) =
     ap (λ (s : Image). take (bodies (length items)) s) c.sectors_of-body.ensures.cut
-    ∙ subst (λ (l : List Record). take (bodies (length l)) (take 512 c.put_body.new.text ∷ drop 512 c.put_body.new.text ∷ []) ≡ body_of (k + 1) (record { version = Two; records = l })) c.deref.ensures.0 c.put_body.ensures.exact in
+    ∙ subst (λ (l : List Record). take (bodies (length l)) (take 512 c.put_body.new.text ∷ drop 512 c.put_body.new.text ∷ []) ≡ batch_body (k + 1) (record { version = Two; records = l })) c.deref.ensures.0 c.put_body.ensures.exact in
     subst (λ m. Drafted old new c.args.start (c.loop-index.gate + (m + 1)) (k + 1) records) long
     (drafted_more old now new c.args.start c.loop-index.gate k records c.loop-index.invariant sectors (omega (arith, long, room)) (long ∙ is ∙ ap (λ (l : List Record). bodies (length l)) c.base_batch-batch.ensures)
     (next_body k n records items c.sectors_of-body.result.now c.base_batch-batch.ensures is written) (base_in_order c.args.register.now c.base_len.ensures.lawful)
@@ -146,9 +146,9 @@ returns-in_err-write_open_batch-clause-follows g c =
     let k = c.loop-index.index in
     let is : n ≡ bodies (length items) = c.body_count-bodies.ensures ∙ ap bodies c.len.ensures.value in
     let all : c.batches_for-index-end.result ≡ batch_count (length records) = c.batches_for-index-end.ensures.value ∙ ap batch_count c.base_len.ensures.value in
-    let exact : take (bodies (length items)) c.sectors_of-body.result.now ≡ body_of (k + 1) (record { version = Two; records = items }) =
+    let exact : take (bodies (length items)) c.sectors_of-body.result.now ≡ batch_body (k + 1) (record { version = Two; records = items }) =
     ap (λ (s : Image). take (bodies (length items)) s) c.sectors_of-body.ensures.cut
-    ∙ subst (λ (l : List Record). take (bodies (length l)) (take 512 c.put_body.new.text ∷ drop 512 c.put_body.new.text ∷ []) ≡ body_of (k + 1) (record { version = Two; records = l })) c.deref.ensures.0 c.put_body.ensures.exact in
+    ∙ subst (λ (l : List Record). take (bodies (length l)) (take 512 c.put_body.new.text ∷ drop 512 c.put_body.new.text ∷ []) ≡ batch_body (k + 1) (record { version = Two; records = l })) c.deref.ensures.0 c.put_body.ensures.exact in
     err_follows _ c.from_residual.result old new (draft_calls c.args.start 1 (in_batches (batch_count (length records)) records)) c.from_residual.ensures.1
     (subst (λ m. StopsIn (draft_calls c.args.start 1 (in_batches m records)) old new) all
     (draft_stops old (g.D.Disk.state c.loop-index.disk) new c.args.start c.loop-index.gate k c.batches_for-index-end.result records (take n c.sectors_of-body.result.now) c.loop-index.invariant.at

@@ -3,7 +3,7 @@ use Rattle.lift_journal.specs.Journal.{JournalView}
 use Rattle.lift_journal.specs.Steps.{ReadsOnly}
 use Rattle.lift_journal.specs.Visits.{TakesAll}
 use Rattle.lift_keeper.specs.Calls.{RefusedCalls}
-use Rattle.lift_keeper.specs.Reading.{ReadingState, Reads}
+use Rattle.lift_keeper.specs.Reading.{ReadingState, ReadsBatch}
 use Rattle.lift_keeper.specs.Reopening.{RefusesReopening}
 use Rattle.lift_keeper.proofs.Recovering.{plan_read}
 use Rattle.lift_keeper.proofs.Reopenings.{reopens, guards, opening_calls, refused_calls, journal_calls, refused_journal, refused_reading}
@@ -23,7 +23,7 @@ returns-in-Err-recovered-clause-refused g c =
     let reading = c.reopen_from.new.visitor in
     subst (λ (d : g.row.D.Denot). RefusesReopening c.args.building.now (g.D.Disk.state c.args.journal.now.device) (g.D.Disk.state d) c.in-Err-recovered.fault) (sym c.return_to.ensures.device)
     (refused_reading c.args.building.now (g.D.Disk.state c.args.journal.now.device) (g.D.Disk.state journal.device) journal.shape journal.used c.in-Ok.ensures.reopens.opens.opens reading
-    (λ honest batches holds. subst (λ (s : ReadingState). TakesAll Reads s batches reading) c.new-reading.ensures (c.in-Ok.ensures.shown honest batches holds))
+    (λ honest batches holds. subst (λ (s : ReadingState). TakesAll ReadsBatch s batches reading) c.new-reading.ensures (c.in-Ok.ensures.shown honest batches holds))
     c.in-Err-recovered.fault c.in-Err-recovered.ensures.refused)
 
 pub returns-in-Ok-recovered-clause-opens : goal.returns-in-Ok-recovered-clause-opens
@@ -32,7 +32,7 @@ returns-in-Ok-recovered-clause-opens g c =
     let reading = c.reopen_from.new.visitor in
     let found = c.in-Ok-recovered.ensures in
     reopens c.args.building.now (g.D.Disk.state c.args.journal.now.device) (g.D.Disk.state journal.device) journal.shape journal.used c.in-Ok.ensures.reopens.opens.opens reading
-    (λ honest batches holds. subst (λ (s : ReadingState). TakesAll Reads s batches reading) c.new-reading.ensures (c.in-Ok.ensures.shown honest batches holds))
+    (λ honest batches holds. subst (λ (s : ReadingState). TakesAll ReadsBatch s batches reading) c.new-reading.ensures (c.in-Ok.ensures.shown honest batches holds))
     c.in-Ok-recovered.register found.shape found.gives journal.is_second c.in-Ok.ensures.reopens.opens.half
 
 pub returns-in-Ok-recovered-clause-guards : goal.returns-in-Ok-recovered-clause-guards
@@ -42,7 +42,7 @@ returns-in-Ok-recovered-clause-guards g c =
     let found = c.in-Ok-recovered.ensures in
     let some = c.reopen_from.ensures.shown_some in
     guards c.args.building.now (g.D.Disk.state c.args.journal.now.device) (g.D.Disk.state journal.device) journal.shape journal.used c.in-Ok.ensures.reopens.opens.opens reading
-    (λ honest batches holds. subst (λ (s : ReadingState). TakesAll Reads s batches reading) c.new-reading.ensures (c.in-Ok.ensures.shown honest batches holds))
+    (λ honest batches holds. subst (λ (s : ReadingState). TakesAll ReadsBatch s batches reading) c.new-reading.ensures (c.in-Ok.ensures.shown honest batches holds))
     c.in-Ok-recovered.register found.shape found.gives journal.is_second c.in-Ok.ensures.reopens.opens.half
     (plan_read c.new-reading.result some.batches reading some.taken ∙ ap (λ (s : ReadingState). s.recovery.plan) c.new-reading.ensures)
 

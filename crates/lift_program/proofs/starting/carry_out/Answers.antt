@@ -4,7 +4,7 @@ use Rattle.lift_disk.specs.Files.{sector_file_state_of}
 use Rattle.lift_program.specs.Images.{image_files}
 use Rattle.lift_program.specs.Unwritten.{unwritten_state_of}
 use Rattle.lift_program.specs.Ends.{IsEndOf, undone_for}
-use Rattle.lift_program.specs.Output.{HasFailed}
+use Rattle.lift_program.specs.Output.{WriterHasFailed}
 use Rattle.lift_program.proofs.Asked.{asked_end}
 use Rattle.lift_program.proofs.starting.carry_out.Goals.{in-Ok-Some, in-Ok-None, in-Err}
 use Rattle.lift_program.proofs.starting.carry_out.Goals as goal
@@ -28,7 +28,7 @@ pub returns-clause-caused : goal.returns-clause-caused
 returns-clause-caused g c = record {
   unwritten = λ is.
       elim c.match-request_of.branch [
-        | in-Ok-Some w ↦ subst (λ v. HasFailed g.W.Outlet.gives g.W.Outflow.flushes c.args.writer.now v) (sym w.writer-is)
+        | in-Ok-Some w ↦ subst (λ v. WriterHasFailed g.W.Outlet.gives g.W.Outflow.flushes c.args.writer.now v) (sym w.writer-is)
             (w.done-end.ensures.caused.unwritten (ap (λ e. undone_for e) (sym w.end-is) ∙ is))
         | in-Ok-None w ↦ absurd (let other = ap (λ e. undone_for e) (sym w.end-is) ∙ is in cc)
         | in-Err w ↦ absurd (let other = ap (λ e. undone_for e) (sym w.end-is) ∙ is in cc)

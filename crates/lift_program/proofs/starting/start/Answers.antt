@@ -4,7 +4,7 @@ use Rattle.lift_disk.specs.Below.{buffered_state_of}
 use Rattle.lift_disk.specs.Files.{sector_file_state_of}
 use Rattle.lift_program.specs.Images.{image_files}
 use Rattle.lift_program.specs.Unwritten.{unwritten_state_of}
-use Rattle.lift_program.specs.Ends.{IsEndOf, IsReport}
+use Rattle.lift_program.specs.Ends.{IsEndOf, IsReportOfEnd}
 use Rattle.lift_program.proofs.starting.start.Goals as goal
 
 pub returns : goal.returns
@@ -18,7 +18,7 @@ returns g c =
       status = record {
         end = c.carry_out-end.result;
         is_end = subst (λ r. IsEndOf files (g.R.Read.remaining r) words before after c.carry_out-end.result) same c.carry_out-end.ensures.end;
-        reported = subst (λ r. IsReport (g.R.Read.remaining r) c.carry_out-end.result before after) same c.carry_out-end.ensures.report;
+        reported = subst (λ r. IsReportOfEnd (g.R.Read.remaining r) c.carry_out-end.result before after) same c.carry_out-end.ensures.report;
         answered = c.carry_out-end.ensures.answered;
         is_status = c.status.ensures;
         told = c.carry_out-end.ensures.told;

@@ -6,7 +6,7 @@ use Rattle.lift_desk.specs.Steps.{with_taking}
 use Rattle.lift_desk.specs.Words.{last_of, number_of}
 use Rattle.lift_desk.specs.Seats.{ClerkPlace, view_at, Owes}
 use Rattle.lift_desk.specs.lemmas.Places.{view_at-here}
-use Rattle.lift_clerk.specs.Scanning.{told}
+use Rattle.lift_clerk.specs.Scanning.{reply_told}
 use Rattle.lift_clerk.specs.lemmas.Scanned.{looked-at}
 use Rattle.lift_parts.specs.Flusher.{GivesIt}
 use Rattle.lift_relay.proofs.Flushed.{gives_one, settles_one}
@@ -33,8 +33,8 @@ returns-clause-answers c =
     let here : view_at c.look_for-found.new.clerk t ≡ with_taking (view_at seat t) l.looked.0 = ap (λ s. view_at s t) l.looked.1 ∙ view_at-here seat t (with_taking (view_at seat t) l.looked.0) (omega arith) in
     let ask : Ask = record { number = taken.command.number; body = taken.command.body } in
     let gives : GivesIt found taken = subst (λ (o : Option Ask). GivesIt o taken) (sym (l.noted ask c.requires.says).0) (refl, refl) in
-    let said : c.if-is_safe.reply ≡ told c.args.is_safe taken.reply =
-    elim c.if-is_safe.branch [ then-is_safe w ↦ w.reply-is ∙ ap (λ b. told b taken.reply) (sym w.if-is_safe.true) | else-is_safe w ↦ w.reply-is ∙ ap (λ b. told b taken.reply) (sym w.if-is_safe.false) ] in (
+    let said : c.if-is_safe.reply ≡ reply_told c.args.is_safe taken.reply =
+    elim c.if-is_safe.branch [ then-is_safe w ↦ w.reply-is ∙ ap (λ b. reply_told b taken.reply) (sym w.if-is_safe.true) | else-is_safe w ↦ w.reply-is ∙ ap (λ b. reply_told b taken.reply) (sym w.if-is_safe.false) ] in (
       record { word = l.looked.0; found = found },
       gives_one c.args.is_safe seat c.look_for-found.new.clerk c.answer.new.clerk taken l.looked.0 found c.if-is_safe.reply look gives here c.answer.ensures.answered said
           (ap (λ v. v.taken) (sym here) ∙ (l.noted ask c.requires.says).1),

@@ -4,10 +4,10 @@ use Rattle.lift_building.specs.Plan.{Plan}
 use Rattle.lift_desk.specs.Seats.{clerk_of, seats_from}
 use Rattle.lift_policy.specs.Step.{State}
 use Rattle.lift_register.specs.Balanced.{open_count}
-use Rattle.lift_replay.specs.Group.{GroupState, left_by, recovered}
+use Rattle.lift_replay.specs.Group.{ScriptGroup, left_by, recovered}
 use Rattle.lift_replay.specs.Report.{Reports, ReportsPart, cut_text}
 use Rattle.lift_replay.specs.Running.{LinesEnd, TellsPart}
-use Rattle.lift_replay.specs.Shows.{Shows, IsKept}
+use Rattle.lift_replay.specs.Shows.{Shows, IsKeeperOf}
 use Rattle.lift_replay.specs.Source.{lines_in}
 use Rattle.lift_replay.proofs.Recovered.{new_shows}
 use Rattle.lift_replay.proofs.Runs.{run_told, cut_goes_on}
@@ -24,7 +24,7 @@ returns-in-Run-clause-tells g c = λ group kept new.
     new_shows plan group c.args.keeper c.new-station.result.clerk c.new-station.result.terminals.seats.items desk kept new c.new-station.ensures.keeper
     (c.new-station.ensures.clerk ∙ c.in_ok-desk.ensures.clerk ∙ ap clerk_of c.in_ok-desk.desk-is) (c.new-station.ensures.seats ∙ ap (seats_from 0) c.in_ok-desk.desk-is) count in
     let at : c.new-station.result.building.now ≡ plan = c.new-station.ensures.building in
-    let told = subst (λ (p : Plan). (h : GroupState) → Shows p h c.new-station.result.clerk c.new-station.result.terminals.seats.items
+    let told = subst (λ (p : Plan). (h : ScriptGroup) → Shows p h c.new-station.result.clerk c.new-station.result.terminals.seats.items
     → (added : List ℕ) × LinesEnd p c.args.lines.now.count h (lines_in c.args.lines.now.rest.now) added c.add_lines.new.lines.count (lines_in c.add_lines.new.lines.rest.now)
     c.add_lines.new.station.clerk c.add_lines.new.station.terminals.seats.items c.in_ok-verdict.field-0
     × Reports (g.W.Write.contents c.args.writer.now) (g.W.Write.contents c.add_lines.new.writer) (string_bytes c.args.piece.now) (string_bytes c.add_lines.new.piece) added) at c.in_ok-verdict.ensures.tells in
@@ -40,13 +40,13 @@ returns-clause-tells g c = λ group kept new.
     new_shows plan group c.args.keeper c.new-station.result.clerk c.new-station.result.terminals.seats.items desk kept new c.new-station.ensures.keeper
     (c.new-station.ensures.clerk ∙ c.in_ok-desk.ensures.clerk ∙ ap clerk_of c.in_ok-desk.desk-is) (c.new-station.ensures.seats ∙ ap (seats_from 0) c.in_ok-desk.desk-is) count in
     let at : c.new-station.result.building.now ≡ plan = c.new-station.ensures.building in
-    let told = subst (λ (p : Plan). (h : GroupState) → Shows p h c.new-station.result.clerk c.new-station.result.terminals.seats.items
+    let told = subst (λ (p : Plan). (h : ScriptGroup) → Shows p h c.new-station.result.clerk c.new-station.result.terminals.seats.items
     → (added : List ℕ) × LinesEnd p c.args.lines.now.count h (lines_in c.args.lines.now.rest.now) added c.add_lines.new.lines.count (lines_in c.add_lines.new.lines.rest.now)
     c.add_lines.new.station.clerk c.add_lines.new.station.terminals.seats.items c.in_ok-verdict.field-0
     × Reports (g.W.Write.contents c.args.writer.now) (g.W.Write.contents c.add_lines.new.writer) (string_bytes c.args.piece.now) (string_bytes c.add_lines.new.piece) added) at c.in_ok-verdict.ensures.tells in
     let there : c.add_lines.new.station.building.now ≡ plan = ap (λ (b : Bor Plan). b.now) c.in_ok-verdict.ensures.building ∙ at in
-    let recovers = subst (λ (p : Plan). (h : GroupState) → Shows p h c.add_lines.new.station.clerk c.add_lines.new.station.terminals.seats.items
-    → IsKept p (recovered p (left_by c.in-Cut.outcome h)) c.cut-keeper.result) there c.cut-keeper.ensures.kept in
+    let recovers = subst (λ (p : Plan). (h : ScriptGroup) → Shows p h c.add_lines.new.station.clerk c.add_lines.new.station.terminals.seats.items
+    → IsKeeperOf p (recovered p (left_by c.in-Cut.outcome h)) c.cut-keeper.result) there c.cut-keeper.ensures.kept in
     cut_goes_on plan c.args.lines.now.count c.add_lines.new.lines.count group (lines_in c.args.lines.now.rest.now) (lines_in c.add_lines.new.lines.rest.now) c.in-Cut.outcome
     c.add_lines.new.station.clerk c.add_lines.new.station.terminals.seats.items c.in_ok-verdict.field-0 c.cut-keeper.result c.open_count.result _ _ _ _ _ _ c.in-Cut.is (told group shows) recovers
     (c.open_count.ensures.count ∙ ap open_count c.register.ensures.value) c.in_ok-add_cut-in-Cut.ensures.reports
@@ -63,7 +63,7 @@ returns-in_err-verdict-clause-front g c = err_so c.from_residual-in_err-verdict.
     new_shows plan group c.args.keeper c.new-station.result.clerk c.new-station.result.terminals.seats.items desk kept new c.new-station.ensures.keeper
     (c.new-station.ensures.clerk ∙ c.in_ok-desk.ensures.clerk ∙ ap clerk_of c.in_ok-desk.desk-is) (c.new-station.ensures.seats ∙ ap (seats_from 0) c.in_ok-desk.desk-is) count in
     let at : c.new-station.result.building.now ≡ plan = c.new-station.ensures.building in
-    let front = subst (λ (p : Plan). (h : GroupState) → Shows p h c.new-station.result.clerk c.new-station.result.terminals.seats.items
+    let front = subst (λ (p : Plan). (h : ScriptGroup) → Shows p h c.new-station.result.clerk c.new-station.result.terminals.seats.items
     → TellsPart p c.args.lines.now.count h (lines_in c.args.lines.now.rest.now) (g.W.Write.contents c.args.writer.now) (g.W.Write.contents c.add_lines.new.writer) (string_bytes c.args.piece.now) (string_bytes c.add_lines.new.piece)) at c.in_err-verdict.ensures.front in
     front group shows)
 
@@ -76,13 +76,13 @@ returns-in_err-add_cut-in-Cut-clause-front g c = err_so c.from_residual-in_err-a
     new_shows plan group c.args.keeper c.new-station.result.clerk c.new-station.result.terminals.seats.items desk kept new c.new-station.ensures.keeper
     (c.new-station.ensures.clerk ∙ c.in_ok-desk.ensures.clerk ∙ ap clerk_of c.in_ok-desk.desk-is) (c.new-station.ensures.seats ∙ ap (seats_from 0) c.in_ok-desk.desk-is) count in
     let at : c.new-station.result.building.now ≡ plan = c.new-station.ensures.building in
-    let told = subst (λ (p : Plan). (h : GroupState) → Shows p h c.new-station.result.clerk c.new-station.result.terminals.seats.items
+    let told = subst (λ (p : Plan). (h : ScriptGroup) → Shows p h c.new-station.result.clerk c.new-station.result.terminals.seats.items
     → (added : List ℕ) × LinesEnd p c.args.lines.now.count h (lines_in c.args.lines.now.rest.now) added c.add_lines.new.lines.count (lines_in c.add_lines.new.lines.rest.now)
     c.add_lines.new.station.clerk c.add_lines.new.station.terminals.seats.items c.in_ok-verdict.field-0
     × Reports (g.W.Write.contents c.args.writer.now) (g.W.Write.contents c.add_lines.new.writer) (string_bytes c.args.piece.now) (string_bytes c.add_lines.new.piece) added) at c.in_ok-verdict.ensures.tells in
     let there : c.add_lines.new.station.building.now ≡ plan = ap (λ (b : Bor Plan). b.now) c.in_ok-verdict.ensures.building ∙ at in
-    let recovers = subst (λ (p : Plan). (h : GroupState) → Shows p h c.add_lines.new.station.clerk c.add_lines.new.station.terminals.seats.items
-    → IsKept p (recovered p (left_by c.in-Cut.outcome h)) c.cut-keeper.result) there c.cut-keeper.ensures.kept in
+    let recovers = subst (λ (p : Plan). (h : ScriptGroup) → Shows p h c.add_lines.new.station.clerk c.add_lines.new.station.terminals.seats.items
+    → IsKeeperOf p (recovered p (left_by c.in-Cut.outcome h)) c.cut-keeper.result) there c.cut-keeper.ensures.kept in
     cut_part plan c.args.lines.now.count c.add_lines.new.lines.count group (lines_in c.args.lines.now.rest.now) (lines_in c.add_lines.new.lines.rest.now) c.in-Cut.outcome
     c.add_lines.new.station.clerk c.add_lines.new.station.terminals.seats.items c.in_ok-verdict.field-0 _ _ _ _ _ _ c.in-Cut.is (told group shows)
     (λ h s. subst (ReportsPart (g.W.Write.contents c.add_lines.new.writer) (g.W.Write.contents c.add_cut.new.writer) (string_bytes c.add_lines.new.piece) (string_bytes c.add_cut.new.piece))

@@ -2,7 +2,7 @@ use Rattle.std.proofs.Common.{◌≡◌, ℕ, ◌≤◌, length, true, refl, sym
 use Rattle.lift_desk.specs.declared.view.View.{View}
 use Rattle.lift_desk.specs.declared.view.ClerkView.{ClerkView}
 use Rattle.lift_desk.specs.Words.{turn_of, last_of, ask_word}
-use Rattle.lift_desk.specs.Steps.{at_clerk, with_taking, is_new}
+use Rattle.lift_desk.specs.Steps.{at_clerk, with_taking, is_new_word}
 use Rattle.lift_desk.specs.Seats.{ClerkPlace}
 use Rattle.lift_desk.proofs.Keeps.{looks_ahead_keep, lt_true, taken_more}
 use Rattle.lift_desk.proofs.Looks.{loads_ask}
@@ -17,9 +17,9 @@ pub load-word-requires-clause-counts : goal.load-word-requires-clause-counts
 load-word-requires-clause-counts c found after e = loads_ask _ _ _ e.1
 
 -- the word is the last that was taken, where it is new
-last_taken : (v : ClerkView) (view : View) (m : View) (word : ℕ) → v ≡ m.clerk → view ≡ at_clerk m (with_taking m.clerk word) → is_new v word ≡ true → last_of view.clerk.taken ≡ word
+last_taken : (v : ClerkView) (view : View) (m : View) (word : ℕ) → v ≡ m.clerk → view ≡ at_clerk m (with_taking m.clerk word) → is_new_word v word ≡ true → last_of view.clerk.taken ≡ word
 last_taken v view m word same e fresh =
-    ap (λ (v : View). last_of v.clerk.taken) e ∙ ap last_of (taken_more m.clerk word (ap (λ (v : ClerkView). is_new v word) (sym same) ∙ fresh)) ∙ last_of-push m.clerk.taken word
+    ap (λ (v : View). last_of v.clerk.taken) e ∙ ap last_of (taken_more m.clerk word (ap (λ (v : ClerkView). is_new_word v word) (sym same) ∙ fresh)) ∙ last_of-push m.clerk.taken word
 
 pub invariant_of-self-2 : goal.invariant_of-self-2
 invariant_of-self-2 c =
@@ -31,7 +31,7 @@ invariant_of-self-2 c =
     let turn : c.turn_of-turn.result ≡ turn_of word = c.turn_of-turn.ensures.turn in
     let was_turn : c.self.inside.turn ≡ turn_of (last_of m.clerk.taken) = i.turn in
     let later = c.if-turn-self.false in
-    let fresh : is_new m.clerk word ≡ true = lt_true _ _ (omega arith) in record {
+    let fresh : is_new_word m.clerk word ≡ true = lt_true _ _ (omega arith) in record {
       ahead = λ _. ap (λ (v : View). v.looks_ahead) new ∙ i.ahead seated;
       silent = ap (λ (v : View). v.answers) new ∙ i.silent;
       turn = turn ∙ ap turn_of (sym (last_taken m.clerk _ m word refl new fresh));
@@ -47,7 +47,7 @@ returns-clause-known c =
     let turn : c.turn_of-turn.result ≡ turn_of word = c.turn_of-turn.ensures.turn in
     let was_turn : c.self.inside.turn ≡ turn_of (last_of m.clerk.taken) = i.turn in
     let later = c.if-turn-self.false in
-    let fresh : is_new m.clerk word ≡ true = lt_true _ _ (omega arith) in
+    let fresh : is_new_word m.clerk word ≡ true = lt_true _ _ (omega arith) in
     let last_is : turn_of (last_of c.load-word.new.self.view.clerk.taken) ≡ turn_of word = ap turn_of (last_taken m.clerk _ m word refl new fresh) in
     let told : length c.args.self.now.view.told ≡ length m.clerk.told = ap (λ (p : ClerkPlace). length p.view.told) (sym c.self.view_is) in
     let begun : length m.clerk.told ≤ turn_of word = load.3 in
@@ -63,7 +63,7 @@ returns-clause-finds c ask h =
     let turn : c.turn_of-turn.result ≡ turn_of word = c.turn_of-turn.ensures.turn in
     let was_turn : c.self.inside.turn ≡ turn_of (last_of m.clerk.taken) = i.turn in
     let later = c.if-turn-self.false in
-    let fresh : is_new m.clerk word ≡ true = lt_true _ _ (omega arith) in
+    let fresh : is_new_word m.clerk word ≡ true = lt_true _ _ (omega arith) in
     let last_is : turn_of (last_of c.load-word.new.self.view.clerk.taken) ≡ turn_of word = ap turn_of (last_taken m.clerk _ m word refl new fresh) in
     let told : c.args.self.now.view.told ≡ m.clerk.told = ap (λ (p : ClerkPlace). p.view.told) (sym c.self.view_is) in
     let many : length c.args.self.now.view.told ≡ length m.clerk.told = ap length told in
@@ -82,7 +82,7 @@ returns-clause-turn c some =
     let limit = c.turn_of-turn.ensures.in_range in
     let was_turn : c.self.inside.turn ≡ turn_of (last_of m.clerk.taken) = i.turn in
     let later = c.if-turn-self.false in
-    let fresh : is_new m.clerk word ≡ true = lt_true _ _ (omega arith) in
+    let fresh : is_new_word m.clerk word ≡ true = lt_true _ _ (omega arith) in
     let last_is : turn_of (last_of c.load-word.new.self.view.clerk.taken) ≡ turn_of word = ap turn_of (last_taken m.clerk _ m word refl new fresh) in
     omega arith
 
@@ -95,6 +95,6 @@ returns-clause-last c =
     let turn : c.turn_of-turn.result ≡ turn_of word = c.turn_of-turn.ensures.turn in
     let was_turn : c.self.inside.turn ≡ turn_of (last_of m.clerk.taken) = i.turn in
     let later = c.if-turn-self.false in
-    let fresh : is_new m.clerk word ≡ true = lt_true _ _ (omega arith) in
+    let fresh : is_new_word m.clerk word ≡ true = lt_true _ _ (omega arith) in
     let last_is : last_of c.load-word.new.self.view.clerk.taken ≡ word = last_taken m.clerk _ m word refl new fresh in
     last_is ∙ c.in_ok-ask.ensures.value ∙ ap (λ w. ask_word (turn_of w) c.in_ok-ask.ask.number c.in_ok-ask.ask.body) (sym last_is)

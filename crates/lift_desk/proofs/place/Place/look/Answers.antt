@@ -3,7 +3,7 @@ use Rattle.std.proofs.lemmas.List.{length_push}
 use Rattle.lift_desk.specs.declared.view.View.{View}
 use Rattle.lift_desk.specs.Words.{turn_of, number_of, last_of}
 use Rattle.lift_desk.specs.Rule.{with_note}
-use Rattle.lift_desk.specs.Steps.{at_clerk, with_taking, is_new}
+use Rattle.lift_desk.specs.Steps.{at_clerk, with_taking, is_new_word}
 use Rattle.lift_desk.proofs.Keeps.{looks_keep, lt_true, taken_more}
 use Rattle.lift_desk.proofs.Looks.{loads_ask}
 use Rattle.lift_desk.specs.lemmas.WordLists.{last_of-push}
@@ -32,12 +32,12 @@ invariant_of-self-2 c =
     let turn : c.turn_of-turn.result ≡ turn_of word = c.turn_of-turn.ensures.turn in
     let was_turn : c.self.inside.turn ≡ turn_of (last_of m.clerk.taken) = i.turn ∙ sym i.last_taken in
     let later = c.if-turn-self.false in
-    let fresh : is_new m.clerk word ≡ true = lt_true _ _ (omega arith) in
+    let fresh : is_new_word m.clerk word ≡ true = lt_true _ _ (omega arith) in
     let taken : v.clerk.taken ≡ m.clerk.taken ++ word ∷ [] = ap (λ (v : View). v.clerk.taken) new ∙ taken_more m.clerk word fresh in
     let answered : v.clerk.answered ≡ m.clerk.answered = ap (λ (v : View). v.clerk.answered) new in
     let one_more : length v.clerk.taken ≡ length m.clerk.taken + 1 = ap length taken ∙ length_push m.clerk.taken word in
     let same : length v.clerk.answered ≡ length m.clerk.answered = ap length answered in
-    let told = load.2 (ap (λ (v : View). is_new v.clerk word) noted ∙ fresh) in
+    let told = load.2 (ap (λ (v : View). is_new_word v.clerk word) noted ∙ fresh) in
     let turn_is = told.1 ∙ ap (λ (v : View). suc (length v.clerk.taken)) noted in
     let even : length m.clerk.answered ≡ length m.clerk.taken = ap (λ (v : View). length v.clerk.answered) (sym noted) ∙ told.2 ∙ ap (λ (v : View). length v.clerk.taken) noted in
     let last_is : last_of v.clerk.taken ≡ word = ap last_of taken ∙ last_of-push m.clerk.taken word in record {

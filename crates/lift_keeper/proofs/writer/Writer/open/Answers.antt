@@ -2,7 +2,7 @@ use Rattle.std.proofs.Common.{false, refl, sym, ◌∙◌, ap, subst, arith}
 use Rattle.lift_journal.specs.Journal.{JournalView}
 use Rattle.lift_journal.specs.Visits.{TakesAll}
 use Rattle.lift_keeper.specs.Calls.{RefusedCalls}
-use Rattle.lift_keeper.specs.Reading.{ReadingState, Reads}
+use Rattle.lift_keeper.specs.Reading.{ReadingState, ReadsBatch}
 use Rattle.lift_keeper.specs.Reopening.{RefusesReopening}
 use Rattle.lift_keeper.proofs.Recovering.{plan_read}
 use Rattle.lift_keeper.proofs.Reopenings.{reopens, guards, opening_calls, refused_calls, journal_calls, refused_journal, refused_reading}
@@ -27,7 +27,7 @@ returns-in-Ok-recovered-clause-opens g c =
     let reading = c.open_with.new.visitor in
     let found = c.in-Ok-recovered.ensures in
     let opened = reopens c.args.building.now (g.D.Disk.state c.args.disk) (g.D.Disk.state journal.device) journal.shape journal.used c.in-Ok.ensures.opens.opens reading
-    (λ honest batches holds. subst (λ (s : ReadingState). TakesAll Reads s batches reading) c.new-reading.ensures (c.in-Ok.ensures.shown honest batches holds))
+    (λ honest batches holds. subst (λ (s : ReadingState). TakesAll ReadsBatch s batches reading) c.new-reading.ensures (c.in-Ok.ensures.shown honest batches holds))
     c.in-Ok-recovered.register found.shape found.gives journal.is_second c.in-Ok.ensures.opens.half in
     let counted = ap (λ (j : JournalView g.row.D.Denot). (g.D.Disk.state j.device).failures) c.of-opened.ensures in
     record { reopens = opened; plan = refl; whole = (refl, cc (c.of.ensures, c.new.ensures)); opened = counted }
@@ -38,7 +38,7 @@ returns-in-Err-recovered-clause-refused g c =
     let reading = c.open_with.new.visitor in
     subst (λ (d : g.row.D.Denot). RefusesReopening c.args.building.now (g.D.Disk.state c.args.disk) (g.D.Disk.state d) c.in-Err-recovered.fault) (sym c.into_disk.ensures)
     (refused_reading c.args.building.now (g.D.Disk.state c.args.disk) (g.D.Disk.state journal.device) journal.shape journal.used c.in-Ok.ensures.opens.opens reading
-    (λ honest batches holds. subst (λ (s : ReadingState). TakesAll Reads s batches reading) c.new-reading.ensures (c.in-Ok.ensures.shown honest batches holds))
+    (λ honest batches holds. subst (λ (s : ReadingState). TakesAll ReadsBatch s batches reading) c.new-reading.ensures (c.in-Ok.ensures.shown honest batches holds))
     c.in-Err-recovered.fault c.in-Err-recovered.ensures.refused)
 
 pub invariant_of-result : goal.invariant_of-result
@@ -48,7 +48,7 @@ invariant_of-result g c =
     let found = c.in-Ok-recovered.ensures in
     let some = c.open_with.ensures.shown_some in
     let made = guards c.args.building.now (g.D.Disk.state c.args.disk) (g.D.Disk.state journal.device) journal.shape journal.used c.in-Ok.ensures.opens.opens reading
-    (λ honest batches holds. subst (λ (s : ReadingState). TakesAll Reads s batches reading) c.new-reading.ensures (c.in-Ok.ensures.shown honest batches holds))
+    (λ honest batches holds. subst (λ (s : ReadingState). TakesAll ReadsBatch s batches reading) c.new-reading.ensures (c.in-Ok.ensures.shown honest batches holds))
     c.in-Ok-recovered.register found.shape found.gives journal.is_second c.in-Ok.ensures.opens.half
     (plan_read c.new-reading.result some.batches reading some.taken ∙ ap (λ (s : ReadingState). s.recovery.plan) c.new-reading.ensures) in
     let counted = ap (λ (j : JournalView g.row.D.Denot). (g.D.Disk.state j.device).failures) c.of-opened.ensures in

@@ -4,7 +4,7 @@ use Rattle.lift_base.specs.declared.history.Entry.{Entry}
 use Rattle.lift_keeper.specs.Prelude.{Commits, CommitCalls}
 use Rattle.lift_keeper.specs.lemmas.Committed.{under_ok, under_err, calls_under_ok, calls_under_err}
 use Rattle.lift_parts.specs.declared.counts.FlushCounts.{FlushCounts}
-use Rattle.lift_relay.specs.Settler.{SettlerState, Settles}
+use Rattle.lift_relay.specs.Settler.{SettlerState, SettlesBatch}
 use Rattle.lift_relay.proofs.Turned.{leads_to}
 use Rattle.lift_relay.proofs.settling.Settler.settle.Goals as goal
 
@@ -19,7 +19,7 @@ returns-in-Ok-clause-settles g c =
     let made = under_ok state s.writer batch.entries writer tt counts (subst (λ (b : List Entry). Commits state s.writer b writer (Ok tt)) c.entries.ensures.value c.in-Ok.ensures.commits) in
     let answered = c.answer_all-answers.ensures in
     let next = subst (λ (v : SettlerState g.row.D.Denot). v.writer.is_broken ≡ false → (batch.building ≡ v.writer.plan) × (batch.before.register ≡ v.writer.register)) (sym c.self.view_is) c.requires.next in
-    subst (λ (v : SettlerState g.row.D.Denot). Settles state v batch new (Ok counts)) c.self.view_is (record {
+    subst (λ (v : SettlerState g.row.D.Denot). SettlesBatch state v batch new (Ok counts)) c.self.view_is (record {
       commits = made;
       answered = answered.answered;
       counts = λ other is. (let same : counts ≡ other = cc in (sym (ap (λ (n : FlushCounts). n.batches) same), sym (ap (λ (n : FlushCounts). n.answers) same) ∙ answered.count));
@@ -42,7 +42,7 @@ returns-in-Err-clause-settles g c =
     let new : SettlerState g.row.D.Denot = record { desk = s.desk.now; seat = c.answer_all.new.seat; writer = writer } in
     let made = under_err state s.writer batch.entries writer fault (subst (λ (b : List Entry). Commits state s.writer b writer (Err fault)) c.entries.ensures.value c.in-Err.ensures.commits) in
     let next = subst (λ (v : SettlerState g.row.D.Denot). v.writer.is_broken ≡ false → (batch.building ≡ v.writer.plan) × (batch.before.register ≡ v.writer.register)) (sym c.self.view_is) c.requires.next in
-    subst (λ (v : SettlerState g.row.D.Denot). Settles state v batch new (Err fault)) c.self.view_is (record {
+    subst (λ (v : SettlerState g.row.D.Denot). SettlesBatch state v batch new (Err fault)) c.self.view_is (record {
       commits = made;
       answered = c.answer_all.ensures.answered;
       counts = λ other is. absurd (cc);

@@ -5,7 +5,7 @@ use Rattle.lift_base.specs.declared.travel.Position.{Position}
 use Rattle.lift_register.specs.Register.{register_of, empty}
 use Rattle.lift_policy.specs.declared.command.Command.{Command}
 use Rattle.lift_world.specs.Decided.{decided}
-use Rattle.lift_world.specs.Carries.{Carries, state_with}
+use Rattle.lift_world.specs.Carries.{CarriesDecision, state_with}
 use Rattle.lift_world.specs.World.{World}
 use Rattle.lift_world.specs.Next.{taking}
 use Rattle.lift_world.specs.Replays.{view_of}
@@ -19,8 +19,8 @@ returns c =
     let d = c.decide-decided in
     let copied : c.copy_from_slice.new.self ≡ i.positions = c.copy_from_slice.ensures.after in
     let command : Command = c.args.command.now in
-    let carries : (batch : List Entry) → Carries (decided w.building (state_with c.replay-register.result w.positions batch) command.terminal command.number command.body c.args.letter) c.replay-register.result w.positions batch d.result d.new.register d.new.positions =
-    subst (λ (ps : List (Option Position)). (batch : List Entry) → Carries (decided w.building (state_with c.replay-register.result ps batch) command.terminal command.number command.body c.args.letter) c.replay-register.result ps batch d.result d.new.register d.new.positions) copied d.ensures.carries in
+    let carries : (batch : List Entry) → CarriesDecision (decided w.building (state_with c.replay-register.result w.positions batch) command.terminal command.number command.body c.args.letter) c.replay-register.result w.positions batch d.result d.new.register d.new.positions =
+    subst (λ (ps : List (Option Position)). (batch : List Entry) → CarriesDecision (decided w.building (state_with c.replay-register.result ps batch) command.terminal command.number command.body c.args.letter) c.replay-register.result ps batch d.result d.new.register d.new.positions) copied d.ensures.carries in
     let both = decided_both w c.replay-register.result command c.args.letter
     (record { fits = c.self.invariant.fits; register_is = c.replay-register.ensures.value ∙ ap (λ (xs : List Entry). register_of empty xs) c.deref.ensures.value; balanced = c.replay-register.ensures.balanced })
     d.result d.new.register d.new.positions carries in
