@@ -1,6 +1,7 @@
 /* A car that drives to its next stop until it has stood idle so often.
  * Build: cc -o car car.c      Usage: car PORT LETTER FLOOR up|down IDLES */
 #include <arpa/inet.h>
+#include <signal.h>
 #include <stdio.h>
 #include <stdlib.h>
 #include <string.h>
@@ -28,11 +29,17 @@ static long greet(int port, const char *letter) {
     setsockopt(stream, SOL_SOCKET, SO_RCVTIMEO, &wait, sizeof wait);
     lines = fdopen(stream, "r+");
     snprintf(line, sizeof line, "CAR %s", letter);
-    return tell(line, answer, sizeof answer) && sscanf(answer, "READY %ld", &last) == 1 ? last : -1;
+    if (!tell(line, answer, sizeof answer)) return -1;
+    if (strcmp(answer, "BAD\n") == 0) {
+        fputs("no such car\n", stderr);
+        exit(1);
+    }
+    return sscanf(answer, "READY %ld", &last) == 1 ? last : -1;
 }
 
 int main(int count, char **words) {
-    if (count != 6) return 2;
+    if (count != 6) return fputs("usage: car PORT LETTER FLOOR up|down IDLES\n", stderr), 2;
+    signal(SIGPIPE, SIG_IGN); /* a line to a connection that is gone fails, and doesn't end the car */
     int port = atoi(words[1]), floor = atoi(words[3]), idles = atoi(words[5]);
     char direction[8], line[80], answer[80];
     snprintf(direction, sizeof direction, "%s", words[4]);

@@ -21,6 +21,8 @@ def main(port, letter, floor, direction, idles):
                 return lines.readline().split()
 
             greeting = tell(f"CAR {letter}")
+            if greeting[:1] == ["BAD"]:
+                sys.exit("no such car")
             if greeting[:1] != ["READY"]:
                 time.sleep(0.2)  # BUSY or LATE: the seat is in use
                 continue
@@ -47,4 +49,6 @@ def main(port, letter, floor, direction, idles):
 
 
 if __name__ == "__main__":
+    if len(sys.argv) != 6:
+        sys.exit(__doc__)
     main(int(sys.argv[1]), sys.argv[2], int(sys.argv[3]), sys.argv[4], int(sys.argv[5]))

@@ -1,8 +1,10 @@
 /* A kiosk: asks for floors, one after another, and prints each car's letter.
  * Build: cc -o kiosk kiosk.c      Usage: kiosk PORT KIOSK FLOOR .. */
 #include <arpa/inet.h>
+#include <signal.h>
 #include <stdio.h>
 #include <stdlib.h>
+#include <string.h>
 #include <sys/socket.h>
 #include <sys/time.h>
 #include <unistd.h>
@@ -32,12 +34,19 @@ static long connect_to(int port, int kiosk) {
         }
         setsockopt(stream, SOL_SOCKET, SO_RCVTIMEO, &wait, sizeof wait);
         lines = fdopen(stream, "r+");
-        if (lines && tell(line, answer, sizeof answer) && sscanf(answer, "READY %ld", &last) == 1) return last;
+        if (!lines || !tell(line, answer, sizeof answer)) continue;
+        if (sscanf(answer, "READY %ld", &last) == 1) return last;
+        if (strcmp(answer, "BAD\n") == 0) {
+            fputs("no such kiosk\n", stderr);
+            exit(1);
+        }
     }
 }
 
 int main(int count, char **words) {
-    int port = count > 2 ? atoi(words[1]) : 0, kiosk = count > 2 ? atoi(words[2]) : 0, reason;
+    if (count < 4) return fputs("usage: kiosk PORT KIOSK FLOOR ..\n", stderr), 2;
+    signal(SIGPIPE, SIG_IGN); /* a line to a connection that is gone fails, and doesn't end the kiosk */
+    int port = atoi(words[1]), kiosk = atoi(words[2]), reason;
     long last = connect_to(port, kiosk);
     char line[80], answer[80], letter;
     for (int at = 3; at < count; at++)

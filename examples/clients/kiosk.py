@@ -53,6 +53,8 @@ class Kiosk:
 
 
 if __name__ == "__main__":
+    if len(sys.argv) < 4:
+        sys.exit(__doc__)
     kiosk = Kiosk(int(sys.argv[1]), int(sys.argv[2]))
     kiosk.connect()
     for word in sys.argv[3:]:

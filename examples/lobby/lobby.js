@@ -82,6 +82,7 @@ function makeBuilding(state) {
     for (let floor = 0; floor < state.floors; floor++) {
       if (car.serves.includes(floor)) continue;
       make(shaft, "div", "closed").style.setProperty("--at", floor);
+      byId("unserved").hidden = false;
     }
     const halts = make(shaft, "div");
     const cabin = make(shaft, "div", "cabin");
@@ -137,6 +138,12 @@ function statusOf(state) {
   return `Started again as process ${state.process}. Letters that stand: ${same.length} of ${asked.length} asked again`;
 }
 
+/** A speed that isn't offered, as one of the command line, is offered from then on. */
+function showSpeed(chosen, speed) {
+  if (![...chosen.options].some((option) => option.value === speed)) chosen.add(new Option(`${speed}×`, speed));
+  chosen.value = speed;
+}
+
 let page = null;
 
 function show(state) {
@@ -147,7 +154,7 @@ function show(state) {
   document.body.classList.toggle("dead", !state.alive);
   setText(byId("status"), statusOf(state));
   byId("kill").disabled = !state.alive;
-  byId("speed").value = String(state.speed);
+  showSpeed(byId("speed"), String(state.speed));
   setText(byId("done"), `Calls carried: ${state.done}`);
   state.kiosks.forEach((kiosk, number) => showKiosk(page.kiosks[number], kiosk, state.alive));
   page.building.waiting.forEach((place, floor) => showRiders(place, state.rows.filter((row) => !row.aboard && row.from === floor)));

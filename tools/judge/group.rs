@@ -815,7 +815,7 @@ enum Cut {
     Fill(u8),
 }
 
-/// Sectors as they are read and as the last sync left them; with a fuse behind which calls fail.
+/// Sectors as they are read and as the last sync left them; with a fuse after which calls fail.
 struct MemoryDisk {
     current: Vec<Sector>,
     safe: Vec<Sector>,
@@ -1219,7 +1219,7 @@ struct Chain<'a> {
 }
 
 impl Chain<'_> {
-    /// Takes in what stands in a body behind its header; nothing where a record breaks a rule.
+    /// Takes in what stands in a body after its header; nothing where a record breaks a rule.
     fn take(&mut self, version: u8, records: &[u8]) -> Option<()> {
         self.version = version;
         for bytes in records.chunks_exact(16) {
@@ -1320,7 +1320,7 @@ impl<D: Disk> Journal<D> {
         }
     }
 
-    /// The sectors of the body behind an open gate; none where it breaks a rule.
+    /// The sectors of the body after an open gate; none where it breaks a rule.
     fn read_batch(&mut self, gate: u32, chain: &mut Chain) -> Result<Option<u32>, Failed> {
         if self.used + 2 >= self.half {
             return Ok(None);
@@ -1355,7 +1355,7 @@ impl<D: Disk> Journal<D> {
         self.used + bodies(records) + 2 <= self.half
     }
 
-    /// Writes the body of a batch behind the gate at this sector; gives the next gate's sector.
+    /// Writes the body of a batch after the gate at this sector; gives the next gate's sector.
     fn write_body(&mut self, gate: u32, number: u32, batch: &[Record]) -> Result<u32, Failed> {
         let mut body = [CLOSED; 2];
         let bytes = body.as_flattened_mut();
@@ -1402,7 +1402,7 @@ impl<D: Disk> Journal<D> {
         Ok(())
     }
 
-    /// Makes a batch safe, behind a checkpoint of what is safe where there is no room.
+    /// Makes a batch safe, after a checkpoint of what is safe where there is no room.
     fn commit(&mut self, safe: &Register, batch: &[Record]) -> Result<(), Failed> {
         if batch.is_empty() {
             return Ok(());
@@ -1820,7 +1820,7 @@ impl<'a> Group<'a> {
     }
 }
 
-/// What stands before the line `---`, and behind it.
+/// What stands before the line `---`, and after it.
 fn parts_of(script: &str) -> Option<(&str, &str)> {
     let mut begin = 0;
     for line in script.split_inclusive('\n') {
@@ -2071,7 +2071,7 @@ mod bench {
         }
     }
 
-    /// Decides so many times beside so many open calls.
+    /// Decides this number of times, beside this number of open calls.
     pub fn decide(cars: usize, calls: usize, times: u32, kind: &str) -> String {
         let building = building(cars);
         let mut dispatcher = Dispatcher::new(&building, Policy::FewestPersons);
@@ -2160,7 +2160,7 @@ mod bench {
         Ok(())
     }
 
-    /// Appends so many batches of one stop each.
+    /// Appends this number of batches of one stop each.
     pub fn append(image: &str, building: &str, count: u32) -> Result<(), Fault> {
         let building = building_at(building)?;
         let file = File::options().read(true).write(true).open(image)?;
@@ -2571,7 +2571,7 @@ mod toml {
             }
         }
 
-        /// Whether the line ends behind a backslash; what is blank behind it is skipped.
+        /// Whether the line ends with a backslash; what is blank after it is skipped.
         fn ends_line(&mut self) -> bool {
             let begin = self.at;
             self.skip_spaces();

@@ -14,7 +14,7 @@ from collections import namedtuple
 WRONG = {
     "letter-lost": "a batch whose second sync failed is taken to be out, though the cut keeps its gate",
     "gate-early": "the gate is opened before the body is synced",
-    "gate-left": "the gate behind a batch isn't closed",
+    "gate-left": "the gate after a batch isn't closed",
     "pick-early": "a checkpoint's pick is written before its half is synced",
     "pick-kept": "a failed pick that was filled with A5 is read as the first half",
     "last-dropped": "a checkpoint loses the last command of each car",
@@ -34,10 +34,10 @@ WRONG = {
     "repeat-moves-nobody": "a repeated stop leaves the car where it was told",
     "place-survives": "a power cut leaves the cars where they told to be",
     "fuse-one-more": "a fuse lets one call more pass",
-    "versions-fall": "a batch of version 1 may stand behind one of version 2",
+    "versions-fall": "a batch of version 1 may stand after one of version 2",
     "number-unread": "the numbers of batches aren't looked at",
     "base-unended": "a base may end without its last record",
-    "tail-unread": "what stands behind the records of a body isn't looked at",
+    "tail-unread": "what stands after the records of a body isn't looked at",
     "done-uncounted": "the count of done calls isn't compared",
     "old-party-none": "a record of version 1 has a party of none",
 }
@@ -203,7 +203,7 @@ def direction(call):
 
 
 def status(call, is_aboard, stops):
-    """Whether a call waits, rides or is done behind these stops of its car: 0, 1, 2."""
+    """Whether a call waits, rides or is done after these stops of its car: 0, 1, 2."""
     at = 0
     if not is_aboard:
         while at < len(stops):
@@ -220,7 +220,7 @@ def status(call, is_aboard, stops):
 
 
 class Register:
-    """The open calls, each terminal's last command and the count of done calls, of a base and the entries behind it."""
+    """The open calls, each terminal's last command and the count of done calls, of a base and the entries after it."""
 
     def __init__(self, base, entries):
         stops, behind = {}, {}
@@ -473,7 +473,7 @@ def read_header(header, number, version):
 
 
 def read_batch(half, at, number, version):
-    """The batch behind an open gate."""
+    """The batch after an open gate."""
     if at + 2 >= len(half):
         raise Broken("the half has no room for its body and the next gate")
     version, count = read_header(half[at + 1][:16], number, version)
@@ -575,7 +575,7 @@ def last_number(records, terminal):
 
 
 def does_fit(building, before, record):
-    """Whether a record fits behind those before it."""
+    """Whether a record fits after those before it."""
     if isinstance(record, Last):
         allowed = is_allowed_call if isinstance(record.content, Letter) else is_allowed_stop
         return allowed(building, record.terminal, record.content)
@@ -762,7 +762,7 @@ class Group:
         return calls
 
     def commit(self, safe):
-        """Makes the entries behind those that are safe so; raises Failed at the call that fails."""
+        """Makes the entries after those that are safe so; raises Failed at the call that fails."""
         batch = self.entries[safe:]
         if not batch:
             return

@@ -13,51 +13,19 @@
  * DROP_SEED, a number, begins the chances. Writes of other than whole sectors of 512 bytes go through.
  */
 #define _GNU_SOURCE
-#include <dlfcn.h>
-#include <pthread.h>
-#include <stdlib.h>
+#define FILE_NAMED_BY "DROP_FILE"
+#include "one_file.h"
 #include <string.h>
-#include <sys/stat.h>
-#include <sys/types.h>
-#include <unistd.h>
 
 enum { SECTOR = 512 };
 
-static pthread_mutex_t lock = PTHREAD_MUTEX_INITIALIZER;
 static unsigned char **held; /* by sector, NULL where nothing is held */
 static size_t sectors;
-static unsigned long long chances;
 static enum { LOSE, PART, IGNORE } mode;
-static int is_begun;
-
-static ssize_t (*real_pwrite)(int, const void *, size_t, off_t);
-static ssize_t (*real_pread)(int, void *, size_t, off_t);
-static int (*real_fdatasync)(int);
-static int (*real_fsync)(int);
 
 static void begin(void) {
-    if (is_begun) return;
-    is_begun = 1;
-    real_pwrite = dlsym(RTLD_NEXT, "pwrite");
-    real_pread = dlsym(RTLD_NEXT, "pread");
-    real_fdatasync = dlsym(RTLD_NEXT, "fdatasync");
-    real_fsync = dlsym(RTLD_NEXT, "fsync");
-    const char *named = getenv("DROP_MODE"), *seed = getenv("DROP_SEED");
-    mode = !named || !strcmp(named, "lose") ? LOSE : !strcmp(named, "part") ? PART : IGNORE;
-    chances = seed ? strtoull(seed, NULL, 10) * 2 + 1 : 1;
-}
-
-static unsigned chance(unsigned below) {
-    chances = chances * 6364136223846793005ull + 1442695040888963407ull;
-    return (unsigned)(chances >> 33) % below;
-}
-
-/* Whether this descriptor is of the file that is named. */
-static int is_ours(int fd) {
-    const char *path = getenv("DROP_FILE");
-    struct stat named, opened;
-    return path && !stat(path, &named) && !fstat(fd, &opened) && named.st_dev == opened.st_dev &&
-           named.st_ino == opened.st_ino;
+    const char *named = getenv("DROP_MODE");
+    if (is_first(getenv("DROP_SEED"))) mode = !named || !strcmp(named, "lose") ? LOSE : !strcmp(named, "part") ? PART : IGNORE;
 }
 
 static int hold(size_t sector, const unsigned char *bytes) {
@@ -116,9 +84,8 @@ ssize_t pread(int fd, void *bytes, size_t count, off_t offset) {
 }
 
 /* Writes what is held, in any order, and forgets it. */
-static int release(int fd) {
-    begin();
-    if (!is_ours(fd)) return 1;
+static int synced(int fd, int (*real)(int)) {
+    if (!is_ours(fd)) return real(fd);
     if (mode == IGNORE) return 0;
     size_t from = sectors ? chance((unsigned)sectors) : 0;
     for (size_t step = 0; step < sectors; step++) {
@@ -128,23 +95,5 @@ static int release(int fd) {
         free(held[sector]);
         held[sector] = NULL;
     }
-    return 1;
+    return real(fd);
 }
-
-int fdatasync(int fd) {
-    pthread_mutex_lock(&lock);
-    int told = release(fd) ? real_fdatasync(fd) : 0;
-    pthread_mutex_unlock(&lock);
-    return told;
-}
-
-int fsync(int fd) {
-    pthread_mutex_lock(&lock);
-    int told = release(fd) ? real_fsync(fd) : 0;
-    pthread_mutex_unlock(&lock);
-    return told;
-}
-
-ssize_t pwrite64(int fd, const void *bytes, size_t count, off_t offset) { return pwrite(fd, bytes, count, offset); }
-
-ssize_t pread64(int fd, void *bytes, size_t count, off_t offset) { return pread(fd, bytes, count, offset); }

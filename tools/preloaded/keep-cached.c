@@ -1,4 +1,4 @@
-/* A library to be loaded before the C library: for one file it behaves as Linux does behind a sync that failed.
+/* A library to be loaded before the C library: for one file it behaves as Linux does after a sync that failed.
  *
  *     cc -O2 -shared -fPIC -o keep-cached.so tools/preloaded/keep-cached.c -ldl
  *     LD_PRELOAD=$PWD/keep-cached.so CACHE_FILE=/tmp/group.image CACHE_FAIL=sync:3 liftd serve ..
@@ -13,21 +13,17 @@
  * disk holds; with CACHE_ADVICE=ignore it does nothing, and with CACHE_ADVICE=refuse it fails.
  *
  * CACHE_FAIL tells which calls of this process fail, counted from 1: sync:N or write:N, several joined by commas, N a number
- * or two joined by a dash. A write that fails changes nothing. CACHE_COUNT names a file into which, behind each call,
+ * or two joined by a dash. A write that fails changes nothing. CACHE_COUNT names a file into which, after each call,
  * the numbers of syncs, writes and pages that were dropped are written.
  */
 #define _GNU_SOURCE
-#include <dlfcn.h>
+#define FILE_NAMED_BY "CACHE_FILE"
+#include "one_file.h"
 #include <errno.h>
 #include <fcntl.h>
-#include <pthread.h>
 #include <stdio.h>
-#include <stdlib.h>
 #include <string.h>
 #include <sys/mman.h>
-#include <sys/stat.h>
-#include <sys/types.h>
-#include <unistd.h>
 
 enum { PAGE = 4096, MOST = 4096 };
 enum { AS_ON_DISK, TO_BE_WRITTEN, TAKEN_FOR_WRITTEN };
@@ -37,32 +33,20 @@ struct cache {
     unsigned char pages[MOST][PAGE];
 };
 
-static pthread_mutex_t lock = PTHREAD_MUTEX_INITIALIZER;
 static struct cache *cache;
 static unsigned long syncs, writes, dropped;
-static unsigned long long chances;
-static int is_begun, has_chances;
+static int has_chances;
 
-static ssize_t (*real_pwrite)(int, const void *, size_t, off_t);
-static ssize_t (*real_pread)(int, void *, size_t, off_t);
-static int (*real_fdatasync)(int);
-static int (*real_fsync)(int);
 static int (*real_ftruncate)(int, off_t);
 static int (*real_posix_fadvise)(int, off_t, off_t, int);
 
 static void begin(void) {
     char path[4096];
-    if (is_begun) return;
-    is_begun = 1;
-    real_pwrite = dlsym(RTLD_NEXT, "pwrite");
-    real_pread = dlsym(RTLD_NEXT, "pread");
-    real_fdatasync = dlsym(RTLD_NEXT, "fdatasync");
-    real_fsync = dlsym(RTLD_NEXT, "fsync");
+    const char *part = getenv("CACHE_PART"), *named = getenv("CACHE_FILE");
+    if (!is_first(part)) return;
     real_ftruncate = dlsym(RTLD_NEXT, "ftruncate");
     real_posix_fadvise = dlsym(RTLD_NEXT, "posix_fadvise");
-    const char *part = getenv("CACHE_PART"), *named = getenv("CACHE_FILE");
     has_chances = part != NULL;
-    chances = part ? strtoull(part, NULL, 10) * 2 + 1 : 1;
     if (!named) return;
     snprintf(path, sizeof path, "%s.cached", named);
     int fd = open(path, O_RDWR | O_CREAT, 0600);
@@ -72,20 +56,7 @@ static void begin(void) {
     close(fd);
 }
 
-static int is_lucky(void) {
-    chances = chances * 6364136223846793005ull + 1442695040888963407ull;
-    return chances >> 63;
-}
-
-/* Whether this descriptor is of the file that is named. */
-static int is_ours(int fd) {
-    const char *path = getenv("CACHE_FILE");
-    struct stat named, opened;
-    return path && !stat(path, &named) && !fstat(fd, &opened) && named.st_dev == opened.st_dev &&
-           named.st_ino == opened.st_ino;
-}
-
-/* Whether the call of this kind that is the so many-th fails. */
+/* Whether the n-th call of this kind fails. */
 static int fails(const char *kind, unsigned long at) {
     const char *told = getenv("CACHE_FAIL");
     size_t long_ = strlen(kind);
@@ -160,14 +131,15 @@ ssize_t pread(int fd, void *bytes, size_t size, off_t offset) {
 }
 
 /* Writes the pages that are to be written; in a sync that fails none, or some. */
-static int write_back(int fd) {
+static int synced(int fd, int (*real)(int)) {
+    if (!is_ours(fd)) return real(fd);
     int does_fail = fails("sync", ++syncs);
     struct stat now;
     if (fstat(fd, &now)) return -1;
     for (size_t page = 0; page < MOST; page++) {
         size_t from = page * PAGE, most = (size_t)now.st_size;
         if (cache->state[page] != TO_BE_WRITTEN) continue;
-        if (does_fail && !(has_chances && is_lucky())) {
+        if (does_fail && !(has_chances && chance(2))) {
             cache->state[page] = TAKEN_FOR_WRITTEN;
         } else {
             if (from < most) real_pwrite(fd, cache->pages[page], most - from < PAGE ? most - from : PAGE, (off_t)from);
@@ -177,22 +149,6 @@ static int write_back(int fd) {
     count();
     if (does_fail) errno = EIO;
     return does_fail ? -1 : 0;
-}
-
-int fdatasync(int fd) {
-    pthread_mutex_lock(&lock);
-    begin();
-    int told = is_ours(fd) ? write_back(fd) : real_fdatasync(fd);
-    pthread_mutex_unlock(&lock);
-    return told;
-}
-
-int fsync(int fd) {
-    pthread_mutex_lock(&lock);
-    begin();
-    int told = is_ours(fd) ? write_back(fd) : real_fsync(fd);
-    pthread_mutex_unlock(&lock);
-    return told;
 }
 
 int ftruncate(int fd, off_t size) {
@@ -226,10 +182,6 @@ int posix_fadvise(int fd, off_t offset, off_t size, int advice) {
     pthread_mutex_unlock(&lock);
     return told;
 }
-
-ssize_t pwrite64(int fd, const void *bytes, size_t size, off_t offset) { return pwrite(fd, bytes, size, offset); }
-
-ssize_t pread64(int fd, void *bytes, size_t size, off_t offset) { return pread(fd, bytes, size, offset); }
 
 int ftruncate64(int fd, off_t size) { return ftruncate(fd, size); }
 

@@ -1,4 +1,4 @@
-/* A library to be loaded before the C library: each sync of a file takes so many milliseconds more, as on a slow disk.
+/* A library to be loaded before the C library: each sync of a file takes some milliseconds more, as on a slow disk.
  *
  *     cc -O2 -shared -fPIC -o slow-sync.so tools/preloaded/slow-sync.c -ldl
  *     LD_PRELOAD=$PWD/slow-sync.so SYNC_MS=5 liftd serve ..

@@ -10,7 +10,7 @@ import subprocess
 import time
 from collections import namedtuple
 
-from tried import TOP, Wrong
+from tried import TOP, Wrong, serving
 
 DEMO = TOP / "examples/demo.toml"
 FLOORS, KIOSKS, CARS = 10, (0, 5), "AB"
@@ -25,7 +25,7 @@ class Call(namedtuple("Call", "start to party car least most")):
     """A call that was told its letter. Between `least` and `most` of its car's stops were in before it."""
 
     def state(self, stops):
-        """What the stops behind it make of it: its passengers board at a stop of its direction, and leave at any at their floor."""
+        """What the stops after it make of it: its passengers board at a stop of its direction, and leave at any at their floor."""
         now, direction = "waiting", "up" if self.to > self.start else "down"
         for stop in stops:
             if now == "waiting" and stop == (self.start, direction):
@@ -150,7 +150,7 @@ class Kiosk:
             if tuple(row) != call.row():
                 raise Lost(f"{self}: call {number} was told {call}, and {row} is open")
             if not any(state in call.states(stops) for stops in car.chains()):
-                raise Lost(f"{self}: call {number} was told {call}, and behind {len(car.stops)} stops of its car it is {state}")
+                raise Lost(f"{self}: call {number} was told {call}, and after {len(car.stops)} stops of its car it is {state}")
             if call.states(car.stops) == {"done"}:
                 del self.open[number]
         awaited = rows.pop((self.kiosk, self.last + 1), None)
@@ -228,19 +228,13 @@ class Group:
 
     def start(self, **around):
         """The server's port, or what it said in place of one."""
-        while True:
-            port = self.chance.randrange(20000, 60000)
-            self.server = subprocess.Popen([self.liftd, "serve", "group.image", DEMO, "--port", str(port), "--sessions", "1000000"],
-                                           cwd=self.folder, env=dict(os.environ, **around), stdout=subprocess.PIPE, stderr=subprocess.PIPE, text=True)
-            if self.server.stdout.readline() == f"serving {port}\n":
-                return port
-            said = self.server.communicate(timeout=60)[1].strip()
-            if said != "liftd: network":
-                return said
+        self.server, port, said = serving(self.liftd, "group.image", DEMO, cwd=self.folder, env=dict(os.environ, **around))
+        return said or port
 
     def kill(self):
+        """What it has said on standard error: a kill leaves it no last word."""
         self.server.kill()
-        self.server.communicate()
+        return self.server.communicate()[1].decode()
 
     def connect(self, port):
         """All terminals connect, and each kiosk asks again what it was told last."""
@@ -285,7 +279,7 @@ class Group:
             raise Wrong(f"{kiosk}: answered {' '.join(answer)}")
 
     def work(self, port, calls, midway=None):
-        """Whether so many calls were asked, and nothing was answered UNKNOWN. Half of them are asked before `midway` is done."""
+        """Whether all calls were asked, and nothing was answered UNKNOWN. Half of them are asked before `midway` is done."""
         try:
             self.connect(port)
             for car in self.cars:

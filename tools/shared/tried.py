@@ -1,4 +1,5 @@
-"""What all tools share: the program that is tried, ports, libraries that are loaded before the C library, and other tools' functions."""
+"""What the tools in Python share: their words, the program that is tried, servers and ports, the tally of cases, libraries that are
+loaded before the C library, and other tools' functions."""
 import importlib.machinery
 import importlib.util
 import os
@@ -20,6 +21,17 @@ class Wrong(Exception):
     """What came otherwise than it has to."""
 
 
+def given_words(most=1):
+    """The words that a tool without options was given, n at the most. `--help` prints the tool's head, and so does a word too many."""
+    given, head = sys.argv[1:], sys.modules["__main__"].__doc__.strip()
+    if given in (["--help"], ["-h"]):
+        print(head)
+        sys.exit()
+    if len(given) > most:
+        sys.exit(head)
+    return given
+
+
 def program(path=BUILT):
     """Its whole path, or the tool's end in a line where it isn't there."""
     path = os.path.realpath(path)
@@ -35,7 +47,7 @@ def relay():
 
 def in_relay(count):
     """What a last line tells of the scripts that were carried out by both parts too."""
-    return f"{count} scripts by both parts of a clerk too" if relay() else f"none by both parts of a clerk, for want of {RELAY.relative_to(TOP)}"
+    return f"{count} scripts by both parts of a clerk too" if relay() else f"none by both parts of a clerk, without {RELAY.relative_to(TOP)}"
 
 
 def loaded(path):
@@ -61,7 +73,50 @@ def free_port():
 
 
 def limit_files(most):
-    """In a process that is to become a program: the system refuses what it writes beyond so many bytes, where a number is given."""
+    """In a process that is to become a program: the system refuses what it writes beyond this number of bytes, where one is given."""
     if most is not None:
         signal.signal(signal.SIGXFSZ, signal.SIG_IGN)
         resource.setrlimit(resource.RLIMIT_FSIZE, (most, most))
+
+
+def serving(liftd, image, building, sessions=1000000, **around):
+    """`liftd serve` at a free port: its process, its port, and what it said in place of serving, nothing where it serves. A port that
+    another program took meanwhile is no refusal: the next one is tried."""
+    while True:
+        port = free_port()
+        told = [liftd, "serve", image, building, "--port", str(port), "--sessions", str(sessions)]
+        server = subprocess.Popen(told, stdout=subprocess.PIPE, stderr=subprocess.PIPE, **around)
+        if server.stdout.readline() == f"serving {port}\n".encode():
+            return server, port, ""
+        said = server.communicate(timeout=60)[1].decode().strip()
+        if said != "liftd: network":
+            return server, port, said
+
+
+def ended(server):
+    """Kills a server, if it still runs."""
+    server.kill()
+    server.communicate()
+
+
+class Tally:
+    """What was tried with a program in a folder, and how much of it came otherwise than it has to."""
+
+    def __init__(self, liftd, room):
+        self.liftd, self.room, self.tried, self.differ = liftd, room, 0, 0
+        self.is_told = False  # whether the present case came otherwise than its file says
+
+    def compare(self, name, wanted, came, is_wrong=False):
+        if wanted != came:
+            self.is_told = True
+            if not is_wrong:
+                self.differ += 1
+                print(f"{name}: differs\n  wanted: {wanted!r}\n  came:   {came!r}")
+
+    def case(self, name, is_wrong, carry_out):
+        """Carries out a case. One that is wrong on purpose has to differ."""
+        self.is_told = False
+        carry_out()
+        if is_wrong and not self.is_told:
+            self.differ += 1
+            print(f"{name}: comes out, though it is wrong on purpose")

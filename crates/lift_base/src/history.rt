@@ -1,5 +1,6 @@
 //! Entries, open calls, and the records that keep them.
-ghost use Rattle.std.specs.Prelude.{◌≡◌, ◌↔◌, IsTrue};
+ghost use Rattle.std.specs.Prelude.{◌≡◌, ◌≤◌, ◌∷◌, [], ◌↔◌, IsTrue, false, length, take};
+ghost use Rattle.std.specs.List.{flat_map};
 ghost use Rattle.std.specs.Option.{option_to_list};
 ghost use Rattle.lift_base.specs.declared.history.Content.{Content as ContentValue};
 ghost use Rattle.lift_base.specs.declared.history.Entry.{Entry as EntryValue};
@@ -169,6 +170,30 @@ impl Row {
             Some(Row { aboard, ..*self })
         }
     }
+
+    /// Whether a stop of its car changes the call.
+    fn is_changed_by(&self, stop: &Stop) -> bool
+        ensures { result ≡ false → row_after stop.now self.now ≡ self.now ∷ [] }
+    {
+        if self.aboard {
+            stop.floor == self.to
+        } else {
+            stop.floor == self.from && stop.dir == self.dir()
+        }
+    }
+}
+
+/// How many of a car's calls stand before the first one that a stop of the car changes.
+pub fn count_unchanged(rows: &[Row], stop: &Stop) -> usize
+    ensures rows { flat_map (row_after stop.now) (take result rows.now) ≡ take result rows.now }
+    ensures limit { result ≤ length rows.now }
+{
+    for (index, row) in rows.iter().enumerate() {
+        if row.is_changed_by(stop) {
+            return index;
+        }
+    }
+    rows.len()
 }
 
 /// What a terminal's last accepted command said, with the letter that a call was answered.

@@ -13,7 +13,10 @@ mod travel;
 pub use checked::{Floor, Letter, Number, Party, Terminal};
 pub use command::{Body, Reason, Reply};
 pub use count::ProofCount;
-pub use history::{Content, Entry, Last, MOST_DONE, Record, Row, Shape};
+pub use history::{Content, Entry, Last, MOST_DONE, Record, Row, Shape, count_unchanged};
 pub use lists::push_some;
-pub use memory::Memory;
+pub use memory::{
+    Memory, push, push_all, queue_behind, reserve, reserve_one, table_of_words, two_owners,
+    with_room,
+};
 pub use travel::{Dir, Halt, Pass, Position, Stop};

@@ -27,11 +27,12 @@ pub(crate) enum Fault {
     Memory(#[from] AllocError),
 }
 
-impl<F: Drop> From<FileFault<F>> for Fault {
-    fn from(fault: FileFault<F>) -> Fault {
+impl<F: Drop, O: Drop> From<FileFault<F, O>> for Fault {
+    fn from(fault: FileFault<F, O>) -> Fault {
         match fault {
+            FileFault::Untold(error, _) => Fault::File(error),
+            FileFault::NotAFile(_) => Fault::NotAFile,
             FileFault::Unopened(error) => Fault::File(error),
-            FileFault::NotAFile => Fault::NotAFile,
             FileFault::Stopped(stopped) => Fault::File(stopped.error),
         }
     }

@@ -6,9 +6,8 @@ ghost use Rattle.lift_journal.specs.Order.{IsEntry};
 use crate::fault::Fault;
 use arrayvec::ArrayVec;
 use lift_base::{Dir, Entry, Floor, Letter, Number, Record, Shape, push_some};
-use lift_disk::{Disk, FileDisk, ToldFiles};
+use lift_disk::{Disk, FileDisk, FileOpener};
 use lift_journal::{Journal, Visitor};
-use std::fs::{File, Files};
 
 /// A stop of car A.
 fn stop() -> Record
@@ -38,11 +37,8 @@ fn stops(count: usize) -> ArrayVec<Record, 63>
     batch
 }
 
-fn journal_at<F: Files<File = File> + ToldFiles>(
-    rt: &F,
-    image: &str,
-) -> Result<Journal<FileDisk<F::Told>>, Fault> {
-    let disk = FileDisk::open(rt, image)?;
+fn journal_at<O: FileOpener>(opener: O, image: &str) -> Result<Journal<FileDisk<O::Told>>, Fault> {
+    let disk = FileDisk::open(opener, image)?;
     match Journal::open(disk) {
         Ok(journal) => Ok(journal),
         Err((_disk, fault)) => Err(Fault::from(fault)),
@@ -50,11 +46,7 @@ fn journal_at<F: Files<File = File> + ToldFiles>(
 }
 
 /// Makes an empty journal with so many sectors in a half.
-pub(crate) fn format<F: Files<File = File> + ToldFiles>(
-    rt: &F,
-    image: &str,
-    half: u32,
-) -> Result<(), Fault> {
+pub(crate) fn format<O: FileOpener>(opener: O, image: &str, half: u32) -> Result<(), Fault> {
     let shape = Shape {
         floors: 64,
         cars: 16,
@@ -64,14 +56,14 @@ pub(crate) fn format<F: Files<File = File> + ToldFiles>(
     if !shape.is_within_limits() {
         return Err(Fault::Words);
     }
-    let mut disk = FileDisk::create(rt, image, 2 * half + 2)?;
+    let mut disk = FileDisk::create(opener, image, 2 * half + 2)?;
     lift_journal::format(&mut disk, shape)?;
     Ok(())
 }
 
 /// Appends batches of 63 records up to the end of the half; how many.
-pub(crate) fn fill<F: Files<File = File> + ToldFiles>(rt: &F, image: &str) -> Result<u32, Fault> {
-    let mut journal = journal_at(rt, image)?;
+pub(crate) fn fill<O: FileOpener>(opener: O, image: &str) -> Result<u32, Fault> {
+    let mut journal = journal_at(opener, image)?;
     let batch = stops(63);
     let mut batches = 0u32;
     for _batch in 0..1_000_000 {
@@ -85,8 +77,8 @@ pub(crate) fn fill<F: Files<File = File> + ToldFiles>(rt: &F, image: &str) -> Re
 }
 
 /// Opens a journal; the sectors of its halves.
-pub(crate) fn open<F: Files<File = File> + ToldFiles>(rt: &F, image: &str) -> Result<u32, Fault> {
-    let journal = journal_at(rt, image)?;
+pub(crate) fn open<O: FileOpener>(opener: O, image: &str) -> Result<u32, Fault> {
+    let journal = journal_at(opener, image)?;
     Ok(journal.shape().half)
 }
 
@@ -107,11 +99,8 @@ impl Visitor for Count {
 }
 
 /// Opens a journal and counts its batches and their records as they are read.
-pub(crate) fn walk<F: Files<File = File> + ToldFiles>(
-    rt: &F,
-    image: &str,
-) -> Result<(u32, u64), Fault> {
-    let disk = FileDisk::open(rt, image)?;
+pub(crate) fn walk<O: FileOpener>(opener: O, image: &str) -> Result<(u32, u64), Fault> {
+    let disk = FileDisk::open(opener, image)?;
     let mut count = Count {
         batches: 0,
         records: 0,
@@ -123,12 +112,8 @@ pub(crate) fn walk<F: Files<File = File> + ToldFiles>(
 }
 
 /// Appends so many batches of one record; how many had room.
-pub(crate) fn append<F: Files<File = File> + ToldFiles>(
-    rt: &F,
-    image: &str,
-    count: u32,
-) -> Result<u32, Fault> {
-    let mut journal = journal_at(rt, image)?;
+pub(crate) fn append<O: FileOpener>(opener: O, image: &str, count: u32) -> Result<u32, Fault> {
+    let mut journal = journal_at(opener, image)?;
     let batch = stops(1);
     let mut batches = 0u32;
     for _batch in 0..count {
@@ -142,12 +127,8 @@ pub(crate) fn append<F: Files<File = File> + ToldFiles>(
 }
 
 /// Reads the first sectors of a file in order, so many of those that are there.
-pub(crate) fn read<F: Files<File = File> + ToldFiles>(
-    rt: &F,
-    file: &str,
-    sectors: u32,
-) -> Result<u32, Fault> {
-    let mut disk = FileDisk::open(rt, file)?;
+pub(crate) fn read<O: FileOpener>(opener: O, file: &str, sectors: u32) -> Result<u32, Fault> {
+    let mut disk = FileDisk::open(opener, file)?;
     let mut buffer = [0; 512];
     let sectors = sectors.min(disk.sectors());
     for sector in 0..sectors {
@@ -159,12 +140,8 @@ pub(crate) fn read<F: Files<File = File> + ToldFiles>(
 }
 
 /// Writes a sector of a new file and syncs it, so many times.
-pub(crate) fn sync<F: Files<File = File> + ToldFiles>(
-    rt: &F,
-    file: &str,
-    count: u32,
-) -> Result<(), Fault> {
-    let mut disk = FileDisk::create(rt, file, 1000)?;
+pub(crate) fn sync<O: FileOpener>(opener: O, file: &str, count: u32) -> Result<(), Fault> {
+    let mut disk = FileDisk::create(opener, file, 1000)?;
     for time in 0..count {
         if time % 1000 < disk.sectors() {
             disk.write(time % 1000, &[0xA5; 512])?;

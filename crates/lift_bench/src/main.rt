@@ -10,6 +10,7 @@ mod workload;
 
 use crate::fault::Fault;
 use crate::workload::{Workload, workload_of};
+use lift_disk::SystemOpener;
 use std::env;
 use std::process::ExitCode;
 
@@ -33,29 +34,29 @@ fn run(rt: &HostRuntime) -> Result<(), Fault> {
             let decided = deciding::decide(rt.alloc(), &load)?;
             println!(rt; "calls {} decisions {}", decided.calls, decided.decisions)?;
         }
-        Workload::Format(image, half) => images::format(rt, image, half)?,
+        Workload::Format(image, half) => images::format(SystemOpener::new(rt), image, half)?,
         Workload::Fill(image) => {
-            let batches = images::fill(rt, image)?;
+            let batches = images::fill(SystemOpener::new(rt), image)?;
             println!(rt; "batches {batches}")?;
         }
         Workload::Open(image) => {
-            let half = images::open(rt, image)?;
+            let half = images::open(SystemOpener::new(rt), image)?;
             println!(rt; "half {half}")?;
         }
         Workload::Walk(image) => {
-            let (batches, records) = images::walk(rt, image)?;
+            let (batches, records) = images::walk(SystemOpener::new(rt), image)?;
             println!(rt; "batches {batches} records {records}")?;
         }
         Workload::Batches(image, count) => {
-            let batches = images::append(rt, image, count)?;
+            let batches = images::append(SystemOpener::new(rt), image, count)?;
             println!(rt; "batches {batches}")?;
         }
         Workload::Read(file, sectors) => {
-            let sectors = images::read(rt, file, sectors)?;
+            let sectors = images::read(SystemOpener::new(rt), file, sectors)?;
             println!(rt; "sectors {sectors}")?;
         }
         Workload::Sync(file, count) => {
-            images::sync(rt, file, count)?;
+            images::sync(SystemOpener::new(rt), file, count)?;
             println!(rt; "syncs {count}")?;
         }
     }

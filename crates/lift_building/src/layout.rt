@@ -1,6 +1,6 @@
 //! The parts of a building as they are kept.
 
-ghost use Rattle.std.specs.Prelude.{◌≡◌};
+ghost use Rattle.std.specs.Prelude.{◌≡◌, [], slice_index_or};
 ghost use Rattle.lift_building.specs.Plan.{flight_ms, places_of, serves_floor};
 ghost use Rattle.lift_building.specs.Layout.{layout_view};
 
@@ -27,6 +27,16 @@ pub(crate) struct Layout {
 }
 
 impl Layout {
+    /// The flights from a floor.
+    pub(crate) fn flights_from(&self, i: usize) -> &[u32]
+        ensures { result.now ≡ slice_index_or (layout_view self.now).flights i [] }
+    {
+        match self.flights.get(i) {
+            Some(row) => row.as_slice(),
+            None => &[],
+        }
+    }
+
     /// The time of a flight.
     pub(crate) fn flight(&self, i: usize, j: usize) -> u32
         ensures { result ≡ flight_ms (layout_view self.now) i j }

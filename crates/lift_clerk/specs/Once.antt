@@ -9,6 +9,7 @@ use Rattle.lift_journal.specs.declared.fault.JournalFault.TheVariants.{Disk, Bro
 use Rattle.lift_keeper.specs.declared.fault.KeeperFault.{KeeperFault}
 use Rattle.lift_keeper.specs.declared.fault.KeeperFault.TheVariants.{Journal}
 use Rattle.lift_keeper.specs.Commits.{CommitsTo}
+use Rattle.lift_keeper.specs.Calls.{CommitCalls}
 use Rattle.lift_keeper.specs.Recovers.{Recovers}
 use Rattle.lift_clerk.specs.declared.counts.Counts.{Counts}
 use Rattle.lift_clerk.specs.Clerk.{ClerkState}
@@ -30,6 +31,9 @@ pub record TurnsOnce {D P : Type 0} (state : D → DiskState) (choice : Choice)
   -- was broken before. So it is one of the machine (`turns_of`, `fails_of` of the lemmas).
   pub commits : CommitsTo state before.keeper.writer (entries_in result after.keeper)
       after.keeper.state.register after.keeper.writer result
+  -- It makes the calls of the device that this takes, and no others.
+  pub calls : CommitCalls state before.keeper.writer (entries_in result after.keeper)
+      after.keeper.writer result
   pub kept : (after.desk ≡ before.desk) × (after.policy ≡ before.policy)
 
 -- A reopening of the machine, where the device is honest; or it was refused, and but for a failed

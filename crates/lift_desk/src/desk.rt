@@ -25,8 +25,8 @@ use crate::seat::{AskRefusal, Seat};
 use crate::view::Seats;
 use crate::words::Ask;
 use arrayvec::ArrayVec;
-use lift_base::{Body, Memory, Number, Reply, Terminal};
-use std::alloc::{AllocError, Global};
+use lift_base::{Body, Memory, Number, Reply, Terminal, with_room};
+use std::alloc::Global;
 use std::marker::Model;
 
 /// The words that 1 to 63 terminals share with the clerk: for each its last ask, and the last
@@ -85,7 +85,7 @@ pub struct DeskParts {
 }
 
 // A new table, with the terminal's seat and the clerk's.
-fn new_table(alloc: Global) -> Result<(DeskTable, Looker, Looker), AllocError>
+fn new_table(alloc: Global) -> Result<(DeskTable, Looker, Looker), Memory>
     ensures words { IfOk result (λ made. made.0.shared.table_id.words ≡ 2) }
     ensures seats { IfOk result (λ made.
         (made.1 ≡ sits_at made.0.shared.table_id terminal_view)
@@ -127,8 +127,8 @@ impl Desk {
         ensures clerk_at { IfOk result (λ parts. IsClerkOf parts.desk parts.clerk) }
         ensures owes { IfOk result (λ parts. OwesNothing parts.clerk) }
     {
-        let mut tables = Vec::with_capacity(alloc, terminals)?;
-        let mut seats = Vec::with_capacity(alloc, terminals)?;
+        let mut tables = with_room(alloc, terminals)?;
+        let mut seats = with_room(alloc, terminals)?;
         let mut places: ArrayVec<Place, 63> = ArrayVec::new();
         for t in 0..terminals {
             let terminal = Terminal::new(t as u8).unwrap();

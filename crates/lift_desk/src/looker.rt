@@ -8,7 +8,8 @@ ghost use Rattle.lift_desk.specs.Looker.{sits_at, Loads, Stores, Carries};
 
 use crate::view::{DeskRule, View};
 use atomic_table::{Badge, Join, Play, Seat, Split, Table};
-use std::alloc::{AllocError, Global};
+use lift_base::{Memory, table_of_words};
+use std::alloc::Global;
 use std::marker::Model;
 use std::mem;
 
@@ -40,12 +41,12 @@ impl Model for Looker {
 
 impl Looker {
     /// A new table, and the first seat at it, which has all rights and has looked at nothing.
-    pub(crate) fn open(alloc: Global) -> Result<(DeskTable, Looker), AllocError>
+    pub(crate) fn open(alloc: Global) -> Result<(DeskTable, Looker), Memory>
         ensures words { IfOk result (λ made. made.0.shared.table_id.words ≡ 2) }
         ensures seat { IfOk result (λ made.
             made.1 ≡ sits_at made.0.shared.table_id opening_view) }
     {
-        let (table, seat) = DeskTable::of_words(alloc, &[0, 0], &())?;
+        let (table, seat) = table_of_words::<(), View, (), DeskRule>(alloc, &[0, 0], &())?;
         let badge = seat.into_badge();
         Ok((table, Looker { badge }))
     }

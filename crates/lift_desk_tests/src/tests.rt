@@ -3,7 +3,7 @@ ghost use Rattle.std.specs.Prelude.{◌≡◌, ◌+◌, ◌<◌, ◌≤◌, leng
 ghost use Rattle.lift_desk.specs.Seats.{IsSeatOf, IsClerkOf, AreSeatsOf};
 
 use super::*;
-use lift_base::{Body, Dir, Floor, Letter, Memory, Number, Party, Reason, Reply, Stop, Terminal};
+use lift_base::{Body, Dir, Floor, Letter, Number, Party, Reason, Reply, Stop, Terminal};
 use lift_desk::{
     Ask, AskRefusal, ClerkSeat, Desk, DeskParts, Seat, ask_word, read_ask, read_reply, reply_word,
 };
@@ -136,7 +136,7 @@ fn open(alloc: Global, terminals: usize) -> Result<DeskParts, AllocError>
 {
     match Desk::open(alloc, terminals) {
         Ok(parts) => Ok(parts),
-        Err(Memory) => Err(AllocError),
+        Err(_) => Err(AllocError),
     }
 }
 
@@ -299,7 +299,7 @@ fn a_seat_ahead_takes_and_the_clerk_answers(rt: HostRuntime) -> Result<(), Fail>
 fn memory_or_the_whole_desk(rt: HostRuntime) {
     match Desk::open(rt.alloc(), 3) {
         Ok(parts) => assert!(rt; parts.desk.len() == 3 && parts.seats.len() == 3),
-        Err(Memory) => {}
+        Err(_) => {}
     }
 }
 

@@ -9,7 +9,7 @@ use Rattle.lift_disk.specs.Traced.{making_calls, making_of, traced_calls, failur
 use Rattle.lift_disk.specs.Traced.{IsMadeOf}
 use Rattle.lift_disk.specs.Disk.{DiskState}
 use Rattle.lift_disk.specs.declared.file.FileFault.{FileFault}
-use Rattle.lift_disk.specs.declared.file.FileFault.TheVariants.{Unopened, NotAFile, Stopped}
+use Rattle.lift_disk.specs.declared.file.FileFault.TheVariants.{Untold, NotAFile, Unopened, Stopped}
 use Rattle.lift_disk.specs.declared.sectors.SectorFile.{SectorFile}
 use Rattle.lift_disk.specs.declared.told.ToldFile.{Ghosts as Told}
 
@@ -113,11 +113,13 @@ stops_making unnamed gives fails sectors opened left =
 abbrev pub stands_in_the_way : (stands : Option Bool → Type 0) → Option Bool → Type 0
 stands_in_the_way stands told = stands told × (told ≡ Some false)
 
--- Why no device is had of what stands at a path. The system didn't tell what stands there, or didn't
--- open it; no plain file stands there; or a file was opened, and stopped so.
-abbrev pub IsRefused : {F : Type 0} → (stands : Option Bool → Type 0)
-    → (opens : Option F → Type 0) → (stops : F → F → Type 0) → FileFault F → Type 0
-IsRefused stands opens stops (Unopened error) = stands None ⊎ opens None
-IsRefused stands opens stops NotAFile = stands (Some false)
-IsRefused {F} stands opens stops (Stopped stopped) =
+-- Why no device is had of what stands at a path. The system didn't tell what stands there, or no plain
+-- file does: then nothing was opened, and what was to open it comes back. Or the system didn't open
+-- it; or a file was opened, and stopped so.
+abbrev pub IsRefused : {F O : Type 0} → (opener : O) → (stands : Option Bool → Type 0)
+    → (opens : Option F → Type 0) → (stops : F → F → Type 0) → FileFault F O → Type 0
+IsRefused opener stands opens stops (Untold error back) = stands None × (back ≡ opener)
+IsRefused opener stands opens stops (NotAFile back) = stands (Some false) × (back ≡ opener)
+IsRefused opener stands opens stops (Unopened error) = opens None
+IsRefused {F} opener stands opens stops (Stopped stopped) =
     (file : F) × opens (Some file) × stops file stopped.file

@@ -4,8 +4,9 @@ ghost use Rattle.lift_disk.specs.Holding.{sectors_in};
 ghost use Rattle.lift_disk.specs.FileCalls.FileCall.{Lock};
 
 use crate::buffered::Buffered;
+use crate::opener::FileOpener;
 use crate::sectors::{SECTOR_BYTES, SectorFile};
-use crate::told::{ToldFile, ToldFiles};
+use crate::told::ToldFile;
 use crate::traced::TracedFile;
 use std::fs::OpenOptions;
 use std::io;
@@ -18,13 +19,15 @@ pub struct Stopped<F: Drop> {
     pub file: F,
 }
 
-/// Why a file can't be a device.
+/// Why a file can't be a device. Where nothing was opened by it, what opens it comes back.
 #[derive(Drop)]
-pub enum FileFault<F: Drop> {
-    /// The system refused to tell what stands there, or to open it.
-    Unopened(io::Error),
+pub enum FileFault<F: Drop, O: Drop> {
+    /// The system refused to tell what stands there.
+    Untold(io::Error, O),
     /// A folder, a pipe or another thing that is no plain file stands there.
-    NotAFile,
+    NotAFile(O),
+    /// The system refused to open it.
+    Unopened(io::Error),
     /// It was opened, and then a call of it failed, or its folder couldn't be made safe.
     Stopped(Stopped<F>),
 }
@@ -53,24 +56,27 @@ impl<F: ToldFile + Drop> SectorFile<F> {
     /// Opens a file that is there, if its lock is to be had. Its whole sectors count, 4,294,967,295
     /// at most; the end that is less than one doesn't. A pipe or a terminal isn't opened, so that
     /// nothing waits for its other end. A file that was opened and is refused comes back.
-    pub fn open<R: ToldFiles<Told = F>>(rt: &R, path: &str) -> Result<SectorFile<F>, FileFault<F>>
-        ensures measured { IfOk result (λ disk. IsMeasured (R.opens rt.now to_be_used path.now)
+    pub fn open<O: FileOpener<Told = F>>(
+        opener: O,
+        path: &str,
+    ) -> Result<SectorFile<F>, FileFault<F, O>>
+        ensures measured { IfOk result (λ disk. IsMeasured (O.opens opener to_be_used path.now)
             F.gives F.holds (Lock ∷ []) disk) }
-        ensures refused { IfErr result (IsRefused (R.stands rt.now path.now)
-            (R.opens rt.now to_be_used path.now) (stops_opening F.gives F.fails (Lock ∷ []))) }
+        ensures refused { IfErr result (IsRefused opener (O.stands opener path.now)
+            (O.opens opener to_be_used path.now) (stops_opening F.gives F.fails (Lock ∷ []))) }
         ensures uncalled { IfOk result (λ disk. calls_below disk ≡ []) }
         ensures failures { IfOk result (λ disk. (sector_file_state_of F.holds disk).failures ≡ 0) }
         ensures calls { IfOk result (λ disk. (sector_file_state_of F.holds disk).calls ≡ 0) }
         ensures writes { IfOk result (λ disk. (sector_file_state_of F.holds disk).writes ≡ 0) }
         ensures trace { IfOk result (λ disk. (sector_file_state_of F.holds disk).trace ≡ []) }
     {
-        match rt.is_file_told(path) {
+        match opener.is_file_told(path) {
             Ok(true) => {}
-            Ok(false) => return Err(FileFault::NotAFile),
-            Err(error) => return Err(FileFault::Unopened(error)),
+            Ok(false) => return Err(FileFault::NotAFile(opener)),
+            Err(error) => return Err(FileFault::Untold(error, opener)),
         }
-        let file = match rt.open_told(OpenOptions::new().read(true).write(true), path) {
-            Ok(file) => file,
+        let file = match opener.open_told(OpenOptions::new().read(true).write(true), path) {
+            Ok((file, _folder)) => file,
             Err(error) => return Err(FileFault::Unopened(error)),
         };
         match TracedFile::locked(file) {
@@ -80,27 +86,27 @@ impl<F: ToldFile + Drop> SectorFile<F> {
     }
 
     /// The same to be read alone, beside whoever has the lock: what is read may change meanwhile.
-    pub fn open_to_read<R: ToldFiles<Told = F>>(
-        rt: &R,
+    pub fn open_to_read<O: FileOpener<Told = F>>(
+        opener: O,
         path: &str,
-    ) -> Result<SectorFile<F>, FileFault<F>>
-        ensures measured { IfOk result (λ disk. IsMeasured (R.opens rt.now to_be_read path.now)
+    ) -> Result<SectorFile<F>, FileFault<F, O>>
+        ensures measured { IfOk result (λ disk. IsMeasured (O.opens opener to_be_read path.now)
             F.gives F.holds [] disk) }
-        ensures refused { IfErr result (IsRefused (R.stands rt.now path.now)
-            (R.opens rt.now to_be_read path.now) (stops_opening F.gives F.fails [])) }
+        ensures refused { IfErr result (IsRefused opener (O.stands opener path.now)
+            (O.opens opener to_be_read path.now) (stops_opening F.gives F.fails [])) }
         ensures uncalled { IfOk result (λ disk. calls_below disk ≡ []) }
         ensures failures { IfOk result (λ disk. (sector_file_state_of F.holds disk).failures ≡ 0) }
         ensures calls { IfOk result (λ disk. (sector_file_state_of F.holds disk).calls ≡ 0) }
         ensures writes { IfOk result (λ disk. (sector_file_state_of F.holds disk).writes ≡ 0) }
         ensures trace { IfOk result (λ disk. (sector_file_state_of F.holds disk).trace ≡ []) }
     {
-        match rt.is_file_told(path) {
+        match opener.is_file_told(path) {
             Ok(true) => {}
-            Ok(false) => return Err(FileFault::NotAFile),
-            Err(error) => return Err(FileFault::Unopened(error)),
+            Ok(false) => return Err(FileFault::NotAFile(opener)),
+            Err(error) => return Err(FileFault::Untold(error, opener)),
         }
-        let file = match rt.open_told(OpenOptions::new().read(true), path) {
-            Ok(file) => file,
+        let file = match opener.open_told(OpenOptions::new().read(true), path) {
+            Ok((file, _folder)) => file,
             Err(error) => return Err(FileFault::Unopened(error)),
         };
         match TracedFile::measured(file) {
@@ -112,16 +118,16 @@ impl<F: ToldFile + Drop> SectorFile<F> {
     /// Makes a file of so many sectors of zeros, or makes one that is there into that, if its lock
     /// is to be had. Its sectors are written and its folder is made safe, so that it has its room
     /// and its name. A file that was opened and is refused comes back.
-    pub fn create<R: ToldFiles<Told = F>>(
-        rt: &R,
+    pub fn create<O: FileOpener<Told = F>>(
+        opener: O,
         path: &str,
         sectors: u32,
-    ) -> Result<SectorFile<F>, FileFault<F>>
-        ensures made { IfOk result (λ disk. IsMadeDevice (R.opens rt.now to_be_made path.now)
-            (R.names rt.now path.now) F.gives F.holds sectors disk) }
-        ensures refused { IfErr result (IsRefused (stands_in_the_way (R.stands rt.now path.now))
-            (R.opens rt.now to_be_made path.now)
-            (stops_making (R.unnamed rt.now path.now) F.gives F.fails sectors)) }
+    ) -> Result<SectorFile<F>, FileFault<F, O>>
+        ensures made { IfOk result (λ disk. IsMadeDevice (O.opens opener to_be_made path.now)
+            (O.names opener path.now) F.gives F.holds sectors disk) }
+        ensures refused { IfErr result (IsRefused opener
+            (stands_in_the_way (O.stands opener path.now)) (O.opens opener to_be_made path.now)
+            (stops_making (O.unnamed opener path.now) F.gives F.fails sectors)) }
         ensures making { IfOk result (λ disk. making_below disk ≡ making_calls sectors) }
         ensures uncalled { IfOk result (λ disk. calls_below disk ≡ []) }
         ensures size { IfOk result (λ disk. (sector_file_state_of F.holds disk).size ≡ sectors) }
@@ -130,20 +136,20 @@ impl<F: ToldFile + Drop> SectorFile<F> {
         ensures writes { IfOk result (λ disk. (sector_file_state_of F.holds disk).writes ≡ 0) }
         ensures trace { IfOk result (λ disk. (sector_file_state_of F.holds disk).trace ≡ []) }
     {
-        if let Ok(false) = rt.is_file_told(path) {
-            return Err(FileFault::NotAFile);
+        if let Ok(false) = opener.is_file_told(path) {
+            return Err(FileFault::NotAFile(opener));
         }
         let mut how = OpenOptions::new();
         how.read(true).write(true).create(true);
-        let file = match rt.open_told(&how, path) {
-            Ok(file) => file,
+        let (file, folder) = match opener.open_told(&how, path) {
+            Ok(opened) => opened,
             Err(error) => return Err(FileFault::Unopened(error)),
         };
         let made = match TracedFile::zeroed(file, sectors) {
             Ok(made) => made,
             Err(stopped) => return Err(FileFault::Stopped(stopped)),
         };
-        match made.named(rt, path) {
+        match made.named::<O>(folder, path) {
             Ok(named) => Ok(SectorFile::over(named, sectors)),
             Err(stopped) => Err(FileFault::Stopped(stopped)),
         }

@@ -8,7 +8,8 @@ ghost use Rattle.lift_disk.specs.Runs.{HoldsRun, with_run};
 use crate::Outcome;
 use crate::runs::MOST_AHEAD;
 use crate::span::Span;
-use std::alloc::{AllocError, Global};
+use lift_base::{Memory, push};
+use std::alloc::Global;
 
 /// No flag is set any more. Outside of the span none was.
 pub(crate) fn clear(flags: &mut Vec<bool>, span: Span)
@@ -106,23 +107,23 @@ pub(crate) fn leave(
 }
 
 /// So many sectors of zeros.
-pub(crate) fn zeros(alloc: Global, count: u32) -> Result<Vec<[u8; 512]>, AllocError>
+pub(crate) fn zeros(alloc: Global, count: u32) -> Result<Vec<[u8; 512]>, Memory>
     ensures { IfOk result (λ v. v.items ≡ replicate count (replicate 512 0)) }
 {
     let mut sectors = Vec::new(alloc);
     for _i in 0..count {
-        sectors.push([0; 512])?;
+        push(&mut sectors, [0; 512])?;
     }
     Ok(sectors)
 }
 
 /// So many flags, none of them set.
-pub(crate) fn no_flags(alloc: Global, count: u32) -> Result<Vec<bool>, AllocError>
+pub(crate) fn no_flags(alloc: Global, count: u32) -> Result<Vec<bool>, Memory>
     ensures { IfOk result (λ v. v.items ≡ replicate count false) }
 {
     let mut flags = Vec::new(alloc);
     for _i in 0..count {
-        flags.push(false)?;
+        push(&mut flags, false)?;
     }
     Ok(flags)
 }

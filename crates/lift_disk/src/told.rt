@@ -1,7 +1,5 @@
 //! A file whose calls are told.
-ghost use Rattle.std.specs.Prelude.{◌↔◌, ◌≡◌, ◌∷◌, [], ℕ, List, Option, Some, None, Bool, ⊤};
-ghost use Rattle.std.specs.Prelude.{IfOk, OnErr, OnOk};
-ghost use Rattle.std.specs.declared.fs.options.OpenOptions.{OpenOptions as Options};
+ghost use Rattle.std.specs.Prelude.{◌↔◌, ◌≡◌, ◌∷◌, [], IfOk, OnOk, ⊤};
 ghost use Rattle.lift_disk.specs.Disk.{CountsNow, DiskState, IsWhole, LeavesNoOther, MayLose};
 ghost use Rattle.lift_disk.specs.FileCalls.{FileCall, IsOneAnswer, IsOneCall};
 ghost use Rattle.lift_disk.specs.FileCalls.FileCall.{Read, ReadSectors, Write, SyncData};
@@ -13,10 +11,9 @@ ghost use Rattle.lift_disk.specs.Holding.{Writes, WritesBack};
 ghost use Rattle.lift_disk.specs.Holding.{nothing_known};
 ghost use Rattle.lift_disk.specs.Runs.{joined};
 
-use std::fs::{File, OpenFile, OpenOptions};
+use std::fs::{File, OpenFile};
+use std::io;
 use std::os::unix::fs::FileExt;
-use std::rt::LibcRuntime;
-use std::{fs, io};
 
 /// A file whose calls are told: each step from one state to the next is a call of it.
 ///
@@ -213,76 +210,5 @@ impl<F: HostFile> ToldFile for SystemFile<F> {
 
     fn length_told(&mut self) -> io::Result<u64> {
         Ok(self.file.metadata()?.len())
-    }
-}
-
-/// What opens files whose calls are told. A device is proved for each, whatever its call gives: so
-/// its file is one that was opened by the options and at the path that a clause names.
-pub trait ToldFiles {
-    type Told: ToldFile + Drop;
-
-    /// What was given where a file was to be opened by these options at a path.
-    ghost opens: { Self → Options → List ℕ → Option Self.Told → Type 0 };
-
-    /// At this path the folder names this file for good: a power cut doesn't take the name back.
-    ghost names: { Self → List ℕ → Self.Told → Type 0 };
-
-    /// What was told where it was asked whether a plain file stands at a path, nothing where that
-    /// failed.
-    ghost stands: { Self → List ℕ → Option Bool → Type 0 };
-
-    /// The folder of this path, in which this file was made, couldn't be made safe.
-    ghost unnamed: { Self → List ℕ → Self.Told → Type 0 };
-
-    /// Whether a plain file is at the path.
-    fn is_file_told(&self, path: &str) -> io::Result<bool>
-        ensures told { IfOk result (λ is_file. stands self.now path.now (Some is_file)) }
-        ensures refused { OnErr result (stands self.now path.now None) };
-
-    /// The file at the path, by these options.
-    fn open_told(&self, how: &OpenOptions, path: &str) -> io::Result<Self::Told>
-        ensures opened { IfOk result (λ file. opens self.now how.now path.now (Some file)) }
-        ensures refused { OnErr result (opens self.now how.now path.now None) };
-
-    /// Makes the folder safe in which this file was made.
-    fn sync_folder_told(&self, path: &str, made: &Self::Told) -> io::Result<()>
-        ensures named { OnOk result (names self.now path.now made.now) }
-        ensures refused { OnErr result (unnamed self.now path.now made.now) };
-}
-
-/// The folder of a path. Where the path is a link it is the link's.
-fn folder_of(path: &str) -> &str {
-    match path.rsplit_once('/') {
-        Some(("", _)) => "/",
-        Some((folder, _)) => folder,
-        None => ".",
-    }
-}
-
-/// Of the host alone: a runtime that is known by its bounds brings its own.
-impl ToldFiles for LibcRuntime {
-    type Told = SystemFile<File>;
-
-    ghost opens = { λ _ _ _ _. ⊤ };
-
-    ghost names = { λ _ _ _. ⊤ };
-
-    ghost stands = { λ _ _ _. ⊤ };
-
-    ghost unnamed = { λ _ _ _. ⊤ };
-
-    fn is_file_told(&self, path: &str) -> io::Result<bool> {
-        Ok(fs::metadata(self, path)?.is_file())
-    }
-
-    fn open_told(&self, how: &OpenOptions, path: &str) -> io::Result<SystemFile<File>> {
-        Ok(SystemFile::over(how.open(self, path)?))
-    }
-
-    fn sync_folder_told(&self, path: &str, _made: &SystemFile<File>) -> io::Result<()> {
-        OpenOptions::new()
-            .read(true)
-            .open(self, folder_of(path))?
-            .sync_all()
     }
 }

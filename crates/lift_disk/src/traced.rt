@@ -12,7 +12,8 @@ ghost use Rattle.lift_disk.specs.FileCalls.FileCall.{GetLength, Lock, SetLength,
 use crate::DiskFault;
 use crate::file::Stopped;
 use crate::file_calls::{Called, ProofFileCalls};
-use crate::told::{ToldFile, ToldFiles};
+use crate::opener::FileOpener;
+use crate::told::ToldFile;
 use lift_base::ProofCount;
 use std::io;
 
@@ -216,17 +217,19 @@ impl<F: ToldFile + Drop> TracedFile<F> {
     }
 
     /// It, once its folder names it for good, which comes back unless that is so.
-    pub(crate) fn named<R: ToldFiles<Told = F>>(
+    pub(crate) fn named<O: FileOpener<Told = F>>(
         self,
-        rt: &R,
+        folder: O::Folder,
         path: &str,
     ) -> Result<TracedFile<F>, Stopped<F>>
         ensures same { IfOk result (λ named. named ≡ self) }
-        ensures named { IfOk result (λ named. R.names rt.now path.now (file_of named)) }
+        ensures named { IfOk result (λ named.
+            O.names (O.opener_of folder) path.now (file_of named)) }
         ensures stopped { IfErr result (λ stopped. stopped.file ≡ file_of self) }
-        ensures unnamed { IfErr result (λ stopped. R.unnamed rt.now path.now stopped.file) }
+        ensures unnamed { IfErr result (λ stopped.
+            O.unnamed (O.opener_of folder) path.now stopped.file) }
     {
-        match rt.sync_folder_told(path, &self.file) {
+        match O::sync_folder_told(folder, path, &self.file) {
             Ok(()) => Ok(self),
             Err(error) => Err(self.stopped(error)),
         }

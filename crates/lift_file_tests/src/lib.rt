@@ -2,7 +2,7 @@
 #![tactic(auto)]
 
 mod memory_file;
-mod memory_files;
+mod memory_opener;
 
 pub use memory_file::{MemoryFile, buffered, device, made};
-pub use memory_files::{MemoryFiles, made_in_memory};
+pub use memory_opener::{MemoryOpener, made_in_memory};

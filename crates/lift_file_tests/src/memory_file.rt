@@ -5,7 +5,7 @@ ghost use Rattle.lift_disk.specs.Traced.{to_be_made};
 
 use lift_base::Memory;
 use lift_disk::{
-    Buffered, Disk, FileFault, MOST_AHEAD, MemDisk, RunDisk, SectorFile, ToldFile, ToldFiles,
+    Buffered, Disk, FileFault, FileOpener, MOST_AHEAD, MemDisk, RunDisk, SectorFile, ToldFile,
     TracedFile,
 };
 use std::alloc::Global;
@@ -218,20 +218,20 @@ pub fn buffered(alloc: Global, sectors: u32) -> Result<Buffered<SectorFile<Memor
     Ok(Buffered::over(device(alloc, sectors)?))
 }
 
-/// A device of 40 sectors on a file that a runtime makes, whatever runtime it is. It is honest
+/// A device of 40 sectors on a file that is made by an opener, whatever opener it is. It is honest
 /// where that file was when it was opened.
-pub fn made<R: ToldFiles>(
-    rt: &R,
+pub fn made<O: FileOpener>(
+    opener: O,
     path: &str,
-) -> Result<Buffered<SectorFile<R::Told>>, FileFault<R::Told>>
-    ensures honest { IfOk result (λ device. (file : R.Told)
-        × R.opens rt.now to_be_made path.now (Some file)
-        × ((R.Told.holds file).is_honest
-        → (⟦<Buffered<SectorFile<R::Told>> as Disk>⟧.state device).is_honest)) }
+) -> Result<Buffered<SectorFile<O::Told>>, FileFault<O::Told, O>>
+    ensures honest { IfOk result (λ device. (file : O.Told)
+        × O.opens opener to_be_made path.now (Some file)
+        × ((O.Told.holds file).is_honest
+        → (⟦<Buffered<SectorFile<O::Told>> as Disk>⟧.state device).is_honest)) }
     ensures size { IfOk result (λ device.
-        (⟦<Buffered<SectorFile<R::Told>> as Disk>⟧.state device).size ≡ 40) }
+        (⟦<Buffered<SectorFile<O::Told>> as Disk>⟧.state device).size ≡ 40) }
 {
-    match SectorFile::create(rt, path, 40) {
+    match SectorFile::create(opener, path, 40) {
         Ok(device) => Ok(Buffered::over(device)),
         Err(fault) => Err(fault),
     }

@@ -58,7 +58,7 @@ impl<'a, D: Disk + Drop, P: Policy + Drop> Relay<'a, D, P> {
     }
 
     pub(crate) fn flush<R: Wait>(&mut self, rt: &R) -> Result<FlushCounts, KeeperFault> {
-        self.flusher.turn(rt)
+        self.flusher.turn(rt, &mut NoWitness)
     }
 
     pub(crate) fn tell(&mut self) {

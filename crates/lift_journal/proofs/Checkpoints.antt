@@ -1,9 +1,8 @@
 -- The batches of a checkpoint, one after another.
-use Rattle.std.proofs.Common.{◌≡◌, ◌<◌, ◌≤◌, ◌+◌, ◌-◌, ◌*◌, ℕ, zero, suc, List, [], ◌∷◌, ◌++◌, None, length, take, drop, slice_get, slice_set, All, refl, sym, ◌∙◌, ap, subst, arith, append_assoc, length-take, length-drop}
+use Rattle.std.proofs.Common.{◌≡◌, ◌<◌, ◌≤◌, ◌+◌, ◌-◌, ◌*◌, ℕ, zero, suc, List, [], ◌∷◌, ◌++◌, None, length, take, drop, slice_get, slice_set, All, refl, sym, ◌∙◌, ap, subst, arith, append_assoc, length-take}
 use Rattle.std.specs.Option.{option_to_list}
 use Rattle.std.specs.List.{AllByRecursion}
-use Rattle.std.proofs.Math.Seq.{take-add}
-use Rattle.std.proofs.lemmas.List.{append-nil, take-take, take_all, take-append-drop, take-append-le, drop-drop, drop-take, drop-set-lt, take-set-le, length-set, length-take-le}
+use Rattle.std.proofs.lemmas.List.{append-nil, take-take, take-append-drop, take-append-le, drop-drop, drop-take, drop-set-lt, take-set-le, length-set}
 use Rattle.std.proofs.lemmas.List.Elements.{recursion_from_All, All-from_recursion, All-take, All-drop}
 use Rattle.lift_base.specs.declared.history.Record.{Record}
 use Rattle.lift_base.specs.Records.{IsRecord, IsLawful}
@@ -16,7 +15,7 @@ use Rattle.lift_record.specs.Version.{version_number}
 use Rattle.lift_disk.specs.Disk.{DiskState, Image, RunsOn, LooseWithin, TouchesOnly, LeavesNoOther, IsSteadyAt, IsWhole}
 use Rattle.lift_disk.specs.lemmas.Moments.{runs_none, runs_then, touches_none, touches_then}
 use Rattle.lift_journal.specs.Order.{AreRecordsInOrder, IsComplete}
-use Rattle.lift_journal.specs.Layout.{Batch, records_of, bodies, size_of, used, NeverFall, IsSound, IsBody, is_marked, IsOpen, sector_at}
+use Rattle.lift_journal.specs.Layout.{Batch, bodies, size_of, used, NeverFall, IsSound, IsBody, is_marked, IsOpen, sector_at}
 use Rattle.lift_journal.specs.Steps.{overwritten, marked, IsInRange}
 use Rattle.lift_journal.specs.Walk.{IsFront, IsSoundFront, Reaches}
 use Rattle.lift_journal.specs.Checkpoint.{in_batches, batch_count, checkpoint_of, sectors_for}
@@ -29,6 +28,7 @@ use Rattle.lift_journal.specs.lemmas.Telling.{none_made, passes_then}
 use Rattle.lift_journal.proofs.Appends.{overwritten_there, length-overwritten, sector_set}
 use Rattle.lift_journal.proofs.Bases.{base_in_order, base_complete}
 use Rattle.lift_journal.specs.lemmas.Chains.{used_more}
+use Rattle.lift_journal.specs.lemmas.Folding.{batch_at, batches_more, records_in, length_batches, used_checkpoint, checkpoint_records}
 use Rattle.lift_journal.specs.lemmas.Orders.{order_front}
 use Rattle.lift_journal.proofs.Seeing.{bodies_few}
 use Rattle.lift_journal.proofs.Walks.{front_same, reaches_start, reaches_more}
@@ -48,29 +48,6 @@ get_dropped (suc from) k (x ∷ xs) = get_dropped from k xs ∙ ap (slice_get (x
 pub take_next : {X : Type 0} (xs : List X) (from k : ℕ) → take k (drop from xs) ++ option_to_list (slice_get xs (from + k)) ≡ take (suc k) (drop from xs)
 take_next xs from k = ap (λ o. take k (drop from xs) ++ option_to_list o) (sym (get_dropped from k xs)) ∙ take_one (drop from xs) k
 
--- the batch at one place
-abbrev pub batch_at : ℕ → List Record → Batch
-batch_at place records = record { version = Two; records = take 63 (drop (63 * place) records) }
-
-pub batches_more : (count : ℕ) (records : List Record) → in_batches (suc count) records ≡ in_batches count records ++ batch_at count records ∷ []
-batches_more zero records = refl
-batches_more (suc count) records =
-    let first : Batch = record { version = Two; records = take 63 records } in
-    let place : drop (63 * count) (drop 63 records) ≡ drop (63 * suc count) records =
-    drop-drop (63 * count) 63 records ∙ ap (λ n. drop n records) (let sum : 63 + 63 * count ≡ 63 * suc count = omega arith in sum) in
-    ap (λ (l : List Batch). first ∷ l) (batches_more count (drop 63 records))
-    ∙ ap (λ (l : List Record). first ∷ in_batches count (drop 63 records) ++ (record { version = Two; records = take 63 l }) ∷ []) place
-
-pub records_in : (count : ℕ) (records : List Record) → records_of (in_batches count records) ≡ take (63 * count) records
-records_in zero records = refl
-records_in (suc count) records =
-    ap (λ (l : List Record). take 63 records ++ l) (records_in count (drop 63 records)) ∙ sym (take-add 63 (63 * count) records)
-    ∙ ap (λ n. take n records) (let sum : 63 + 63 * count ≡ 63 * suc count = omega arith in sum)
-
-pub length_batches : (count : ℕ) (records : List Record) → length (in_batches count records) ≡ count
-length_batches zero records = refl
-length_batches (suc count) records = ap suc (length_batches count (drop 63 records))
-
 pub used_most : (count : ℕ) (records : List Record) → used (in_batches count records) ≤ 3 * count
 used_most zero records = omega arith
 used_most (suc count) records = omega (arith, bodies_few (length (take 63 records)), used_most count (drop 63 records))
@@ -79,28 +56,6 @@ pub used_rises : (early late : ℕ) (records : List Record) → early ≤ late �
 used_rises zero late records le = omega arith
 used_rises (suc early) zero records le = absurd (omega arith)
 used_rises (suc early) (suc late) records le = omega (arith, used_rises early late (drop 63 records) (omega arith))
-
--- full batches take three sectors each
-used_full : (count : ℕ) (records : List Record) → 63 * count ≤ length records → used (in_batches count records) ≡ 3 * count
-used_full zero records full = omega arith
-used_full (suc count) records full =
-    let size : bodies (length (take 63 records)) ≡ 2 = ap bodies (length-take-le 63 records (omega arith)) in
-    omega (arith, size, used_full count (drop 63 records) (omega (arith, length-drop 63 records)))
-
-pub used_checkpoint : (records : List Record) → 1 ≤ length records → used (checkpoint_of records) ≡ sectors_for (length records)
-used_checkpoint records some =
-    let n = length records in
-    let full = batch_count n - 1 in
-    let count : batch_count n ≡ suc full = omega arith in
-    let early : 63 * full ≤ n = omega arith in
-    let late : n ≤ 63 * full + 63 = omega arith in
-    let rest : length (take 63 (drop (63 * full) records)) ≡ n - 63 * full =
-    ap length (take_all 63 (drop (63 * full) records) (omega (arith, length-drop (63 * full) records))) ∙ length-drop (63 * full) records in
-    let last : bodies (length (take 63 (drop (63 * full) records))) ≡ bodies (n - 63 * full) = ap bodies rest in
-    ap (λ k. used (in_batches k records)) count
-    ∙ ap used (batches_more full records)
-    ∙ (let sum : used (in_batches full records ++ batch_at full records ∷ []) ≡ 3 * full + 1 + bodies (n - 63 * full) =
-    omega (arith, used_more (in_batches full records) (batch_at full records), used_full full records early, last) in sum)
 
 -- the next batch is one of them
 pub used_within : (count end size : ℕ) (records items : List Record) → count < end → end ≡ batch_count (length records) → 1 ≤ length records → items ≡ take 63 (drop (63 * count) records) → size ≡ bodies (length items)
@@ -121,11 +76,6 @@ sound_front count records order = record {
   versions = never_fall One count records (omega arith);
   ordered = subst AreRecordsInOrder (sym (records_in count records)) (order_take (63 * count) records order);
 }
-
-pub checkpoint_records : (records : List Record) → records_of (checkpoint_of records) ≡ records
-checkpoint_records records =
-    records_in (batch_count (length records)) records
-    ∙ take_all (63 * batch_count (length records)) records (omega arith)
 
 pub checkpoint_sound : (register : RegisterState) → IsWellFormed register → IsSound (checkpoint_of (base_records register))
 checkpoint_sound register formed =

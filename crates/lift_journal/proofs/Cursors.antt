@@ -1,8 +1,8 @@
 -- The batches of a chain, one after another.
-use Rattle.std.proofs.Common.{◌≡◌, ◌<◌, ◌≤◌, ◌+◌, ◌-◌, ⊎_elim, ℕ, zero, suc, List, [], ◌∷◌, ◌++◌, Some, length, take, drop, get_or, refl, sym, ◌∙◌, ap, subst, arith, length-append, length-drop, length-take}
+use Rattle.std.proofs.Common.{◌≡◌, ◌<◌, ◌≤◌, ◌+◌, ◌-◌, ⊎_elim, ℕ, zero, suc, List, [], ◌∷◌, Some, length, take, drop, get_or, refl, sym, ◌∙◌, ap, subst, arith, length-drop, length-take}
 use Rattle.std.specs.Option.{option_map}
 use Rattle.std.proofs.Math.Nat.{eq-or-lt_of_le}
-use Rattle.std.proofs.lemmas.List.{take-take, take-append-le, take_all, drop-drop, drop_more}
+use Rattle.std.proofs.lemmas.List.{take-take, take_all, drop-drop, drop_more}
 use Rattle.std.proofs.lemmas.Option.{slice_get-get_or}
 use Rattle.lift_base.specs.declared.history.Shape.{Shape}
 use Rattle.lift_record.specs.declared.version.Version.TheVariants.{One}
@@ -11,7 +11,7 @@ use Rattle.lift_journal.specs.Layout.{Batch, IsOpen, IsClosed, size_of, IsBody, 
 use Rattle.lift_journal.specs.Journal.{CursorView, IsCursorIn, IsNext}
 use Rattle.lift_journal.specs.Walk.{IsBatchAt}
 use Rattle.lift_journal.specs.lemmas.Chains.{tail_is, from_gate, chain_room, start_high, used_below}
-use Rattle.lift_journal.proofs.Unique.{body_unique}
+use Rattle.lift_journal.specs.lemmas.Unique.{body_unique}
 
 abbrev pub blank : Batch
 blank = record { version = One; records = [] }
@@ -30,13 +30,6 @@ used_next batches k lt =
     step [] k lt = absurd (omega arith)
     step (batch ∷ batches) zero lt = omega arith
     step (batch ∷ batches) (suc k) lt = omega (arith, step batches k (omega arith))
-
--- one batch more leaves a cursor where it is
-pub cursor_stays : (batches : List Batch) (batch : Batch) (cursor : CursorView) → IsCursorIn batches cursor → IsCursorIn (batches ++ batch ∷ []) cursor
-cursor_stays batches batch cursor within = record {
-  inside = omega (arith, within.inside, length-append batches (batch ∷ []));
-  behind = within.behind ∙ ap used (sym (take-append-le cursor.given batches (batch ∷ []) within.inside));
-}
 
 -- the chain from one batch on
 pub chain_drop : (batches : List Batch) (k number : ℕ) (sectors : Image) → k ≤ length batches → IsChain batches number sectors

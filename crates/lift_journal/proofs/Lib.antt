@@ -4,7 +4,6 @@ pub mod Writes
 pub mod Texts
 pub mod Appends
 pub mod Halves
-pub mod Unique
 pub mod Pairs
 pub mod Visiting
 pub mod Walks

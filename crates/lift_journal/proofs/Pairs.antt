@@ -8,7 +8,7 @@ use Rattle.lift_base.specs.declared.history.Shape.{Shape}
 use Rattle.lift_journal.specs.Layout.{Holds, records_of}
 use Rattle.lift_journal.specs.Laws.{ReadsAsOnePair}
 use Rattle.lift_journal.specs.Order.{IsEntry, IsOfBase}
-use Rattle.lift_journal.proofs.Unique.{holds_unique, stamp_unique}
+use Rattle.lift_journal.specs.lemmas.Unique.{holds_unique, stamp_unique}
 
 -- a record is an entry or of a checkpoint
 not_both : (content : Record) → IsEntry content → IsOfBase content → ⊥

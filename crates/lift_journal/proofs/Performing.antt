@@ -1,12 +1,21 @@
 -- The calls of a step, run after run.
-use Rattle.std.proofs.Common.{◌≡◌, ◌≤◌, ◌+◌, ◌++◌, [], ◌∷◌, ◌∙◌, ℕ, List, Result, Ok, Err, arith}
+use Rattle.std.proofs.Common.{◌≡◌, true, false, ◌≤◌, ◌+◌, ◌++◌, [], ◌∷◌, ◌∙◌, ℕ, List, Result, Ok, Err, arith, ap, subst, length, take, length-take}
 use Rattle.std.specs.Prelude.{IsErrAnd}
+use Rattle.std.specs.Result.{is_err}
 use Rattle.std.proofs.lemmas.Result.{err_from_is_err_and}
-use Rattle.lift_disk.specs.Disk.{DiskState, GoesOn, HasCause, FailsAsToldOrShort}
+use Rattle.lift_disk.specs.Disk.{DiskState, Image, GoesOn, HasCause, RunsOn, FailsAsToldOrShort}
 use Rattle.lift_disk.specs.Trace.{Access, Records}
-use Rattle.lift_disk.specs.lemmas.Moments.{runs_call, runs_then}
-use Rattle.lift_journal.specs.Calls.{Performs}
+use Rattle.lift_disk.specs.lemmas.Moments.{runs_call, runs_none, runs_then}
+use Rattle.lift_journal.specs.declared.fault.JournalFault.{JournalFault}
+use Rattle.lift_journal.specs.declared.fault.JournalFault.TheVariants.{Disk}
+use Rattle.lift_journal.specs.Calls.{Performs, Follows, append_calls}
+use Rattle.lift_journal.specs.Layout.{bodies}
+use Rattle.lift_journal.specs.Calls.{CallsDevice}
+use Rattle.lift_journal.specs.Journal.{JournalView}
+use Rattle.lift_journal.specs.Steps.{Makes}
+use Rattle.lift_journal.specs.Told.{FailsBy, StopsAsTold}
 use Rattle.lift_journal.specs.lemmas.Telling.{call_stops, stops_then, err_stops}
+use Rattle.lift_journal.proofs.Seeing.{bodies_few}
 use Rattle.lift_journal.proofs.Following.{one_follows, follows_then, front_more, err_follows}
 
 -- a write or a sync
@@ -72,3 +81,65 @@ err_performs Q r old new first second n m w v is was calls writes =
       };
       follows = err_follows Q r old new (first ++ second) is (front_more old new first second was.follows.front);
     }
+
+pub performs_from : {T E : Type 0} {r : Result T E} {calls others : List Access} {n w : ℕ} {old new : DiskState} → RunsOn old new → HasCause r old new → StopsAsTold r old new → Makes r n w old new → Follows r calls old new
+    → calls ≡ others → Performs r others n w old new
+performs_from {T} {E} {r} {calls} {others} {n} {w} {old} {new} runs cause told made follows same = record {
+  runs = runs;
+  cause = cause;
+  told = told;
+  made = made;
+  follows = subst (λ (l : List Access). Follows r l old new) same follows;
+}
+
+-- the same, as a call of the journal answers it
+module _ {T U E : Type 0} (calls : List Access) (n w : ℕ) (old new : DiskState) where
+  pub device_done : {x : T} {y : U} → Performs {E = E} (Ok y) calls n w old new → CallsDevice {T = T} (Ok x) calls n w old new
+  device_done was = record {
+    runs = was.runs;
+    made = record { calls = was.made.calls; writes = was.made.writes; most_calls = was.made.most_calls; most_writes = was.made.most_writes };
+    all = was.follows.all;
+    front = λ never. absurd (cc never);
+    told = record { ok = was.told.ok; err = tt };
+  }
+
+  pub device_failed : {e : E} → Performs {T = U} (Err e) calls n w old new → CallsDevice {T = T} (Err Disk) calls n w old new
+  device_failed was = record {
+    runs = was.runs;
+    made = record { calls = tt; writes = tt; most_calls = was.made.most_calls; most_writes = was.made.most_writes };
+    all = tt;
+    front = λ _. was.follows.front;
+    told = record { ok = tt; err = was.told.err };
+  }
+
+  pub device_ok : {x : T} (r : Result U E) → is_err r ≡ false → Performs r calls n w old new → CallsDevice {T = T} (Ok x) calls n w old new
+  device_ok (Ok y) is was = device_done was
+  device_ok (Err e) is was = absurd (cc is)
+
+  pub device_err : (r : Result U E) → is_err r ≡ true → Performs r calls n w old new → CallsDevice {T = T} (Err Disk) calls n w old new
+  device_err (Ok y) is was = absurd (cc is)
+  device_err (Err e) is was = device_failed was
+
+-- no call, for another fault
+pub device_none : {T : Type 0} (fault : JournalFault) (calls : List Access) (n w : ℕ) (disk : DiskState) → ¬ (fault ≡ Disk) → FailsBy fault disk disk → CallsDevice {T = T} (Err fault) calls n w disk disk
+device_none fault calls n w disk other told = record {
+  runs = runs_none disk;
+  made = record { calls = tt; writes = tt; most_calls = omega arith; most_writes = omega arith };
+  all = tt;
+  front = λ is. absurd (other (cc is));
+  told = record { ok = tt; err = told };
+}
+
+-- the calls of an append, by the batch that it writes
+pub performs_body : {U E : Type 0} (r : Result U E) (old new : DiskState) (gate first n count : ℕ) (sectors body : Image) → length sectors ≡ 2 → n ≡ bodies count → take (bodies count) sectors ≡ body → gate ≡ first
+    → Performs r (append_calls gate (take n sectors)) (length (take n sectors) + 4) (length (take n sectors) + 2) old new → Performs r (append_calls first body) (bodies count + 4) (bodies count + 2) old new
+performs_body r old new gate first n count sectors body two is exact at was =
+    let long : length (take n sectors) ≡ bodies count = omega (arith, length-take n sectors, bodies_few count, two, is) in
+    subst (λ k. Performs r (append_calls k body) (bodies count + 4) (bodies count + 2) old new) at
+    (subst (λ (b : Image). Performs r (append_calls gate b) (bodies count + 4) (bodies count + 2) old new) (ap (λ k. take k sectors) is ∙ exact)
+    (subst (λ k. Performs r (append_calls gate (take n sectors)) (k + 4) (k + 2) old new) long was))
+
+-- the same of what a caller sees of the journal
+pub calls_seen : {D T : Type 0} {r : Result T JournalFault} {n w : ℕ} {new : DiskState} {inside outside : JournalView D} (state : D → DiskState) (calls : JournalView D → List Access) → inside ≡ outside
+    → CallsDevice r (calls inside) n w (state inside.device) new → CallsDevice r (calls outside) n w (state outside.device) new
+calls_seen {D} {T} {r} {n} {w} {new} {inside} {outside} state calls is made = subst (λ (v : JournalView D). CallsDevice r (calls v) n w (state v.device) new) is made

@@ -1,5 +1,5 @@
 -- Which half a checkpoint that stops leaves picked.
-use Rattle.std.proofs.Common.{◌≡◌, ◌⊎◌, ◌<◌, ◌≤◌, ◌+◌, ◌==◌, ⊎_elim, ℕ, Bool, true, false, not, cond, List, [], length, slice_get, slice_set, unwrap_or, sym, ◌∙◌, ap, subst, arith}
+use Rattle.std.proofs.Common.{◌≡◌, ◌⊎◌, ◌<◌, ◌≤◌, ◌+◌, ◌==◌, inl, inr, ⊎_elim, refl, ℕ, Bool, true, false, not, cond, List, [], length, slice_get, slice_set, unwrap_or, sym, ◌∙◌, ap, subst, arith}
 use Rattle.std.proofs.lemmas.List.{length-set}
 use Rattle.lift_base.specs.declared.history.Shape.{Shape}
 use Rattle.lift_disk.specs.Disk.{DiskState, Image, ChangesWithin, IsFilled}
@@ -7,6 +7,7 @@ use Rattle.lift_disk.specs.lemmas.History.{set_other}
 use Rattle.lift_disk.specs.lemmas.Moments.{changes_more, changes_nothing, changes_twice}
 use Rattle.lift_journal.specs.Layout.{Batch, is_marked, picks_second, Picks, start_of, IsSound, Holds, HoldsIn}
 use Rattle.lift_journal.specs.Stops.{StopsAtPick, StopsCheckpoint}
+use Rattle.lift_journal.specs.Steps.{IsInRange}
 use Rattle.lift_journal.specs.Switch.{HasWritten, MissesPick, StopsWriting}
 use Rattle.lift_journal.proofs.Appends.{sector_set}
 use Rattle.lift_journal.proofs.Stopping.{mark_of, not_mark}
@@ -17,6 +18,13 @@ other_start : (half start was now : ℕ) (c : Bool) → 1 ≤ half → ((was ≡
     → was ≡ cond c (half + 2) 2 → now ≡ cond (not c) (half + 2) 2 → now ≡ start
 other_start half start was now true some halves old new = ⊎_elim (λ a. omega (arith, some, a.0, a.1, old, new)) (λ b. omega (arith, some, b.0, b.1, old, new)) halves
 other_start half start was now false some halves old new = ⊎_elim (λ a. omega (arith, some, a.0, a.1, old, new)) (λ b. omega (arith, some, b.0, b.1, old, new)) halves
+
+-- one of the halves is picked
+either_half : (b c : Bool) → (b ≡ c) ⊎ (b ≡ not c)
+either_half true true = inl refl
+either_half true false = inr refl
+either_half false true = inr refl
+either_half false false = inl refl
 
 -- by halves, of what is known by the half from before and the other one
 module _ (shape : Shape) (X Y : List Batch) (left : Image) where
@@ -38,6 +46,13 @@ module _ (shape : Shape) (is_second : Bool) (first second : List Batch) (start :
   some : 1 ≤ shape.half
   some = omega (arith, holds.stamped.within.half.0)
 
+  -- while the other half is written
+  drafting_in : (left : Image) → ChangesWithin (IsInRange start (start + 64)) old.image left → HoldsIn shape is_second first left
+  drafting_in left within = record {
+    holds = drafting_leaves shape first second start old.image holds halves left within;
+    picks = ap (λ o. is_marked (unwrap_or o [])) (within.others 0 (λ is. omega (arith, is.0, low))) ∙ was;
+  }
+
   module _ (left : Image) (written : HasWritten start (start + shape.half) second old.image left) where
     in_same : Picks is_second left → HoldsIn shape is_second first left
     in_same picks = record {
@@ -52,6 +67,13 @@ module _ (shape : Shape) (is_second : Bool) (first second : List Batch) (start :
           (ap (λ b. cond b (shape.half + 2) 2) was) (ap (λ b. cond b (shape.half + 2) 2) picks));
       picks = picks;
     }
+
+  -- before both halves stand, and once they do, whatever is in the pick then
+  pub checkpoint_in : (left : Image) → ChangesWithin (IsInRange start (start + 64)) old.image left ⊎ HasWritten start (start + shape.half) second old.image left
+      → HoldsIn shape is_second first left ⊎ HoldsIn shape (not is_second) second left
+  checkpoint_in left either =
+      ⊎_elim (λ within. inl (drafting_in left within))
+      (λ written. ⊎_elim (λ same. inl (in_same left written same)) (λ other. inr (in_other left written other)) (either_half (picks_second left) is_second)) either
 
   module _ (new : DiskState) (made : ℕ) (pick : List ℕ) (picked : is_marked pick ≡ not is_second) (safe : Image) (written : HasWritten start (start + shape.half) second old.image safe)
       (kept : slice_get safe 0 ≡ slice_get old.image 0) (missed : MissesPick made pick safe old new) where
@@ -95,12 +117,7 @@ module _ (shape : Shape) (is_second : Bool) (first second : List Batch) (start :
   pub checkpoint_stops : (new : DiskState) (sectors : ℕ) (pick : List ℕ) → is_marked pick ≡ not is_second → StopsWriting start (start + shape.half) second sectors pick old new
       → StopsCheckpoint shape is_second first second sectors old new
   checkpoint_stops new sectors pick picked stops = record {
-    early = λ few honest left leaves.
-        (let within = stops.early few honest left leaves in
-        record {
-          holds = drafting_leaves shape first second start old.image holds halves left within;
-          picks = ap (λ o. is_marked (unwrap_or o [])) (within.others 0 (λ is. omega (arith, is.0, low))) ∙ was;
-        });
+    early = λ few honest left leaves. drafting_in left (stops.early few honest left leaves);
     late = λ more.
         (let found = stops.late more in
         stops_at_pick new (sectors + 2) pick picked found.0 found.1 found.2 found.3);

@@ -18,7 +18,7 @@ use Rattle.lift_journal.specs.lemmas.Looking.{cause_told}
 use Rattle.lift_journal.specs.Walk.{IsFront, IsSoundFront, IsDamagedAt}
 use Rattle.lift_journal.specs.lemmas.Chains.{chain_room, start_high}
 use Rattle.lift_journal.specs.lemmas.Orders.{fall_front, order_front}
-use Rattle.lift_journal.proofs.Unique.{body_unique, stamp_unique}
+use Rattle.lift_journal.specs.lemmas.Unique.{body_unique, stamp_unique}
 use Rattle.lift_journal.proofs.Walks.{from_here}
 
 -- what a chain holds behind its front

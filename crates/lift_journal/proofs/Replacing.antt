@@ -1,37 +1,23 @@
 -- What a journal stands for once a checkpoint is in the place of its batches.
-use Rattle.std.proofs.Common.{◌≡◌, ◌⊎◌, ◌<◌, ◌≤◌, ◌+◌, ◌-◌, ◌*◌, inl, inr, ⊎_elim, ℕ, true, not, nat_lt, cond, List, [], length, sym, ◌∙◌, ap, subst, arith}
-use Rattle.std.proofs.lemmas.List.{append-nil}
-use Rattle.std.proofs.lemmas.List.Elements.{All-nil}
-use Rattle.lift_base.specs.declared.history.Record.{Record}
+use Rattle.std.proofs.Common.{◌≡◌, ◌⊎◌, ◌<◌, ◌≤◌, ◌+◌, ◌-◌, ◌*◌, inl, inr, ⊎_elim, ℕ, Bool, true, not, nat_lt, cond, List, length, sym, ◌∙◌, ap, subst, arith}
 use Rattle.lift_base.specs.declared.history.Shape.{Shape}
 use Rattle.lift_register.specs.Register.{RegisterState}
 use Rattle.lift_register.specs.Base.{base_records}
 use Rattle.lift_register.specs.WellFormed.{IsWellFormed}
-use Rattle.lift_disk.specs.Disk.{DiskState, Image, ChangesWithin, LeavesNow, LeavesOnly, IsSynced, RunsOn}
-use Rattle.lift_disk.specs.lemmas.Moments.{changes_nothing, leaves_weaker, leaves_if_honest}
-use Rattle.lift_journal.specs.Order.{IsEntry}
-use Rattle.lift_journal.specs.Layout.{Batch, is_marked, sector_at, Picks, start_of, Holds}
+use Rattle.lift_disk.specs.Disk.{DiskState, Image, ChangesWithin, LeavesOnly, IsSynced}
+use Rattle.lift_disk.specs.lemmas.Moments.{leaves_weaker}
+use Rattle.lift_journal.specs.Layout.{is_marked, sector_at, start_of, Holds, HoldsIn}
 use Rattle.lift_journal.specs.Steps.{IsInRange}
-use Rattle.lift_journal.specs.Journal.{ReadsAs, StandsFor, HasNextPlace, StandsAt}
+use Rattle.lift_journal.specs.Journal.{HasNextPlace, StandsAt, JournalHolds}
 use Rattle.lift_journal.specs.Checkpoint.{batch_count, checkpoint_of, sectors_for}
 use Rattle.lift_journal.specs.Stops.{StopsCheckpoint}
 use Rattle.lift_journal.specs.Switch.{IsOtherHalf, HasWritten, StopsWriting}
-use Rattle.lift_journal.proofs.Bases.{base_is_base}
-use Rattle.lift_journal.proofs.Checkpoints.{length_batches, used_checkpoint, checkpoint_records, checkpoint_sound}
-use Rattle.lift_journal.specs.lemmas.Chains.{all_same}
+use Rattle.lift_journal.proofs.Checkpoints.{checkpoint_sound}
+use Rattle.lift_journal.specs.lemmas.Folding.{length_batches, used_checkpoint}
 use Rattle.lift_journal.proofs.Seeing.{bodies_few}
-use Rattle.lift_journal.proofs.Picking.{checkpoint_stops}
-use Rattle.lift_journal.proofs.Standing.{reads_old, stands_in}
-use Rattle.lift_journal.proofs.Switching.{drafting_leaves, switching_leaves, switched}
-
-pub checkpoint_reads : (shape : Shape) (register : RegisterState) (image : Image) → Holds shape (checkpoint_of (base_records register)) image → ReadsAs shape (base_records register) [] image
-checkpoint_reads shape register image holds = record {
-  batches = checkpoint_of (base_records register);
-  holds = holds;
-  joined = checkpoint_records (base_records register) ∙ sym (append-nil (base_records register));
-  is_base = base_is_base register;
-  are_entries = All-nil IsEntry;
-}
+use Rattle.lift_journal.proofs.Picking.{checkpoint_in, checkpoint_stops}
+use Rattle.lift_journal.proofs.Standing.{stands_in, stands_seen}
+use Rattle.lift_journal.proofs.Switching.{switched}
 
 -- where the other half begins
 pub other_inside : (size : ℕ) (shape : Shape) (start gate number other : ℕ) (pick : List ℕ) → HasNextPlace size shape start gate number → IsOtherHalf shape.half start other pick → (2 ≤ other) × (other + shape.half ≤ size) × (other ≤ 1000002)
@@ -60,46 +46,17 @@ module _ (shape : Shape) (start gate number other : ℕ) (pick : List ℕ) (old 
       ⊎_elim (λ a. inl (sym stands.starts ∙ a.0, a.1))
       (λ b. inr (sym stands.starts ∙ ⊎_elim (λ first. absurd (b.0 first)) (λ second. second) place.halves, b.1)) is_other
 
-  -- a crash at any moment leaves the records from before, or the checkpoint
-  pub replace_leaves : (new : DiskState) → RunsOn old new → (stands : old.is_honest → StandsAt shape start gate number old)
+  -- a crash at any moment leaves the batches from before in their half, or the checkpoint in the other one
+  pub replace_in : (new : DiskState) (stands : StandsAt shape start gate number old)
       → ((end : ℕ) → other + 64 ≤ end → end ≤ old.size → (old.is_honest → IsSynced old)
       → LeavesOnly old new (λ left. ChangesWithin (IsInRange other (other + 64)) old.image left ⊎ HasWritten other end (checkpoint_of (base_records register)) old.image left))
-      → (base entries : List Record) → StandsFor shape base entries old → LeavesOnly old new (λ left. ReadsAs shape base entries left ⊎ ReadsAs shape (base_records register) [] left)
-  replace_leaves new runs stands leaves base entries reads =
-      let records = base_records register in
-      let end = other + shape.half in
-      let P : Image → Type 0 = λ left. ReadsAs shape base entries left ⊎ ReadsAs shape records [] left in
+      → LeavesOnly old new (λ left. HoldsIn shape (nat_lt 2 start) stands.batches left ⊎ HoldsIn shape (not (nat_lt 2 start)) (checkpoint_of (base_records register)) left)
+  replace_in new stands leaves =
       let inside = other_inside old.size shape start gate number other pick place is_other in
-      leaves_if_honest old new P runs.honest (λ honest.
-      let at = stands honest in
-      let kept : (left : Image) → Holds shape at.batches left → P left = λ left holds. inl (reads_old shape start gate number 0 old [] base entries at honest reads left holds) in
-      leaves_weaker old new (λ left. ChangesWithin (IsInRange other (other + 64)) old.image left ⊎ HasWritten other end (checkpoint_of records) old.image left) P
-      (λ _ left either. ⊎_elim
-      (λ within. kept left (drafting_leaves shape at.batches (checkpoint_of records) other old.image at.holds (halves at) left within))
-      (λ written. ⊎_elim (kept left) (λ holds. inr (checkpoint_reads shape register left holds))
-      (switching_leaves shape at.batches (checkpoint_of records) other old.image at.holds (halves at) left (checkpoint_sound register formed) written))
-      either)
-      (leaves end (omega (arith, place.within.half.0)) inside.1 (λ honest. (stands honest).synced)))
-
-  -- the same by batches
-  pub replace_lists : (new : DiskState) → RunsOn old new → (stands : old.is_honest → StandsAt shape start gate number old)
-      → ((end : ℕ) → other + 64 ≤ end → end ≤ old.size → (old.is_honest → IsSynced old)
-      → LeavesOnly old new (λ left. ChangesWithin (IsInRange other (other + 64)) old.image left ⊎ HasWritten other end (checkpoint_of (base_records register)) old.image left))
-      → (batches : List Batch) → LeavesNow old (Holds shape batches) → LeavesOnly old new (λ left. Holds shape batches left ⊎ Holds shape (checkpoint_of (base_records register)) left)
-  replace_lists new runs stands leaves batches lists =
-      let records = base_records register in
-      let end = other + shape.half in
-      let P : Image → Type 0 = λ left. Holds shape batches left ⊎ Holds shape (checkpoint_of records) left in
-      let inside = other_inside old.size shape start gate number other pick place is_other in
-      leaves_if_honest old new P runs.honest (λ honest.
-      let at = stands honest in
-      let holds = lists honest old.image (changes_nothing old.is_loose old.image) in
-      leaves_weaker old new (λ left. ChangesWithin (IsInRange other (other + 64)) old.image left ⊎ HasWritten other end (checkpoint_of records) old.image left) P
-      (λ _ left either. ⊎_elim
-      (λ within. inl (drafting_leaves shape batches (checkpoint_of records) other old.image holds (halves at) left within))
-      (λ written. switching_leaves shape batches (checkpoint_of records) other old.image holds (halves at) left (checkpoint_sound register formed) written)
-      either)
-      (leaves end (omega (arith, place.within.half.0)) inside.1 (λ honest. (stands honest).synced)))
+      leaves_weaker old new _ (λ left. HoldsIn shape (nat_lt 2 start) stands.batches left ⊎ HoldsIn shape (not (nat_lt 2 start)) (checkpoint_of (base_records register)) left)
+      (λ _. checkpoint_in shape (nat_lt 2 start) stands.batches (checkpoint_of (base_records register)) other old stands.holds (halves stands) (checkpoint_sound register formed)
+      (stands_in shape start gate number old stands))
+      (leaves (other + shape.half) (omega (arith, place.within.half.0)) inside.1 (λ _. stands.synced))
 
   -- the half that is picked then
   pub replace_second : nat_lt 2 other ≡ not (nat_lt 2 start)
@@ -111,11 +68,6 @@ module _ (shape : Shape) (start gate number other : ℕ) (pick : List ℕ) (old 
   replace_pick =
       let half = place.within.half.0 in
       ⊎_elim (λ a. ap is_marked a.2 ∙ sym (let there : nat_lt 2 other ≡ true = grind (arith, half, a.1) in there)) (λ b. ap is_marked b.2 ∙ sym (ap (nat_lt 2) b.1)) is_other
-
-  pub replace_picks : (new : DiskState) → (new.is_honest → IsSynced new) → (new.is_honest → sector_at new.image 0 ≡ pick) → LeavesNow new (Picks (nat_lt 2 other))
-  replace_picks new synced picked honest left leaves =
-      let same : left ≡ new.image = all_same new.is_loose new.image left (synced honest).none_loose leaves in
-      subst (Picks (nat_lt 2 other)) (sym same) (ap is_marked (picked honest) ∙ replace_pick)
 
   -- by the number of calls, what a cut then leaves
   pub replace_stops : (new : DiskState) (stands : StandsAt shape start gate number old)
@@ -148,3 +100,13 @@ module _ (shape : Shape) (start gate number other : ℕ) (pick : List ℕ) (old 
         at = omega (arith, at, starts, used_checkpoint records some);
         counts = omega (arith, length_batches (batch_count (length records)) records);
       }
+
+  pub replace_seen : {D : Type 0} (state : D → DiskState) (device : D) (count last : ℕ) (is_broken : Bool) (opened : ℕ) → IsSynced (state device) → (stands : StandsAt shape start gate number old)
+      → HasWritten other (other + shape.half) (checkpoint_of (base_records register)) old.image (state device).image → sector_at (state device).image 0 ≡ pick → 1 ≤ length (base_records register)
+      → last ≡ other + sectors_for (length (base_records register)) → count ≡ batch_count (length (base_records register))
+      → JournalHolds state (record { device = device; shape = shape; is_second = nat_lt 2 other; used = last - other; number = count + 1; opened = opened; is_broken = is_broken }) (checkpoint_of (base_records register))
+  unfolding replace_stands
+  replace_seen {D} state device count last is_broken opened synced stands written picked some at counted =
+      subst (λ n. JournalHolds state (record { device = device; shape = shape; is_second = nat_lt 2 other; used = last - other; number = n + 1; opened = opened; is_broken = is_broken }) (checkpoint_of (base_records register)))
+      (sym counted)
+      (stands_seen state device shape other last (batch_count (length (base_records register)) + 1) is_broken opened (replace_stands (state device) last synced stands written picked some at))

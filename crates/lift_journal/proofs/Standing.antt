@@ -1,21 +1,24 @@
 -- What a journal that isn't broken stands for.
-use Rattle.std.proofs.Common.{◌≡◌, ◌⊎◌, ◌↔◌, ◌≤◌, ◌<◌, ◌+◌, ◌-◌, inl, inr, ⊎_elim, ℕ, Bool, true, false, cond, nat_lt, List, [], ◌∷◌, ◌++◌, None, unwrap_or, length, take, All, refl, sym, ◌∙◌, ap, subst, arith, append_assoc, length-append, length-take}
-use Rattle.std.proofs.lemmas.List.Elements.{All-append, All-from_recursion}
+use Rattle.std.proofs.Common.{Err, ◌≡◌, ◌⊎◌, ◌≤◌, ◌<◌, ◌+◌, ◌-◌, inl, inr, ⊎_elim, ℕ, Bool, true, false, cond, nat_lt, List, [], ◌∷◌, ◌++◌, None, unwrap_or, length, take, All, refl, sym, ◌∙◌, ap, subst, arith, length-append, length-take}
+use Rattle.std.proofs.lemmas.List.Elements.{All-from_recursion}
 use Rattle.lift_base.specs.declared.history.Record.{Record}
 use Rattle.lift_base.specs.declared.history.Shape.{Shape}
 use Rattle.lift_record.specs.declared.version.Version.TheVariants.{Two}
-use Rattle.lift_disk.specs.Disk.{DiskState, Image, ChangesWithin, LeavesNow, LeavesOnly, RunsOn, IsSynced, TouchesOnly}
-use Rattle.lift_disk.specs.lemmas.Moments.{leaves_weaker, leaves_if_honest, changes_nothing}
+use Rattle.lift_disk.specs.Disk.{DiskState, Image, ChangesWithin, LeavesNow, LeavesNoOther, LeavesOnly, IsSynced, TouchesOnly}
+use Rattle.lift_disk.specs.lemmas.Moments.{leaves_weaker, leaves_none, changes_nothing}
 use Rattle.lift_journal.specs.Order.{IsEntry, IsOfBase}
-use Rattle.lift_journal.specs.Layout.{Batch, records_of, size_of, IsBody, is_marked, picks_second, Picks, start_of, Holds, used}
+use Rattle.lift_journal.specs.Layout.{Batch, records_of, size_of, IsBody, is_marked, picks_second, Picks, start_of, Holds, HoldsIn, used}
 use Rattle.lift_journal.specs.Steps.{IsInRange, IsReady, HoldsSafely, ReadsOnly}
 use Rattle.lift_journal.specs.declared.place.Place.{Place}
-use Rattle.lift_journal.specs.Journal.{ReadsAs, StandsFor, HasNextPlace, StandsAt, IsJournal}
+use Rattle.lift_journal.specs.Journal.{ReadsAs, StandsFor, HasNextPlace, StandsAt, IsJournal, JournalView, JournalHolds}
+use Rattle.lift_journal.specs.Becomes.{Becomes}
+use Rattle.lift_journal.specs.declared.fault.JournalFault.{JournalFault}
 use Rattle.lift_journal.specs.Opening.{Opens}
 use Rattle.lift_journal.specs.Told.{NoneFails}
-use Rattle.lift_journal.proofs.Unique.{holds_unique, stamp_unique}
+use Rattle.lift_journal.specs.lemmas.Adding.{held_left}
+use Rattle.lift_journal.specs.lemmas.Unique.{holds_unique, stamp_unique}
 use Rattle.lift_journal.specs.lemmas.Chains.{all_same, used_more}
-use Rattle.lift_journal.specs.lemmas.Orders.{order_parts, Parts, records_push, sound_push}
+use Rattle.lift_journal.specs.lemmas.Orders.{order_parts, Parts, sound_push}
 use Rattle.lift_journal.proofs.Seeing.{bodies_few}
 
 -- the half of a journal by its first sector
@@ -26,6 +29,40 @@ second_is half start false some is = ap (nat_lt 2) is
 pub stands_in : (shape : Shape) (start gate number : ℕ) (disk : DiskState) → StandsAt shape start gate number disk → Picks (nat_lt 2 start) disk.image
 stands_in shape start gate number disk at =
     sym (second_is shape.half start (picks_second disk.image) (omega (arith, at.holds.stamped.within.half.0)) at.starts)
+
+-- what a caller sees of a journal that stands there
+pub stands_seen : {D : Type 0} (state : D → DiskState) (device : D) (shape : Shape) (start gate number : ℕ) (is_broken : Bool) (opened : ℕ) (stands : StandsAt shape start gate number (state device))
+    → JournalHolds state (record { device = device; shape = shape; is_second = nat_lt 2 start; used = gate - start; number = number; opened = opened; is_broken = is_broken }) stands.batches
+stands_seen state device shape start gate number is_broken opened stands = record {
+  safe = stands.synced;
+  holds = record { holds = stands.holds; picks = stands_in shape start gate number (state device) stands };
+  taken = omega (arith, stands.at, stands.starts);
+  next = stands.counts;
+}
+
+-- images of these batches or of those, in the half that stays picked
+pub leaves_in : (old new : DiskState) (shape : Shape) (is_second : Bool) (batches more : List Batch) → LeavesOnly old new (λ left. Holds shape batches left ⊎ Holds shape more left) → LeavesOnly old new (Picks is_second)
+    → LeavesOnly old new (λ left. HoldsIn shape is_second batches left ⊎ HoldsIn shape is_second more left)
+leaves_in old new shape is_second batches more holds picks = record {
+  honest = holds.honest;
+  later = holds.later;
+  each = λ honest left is. both left (holds.each honest left is) (picks.each honest left is);
+  before = λ honest t left le is.
+      ⊎_elim (λ was. inl was) (λ has. ⊎_elim (λ was. inl was) (λ picked. inr (both left has picked)) (picks.before honest t left le is)) (holds.before honest t left le is);
+}
+  where
+    both : (left : Image) → Holds shape batches left ⊎ Holds shape more left → Picks is_second left → HoldsIn shape is_second batches left ⊎ HoldsIn shape is_second more left
+    both left has picked = ⊎_elim (λ was. inl (record { holds = was; picks = picked })) (λ now. inr (record { holds = now; picks = picked })) has
+
+-- nothing becomes of them
+pub becomes_none : {D T : Type 0} (state : D → DiskState) (journal : JournalView D) (is_second : Bool) (change : List Batch → List Batch) (fault : JournalFault) (batches : List Batch) → JournalHolds state journal batches
+    → LeavesNoOther (state journal.device) → Becomes {T = T} state journal is_second change journal (Err fault)
+becomes_none state journal is_second change fault batches held only_now = record {
+  batches = batches;
+  held = held;
+  any_moment = leaves_none (state journal.device) _ only_now (λ _ left leaves. inl (held_left state journal batches held left leaves));
+  done = tt;
+}
 
 -- a settled device leaves it picked
 pub picks_synced : (shape : Shape) (start gate number : ℕ) (disk : DiskState) → (disk.is_honest → StandsAt shape start gate number disk) → LeavesNow disk (Picks (nat_lt 2 start))
@@ -122,77 +159,12 @@ module _ (shape : Shape) (start gate number n : ℕ) (old : DiskState) (items : 
         sound = sound_push stands.batches items stands.holds.sound kinds;
       }
 
-  module _ (base entries : List Record) (stands : StandsAt shape start gate number old) (honest : old.is_honest) (reads : StandsFor shape base entries old) where
-    found : ReadsAs shape base entries old.image
-    found = reads honest old.image (changes_nothing old.is_loose old.image)
-
-    joined : records_of stands.batches ≡ base ++ entries
-    joined = ap records_of (holds_unique shape stands.batches found.batches old.image stands.holds found.holds) ∙ found.joined
-
-    pub reads_old : (left : Image) → Holds shape stands.batches left → ReadsAs shape base entries left
-    reads_old left holds = record { batches = stands.batches; holds = holds; joined = joined; is_base = found.is_base; are_entries = found.are_entries }
-
-    pub reads_new : All IsEntry items → (left : Image) → Holds shape (stands.batches ++ (record { version = Two; records = items }) ∷ []) left → ReadsAs shape base (entries ++ items) left
-    reads_new kinds left holds =
-        let batch : Batch = record { version = Two; records = items } in
-        record {
-          batches = stands.batches ++ batch ∷ [];
-          holds = holds;
-          joined = records_push stands.batches batch ∙ ap (λ (l : List Record). l ++ items) joined ∙ append_assoc base entries items;
-          is_base = found.is_base;
-          are_entries = All-append IsEntry entries items found.are_entries kinds;
-        }
-
-  -- a crash at any moment leaves the entries from before, or these and the batch
-  pub append_leaves : (new : DiskState) → RunsOn old new → (stands : old.is_honest → StandsAt shape start gate number old) → All IsEntry items
-      → ((honest : old.is_honest) → LeavesOnly old new (λ left. Holds shape (stands honest).batches left ⊎ Holds shape ((stands honest).batches ++ (record { version = Two; records = items }) ∷ []) left))
-      → (base entries : List Record) → StandsFor shape base entries old → LeavesOnly old new (λ left. ReadsAs shape base entries left ⊎ ReadsAs shape base (entries ++ items) left)
-  append_leaves new same stands kinds leaves base entries reads =
-      let batch : Batch = record { version = Two; records = items } in
-      let P : Image → Type 0 = λ left. ReadsAs shape base entries left ⊎ ReadsAs shape base (entries ++ items) left in
-      leaves_if_honest old new P same.honest (λ honest.
-      leaves_weaker old new (λ left. Holds shape (stands honest).batches left ⊎ Holds shape ((stands honest).batches ++ batch ∷ []) left) P
-      (λ _ left holds. ⊎_elim (λ was. inl (reads_old base entries (stands honest) honest reads left was)) (λ more. inr (reads_new base entries (stands honest) honest reads kinds left more)) holds)
-      (leaves honest))
-
-  -- at the end each crash leaves the batch too
-  pub append_stands : (new : DiskState) (from : ℕ) → RunsOn old new → (stands : old.is_honest → StandsAt shape start gate number old) → All IsEntry items
-      → ((honest : old.is_honest) → HoldsSafely shape ((stands honest).batches ++ (record { version = Two; records = items }) ∷ []) from new)
-      → (base entries : List Record) → StandsFor shape base entries old → StandsFor shape base (entries ++ items) new
-  append_stands new from same stands kinds settled base entries reads honest_new left leaves =
-      let honest = same.honest.0 honest_new in
-      let now = settled honest in
-      let same_image : left ≡ new.image = all_same new.is_loose new.image left now.synced.none_loose leaves in
-      subst (ReadsAs shape base (entries ++ items)) (sym same_image) (reads_new base entries (stands honest) honest reads kinds new.image now.holds)
-
 module _ (shape : Shape) (start gate number : ℕ) (old : DiskState) (stands : old.is_honest → StandsAt shape start gate number old) (batches : List Batch) (lists : LeavesNow old (Holds shape batches)) where
   -- the batches that it stands at are these
   pub same_batches : (honest : old.is_honest) → (stands honest).batches ≡ batches
   same_batches honest =
       let at = stands honest in
       holds_unique shape at.batches batches old.image at.holds (lists honest old.image (changes_nothing old.is_loose old.image))
-
-  pub same_used : old.is_honest → gate - start ≡ used batches
-  same_used honest =
-      let at = stands honest in
-      omega (arith, at.at, at.starts, ap used (same_batches honest))
-
-  module _ (batch : Batch) (new : DiskState) (same : new.is_honest ↔ old.is_honest) where
-    -- a crash at any moment leaves these, or these and the new one
-    pub lists_leave : ((honest : old.is_honest) → LeavesOnly old new (λ left. Holds shape (stands honest).batches left ⊎ Holds shape ((stands honest).batches ++ batch ∷ []) left))
-        → LeavesOnly old new (λ left. Holds shape batches left ⊎ Holds shape (batches ++ batch ∷ []) left)
-    lists_leave leaves =
-        leaves_if_honest old new (λ left. Holds shape batches left ⊎ Holds shape (batches ++ batch ∷ []) left) same
-        (λ honest. subst (λ (bs : List Batch). LeavesOnly old new (λ left. Holds shape bs left ⊎ Holds shape (bs ++ batch ∷ []) left)) (same_batches honest) (leaves honest))
-
-    -- at the end each crash leaves these and the new one
-    pub lists_stand : (from : ℕ) → ((honest : old.is_honest) → HoldsSafely shape ((stands honest).batches ++ batch ∷ []) from new) → LeavesNow new (Holds shape (batches ++ batch ∷ []))
-    lists_stand from settled honest_new left leaves =
-        let honest = same.0 honest_new in
-        let now = settled honest in
-        let same_image : left ≡ new.image = all_same new.is_loose new.image left now.synced.none_loose leaves in
-        subst (λ (bs : List Batch). Holds shape (bs ++ batch ∷ []) left) (same_batches honest)
-        (subst (Holds shape ((stands honest).batches ++ batch ∷ [])) (sym same_image) now.holds)
 
 pub stands_then : (shape : Shape) (start gate number n : ℕ) (old new : DiskState) (batch : Batch) → (stands : StandsAt shape start gate number old) → n ≡ size_of batch
     → HoldsSafely shape (stands.batches ++ batch ∷ []) (start_of shape.half old.image) new → StandsAt shape start (gate + (n + 1)) (number + 1) new
@@ -204,6 +176,13 @@ stands_then shape start gate number n old new batch stands is settled = record {
   at = omega (arith, stands.at, settled.from, used_more stands.batches batch, is);
   counts = omega (arith, stands.counts, length-append stands.batches (batch ∷ []));
 }
+
+pub seen_then : {D : Type 0} (state : D → DiskState) (device : D) (shape : Shape) (start gate number n : ℕ) (is_broken : Bool) (opened : ℕ) (old : DiskState) (batch : Batch) (stands : StandsAt shape start gate number old)
+    → n ≡ size_of batch → HoldsSafely shape (stands.batches ++ batch ∷ []) (start_of shape.half old.image) (state device)
+    → JournalHolds state (record { device = device; shape = shape; is_second = nat_lt 2 start; used = gate + (n + 1) - start; number = number + 1; opened = opened; is_broken = is_broken }) (stands.batches ++ batch ∷ [])
+unfolding stands_then
+seen_then state device shape start gate number n is_broken opened old batch stands is settled =
+    stands_seen state device shape start (gate + (n + 1)) (number + 1) is_broken opened (stands_then shape start gate number n old (state device) batch stands is settled)
 
 -- Where it stood before calls that wrote nothing, none of which failed or of which it is told, it stands still.
 pub stands_again : (at : Place) (now_broken before_broken is_broken : Bool) (opened : ℕ) (old new : DiskState)

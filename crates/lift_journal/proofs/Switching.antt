@@ -11,7 +11,7 @@ use Rattle.lift_journal.specs.Walk.{Reaches}
 use Rattle.lift_journal.specs.Switch.{HasWritten, StopsSwitch, StopsWriting}
 use Rattle.lift_journal.proofs.Appends.{sector_set}
 use Rattle.lift_journal.proofs.Checkpoints.{reaches_same}
-use Rattle.lift_journal.proofs.Halves.{HalfHolds, half_same, stamped_else, holds_elsewhere, holds_picked}
+use Rattle.lift_journal.proofs.Halves.{HalfHolds, half_same, stamped_else, holds_elsewhere}
 use Rattle.lift_journal.proofs.Walks.{reaches_end}
 
 -- the sectors that a checkpoint may change
@@ -119,16 +119,7 @@ module _ (shape : Shape) (first second : List Batch) (start : ℕ) (old : Image)
     second_left : HalfHolds shape.half start second left
     second_left = subst (λ n. IsChain second 1 (take n (drop start left))) (let same : start + shape.half - start ≡ shape.half = omega arith in same) written.chain
 
-    -- once both halves stand
-    pub switching_leaves : Holds shape first left ⊎ Holds shape second left
-    switching_leaves =
-        let same = changes_nothing (λ i. i ≡ 0) left in
-        ⊎_elim
-        (λ a. holds_picked shape first second left left holds.sound sound stamped_left (subst (λ s. HalfHolds shape.half s first left) a.0 first_left) (subst (λ s. HalfHolds shape.half s second left) a.1 second_left) same)
-        (λ b. ⊎_elim (λ one. inr one) (λ two. inl two) (holds_picked shape second first left left sound holds.sound stamped_left (subst (λ s. HalfHolds shape.half s second left) b.1 second_left) (subst (λ s. HalfHolds shape.half s first left) b.0 first_left) same))
-        halves
-
-    -- and the one from before is still picked
+    -- once both halves stand and the one from before is still picked
     pub unswitched : start_of shape.half left ≡ start_of shape.half old → Holds shape first left
     unswitched same = record {
       stamped = stamped_left;
@@ -136,7 +127,7 @@ module _ (shape : Shape) (first second : List Batch) (start : ℕ) (old : Image)
       sound = holds.sound;
     }
 
-    -- and the other one is picked
+    -- or the other one is picked
     pub switched : start_of shape.half left ≡ start → Holds shape second left
     switched picked = record {
       stamped = stamped_left;

@@ -9,16 +9,14 @@ use borrow.Author.Tests.{ltb-true}
 use Rattle.lift_base.specs.declared.history.Record.{Record}
 use Rattle.lift_disk.specs.Disk.{Image}
 use Rattle.lift_record.specs.declared.version.Version.{Version}
+use Rattle.lift_record.specs.declared.version.Version.TheVariants.{Two}
 use Rattle.lift_record.specs.Record.{spelling_of}
 use Rattle.lift_record.specs.Header.{header_bytes}
 use Rattle.lift_record.specs.lemmas.Spellings.{length-spelling_of, length-header_bytes}
-use Rattle.lift_journal.specs.Layout.{Batch, filled, bodies, size_of, batch_bytes, IsBody, IsRecordIn, sector_at}
+use Rattle.lift_journal.specs.Layout.{Batch, new_batch, filled, bodies, size_of, batch_bytes, IsBody, IsRecordIn, sector_at}
+use Rattle.lift_journal.specs.Calls.{batch_body}
 use Rattle.lift_journal.specs.Seen.{IsRecordsIn, IsTailOf}
-
-pub length-spellings : (version : Version) (contents : List Record) → length (flat_map (spelling_of version) contents) ≡ 16 * length contents
-length-spellings version [] = refl
-length-spellings version (content ∷ contents) =
-    omega (arith, length-append (spelling_of version content) (flat_map (spelling_of version) contents), length-spelling_of version content, length-spellings version contents)
+use Rattle.lift_journal.specs.lemmas.Unique.{length-spellings}
 
 pub length-batch_bytes : (number : ℕ) (batch : Batch) → length (batch_bytes number batch) ≡ 16 + 16 * length batch.records
 length-batch_bytes number batch =
@@ -85,6 +83,12 @@ body_found number batch first second one two some few header tail =
       lawful = tail.lawful;
       spelled = sym (ap (λ (l : Image). concat (take (bodies n) l)) cut) ∙ sectors_spelled n (batch_bytes number batch) text (length-batch_bytes number batch) few spelled;
     }
+
+-- the body that is written is one of the batch
+pub body_of_batch : (number : ℕ) (records : List Record) → 1 ≤ length records → length records ≤ 63 → All (IsRecordIn Two) records → IsBody number (new_batch records) (batch_body number (new_batch records))
+body_of_batch number records some few lawful =
+    let text = batch_bytes number (new_batch records) in
+    record { some = some; few = few; lawful = lawful; spelled = sectors_spelled (length records) text (filled 2 text) (length-batch_bytes number (new_batch records)) few refl }
 
 -- the text of two sectors, zeros standing for a second one that isn't there
 pub text_of_body : (number : ℕ) (batch : Batch) (first second : List ℕ) → IsBody number batch (take (size_of batch) (first ∷ second ∷ []))

@@ -18,7 +18,7 @@ use Rattle.lift_journal.specs.Calls.{reads_from}
 use Rattle.lift_journal.specs.lemmas.Looking.{reads_none, well_none}
 use Rattle.lift_journal.specs.lemmas.Chains.{tail_is, from_gate, used_more}
 use Rattle.lift_journal.specs.lemmas.Orders.{front_push, front_rises, front_order, version_push, last_push}
-use Rattle.lift_journal.proofs.Unique.{body_unique}
+use Rattle.lift_journal.specs.lemmas.Unique.{body_unique}
 use Rattle.lift_journal.proofs.Visiting.{IsShown, none_shown}
 
 -- the batches before a front

@@ -1,13 +1,15 @@
 -- Which calls of the device a format, an append, a checkpoint and an opening make, in their order.
 use Rattle.std.specs.Prelude.{◌≡◌, ◌≤◌, ◌<◌, ◌+◌, ◌++◌, ℕ, zero, suc, Bool, if◌then◌else◌, List, []}
-use Rattle.std.specs.Prelude.{◌∷◌, length, take, drop, Result, OnOk, OnErr}
+use Rattle.std.specs.Prelude.{◌∷◌, length, take, drop, Result, OnOk, OnErr, IsErrOf}
 use Rattle.lift_base.specs.declared.history.Shape.{Shape}
 use Rattle.lift_disk.specs.Disk.{DiskState, Image, HasCause, RunsOn}
 use Rattle.lift_disk.specs.Trace.{Access}
 use Rattle.lift_disk.specs.Trace.Access.{Read, Write, Sync}
+use Rattle.lift_journal.specs.declared.fault.JournalFault.{JournalFault}
+use Rattle.lift_journal.specs.declared.fault.JournalFault.TheVariants.{Disk}
 use Rattle.lift_journal.specs.Layout.{Batch, batch_bytes, size_of, used, filled, stamp_bytes}
 use Rattle.lift_journal.specs.Steps.{Makes, marked, unmarked}
-use Rattle.lift_journal.specs.Told.{StopsAsTold}
+use Rattle.lift_journal.specs.Told.{StopsAsTold, AnswersAsTold}
 
 -- the first sector of a half
 abbrev pub half_start : Bool → ℕ → ℕ
@@ -82,6 +84,17 @@ pub record Performs {T E : Type 0} (result : Result T E) (calls : List Access) (
   pub told : StopsAsTold result old new
   pub made : Makes result count writes old new
   pub follows : Follows result calls old new
+
+-- A call of the journal that makes these calls, so many and so many of them writes. It stops at the
+-- first that fails; for another cause it is refused before them.
+pub record CallsDevice {T : Type 0} (result : Result T JournalFault) (calls : List Access)
+    (count writes : ℕ) (old new : DiskState) : Type 0 where
+  pub runs : RunsOn old new
+  pub made : Makes result count writes old new
+  pub all : OnOk result (new.trace ≡ old.trace ++ calls)
+  pub front : IsErrOf result Disk → StopsIn calls old new
+  -- which of them fails
+  pub told : AnswersAsTold result old new
 
 -- from this sector on some were read in a row, each once: so many at most, and none from the end on
 abbrev pub HasRead : (first most end : ℕ) → DiskState → DiskState → Type 0

@@ -8,7 +8,7 @@ use Rattle.lift_base.specs.History.{IsWithinLimits}
 use Rattle.lift_disk.specs.Disk.{DiskState, Image, IsSynced, LeavesNow}
 use Rattle.lift_journal.specs.declared.place.Place.{Place}
 use Rattle.lift_journal.specs.Order.{IsEntry, IsOfBase}
-use Rattle.lift_journal.specs.Layout.{Batch, records_of, Holds, start_of, used}
+use Rattle.lift_journal.specs.Layout.{Batch, records_of, Holds, HoldsIn, start_of, used}
 
 -- the image reads as this checkpoint, if it has one, and these entries behind it
 pub record ReadsAs (shape : Shape) (base entries : List Record) (image : Image) : Type 0 where
@@ -48,6 +48,15 @@ view_from device place is_broken opened = record {
   opened = opened;
   is_broken = is_broken;
 }
+
+-- The journal holds these batches: its device has them in the half that is picked, a crash leaves
+-- just that, and the next batch goes behind them.
+pub record JournalHolds {D : Type 0} (state : D → DiskState) (journal : JournalView D)
+    (batches : List Batch) : Type 0 where
+  pub safe : IsSynced (state journal.device)
+  pub holds : HoldsIn journal.shape journal.is_second batches (state journal.device).image
+  pub taken : journal.used ≡ used batches
+  pub next : journal.number ≡ 1 + length batches
 
 -- where the next batch goes, whatever the device holds
 pub record HasNextPlace (size : ℕ) (shape : Shape) (start gate number : ℕ) : Type 0 where

@@ -16,4 +16,6 @@ pub mod Switch
 pub mod Fault
 pub mod Behind
 pub mod Answers
+pub mod Becomes
+pub mod Next
 pub mod lemmas

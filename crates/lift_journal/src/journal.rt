@@ -1,23 +1,21 @@
 //! Batches of records, each in the journal whole or not at all.
-ghost use Rattle.std.specs.Prelude.{ℕ, ◌≡◌, ◌≤◌, ◌<◌, ◌+◌, ◌-◌, ◌++◌, ◌⊎◌, ◌↔◌, if◌then◌else◌};
-ghost use Rattle.std.specs.Prelude.{None, List, [], ◌∷◌, IsTrue, length, OnOk, true, false, not};
-ghost use Rattle.std.specs.Prelude.{All, Ok, Err, IsErrOf, IfOk, IfErr, IfSome, OnErr};
-ghost use Rattle.lift_base.specs.declared.history.Record.{Record as RecordValue};
+ghost use Rattle.std.specs.Prelude.{◌≡◌, ◌≤◌, ◌<◌, ◌+◌, ◌-◌, ◌++◌, ◌⊎◌, ◌↔◌, ℕ, List, [], ◌∷◌};
+ghost use Rattle.std.specs.Prelude.{None, IsTrue, length, OnOk, true, false, not};
+ghost use Rattle.std.specs.Prelude.{All, Ok, Err, IsErrOf, IfOk, IfErr};
 ghost use Rattle.lift_base.specs.History.{IsWithinLimits};
 ghost use Rattle.lift_base.specs.Records.{IsLawful};
-ghost use Rattle.lift_disk.specs.Disk.{LeavesNow, LeavesOnly, MayLeave, IsSynced, Image, RunsOn};
+ghost use Rattle.lift_disk.specs.Disk.{LeavesNow, IsSynced};
 ghost use Rattle.lift_register.specs.Base.{base_records};
 ghost use Rattle.lift_journal.specs.Checkpoint.{batch_count, checkpoint_of, sectors_for};
-ghost use Rattle.lift_journal.specs.Layout.{bodies, IsBody, Batch, new_batch, records_of, Holds};
-ghost use Rattle.lift_journal.specs.Layout.{Picks, used};
-ghost use Rattle.std.specs.Option.{option_map};
+ghost use Rattle.lift_journal.specs.Layout.{bodies, Batch, new_batch, Holds};
 ghost use Rattle.lift_journal.specs.Order.{IsEntry};
-ghost use Rattle.lift_journal.specs.Steps.{Makes, ReadsOnly, IsSyncedAt};
+ghost use Rattle.lift_journal.specs.Steps.{ReadsOnly, IsSyncedAt};
 ghost use Rattle.lift_journal.specs.Stops.{StopsShort, StopsCheckpoint};
-ghost use Rattle.lift_journal.specs.Told.{AnswersAsTold};
-ghost use Rattle.lift_journal.specs.Calls.{half_start, append_calls, pick_of, checkpoint_calls};
-ghost use Rattle.lift_journal.specs.Calls.{reads_from, StopsIn, HasRead, HasReadAt};
+ghost use Rattle.lift_journal.specs.Calls.{half_start, append_calls, batch_body, pick_of};
+ghost use Rattle.lift_journal.specs.Calls.{checkpoint_calls, CallsDevice};
 ghost use Rattle.lift_journal.specs.Fronts.{IsOfCursor};
+ghost use Rattle.lift_journal.specs.Becomes.{Becomes, GoesTo, RefusesForRoom};
+ghost use Rattle.lift_journal.specs.Next.{GivesNext, MovesCursor, NextCalls};
 ghost use Rattle.lift_journal.specs.Visits.{TakesAll, HasTaken, ShownBefore};
 
 use crate::body::{body_count, put_body, sectors_of};
@@ -99,8 +97,7 @@ impl<D: Disk> Model for FormerPlace<D> {
 }
 
 impl<D: Disk> Journal<D> {
-    ghost use Rattle.lift_journal.specs.Journal.{CursorView, ReadsAs, StandsFor, IsCursorIn};
-    ghost use Rattle.lift_journal.specs.Journal.{IsNext};
+    ghost use Rattle.lift_journal.specs.Journal.{JournalHolds, IsCursorIn};
     ghost use Rattle.lift_journal.specs.Answers.{OpensAs, RefusesAt, JournalReopens, BreaksByFault};
 
     /// The installation that the device was formatted for.
@@ -114,12 +111,9 @@ impl<D: Disk> Journal<D> {
     /// Whether a batch of so many records (1 to 63) has room.
     pub fn room(&self, count: usize) -> bool
         ensures room { IsTrue result ↔ (self.now.used + bodies count + 2 ≤ self.now.shape.half) }
-        ensures used { self.now.is_broken ≡ false → (D.state self.now.device).is_honest
-            → (batches : List Batch)
-            → LeavesNow (D.state self.now.device) (Holds self.now.shape batches)
-            → self.now.used ≡ used batches }
-        ensures half { self.now.is_broken ≡ false
-            → LeavesNow (D.state self.now.device) (Picks self.now.is_second) }
+        // Until a call of the device fails, an honest one has some batches.
+        ensures holds { self.now.is_broken ≡ false → (D.state self.now.device).is_honest
+            → (batches : List Batch) × JournalHolds D.state self.now batches }
     {
         let used = (self.place.gate - self.place.start) as usize;
         used + body_count(count) + 2 <= self.place.shape.half as usize
@@ -174,76 +168,34 @@ impl<D: Disk> Journal<D> {
         }
     }
 
-    /// Adds a batch. At `Ok` it is safe: from then on each crash leaves an image that has it.
+    /// Adds a batch behind those that the journal holds. At `Ok` it is safe: from then on each crash
+    /// leaves an image that has it.
     pub fn append(&mut self, batch: &ArrayVec<Record, 63>) -> Result<(), JournalFault>
         requires some { 1 ≤ length batch.now.items }
         requires lawful { All IsLawful batch.now.items }
         requires entries { All IsEntry batch.now.items }
-
-        ensures acknowledged { OnOk result ((base entries : List RecordValue)
-            → StandsFor self.old.shape base entries (D.state self.old.device)
-            → StandsFor self.new.shape base (entries ++ batch.now.items)
-            (D.state self.new.device)) }
-
-        // A crash at any moment of the call leaves the entries from before it, or these and the
-        // batch.
-        ensures any_moment { (base entries : List RecordValue)
-            → StandsFor self.old.shape base entries (D.state self.old.device)
-            → LeavesOnly (D.state self.old.device) (D.state self.new.device)
-            (λ left. ReadsAs self.old.shape base entries left
-            ⊎ ReadsAs self.old.shape base (entries ++ batch.now.items) left) }
-
-        // The same by batches: the new one is the last of them.
-        ensures listed { OnOk result ((batches : List Batch)
-            → LeavesNow (D.state self.old.device) (Holds self.old.shape batches)
-            → LeavesNow (D.state self.new.device)
-            (Holds self.new.shape (batches ++ new_batch batch.now.items ∷ []))) }
-        ensures any_moment_listed { (batches : List Batch)
-            → LeavesNow (D.state self.old.device) (Holds self.old.shape batches)
-            → LeavesOnly (D.state self.old.device) (D.state self.new.device)
-            (λ left. Holds self.old.shape batches left
-            ⊎ Holds self.old.shape (batches ++ new_batch batch.now.items ∷ []) left) }
-        // The half that is picked stays so.
-        ensures half { self.old.is_broken ≡ false
-            → LeavesOnly (D.state self.old.device) (D.state self.new.device)
-            (Picks self.old.is_second) }
-        ensures cursors { (batches : List Batch) (cursor : CursorView) → IsCursorIn batches cursor
-            → IsCursorIn (batches ++ new_batch batch.now.items ∷ []) cursor }
-
-        ensures runs { RunsOn (D.state self.old.device) (D.state self.new.device) }
-        ensures made { Makes result (bodies (length batch.now.items) + 4)
-            (bodies (length batch.now.items) + 2) (D.state self.old.device)
-            (D.state self.new.device) }
-        // The body and the next gate, a sync, the gate, a sync; where one fails, those before it.
-        ensures calls { OnOk result ((body : Image)
-            × IsBody self.old.number (new_batch batch.now.items) body
-            × ((D.state self.new.device).trace ≡ (D.state self.old.device).trace
-            ++ append_calls (half_start self.old.is_second self.old.shape.half + self.old.used)
-            body)) }
-        ensures calls_before { IsErrOf result JournalFault.Disk
-            → (body : Image) × IsBody self.old.number (new_batch batch.now.items) body
-            × StopsIn (append_calls (half_start self.old.is_second self.old.shape.half
-            + self.old.used) body) (D.state self.old.device) (D.state self.new.device) }
-        ensures told { AnswersAsTold result (D.state self.old.device) (D.state self.new.device) }
+        // It becomes the batches from before and this one, in the same half.
+        ensures becomes { self.old.is_broken ≡ false → (D.state self.old.device).is_honest
+            → Becomes D.state self.old self.old.is_second
+            (λ batches. batches ++ new_batch batch.now.items ∷ []) self.new result }
+        ensures goes { GoesTo self.old self.old.is_second
+            (self.old.used + bodies (length batch.now.items) + 1) (self.old.number + 1) self.new
+            result }
+        ensures breaks { BreaksByFault D.state self.old self.new result }
+        ensures refuses { RefusesForRoom self.old (length batch.now.items) self.new result }
+        // The body and the next gate, a sync, the gate, a sync.
+        ensures calls { CallsDevice result
+            (append_calls (half_start self.old.is_second self.old.shape.half + self.old.used)
+            (batch_body self.old.number (new_batch batch.now.items)))
+            (bodies (length batch.now.items) + 4) (bodies (length batch.now.items) + 2)
+            (D.state self.old.device) (D.state self.new.device) }
+        // Where it stopped says what a cut leaves.
         ensures stops { IsErrOf result JournalFault.Disk → (D.state self.old.device).is_honest
             → (D.state self.old.device).is_inert → (batches : List Batch)
             → LeavesNow (D.state self.old.device) (Holds self.old.shape batches)
             → StopsShort self.old.shape batches (new_batch batch.now.items)
             (bodies (length batch.now.items)) (D.state self.old.device)
             (D.state self.new.device) }
-        ensures breaks { BreaksByFault D.state self.old self.new result }
-        ensures full { IsErrOf result JournalFault.Full
-            ↔ (self.old.is_broken ≡ false)
-            × (self.old.shape.half < self.old.used + bodies (length batch.now.items) + 2) }
-        ensures refused { IsErrOf result JournalFault.Full → self.new ≡ self.old }
-        ensures causes { IfErr result (λ fault. (fault ≡ JournalFault.Disk)
-            ⊎ (fault ≡ JournalFault.Full) ⊎ (fault ≡ JournalFault.Broken)) }
-        ensures second { self.new.is_second ≡ self.old.is_second }
-        ensures used { OnOk result (self.new.used
-            ≡ self.old.used + bodies (length batch.now.items) + 1) }
-        ensures number { OnOk result (self.new.number ≡ self.old.number + 1) }
-        ensures kept { OnErr result ((self.new.used ≡ self.old.used)
-            × (self.new.number ≡ self.old.number)) }
     {
         if self.is_broken {
             return Err(JournalFault::Broken);
@@ -268,44 +220,26 @@ impl<D: Disk> Journal<D> {
     /// Puts a checkpoint of this register in the place of all batches, in the half that isn't
     /// picked. At `Ok` it is safe.
     pub fn replace(&mut self, register: &Register) -> Result<(), JournalFault>
-        // A crash at any moment of the call leaves the records from before it, or the checkpoint
-        // alone.
-        ensures any_moment { (base entries : List RecordValue)
-            → StandsFor self.old.shape base entries (D.state self.old.device)
-            → LeavesOnly (D.state self.old.device) (D.state self.new.device)
-            (λ left. ReadsAs self.old.shape base entries left
-            ⊎ ReadsAs self.old.shape (base_records register.now) [] left) }
-
-        // The same by batches.
-        ensures any_moment_listed { (batches : List Batch)
-            → LeavesNow (D.state self.old.device) (Holds self.old.shape batches)
-            → LeavesOnly (D.state self.old.device) (D.state self.new.device)
-            (λ left. Holds self.old.shape batches left
-            ⊎ Holds self.old.shape (checkpoint_of (base_records register.now)) left) }
-
-        ensures replaced { OnOk result
-            (StandsFor self.new.shape (base_records register.now) [] (D.state self.new.device)) }
-        ensures synced { OnOk result ((D.state self.new.device).is_honest
-            → IsSynced (D.state self.new.device)) }
-        ensures batches { OnOk result
-            (LeavesNow (D.state self.new.device)
-            (Holds self.new.shape (checkpoint_of (base_records register.now)))) }
-        ensures runs { RunsOn (D.state self.old.device) (D.state self.new.device) }
-        ensures made { Makes result (sectors_for (length (base_records register.now)) + 4)
-            (sectors_for (length (base_records register.now)) + 2)
-            (D.state self.old.device) (D.state self.new.device) }
-        // In the half that isn't picked: each batch and its gate, a closed gate, a sync, the pick,
-        // a sync; where one fails, those before it.
-        ensures calls { OnOk result ((D.state self.new.device).trace
-            ≡ (D.state self.old.device).trace
-            ++ checkpoint_calls (half_start (not self.old.is_second) self.old.shape.half)
-            (pick_of (not self.old.is_second)) (checkpoint_of (base_records register.now))) }
-        ensures calls_before { IsErrOf result JournalFault.Disk
-            → StopsIn (checkpoint_calls (half_start (not self.old.is_second) self.old.shape.half)
+        // It becomes the checkpoint alone, in the other half.
+        ensures becomes { self.old.is_broken ≡ false → (D.state self.old.device).is_honest
+            → Becomes D.state self.old (not self.old.is_second)
+            (λ _. checkpoint_of (base_records register.now)) self.new result }
+        ensures goes { GoesTo self.old (not self.old.is_second)
+            (sectors_for (length (base_records register.now)))
+            (batch_count (length (base_records register.now)) + 1) self.new result }
+        // Behind a checkpoint any batch has room.
+        ensures roomy { OnOk result ((count : ℕ)
+            → self.new.used + bodies count + 2 ≤ self.new.shape.half) }
+        ensures breaks { BreaksByFault D.state self.old self.new result }
+        ensures causes { IfErr result (λ fault. (fault ≡ JournalFault.Disk)
+            ⊎ (fault ≡ JournalFault.Broken)) }
+        // In that half each batch and its gate, a closed gate, a sync, the pick, a sync.
+        ensures calls { CallsDevice result
+            (checkpoint_calls (half_start (not self.old.is_second) self.old.shape.half)
             (pick_of (not self.old.is_second)) (checkpoint_of (base_records register.now)))
-            (D.state self.old.device) (D.state self.new.device) }
-        ensures told { AnswersAsTold result (D.state self.old.device) (D.state self.new.device) }
-
+            (sectors_for (length (base_records register.now)) + 4)
+            (sectors_for (length (base_records register.now)) + 2) (D.state self.old.device)
+            (D.state self.new.device) }
         // Where it stopped says which half a cut leaves picked.
         ensures stops { IsErrOf result JournalFault.Disk → (D.state self.old.device).is_honest
             → (D.state self.old.device).is_inert → (batches : List Batch)
@@ -314,27 +248,6 @@ impl<D: Disk> Journal<D> {
             (checkpoint_of (base_records register.now))
             (sectors_for (length (base_records register.now)))
             (D.state self.old.device) (D.state self.new.device) }
-        ensures half { OnOk result
-            (LeavesNow (D.state self.new.device) (Picks self.new.is_second)) }
-        ensures switched { OnOk result (self.new.is_second ≡ not self.old.is_second) }
-        ensures kept { OnErr result ((self.new.is_second ≡ self.old.is_second)
-            × (self.new.used ≡ self.old.used)) }
-        ensures unnumbered { OnErr result (self.new.number ≡ self.old.number) }
-        ensures used { OnOk result (self.new.used
-            ≡ sectors_for (length (base_records register.now))) }
-        ensures number { OnOk result (self.new.number
-            ≡ batch_count (length (base_records register.now)) + 1) }
-        // Behind a checkpoint any batch has room.
-        ensures roomy { OnOk result ((count : ℕ)
-            → self.new.used + bodies count + 2 ≤ self.new.shape.half) }
-        ensures joined { records_of (checkpoint_of (base_records register.now))
-            ≡ base_records register.now }
-        ensures counted { self.old.is_broken ≡ false
-            → used (checkpoint_of (base_records register.now))
-            ≡ sectors_for (length (base_records register.now)) }
-        ensures breaks { BreaksByFault D.state self.old self.new result }
-        ensures causes { IfErr result (λ fault. (fault ≡ JournalFault.Disk)
-            ⊎ (fault ≡ JournalFault.Broken)) }
     {
         if self.is_broken {
             return Err(JournalFault::Broken);
@@ -372,51 +285,15 @@ impl<D: Disk> Journal<D> {
         &mut self,
         cursor: &mut Cursor,
     ) -> Result<Option<ArrayVec<Record, 63>>, JournalFault>
-        ensures gives { IfOk result (λ found. (D.state self.old.device).is_honest
-            → (batches : List Batch) → Holds self.old.shape batches (D.state self.old.device).image
-            → IsCursorIn batches cursor.old
-            → IsNext batches cursor.old cursor.new (option_map (λ l. l.items) found)) }
+        ensures gives { (D.state self.old.device).is_honest → (batches : List Batch)
+            → Holds self.old.shape batches (D.state self.old.device).image
+            → IsCursorIn batches cursor.old → GivesNext batches cursor.old cursor.new result }
         ensures kept { OnOk result ((D.state self.old.device).is_honest
             → IsSyncedAt (D.state self.old.device).image (D.state self.new.device)) }
-        ensures reads { ReadsOnly (D.state self.old.device) (D.state self.new.device) }
+        ensures moves { MovesCursor self.old cursor.old self.new cursor.new result }
         ensures breaks { BreaksByFault D.state self.old self.new result }
-        ensures cursor_stays { OnErr result (cursor.new ≡ cursor.old) }
-        ensures damaged_stays { (s : _) → IsErrOf result (JournalFault.Damaged s)
-            → ((D.state self.new.device).failures ≡ (D.state self.old.device).failures)
-            × (self.new.is_broken ≡ false) }
-        ensures damaged { (s : _) → IsErrOf result (JournalFault.Damaged s)
-            → (D.state self.old.device).is_honest → (batches : List Batch)
-            → Holds self.old.shape batches (D.state self.old.device).image
-            → IsCursorIn batches cursor.old → ⊥ }
-        ensures told { AnswersAsTold result (D.state self.old.device) (D.state self.new.device) }
         ensures causes { IfErr result (λ fault. IsOfCursor fault) }
-        ensures used { self.new.used ≡ self.old.used }
-        ensures second { self.new.is_second ≡ self.old.is_second }
-        ensures number { self.new.number ≡ self.old.number }
-        // The gate and its body in a row, and at the end no call; where it is refused, as far as
-        // that came.
-        ensures calls { IfOk result (λ found.
-            IfSome found (λ records.
-            (D.state self.new.device).trace ≡ (D.state self.old.device).trace
-            ++ reads_from (half_start self.old.is_second self.old.shape.half + cursor.old.skipped)
-            (1 + bodies (length records.items)))) }
-        ensures rests { result ≡ Ok None → (self.new ≡ self.old) × (cursor.new ≡ cursor.old) }
-        ensures calls_failed { IsErrOf result JournalFault.Disk
-            → HasRead (half_start self.old.is_second self.old.shape.half + cursor.old.skipped) 2
-            (half_start self.old.is_second self.old.shape.half + self.old.shape.half)
-            (D.state self.old.device) (D.state self.new.device) }
-        ensures calls_damaged { (s : _) → IsErrOf result (JournalFault.Damaged s)
-            → HasReadAt s (half_start self.old.is_second self.old.shape.half + self.old.shape.half)
-            (D.state self.old.device) (D.state self.new.device) }
-        ensures moves { IfOk result (λ found.
-            IfSome found (λ records.
-            (cursor.new.skipped ≡ cursor.old.skipped + (1 + bodies (length records.items)))
-            × (cursor.new.given ≡ cursor.old.given + 1))) }
-        // At any device: the end is told only behind all used sectors, and damage only of the
-        // cursor's own gate.
-        ensures ends { result ≡ Ok None → self.old.used ≤ cursor.old.skipped }
-        ensures at_gate { (s : _) → IsErrOf result (JournalFault.Damaged s)
-            → s ≡ (if self.old.is_second then self.old.shape.half + 2 else 2) + cursor.old.skipped }
+        ensures calls { NextCalls D.state self.old cursor.old self.new result }
     {
         if self.is_broken {
             return Err(JournalFault::Broken);

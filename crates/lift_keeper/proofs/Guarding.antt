@@ -1,6 +1,6 @@
 -- What a device keeps of a register, through a checkpoint and an append.
 use Rattle.std.proofs.Common.{◌≡◌, ◌⊎◌, ◌↔◌, inl, inr, ⊎_elim, ℕ, List, [], ◌∷◌, ◌++◌, None, length, map, All, Bool, true, false, not, cond, ◌+◌, ◌<◌, ◌≤◌, refl, sym, ◌∙◌, ap, subst, arith, append_assoc}
-use Rattle.std.specs.Prelude.{OnOk, OnErr, IfErr, Result, Ok, Err}
+use Rattle.std.specs.Prelude.{OnOk, OnErr, IfErr, Result, Ok, Err, MatchBool}
 use Rattle.std.proofs.lemmas.List.{append-nil, length-set, length-map}
 use Rattle.std.proofs.lemmas.List.Elements.{All-nil, All-cons, All-append}
 use Rattle.lift_base.specs.declared.history.Entry.{Entry}
@@ -30,19 +30,22 @@ use Rattle.lift_journal.specs.Checkpoint.{sectors_for}
 use Rattle.lift_journal.specs.Layout.{Batch, new_batch, records_of, size_of, bodies, used, Holds, HoldsIn, Picks}
 use Rattle.lift_journal.specs.Order.{IsEntry, IsOfBase}
 use Rattle.lift_journal.specs.Stops.{StopsShort, StopsCheckpoint}
-use Rattle.lift_keeper.specs.Cuts.{FirstIf}
 use Rattle.lift_keeper.specs.Images.{IsImageOf, IsImageIn, IsInDoubt}
 use Rattle.lift_keeper.specs.Recovery.{entries_of, IsRegisterOf}
-use Rattle.lift_keeper.specs.Writer.{Keeps, Guards, IsFolded, StopsFolding, StopsAdding, StopsCommit, room_calls, room_used, room_second}
+use Rattle.lift_keeper.specs.Writer.{Keeps, Guards, StopsFolding, StopsAdding, StopsCommit, room_calls, room_used, room_second}
+
+-- the register in the other half, as a checkpoint alone
+abbrev IsFolded : Plan → ℕ → Bool → RegisterState → Image → Type 0
+IsFolded plan half is_second register image = IsImageIn plan half (not is_second) (sectors_for (length (base_records register))) register image
 
 -- clauses of an answer, weakened together
-pub ok_two : {T E : Type 0} (r : Result T E) (P Q R : Type 0) → (P → Q → R) → OnOk r P → OnOk r Q → OnOk r R
-ok_two (Ok x) P Q R f p q = f p q
-ok_two (Err e) P Q R f p q = tt
+pub ok_five : {T E : Type 0} (r : Result T E) (P Q S U V R : Type 0) → (P → Q → S → U → V → R) → OnOk r P → OnOk r Q → OnOk r S → OnOk r U → OnOk r V → OnOk r R
+ok_five (Ok x) P Q S U V R f p q s u v = f p q s u v
+ok_five (Err e) P Q S U V R f p q s u v = tt
 
-pub ok_four : {T E : Type 0} (r : Result T E) (P Q S U R : Type 0) → (P → Q → S → U → R) → OnOk r P → OnOk r Q → OnOk r S → OnOk r U → OnOk r R
-ok_four (Ok x) P Q S U R f p q s u = f p q s u
-ok_four (Err e) P Q S U R f p q s u = tt
+pub ok_three : {T E : Type 0} (r : Result T E) (P Q S R : Type 0) → (P → Q → S → R) → OnOk r P → OnOk r Q → OnOk r S → OnOk r R
+ok_three (Ok x) P Q S R f p q s = f p q s
+ok_three (Err e) P Q S R f p q s = tt
 
 -- of the faults of a call only that of the device is left
 pub by_disk : {T : Type 0} (r : Result T JournalFault) (R : Type 0) → IfErr r (λ f. (f ≡ Disk) ⊎ (f ≡ Broken)) → (r ≡ Err Broken → ⊥) → (r ≡ Err Disk → R) → OnErr r R
@@ -193,6 +196,10 @@ are_parts : (plan : Plan) (register : RegisterState) (records : List Record) →
 are_parts plan register [] fit = All-nil IsOfBase
 are_parts plan register (content ∷ records) fit = All-cons IsOfBase content records (is_part plan register content fit.0) (are_parts plan (with_record register content) records fit.1)
 
+-- the records of a register's checkpoint
+pub base_kinds : (plan : Plan) (register : RegisterState) → IsWellFormed register → BelongsTo plan register → IsBalanced register → All IsOfBase (base_records register)
+base_kinds plan register lawful belongs balanced = are_parts plan empty (base_records register) (base_alone plan register lawful belongs balanced).base_fits
+
 used_push : (batches : List Batch) (batch : Batch) → used (batches ++ batch ∷ []) ≡ used batches + (size_of batch + 1)
 used_push [] batch = omega arith
 used_push (first ∷ batches) batch = omega (arith, used_push batches batch)
@@ -205,7 +212,7 @@ module _ (plan : Plan) (shape : Shape) (is_second : Bool) (taken : ℕ) (registe
   checkpoint_is = base_alone plan register guards.lawful guards.belongs guards.balanced
 
   checkpoint_parts : All IsOfBase (base_records register)
-  checkpoint_parts = are_parts plan empty (base_records register) checkpoint_is.base_fits
+  checkpoint_parts = base_kinds plan register guards.lawful guards.belongs guards.balanced
 
   -- a checkpoint
   pub replace_leaves : (new : DiskState) → (new.is_honest ↔ old.is_honest)
@@ -264,12 +271,12 @@ module _ (plan : Plan) (shape : Shape) (is_second : Bool) (taken : ℕ) (registe
     }
       where
         by_mark : (b : Bool) → b ≡ is_second → (left : Image) → HoldsIn shape true (cond b (guards.keeps honest).batches checkpoint) left
-            → FirstIf b (IsImageIn plan shape.half is_second taken register) (IsFolded plan shape.half is_second register) left
+            → MatchBool b (IsImageIn plan shape.half is_second taken register left) (IsFolded plan shape.half is_second register left)
         by_mark true is left held = old_in honest left (subst (λ (b : Bool). HoldsIn shape b (guards.keeps honest).batches left) is held)
         by_mark false is left held = folded_in left (subst (λ (b : Bool). HoldsIn shape (not b) checkpoint left) is held)
 
         by_other : (b : Bool) → b ≡ is_second → (left : Image) → HoldsIn shape false (cond b checkpoint (guards.keeps honest).batches) left
-            → FirstIf b (IsFolded plan shape.half is_second register) (IsImageIn plan shape.half is_second taken register) left
+            → MatchBool b (IsFolded plan shape.half is_second register left) (IsImageIn plan shape.half is_second taken register left)
         by_other true is left held = folded_in left (subst (λ (b : Bool). HoldsIn shape (not b) checkpoint left) is held)
         by_other false is left held = old_in honest left (subst (λ (b : Bool). HoldsIn shape b (guards.keeps honest).batches left) is held)
 

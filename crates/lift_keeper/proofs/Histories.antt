@@ -15,7 +15,8 @@ use Rattle.lift_register.specs.lemmas.HistoryLemmas.{register_of-append}
 use Rattle.lift_register.specs.lemmas.EntryLemmas.{register_of-nothing}
 use Rattle.lift_journal.specs.Order.{IsEntry, IsOfBase}
 use Rattle.lift_journal.specs.Layout.{Batch, records_of}
-use Rattle.lift_keeper.specs.Recovery.{AllFit, with_all, entries_of, IsRegisterOf, MakesRegister}
+use Rattle.lift_keeper.specs.Recovery.{AllFit, with_all, entries_of, IsRegisterOf}
+use Rattle.lift_keeper.proofs.Recoveries.{MakesRegister}
 
 -- a checkpoint, and records behind it
 base_with : (register : RegisterState) (base later : List Record) → All IsOfBase base → with_all register (base ++ later) ≡ with_all (with_records register base) later

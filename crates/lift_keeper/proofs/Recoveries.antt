@@ -3,10 +3,22 @@ use Rattle.std.proofs.Common.{◌≡◌, ◌<◌, ◌+◌, ℕ, zero, suc, Bool,
 use Rattle.lift_base.specs.declared.history.Record.{Record}
 use Rattle.lift_base.specs.declared.history.Record.TheVariants.{Entry, Row, Last, Done}
 use Rattle.lift_building.specs.Plan.{Plan}
-use Rattle.lift_register.specs.Register.{RegisterState}
+use Rattle.lift_register.specs.Register.{RegisterState, empty}
 use Rattle.lift_register.specs.Base.{BaseFitFrom, with_record, with_records}
+use Rattle.lift_journal.specs.Layout.{Batch, records_of}
 use Rattle.lift_journal.specs.Order.{MayFollow, last_behind, MayEnd}
-use Rattle.lift_keeper.specs.Recovery.{RecordFits, with_next, with_all, AllFit, RecoveryState, Passes, passed, AllPass, all_passed, leaves_open, is_unended}
+use Rattle.lift_keeper.specs.Recovery.{RecordFits, with_next, with_all, AllFit, RecoveryState, Passes, passed, AllPass, all_passed, leaves_open}
+
+-- the records of these batches fit one after another from nothing, and make this register
+pub record MakesRegister (plan : Plan) (batches : List Batch)
+    (register : RegisterState) : Type 0 where
+  pub fit : AllFit plan empty (records_of batches)
+  pub is : register ≡ with_all empty (records_of batches)
+
+-- the last of them leaves a checkpoint open, where there is one
+abbrev pub is_unended : Option Record → Bool
+is_unended None = false
+is_unended (Some last) = leaves_open last
 
 -- one record more of a list
 pub pass_more : (state : RecoveryState) (records : List Record) (k : ℕ) (blank : Record) → k < length records → AllPass state (take k records)

@@ -14,8 +14,8 @@ use Rattle.lift_journal.specs.Visits.{TakesAll}
 use Rattle.lift_journal.specs.lemmas.Chains.{used_below}
 use Rattle.lift_journal.specs.lemmas.Orders.{order_at}
 use Rattle.lift_keeper.specs.Reading.{ReadingState, ReadsBatch, reading_from, most_records}
-use Rattle.lift_keeper.specs.Recovery.{RecordFits, with_all, IsFirstMisfit, MakesRegister, RecoveryState, beginning, AllPass, all_passed, StopsAt, is_unended}
-use Rattle.lift_keeper.proofs.Recoveries.{pass_then, passed_then, register_passed, taken_passed, plan_passed, open_passed, fits_passed, passes_here, ended_closed}
+use Rattle.lift_keeper.specs.Recovery.{RecordFits, with_all, IsFirstMisfit, RecoveryState, beginning, AllPass, all_passed, StopsAt}
+use Rattle.lift_keeper.proofs.Recoveries.{pass_then, passed_then, register_passed, taken_passed, plan_passed, open_passed, fits_passed, passes_here, ended_closed, MakesRegister, is_unended}
 
 pub not_true : (b : Bool) → (b ≡ true → ⊥) → b ≡ false
 not_true false never = refl

@@ -1,12 +1,12 @@
 -- What each cut leaves of a run that a device has stopped.
-use Rattle.std.specs.Prelude.{◌≡◌, ◌≢◌, ◌<◌, ◌≤◌, ◌+◌, ℕ, Bool, true, false}
+use Rattle.std.specs.Prelude.{◌≡◌, ◌≢◌, ◌<◌, ◌≤◌, ◌+◌, ℕ, Bool, MatchBool}
 use Rattle.lift_disk.specs.Disk.{DiskState, Image, IsFilled, LeavesNow}
 
 -- The run turns images with P into images with Q by a mark, which it writes after so many calls and
 -- then makes safe. The device has failed a call, and changed no byte in it. Until the mark's write
--- every cut leaves P.
-pub record StopsAtMark (P Q Marked Others : Image
-    → Type 0) (made : ℕ) (old new : DiskState) : Type 0 where
+-- every cut leaves P. The run may also take the mark away: then P has it.
+pub record StopsAtMark (P Q : Image → Type 0) (unmarks : Bool) (made : ℕ) (old new : DiskState)
+    : Type 0 where
   pub early : new.calls ≤ old.calls + made → LeavesNow new P
   -- a cut that keeps: P where the mark's write failed, Q where its sync did
   pub keeps_old : new.calls ≡ old.calls + made + 1 → P new.image
@@ -15,11 +15,6 @@ pub record StopsAtMark (P Q Marked Others : Image
   pub loses : old.calls + made < new.calls → P new.synced
   -- a cut that fills: by whether its byte is the mark
   pub fills_mark : old.calls + made < new.calls → (left : Image) → IsFilled 165 new left
-      → Marked left
+      → MatchBool unmarks (P left) (Q left)
   pub fills_other : old.calls + made < new.calls → (byte : ℕ) (left : Image) → byte ≢ 165
-      → IsFilled byte new left → Others left
-
--- the first of these facts where it is so, else the second
-abbrev pub FirstIf : Bool → (Image → Type 0) → (Image → Type 0) → Image → Type 0
-FirstIf true P Q image = P image
-FirstIf false P Q image = Q image
+      → IsFilled byte new left → MatchBool unmarks (Q left) (P left)

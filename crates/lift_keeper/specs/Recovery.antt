@@ -1,11 +1,10 @@
 -- What records make of a register, taken in one after another.
-use Rattle.std.specs.Prelude.{ℕ, ◌≡◌, ◌+◌, Bool, true, false, List, [], ◌∷◌, Option, Some, None}
+use Rattle.std.specs.Prelude.{ℕ, ◌≡◌, ◌+◌, Bool, true, false, List, [], ◌∷◌, Some}
 use Rattle.std.specs.Prelude.{take, slice_get}
 use Rattle.lift_base.specs.declared.history.Entry.{Entry}
 use Rattle.lift_base.specs.declared.history.Record.{Record}
 use Rattle.lift_base.specs.declared.history.Record.TheVariants.{Entry as EntryRecord, Row, Last, Done}
 use Rattle.lift_building.specs.Plan.{Plan}
-use Rattle.lift_journal.specs.Layout.{Batch, records_of}
 use Rattle.lift_register.specs.Prelude.{RegisterState, empty, register_of, Fits, FitFrom, BelongsTo}
 use Rattle.lift_register.specs.Prelude.{IsBalanced, IsWellFormed}
 use Rattle.lift_register.specs.Base.{BaseFits, BaseFitFrom, with_record, with_records}
@@ -42,12 +41,6 @@ pub record IsFirstMisfit (plan : Plan) (records : List Record) (place : ℕ) : T
   pub there : slice_get records place ≡ Some misfit
   pub fails : ¬ RecordFits plan (with_all empty (take place records)) misfit
 
--- the records of these batches fit one after another from nothing, and make this register
-pub record MakesRegister (plan : Plan) (batches : List Batch)
-    (register : RegisterState) : Type 0 where
-  pub fit : AllFit plan empty (records_of batches)
-  pub is : register ≡ with_all empty (records_of batches)
-
 -- the accepted commands among these records
 abbrev pub entries_of : List Record → List Entry
 entries_of [] = []
@@ -69,10 +62,6 @@ leaves_open (EntryRecord entry) = false
 leaves_open (Row row) = true
 leaves_open (Last terminal last) = true
 leaves_open (Done count) = false
-
-abbrev pub is_unended : Option Record → Bool
-is_unended None = false
-is_unended (Some last) = leaves_open last
 
 -- what a recovery has made so far
 pub record RecoveryState : Type 0 where

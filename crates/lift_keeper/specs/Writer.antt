@@ -5,14 +5,14 @@ use Rattle.lift_base.specs.declared.history.Entry.{Entry}
 use Rattle.lift_base.specs.declared.history.Record.{Record}
 use Rattle.lift_base.specs.declared.history.Shape.{Shape}
 use Rattle.lift_building.specs.Plan.{Plan, shape_of}
-use Rattle.lift_disk.specs.Disk.{DiskState, Image, LeavesNow}
+use Rattle.lift_disk.specs.Disk.{DiskState, LeavesNow}
 use Rattle.lift_register.specs.Prelude.{RegisterState, register_of, BelongsTo, IsBalanced}
 use Rattle.lift_register.specs.Prelude.{IsWellFormed}
 use Rattle.lift_register.specs.Base.{base_records}
 use Rattle.lift_journal.specs.Checkpoint.{sectors_for}
 use Rattle.lift_journal.specs.Journal.{JournalView, StandsFor}
 use Rattle.lift_journal.specs.Layout.{Batch, records_of, Holds, Picks, bodies, used}
-use Rattle.lift_keeper.specs.Cuts.{StopsAtMark, FirstIf}
+use Rattle.lift_keeper.specs.Cuts.{StopsAtMark}
 use Rattle.lift_keeper.specs.Images.{IsImageIn, IsInDoubt}
 use Rattle.lift_keeper.specs.Recovery.{IsRegisterOf}
 
@@ -111,23 +111,13 @@ abbrev pub commit_second : Bool → (used half count : ℕ) → Bool
 commit_second is_second used half count =
     if count == 0 then is_second else room_second is_second used half count
 
--- the register in the other half, as a checkpoint alone
-abbrev pub IsFolded : Plan → ℕ → Bool → RegisterState → Image → Type 0
-IsFolded plan half is_second register image =
-    IsImageIn plan half (not is_second) (sectors_for (length (base_records register))) register
-    image
-
--- A checkpoint has failed: which half a fill leaves picked goes by its byte, and it is the same
--- register in both.
+-- A checkpoint has failed: the other half has the register alone then. Which half a fill leaves picked
+-- goes by its byte, and it is the same register in both.
 abbrev pub StopsFolding : Plan → ℕ → Bool → ℕ → RegisterState → DiskState → DiskState → Type 0
 StopsFolding plan half is_second taken register old new =
     StopsAtMark (IsImageIn plan half is_second taken register)
-    (IsFolded plan half is_second register)
-    (FirstIf is_second (IsImageIn plan half is_second taken register)
-    (IsFolded plan half is_second register))
-    (FirstIf is_second (IsFolded plan half is_second register)
-    (IsImageIn plan half is_second taken register))
-    (sectors_for (length (base_records register)) + 2) old new
+    (IsImageIn plan half (not is_second) (sectors_for (length (base_records register))) register)
+    is_second (sectors_for (length (base_records register)) + 2) old new
 
 -- The appending of a batch has failed, so many calls behind the beginning: a fill leaves the batch
 -- just where its byte is the mark.
@@ -136,11 +126,7 @@ abbrev pub StopsAdding : Plan → ℕ → Bool → ℕ → RegisterState → Lis
 StopsAdding plan half is_second taken register batch before old new =
     StopsAtMark (IsImageIn plan half is_second taken register)
     (IsImageIn plan half is_second (taken + (bodies (length batch) + 1))
-    (register_of register batch))
-    (IsImageIn plan half is_second (taken + (bodies (length batch) + 1))
-    (register_of register batch))
-    (IsImageIn plan half is_second taken register)
-    (before + (bodies (length batch) + 2)) old new
+    (register_of register batch)) false (before + (bodies (length batch) + 2)) old new
 
 -- A commit has failed: within its checkpoint, if it needs one, or behind it.
 pub record StopsCommit (plan : Plan) (half : ℕ) (is_second : Bool) (taken : ℕ)

@@ -11,8 +11,8 @@ pub trait Rest {
     fn rest(&self);
 }
 
-/// A way to rest, and how often it was taken, which only proofs read. The only way to count is to
-/// rest so, so the count binds.
+/// A way to rest, and how often it was taken, which only proofs read. Only `rest` counts. That it
+/// rests when it counts stands in its two lines: a rest changes nothing that a clause could name.
 #[derive(Drop)]
 pub struct Rests<W: Drop> {
     way: W,

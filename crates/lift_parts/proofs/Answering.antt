@@ -6,8 +6,8 @@ use Rattle.std.proofs.lemmas.List.{length-map}
 use Rattle.lift_clerk.specs.Answered.{AreApart, Grows, Answers, answers_to}
 use Rattle.lift_parts.specs.Batch.{replies_in}
 use Rattle.lift_clerk.specs.Answered.{answer_words, ask_of}
-use Rattle.std.proofs.Common.{ℕ, suc, ◌≡◌, ◌≢◌, ◌+◌, ◌<◌, Bool, true, false, cond, eqb, List, [], ◌∷◌, ◌++◌, length, map, get_or, Option, Some, None, refl, sym, ap, subst, ◌∙◌, arith, append_assoc}
-use Rattle.std.specs.Prelude.{filter, All}
+use Rattle.std.proofs.Common.{ℕ, suc, ◌≡◌, ◌≢◌, ◌+◌, ◌<◌, Bool, true, false, cond, eqb, List, [], ◌∷◌, ◌++◌, length, map, get_or, Option, Some, refl, sym, ap, subst, ◌∙◌, arith, append_assoc}
+use Rattle.std.specs.Prelude.{filter, All, IsSome, IfSome}
 use Rattle.std.proofs.lemmas.List.Elements.{All-cons, All-nil}
 use Rattle.std.proofs.lemmas.Bool.{eq-eqb, eqb-true, false≢true}
 use Rattle.std.proofs.lemmas.List.{append-nil, length-append, length-set}
@@ -15,10 +15,10 @@ use mathlib.Core.List.{map-append}
 use Rattle.lift_base.specs.declared.command.Reply.{Reply}
 use Rattle.lift_desk.specs.declared.view.ClerkView.{ClerkView}
 use Rattle.lift_desk.specs.declared.words.Ask.{Ask}
-use Rattle.lift_desk.specs.Words.{ask_word, reply_word}
+use Rattle.lift_desk.specs.Words.{reply_word}
 use Rattle.lift_desk.specs.Spelled.{ask_words, IsAsk}
-use Rattle.lift_desk.specs.Steps.{with_taking, with_answer}
-use Rattle.lift_desk.specs.Seats.{ClerkPlace, no_place, view_at, placed_at}
+use Rattle.lift_desk.specs.Steps.{with_taking}
+use Rattle.lift_desk.specs.Seats.{ClerkPlace, no_place, view_at, placed_at, TakesOf}
 use Rattle.lift_desk.specs.lemmas.Places.{view_at-here, view_at-else}
 use Rattle.lift_policy.specs.declared.command.Command.{Command}
 use Rattle.lift_world.specs.declared.event.Answer.{Answer}
@@ -26,12 +26,12 @@ use Rattle.lift_world.specs.declared.event.Taken.{Taken as Held}
 use Rattle.lift_world.specs.World.{asks, is_answer_to}
 use Rattle.lift_world.specs.Next.{answer_of, unknown_to}
 use Rattle.lift_clerk.specs.Scanning.{reply_told}
-use Rattle.lift_clerk.specs.Visits.{Visit}
+use Rattle.lift_clerk.specs.Visits.{Visit, with_reply}
 use Rattle.lift_clerk.specs.lemmas.Visiting.{taken-new}
 use Rattle.lift_clerk.specs.lemmas.Words.{asks_both, asks_count, answers_both, answers_long}
 use Rattle.lift_parts.specs.declared.taken.Taken.{Taken}
 use Rattle.lift_parts.specs.Batch.{AreBelow, commands_in}
-use Rattle.lift_parts.specs.Flusher.{AnswersOne, AnswersAll, Answered, looked_at}
+use Rattle.lift_parts.specs.Flusher.{AnswersOne, Answered}
 use Rattle.lift_parts.specs.Tie.{held_as}
 
 -- ---- the answers to a terminal's words
@@ -79,40 +79,31 @@ module _ (is_safe : Bool) (places next : List ClerkPlace) (taken : Taken) where
   abbrev old : ClerkView
   old = view_at places t
 
+  -- the terminal's words, once its look was answered
+  abbrev told : ℕ → Option Ask → ClerkView
+  told word found = with_reply (with_taking old word) found (reply_told is_safe taken.reply ∷ [])
+
   own : (word : ℕ) (found : Option Ask) → AnswersOne is_safe places taken (record { word = word; found = found }) next → t < length places
       → Grown old (view_at next t) (taken.command ∷ []) (answer_told is_safe taken ∷ [])
-  own word None k inside = absurd k.gives
-  own word (Some ask) k inside =
-      let mid : List ClerkPlace = looked_at places t word in
-      let looked : view_at mid t ≡ with_taking old word = view_at-here places t (with_taking old word) inside in
-      let stored : view_at next t ≡ with_answer (view_at mid t) (reply_word (length (view_at mid t).taken) taken.command.number (reply_told is_safe taken.reply)) =
-      ap (λ (s : List ClerkPlace). view_at s t) k.answered
-      ∙ view_at-here mid t (with_answer (view_at mid t) (reply_word (length (view_at mid t).taken) taken.command.number (reply_told is_safe taken.reply)))
-      (omega (arith, length-set places t (placed_at (get_or places t no_place).table (with_taking old word)))) in
-      let now : view_at next t ≡ with_answer (with_taking old word) (reply_word (length (with_taking old word).taken) taken.command.number (reply_told is_safe taken.reply)) =
-      stored ∙ ap (λ (v : ClerkView). with_answer v (reply_word (length v.taken) taken.command.number (reply_told is_safe taken.reply))) looked in
-      let more : (with_taking old word).taken ≡ old.taken ++ word ∷ [] = taken-new old word k.finds.reads.0 in
-      let even : length old.answered ≡ length old.taken = k.finds.even refl in
+  own word found k inside =
+      let ask : Ask = ask_of taken.command in
+      let now : view_at next t ≡ told word (Some ask) =
+      ap (λ (s : List ClerkPlace). view_at s t) k.answered ∙ view_at-here places t (told word found) inside ∙ ap (told word) k.gives in
+      let reads : TakesOf old word (Some ask) = subst (TakesOf old word) k.gives k.finds.reads in
+      let even : length old.answered ≡ length old.taken =
+      subst (λ (o : Option Ask). IsSome o → length old.answered ≡ length old.taken) k.gives k.finds.even refl in
+      let more : (with_taking old word).taken ≡ old.taken ++ word ∷ [] = taken-new old word reads.0 in
       let count : length (with_taking old word).taken ≡ suc (length old.answered) = omega (arith, ap length more, length-append old.taken (word ∷ [])) in
       record {
-        taken = ap (λ (v : ClerkView). v.taken) now ∙ more
-            ∙ ap (λ (n : ℕ). old.taken ++ n ∷ []) (k.finds.reads.1 ∙ ap (λ (x : ℕ × Rattle.lift_base.specs.declared.command.Body.Body). ask_word (suc (length old.taken)) x.0 x.1) (λ i. (k.gives.0 i, k.gives.1 i)));
+        taken = ap (λ (v : ClerkView). v.taken) now ∙ more ∙ ap (λ (n : ℕ). old.taken ++ n ∷ []) reads.1;
         answered = ap (λ (v : ClerkView). v.answered) now ∙ ap (λ (n : ℕ). old.answered ++ reply_word n taken.command.number (reply_told is_safe taken.reply) ∷ []) count;
       }
 
   pub other : (visit : Visit) (j : ℕ) → j ≢ t → AnswersOne is_safe places taken visit next → view_at next j ≡ view_at places j
-  other visit j apart k =
-      let mid : List ClerkPlace = looked_at places t visit.word in
-      ap (λ (s : List ClerkPlace). view_at s j) k.answered
-      ∙ view_at-else mid t j (with_answer (view_at mid t) (reply_word (length (view_at mid t).taken) taken.command.number (reply_told is_safe taken.reply))) apart
-      ∙ view_at-else places t j (with_taking old visit.word) apart
+  other visit j apart k = ap (λ (s : List ClerkPlace). view_at s j) k.answered ∙ view_at-else places t j (told visit.word visit.found) apart
 
   pub same_long : (visit : Visit) → AnswersOne is_safe places taken visit next → length next ≡ length places
-  same_long visit k =
-      let mid : List ClerkPlace = looked_at places t visit.word in
-      ap length k.answered
-      ∙ length-set mid t (placed_at (get_or mid t no_place).table (with_answer (view_at mid t) (reply_word (length (view_at mid t).taken) taken.command.number (reply_told is_safe taken.reply))))
-      ∙ length-set places t (placed_at (get_or places t no_place).table (with_taking old visit.word))
+  same_long visit k = ap length k.answered ∙ length-set places t (placed_at (get_or places t no_place).table (told visit.word visit.found))
 
 -- all of them
 abbrev pub here : ℕ → List Taken → List Command
@@ -136,31 +127,23 @@ one_grown is_safe places mid next taken batch visit j false e k inside g =
 below_same : (m n : ℕ) (cs : List Command) → m ≡ n → AreBelow m cs → AreBelow n cs
 below_same m n cs e h = subst (λ (k : ℕ). AreBelow k cs) e h
 
-pub grows : (is_safe : Bool) (places next : List ClerkPlace) (batch : List Taken) (visits : List Visit) → AnswersAll is_safe places batch visits next → AreBelow (length places) (commands_in batch)
+pub grows : (is_safe : Bool) (places next : List ClerkPlace) (batch : List Taken) → Answered is_safe places batch next → AreBelow (length places) (commands_in batch)
     → (length next ≡ length places) × ((j : ℕ) → Grown (view_at places j) (view_at next j) (here j batch) (told_here is_safe j batch))
-grows is_safe places next [] [] all under =
+grows is_safe places next [] all under =
     (ap length all, λ j. subst (λ (s : List ClerkPlace). Grown (view_at places j) (view_at s j) [] []) (sym all) (grown_none (view_at places j)))
-grows is_safe places next [] (v ∷ visits) all under = absurd all
-grows is_safe places next (t ∷ batch) [] all under = absurd all
-grows is_safe places next (t ∷ batch) (v ∷ visits) all under =
-    let long = same_long is_safe places all.0 t v all.1 in
-    let rest = grows is_safe all.0 next batch visits all.2 (below_same (length places) (length all.0) (commands_in batch) (sym long) under.1) in
-    (rest.0 ∙ long, λ j. one_grown is_safe places all.0 next t batch v j (eqb t.command.terminal j) refl all.1 under.0 (rest.1 j))
+grows is_safe places next (t ∷ batch) all under =
+    let long = same_long is_safe places all.1 t all.0 all.2 in
+    let rest = grows is_safe all.1 next batch all.3 (below_same (length places) (length all.1) (commands_in batch) (sym long) under.1) in
+    (rest.0 ∙ long, λ j. one_grown is_safe places all.1 next t batch all.0 j (eqb t.command.terminal j) refl all.2 under.0 (rest.1 j))
 
 -- a word can spell each command
-spelled_one : (is_safe : Bool) (places next : List ClerkPlace) (taken : Taken) (word : ℕ) (found : Option Ask) → AnswersOne is_safe places taken (record { word = word; found = found }) next
-    → IsAsk (ask_of taken.command)
-spelled_one is_safe places next taken word None k = absurd k.gives
-spelled_one is_safe places next taken word (Some ask) k =
-    let same : ask ≡ ask_of taken.command = λ i. record { number = k.gives.0 i; body = k.gives.1 i } in
-    subst IsAsk same k.finds.in_range
+spelled_one : (is_safe : Bool) (places next : List ClerkPlace) (taken : Taken) (visit : Visit) → AnswersOne is_safe places taken visit next → IsAsk (ask_of taken.command)
+spelled_one is_safe places next taken visit k = subst (λ (o : Option Ask). IfSome o IsAsk) k.gives k.finds.in_range
 
-spelled : (is_safe : Bool) (places next : List ClerkPlace) (batch : List Taken) (visits : List Visit) → AnswersAll is_safe places batch visits next → All IsAsk (map ask_of (commands_in batch))
-spelled is_safe places next [] [] all = All-nil IsAsk
-spelled is_safe places next [] (v ∷ visits) all = absurd all
-spelled is_safe places next (t ∷ batch) [] all = absurd all
-spelled is_safe places next (t ∷ batch) (v ∷ visits) all =
-    All-cons IsAsk (ask_of t.command) (map ask_of (commands_in batch)) (spelled_one is_safe places all.0 t v.word v.found all.1) (spelled is_safe all.0 next batch visits all.2)
+spelled : (is_safe : Bool) (places next : List ClerkPlace) (batch : List Taken) → Answered is_safe places batch next → All IsAsk (map ask_of (commands_in batch))
+spelled is_safe places next [] all = All-nil IsAsk
+spelled is_safe places next (t ∷ batch) all =
+    All-cons IsAsk (ask_of t.command) (map ask_of (commands_in batch)) (spelled_one is_safe places all.1 t all.0 all.2) (spelled is_safe all.1 next batch all.3)
 
 -- as many answers as commands
 one_more : (is_safe : Bool) (j : ℕ) (t : Taken) (batch : List Taken) (b : Bool) → length (here j batch) ≡ length (told_here is_safe j batch)
@@ -214,11 +197,11 @@ module _ where
   pub answers_them : (is_safe : Bool) (places next : List ClerkPlace) (batch : List Taken) → AreBelow (length places) (commands_in batch) → AreApart (commands_in batch) → Answered is_safe places batch next
       → Answers places next (commands_in batch) (replies_of is_safe batch)
   answers_them is_safe places next batch below apart k =
-      let grown = (grows is_safe places next batch k.visits k.all below).1 in
+      let grown = (grows is_safe places next batch k below).1 in
       record {
         one_each = as_long is_safe batch;
         apart = apart;
-        in_range = spelled is_safe places next batch k.visits k.all;
+        in_range = spelled is_safe places next batch k;
         grows = λ t.
             let g = grown t in
             let same : filter (is_answer_to t) (answers_to (commands_in batch) (replies_of is_safe batch)) ≡ told_here is_safe t batch =

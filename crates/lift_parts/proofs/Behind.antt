@@ -35,10 +35,9 @@ use Rattle.lift_clerk.specs.History.{History, Turned, Failed, TurnedWhileBroken,
 use Rattle.lift_clerk.specs.Keeping.{CrashesKeep, MomentsKeep, LeavesSafe, KeepsNow}
 use Rattle.lift_clerk.specs.lemmas.Keeps.{kept_now}
 use Rattle.lift_parts.specs.declared.counts.FlushCounts.{FlushCounts}
-use Rattle.lift_parts.specs.Batch.{BatchState, state_with_entries, AreBelow, commands_in, replies_in}
+use Rattle.lift_parts.specs.Batch.{BatchState, state_with_entries, AreBelow, commands_in, replies_in, entries_of_batches}
 use Rattle.lift_parts.specs.Flusher.{FlusherState, IsFlusher, IsEmptyTurn, IsBatchTurn, Answered, is_ok, entries_between}
 use Rattle.lift_parts.specs.Turns.{NoFlush, OneFlush}
-use Rattle.lift_parts.specs.Tie.{held_as, entries_of_batches}
 use Rattle.lift_parts.specs.History.{group_behind, held_in, Adds, GoesOnTo, FlushStands, FlushesStand, TurnsGoOn, SplitsGoOn, JoinedGoOn}
 use Rattle.lift_parts.specs.Past.{flush_events, FlushLeadsOn, FlushesLeadOn, SplitsKeepPasts, JoinedKeepPasts}
 use Rattle.lift_parts.proofs.Answering.{replies_of, held_is, answers_them}
@@ -113,7 +112,7 @@ module _ {D : Type 0} (state : D → DiskState) (crashes : CrashesKeep D) (law :
     none_between =
         no_entries c.batch
         (sym c.counted ∙ ap (λ (x : FlusherState D). entries_between f.end x.end) e.same
-        ∙ ap (λ (bs : List BatchState). Rattle.lift_parts.specs.Flusher.count_of_entries bs) (drop-length f.end.received))
+        ∙ ap (λ (bs : List BatchState). length (entries_of_batches bs)) (drop-length f.end.received))
 
     no_doubt : f.writer.is_broken ≡ false → f.writer.doubt ≡ []
     no_doubt whole =
@@ -249,11 +248,11 @@ module _ {D : Type 0} (state : D → DiskState) (crashes : CrashesKeep D) (law :
 
       kept_told : with_given true ≡ given ++ (held_in (batch ∷ []) ++ map unknown_to (held_in []))
       kept_told = ap (λ (ts : List Held). given ++ ts)
-          (held_is true batch.commands ∙ sym (append-nil (map held_as batch.commands)) ∙ sym (append-nil (map held_as batch.commands ++ [])))
+          (sym (append-nil (with_replies cs (replies_in batch.commands))) ∙ sym (append-nil (held_in (batch ∷ []))))
 
       lost_told : with_given false ≡ given ++ (held_in [] ++ map unknown_to (held_in (batch ∷ [])))
       lost_told = ap (λ (ts : List Held). given ++ ts)
-          (held_is false batch.commands ∙ ap (map unknown_to) (sym (append-nil (map held_as batch.commands))))
+          (held_is false batch.commands ∙ ap (map unknown_to) (sym (held_is true batch.commands) ∙ sym (append-nil (with_replies cs (replies_in batch.commands)))))
 
     -- it answers Ok
     module _ (counts : FlushCounts) (t : IsBatchTurn f g batch (Ok counts)) (c : CommitsTo {T = FlushCounts} state f.writer (entries_between f.end g.end) g.end.state.register g.writer (Ok counts)) where
@@ -440,7 +439,9 @@ entries_both (x ∷ xs) ys = ap (λ (es : List Entry). x.entries ++ es) (entries
 
 held_both : (xs ys : List BatchState) → held_in (xs ++ ys) ≡ held_in xs ++ held_in ys
 held_both [] ys = refl
-held_both (x ∷ xs) ys = ap (λ (hs : List Held). map held_as x.commands ++ hs) (held_both xs ys) ∙ sym (append_assoc (map held_as x.commands) (held_in xs) (held_in ys))
+held_both (x ∷ xs) ys =
+    let told : List Held = with_replies (commands_in x.commands) (replies_in x.commands) in
+    ap (λ (hs : List Held). told ++ hs) (held_both xs ys) ∙ sym (append_assoc told (held_in xs) (held_in ys))
 
 module _ {D : Type 0} (f m g : FlusherState D) (base : RegisterState) (safe : List Entry) (given : List Held) where
   adds_both : (a b : List Entry) (u v : List Held) → Adds f m a u → Adds m g b v → (was : Bool) → m.writer.is_broken ≡ was → Adds f g (a ++ b) (u ++ v)

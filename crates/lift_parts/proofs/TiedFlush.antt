@@ -26,12 +26,12 @@ use Rattle.lift_clerk.specs.lemmas.Words.{asks_both, asks_count, answers_both, a
 use Rattle.lift_clerk.specs.lemmas.Asked.{not_both}
 use Rattle.lift_parts.specs.declared.taken.Taken.{Taken}
 use Rattle.lift_parts.specs.declared.counts.FlushCounts.{FlushCounts}
-use Rattle.lift_parts.specs.Batch.{BatchState, AreBelow, commands_in}
+use Rattle.lift_parts.specs.Batch.{BatchState, AreBelow, commands_in, entries_of_batches}
 use Rattle.lift_parts.specs.Line.{ReceivesOne}
 use Rattle.lift_parts.specs.Allocator.{AllocatorState}
 use Rattle.lift_parts.specs.Flusher.{FlusherState, Answered}
 use Rattle.lift_parts.specs.Laws.{RelayLaws}
-use Rattle.lift_parts.specs.Tie.{held_as, command_of, entries_of_batches, queued_in, on_way, AreQueued, AreDecided, ShowsBoth, RunsWhole, RunsBroken, IsRelayOf, LeadsOn, ReceivesSent, all_found, Flushes, FlushFails, FlushesBroken, FlushesAreFlushes, FailedFlushesAreFailures, BrokenFlushesAreBroken}
+use Rattle.lift_parts.specs.Tie.{held_as, command_of, queued_in, on_way, AreQueued, AreDecided, ShowsBoth, RunsWhole, RunsBroken, IsRelayOf, LeadsOn, ReceivesSent, all_found, Flushes, FlushFails, FlushesBroken, FlushesAreFlushes, FailedFlushesAreFailures, BrokenFlushesAreBroken}
 use Rattle.lift_parts.proofs.Tied.{order, reaches}
 use Rattle.lift_parts.proofs.TiedTake.{safe_long}
 
@@ -91,7 +91,7 @@ module _ {D P : Type 0} (laws : RelayLaws) (w : World) (a : AllocatorState P) (f
   module _ (is_safe : Bool) (answered : Answered is_safe f.seat batch.commands g.seat) (end : World) (asked : end.asked ≡ w.asked) (queue : end.queue ≡ first.qs)
       (answers : end.answered ≡ w.answered ++ map (answer_told is_safe) batch.commands) where
     grown : (length g.seat ≡ length f.seat) × ((j : ℕ) → Grown (view_at f.seat j) (view_at g.seat j) (here j batch.commands) (told_here is_safe j batch.commands))
-    grown = grows is_safe f.seat g.seat batch.commands answered.visits answered.all first.under
+    grown = grows is_safe f.seat g.seat batch.commands answered first.under
 
     way_is : (j : ℕ) → on_way w j ≡ here j batch.commands ++ on_way end j
     way_is j =

@@ -34,11 +34,11 @@ use Rattle.lift_clerk.specs.lemmas.Served.{all_apart}
 use Rattle.lift_clerk.specs.lemmas.Words.{asks_both, asks_count}
 use Rattle.lift_clerk.specs.lemmas.Asked.{not_both, run_in}
 use Rattle.lift_parts.specs.declared.taken.Taken.{Taken}
-use Rattle.lift_parts.specs.Batch.{BatchState, AreBelow, commands_in, replies_in}
+use Rattle.lift_parts.specs.Batch.{BatchState, AreBelow, commands_in, replies_in, entries_of_batches}
 use Rattle.lift_parts.specs.Allocator.{AllocatorState, IsScanTurn}
 use Rattle.lift_parts.specs.Flusher.{FlusherState}
 use Rattle.lift_parts.specs.Laws.{RelayLaws}
-use Rattle.lift_parts.specs.Tie.{held_as, command_of, entries_of_batches, queued_in, on_way, AreQueued, AreDecided, ShowsBoth, RunsWhole, RunsBroken, IsRelayOf, LeadsOn, TakesAsked, AllTakesAsked, HasRoom, ScansAreAllocations}
+use Rattle.lift_parts.specs.Tie.{held_as, command_of, queued_in, on_way, AreQueued, AreDecided, ShowsBoth, RunsWhole, RunsBroken, IsRelayOf, LeadsOn, TakesAsked, AllTakesAsked, HasRoom, ScansAreAllocations}
 use Rattle.lift_parts.proofs.Tied.{order, reaches}
 use Rattle.lift_parts.proofs.TiedScan.{Reads, is_queued, AllStand, looks_from, found, waits, left, below}
 

@@ -1,6 +1,6 @@
 -- A sealed batch as contracts see it.
 use Rattle.std.specs.Prelude.{ℕ, ◌≡◌, ◌<◌, List, [], ◌∷◌, length, map, slice_index_or, slice_set}
-use Rattle.std.specs.List.{AllByRecursion}
+use Rattle.std.specs.List.{AllByRecursion, flat_map}
 use Rattle.atomic_table.specs.Seated.{TableId}
 use Rattle.lift_base.specs.declared.command.Reply.{Reply}
 use Rattle.lift_base.specs.declared.history.Entry.{Entry}
@@ -35,6 +35,10 @@ commands_in taken = map (λ (t : Taken). t.command) taken
 
 abbrev pub replies_in : List Taken → List Reply
 replies_in taken = map (λ (t : Taken). t.reply) taken
+
+-- what was accepted of these batches
+abbrev pub entries_of_batches : List BatchState → List Entry
+entries_of_batches batches = flat_map (λ (b : BatchState). b.entries) batches
 
 -- the words that their notes say
 abbrev pub noted_in : List Taken → List ℕ

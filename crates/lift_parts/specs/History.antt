@@ -8,15 +8,15 @@ use Rattle.lift_register.specs.Register.{RegisterState}
 use Rattle.lift_keeper.specs.declared.fault.KeeperFault.{KeeperFault}
 use Rattle.lift_world.specs.declared.event.Taken.{Taken as Held}
 use Rattle.lift_world.specs.Next.{unknown_to}
+use Rattle.lift_world.specs.Turns.{with_replies}
 use Rattle.lift_clerk.specs.Clerk.{ClerkState}
 use Rattle.lift_clerk.specs.Steps.{GroupState, group_of}
 use Rattle.lift_clerk.specs.History.{History}
 use Rattle.lift_clerk.specs.Keeping.{KeepsThroughout, LeavesSafe, KeepsNow}
 use Rattle.lift_parts.specs.declared.counts.FlushCounts.{FlushCounts}
-use Rattle.lift_parts.specs.Batch.{BatchState}
+use Rattle.lift_parts.specs.Batch.{BatchState, commands_in, replies_in, entries_of_batches}
 use Rattle.lift_parts.specs.Flusher.{FlusherState}
 use Rattle.lift_parts.specs.Turns.{FlusherTurns, IsFlush}
-use Rattle.lift_parts.specs.Tie.{held_as, entries_of_batches}
 
 -- The group as the flusher has it: a clerk of its seats and its writer, which shows what was
 -- received.
@@ -30,7 +30,8 @@ group_behind f = record {
 
 -- the commands of these batches, with their replies
 abbrev pub held_in : List BatchState → List Held
-held_in batches = flat_map (λ (b : BatchState). map held_as b.commands) batches
+held_in batches =
+    flat_map (λ (b : BatchState). with_replies (commands_in b.commands) (replies_in b.commands)) batches
 
 -- What a flusher's turns add. Of the batches that they received the first are safe, and their
 -- commands have their replies; those behind a fault are not, and theirs were answered Unknown.

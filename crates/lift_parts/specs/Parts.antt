@@ -1,5 +1,5 @@
 -- A clerk in two parts, and the parts together again.
-use Rattle.std.specs.Prelude.{◌≡◌, ◌≢◌, ◌⊎◌, true, false, [], length}
+use Rattle.std.specs.Prelude.{◌≡◌, ◌⊎◌, true, [], length}
 use Rattle.lift_desk.specs.Seats.{OwesNothing, ahead_from}
 use Rattle.lift_clerk.specs.Clerk.{ClerkState}
 use Rattle.lift_clerk.specs.Turn.{settled}
@@ -46,10 +46,3 @@ pub record IsRejoined {D P : Type 0} (a : AllocatorState P) (f : FlusherState D)
   pub same_state : a.state ≡ f.end.state
   -- not their number alone
   pub same_batches : a.end.sent ≡ f.end.received
-
--- why not
-abbrev pub CannotJoin : {D P : Type 0} → AllocatorState P → FlusherState D → Type 0
-CannotJoin a f =
-    (length a.end.sent ≢ length f.end.received)
-    ⊎ ((a.hand ≢ []) ⊎ ((¬ OwesNothing f.seat)
-    ⊎ ((f.writer.is_broken ≡ false) × (a.state.register ≢ f.writer.register))))

@@ -30,7 +30,7 @@ use Rattle.lift_clerk.specs.Visits.{commands_of}
 use Rattle.lift_clerk.specs.Machine.{IsReached, IsMachineOf}
 use Rattle.lift_parts.specs.declared.taken.Taken.{Taken}
 use Rattle.lift_parts.specs.declared.counts.FlushCounts.{FlushCounts}
-use Rattle.lift_parts.specs.Batch.{BatchState, AreBelow, commands_in}
+use Rattle.lift_parts.specs.Batch.{BatchState, AreBelow, commands_in, entries_of_batches}
 use Rattle.lift_parts.specs.Line.{Begins}
 use Rattle.lift_parts.specs.Queued.{Queued}
 use Rattle.lift_parts.specs.Allocator.{AllocatorState, IsFullTurn, IsScanTurn}
@@ -49,9 +49,6 @@ held_as t = record {
 
 abbrev pub command_of : Held → Command
 command_of h = record { terminal = h.terminal; number = h.number; body = h.body }
-
-abbrev pub entries_of_batches : List BatchState → List Entry
-entries_of_batches batches = flat_map (λ (b : BatchState). b.entries) batches
 
 -- the commands of the machine's queue, and those of one terminal
 abbrev pub queued_in : List SealedBatch → List Command

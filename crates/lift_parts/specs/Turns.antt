@@ -3,6 +3,7 @@ use Rattle.std.specs.Prelude.{◌≡◌, ◌⊎◌, ◌++◌, [], Option, Some, 
 use Rattle.lift_disk.specs.Disk.{DiskState}
 use Rattle.lift_policy.specs.Eligible.{Choice}
 use Rattle.lift_keeper.specs.Commits.{CommitsTo}
+use Rattle.lift_keeper.specs.Calls.{CommitCalls}
 use Rattle.lift_keeper.specs.declared.fault.KeeperFault.{KeeperFault}
 use Rattle.lift_clerk.specs.declared.counts.Counts.{Counts}
 use Rattle.lift_parts.specs.declared.counts.FlushCounts.{FlushCounts}
@@ -32,7 +33,8 @@ pub data AllocatorTurns {P : Type 0} (choice : Choice) : AllocatorState P → Al
   HandSent : {a b c : AllocatorState P} → AllocatorTurns choice a b → IsSending b c
       → AllocatorTurns choice a c
 
--- One turn of a flusher: which batch it received and what it answered, and what its commit did.
+-- One turn of a flusher: which batch it received and what it answered, what its commit did, and which
+-- calls of the device it made.
 pub record IsFlush {D : Type 0} (state : D
     → DiskState) (old new : FlusherState D) (answer : Result FlushCounts KeeperFault) : Type 0 where
   pub before : IsFlusher old
@@ -40,6 +42,8 @@ pub record IsFlush {D : Type 0} (state : D
   -- it commits what it received, which leads to the register at its end of the line
   pub commits : CommitsTo state old.writer (entries_between old.end new.end) new.end.state.register
       new.writer answer
+  -- and makes the calls of the device that this takes, and no others
+  pub calls : CommitCalls state old.writer (entries_between old.end new.end) new.writer answer
   pub same : (new.desk ≡ old.desk) × (new.end.line ≡ old.end.line)
 
 -- the first fault of all turns, once one more has answered this

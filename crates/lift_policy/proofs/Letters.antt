@@ -1,14 +1,16 @@
 -- The eligible cars as a list that grows letter by letter.
-use Rattle.std.proofs.Common.{◌≡◌, ℕ, zero, suc, ◌+◌, ◌-◌, ◌==◌, ◌<◌, ◌≤◌, Bool, true, false, cond, List, [], ◌∷◌, ◌++◌, length, filter, refl, sym, ap, ◌∙◌, arith}
+use Rattle.std.proofs.Common.{◌≡◌, ℕ, zero, suc, ◌+◌, ◌-◌, ◌==◌, ◌<◌, ◌≤◌, ◌&&◌, nat_le, Bool, true, false, cond, List, [], ◌∷◌, ◌++◌, length, filter, get_or, append-nil, refl, sym, ap, ◌∙◌, arith}
 use Rattle.std.specs.List.{range_with_len}
 use Rattle.std.specs.Prelude.{Option, Some, None}
 use Rattle.std.specs.Option.{option_to_list, is_some}
 use Rattle.std.proofs.Math.Dec.{eqb-suc-zero}
 use Rattle.std.proofs.lemmas.List.Elements.{filter-append}
-use Rattle.lift_building.specs.Plan.{Plan}
-use Rattle.lift_register.specs.Register.{cars}
+use Rattle.std.proofs.lemmas.List.{get_or_past}
+use Rattle.lift_building.specs.Plan.{Plan, serves_floor, places_of}
+use Rattle.lift_register.specs.Register.{cars, rows_of}
+use Rattle.lift_register.specs.Prelude.{persons_of}
 use Rattle.lift_cost.specs.declared.call.NewCall.{NewCall}
-use Rattle.lift_policy.specs.View.{ViewState}
+use Rattle.lift_policy.specs.View.{ViewState, position_of}
 use Rattle.lift_policy.specs.Eligible.{is_eligible, eligible_cars, Rise, AreLetters}
 
 range_suc : (a n : ℕ) → range_with_len a (suc n) ≡ range_with_len a n ++ (a + n) ∷ []
@@ -69,6 +71,47 @@ some_of (x ∷ letters) h = omega arith
 pub letters_of : (plan : Plan) (view : ViewState) (call : NewCall) (letters : List ℕ) → letters ≡ eligible_cars plan view call → (letters ≡ [] → ⊥) → AreLetters letters
 letters_of plan view call letters e h = record { some = some_of letters h; rising = rw e (eligible_cars-rise plan view call) }
 
+-- ---- the building has no car behind its last one
+
+-- no number from this one on passes
+abbrev pub NoneFrom : (ℕ → Bool) → ℕ → Type 0
+NoneFrom p low = (number : ℕ) → low ≤ number → p number ≡ false
+
+lacking : (placed rest : Bool) → (placed && (false && rest)) ≡ false
+lacking true rest = refl
+lacking false rest = refl
+
+pub none_behind : (plan : Plan) (view : ViewState) (call : NewCall) → NoneFrom (is_eligible plan view call) (length plan.cars)
+none_behind plan view call car behind =
+    let none : serves_floor plan car call.from ≡ false = ap (λ c. get_or c.served call.from false) (get_or_past plan.cars car (record { places = 0; served = [] }) behind) in
+    rw none (lacking (is_some (position_of view.positions car)) (serves_floor plan car call.to && nat_le (persons_of (rows_of view.register car) + call.party) (places_of plan car)))
+
+none_among : (p : ℕ → Bool) (low count : ℕ) → NoneFrom p low → filter p (range_with_len low count) ≡ []
+none_among p low zero none = refl
+none_among p low (suc count) none = rw (none low (omega arith)) (none_among p (low + 1) count (λ number h. none number (omega arith)))
+
+none_above : (p : ℕ → Bool) (n more : ℕ) → NoneFrom p n → filter p (range_with_len 0 n) ≡ filter p (range_with_len 0 (n + more))
+none_above p n zero none = let e : n ≡ n + 0 = omega arith in ap (λ (m : ℕ). filter p (range_with_len 0 m)) e
+none_above p n (suc more) none =
+    let out : p (n + more) ≡ false = none (n + more) (omega arith) in
+    let e : n + more + 1 ≡ n + suc more = omega arith in
+    none_above p n more none
+    ∙ sym (append-nil (filter p (range_with_len 0 (n + more))))
+    ∙ ap (λ (b : Bool). filter p (range_with_len 0 (n + more)) ++ cond b ((n + more) ∷ []) []) (sym out)
+    ∙ sym (filter-range_more p (n + more))
+    ∙ ap (λ (m : ℕ). filter p (range_with_len 0 m)) e
+
+-- those among the building's cars that may take a call are all that may
+pub eligible_so_far : (plan : Plan) (view : ViewState) (call : NewCall) (letters : List ℕ) (n : ℕ) → n ≡ length plan.cars → n ≤ 16
+    → letters ≡ filter (is_eligible plan view call) (range_with_len 0 n) → letters ≡ eligible_cars plan view call
+eligible_so_far plan view call letters n all few so_far =
+    let p = is_eligible plan view call in
+    let e : n + (16 - n) ≡ 16 = omega arith in
+    so_far
+    ∙ none_above p n (16 - n) (λ number h. none_behind plan view call number (omega arith))
+    ∙ ap (λ (m : ℕ). filter p (range_with_len 0 m)) e
+    ∙ sym (eligible_cars-is plan view call)
+
 -- ---- where none of the first cars may take a call, the eligible ones are those behind
 
 -- those of the letters from this one on that pass
@@ -102,6 +145,6 @@ some_here p letters i found inside behind is some =
     on false None h n = cc
     on false (Some x) h n = cc
 
-pub none_at_all : (p : ℕ → Bool) (letters : List ℕ) (i : ℕ) → i ≡ 16 → letters ≡ passing_from p i → true ≡ (length letters == 0)
+pub none_at_all : (p : ℕ → Bool) (letters : List ℕ) (i : ℕ) → NoneFrom p i → letters ≡ passing_from p i → true ≡ (length letters == 0)
 unfolding passing_from
-none_at_all p letters i at-end behind = ap (λ (xs : List ℕ). length xs == 0) (sym (behind ∙ ap (λ (n : ℕ). filter p (range_with_len n (16 - n))) at-end))
+none_at_all p letters i none behind = ap (λ (xs : List ℕ). length xs == 0) (sym (behind ∙ none_among p i (16 - i) none))

@@ -83,7 +83,7 @@ fn eligible_at(building: &Building, view: &View, call: &NewCall, index: u8) -> O
 pub(crate) fn is_none_eligible(building: &Building, view: &View, call: &NewCall) -> bool
     ensures { result ≡ (length (eligible_cars building.now view.now call.now) == 0) }
 {
-    for letter in 0..16 {
+    for letter in 0..building.cars() {
         if eligible_at(building, view, call, letter).is_some() {
             return false;
         }
@@ -96,7 +96,7 @@ fn letters_among(building: &Building, view: &View, call: &NewCall) -> ArrayVec<L
     ensures { result.items ≡ eligible_cars building.now view.now call.now }
 {
     let mut letters = ArrayVec::new();
-    for index in 0..16 {
+    for index in 0..building.cars() {
         match eligible_at(building, view, call, index) {
             Some(car) => letters.push(car),
             None => {}

@@ -10,6 +10,7 @@ use Rattle.lift_building.specs.Plan.{Plan}
 use Rattle.lift_program.specs.Ends.{IsFileFault, IsServingFault, IsShowingFault}
 use Rattle.lift_program.specs.Output.{WriterHasFailed}
 use Rattle.lift_disk.specs.Disk.{DiskState}
+use Rattle.lift_disk.specs.declared.file.FileFault.{FileFault}
 use Rattle.lift_program.specs.Stages.{IsBuildingFault, IsUnkept, fault_in}
 use Rattle.lift_program.specs.declared.left.Undone.{Undone}
 use Rattle.lift_program.specs.declared.left.Undone.TheVariants.{NoBuilding, NoImage, Opened}
@@ -34,25 +35,37 @@ put_failed gives flushes bytes old new (Err fault) failed within told = inl (fai
 pub other_than : {T : Type 0} (P : Type 0) (result : Result T Fault) (fault wanted : Fault) → IsErrAnd result (λ told. told ≡ fault) → (fault ≡ wanted → P) → result ≡ Err wanted → P
 other_than P result fault wanted is holds same = holds (sym (subst (λ r. IsErrAnd r (λ told. told ≡ fault)) same is))
 
-pub image_no_output : (plan : Plan) (fault : Fault) → IsFileFault OfImage fault → fault ≡ File Output → ⊥
-image_no_output plan fault (inl is) same = absurd (let other = sym is ∙ same in cc)
-image_no_output plan fault (inr is) same = subst IsBuildingFault (sym is ∙ same) tt
+-- no fault but a building's file and text, or memory
+abbrev pub IsOfBuilding : Fault → Type 0
+IsOfBuilding = IsBuildingFault (λ text. ⊥)
 
-pub unkept_no_output : {D F : Type 0} (is_fresh : D → Type 0) (state : D → DiskState) (is_unhad : Option F → Type 0) (plan : Plan) (undone : Undone D F) → IsUnkept is_fresh state is_unhad plan undone → fault_in undone ≡ File Output → ⊥
-unkept_no_output is_fresh state is_unhad plan (NoBuilding fault) never same = absurd never
-unkept_no_output is_fresh state is_unhad plan (NoImage refused) (inl is, unhad) same = absurd (let other = sym is ∙ same in cc)
-unkept_no_output is_fresh state is_unhad plan (NoImage refused) (inr is, unhad) same = subst IsBuildingFault (sym is ∙ same) tt
-unkept_no_output is_fresh state is_unhad plan (Opened fault left) is same = absurd (let other = sym is.is_refusal ∙ same in cc)
+pub building_no_output : (is_text : List ℕ → Type 0) (fault : Fault) → IsBuildingFault is_text fault → fault ≡ File Output → ⊥
+building_no_output is_text fault is same = subst (IsBuildingFault is_text) same is
 
-pub unkept_no_network : {D F : Type 0} (is_fresh : D → Type 0) (state : D → DiskState) (is_unhad : Option F → Type 0) (plan : Plan) (undone : Undone D F) → IsUnkept is_fresh state is_unhad plan undone → fault_in undone ≡ Network → ⊥
-unkept_no_network is_fresh state is_unhad plan (NoBuilding fault) never same = absurd never
-unkept_no_network is_fresh state is_unhad plan (NoImage refused) (inl is, unhad) same = absurd (let other = sym is ∙ same in cc)
-unkept_no_network is_fresh state is_unhad plan (NoImage refused) (inr is, unhad) same = subst IsBuildingFault (sym is ∙ same) tt
-unkept_no_network is_fresh state is_unhad plan (Opened fault left) is same = absurd (let other = sym is.is_refusal ∙ same in cc)
+pub building_no_network : (is_text : List ℕ → Type 0) (fault : Fault) → IsBuildingFault is_text fault → fault ≡ Network → ⊥
+building_no_network is_text fault is same = subst (IsBuildingFault is_text) same is
+
+pub image_no_output : (fault : Fault) → IsFileFault OfImage fault → fault ≡ File Output → ⊥
+image_no_output fault (inl is) same = absurd (let other = sym is ∙ same in cc)
+image_no_output fault (inr is) same = subst IsOfBuilding (sym is ∙ same) tt
+
+image_no_network : (fault : Fault) → IsFileFault OfImage fault → fault ≡ Network → ⊥
+image_no_network fault (inl is) same = absurd (let other = sym is ∙ same in cc)
+image_no_network fault (inr is) same = subst IsOfBuilding (sym is ∙ same) tt
+
+pub unkept_no_output : {D F O : Type 0} (is_fresh : D → Type 0) (state : D → DiskState) (is_refused : FileFault F O → Type 0) (plan : Plan) (undone : Undone D F O) → IsUnkept is_fresh state is_refused plan undone → fault_in undone ≡ File Output → ⊥
+unkept_no_output is_fresh state is_refused plan (NoBuilding fault unused) never same = absurd never
+unkept_no_output is_fresh state is_refused plan (NoImage refused) is same = image_no_output refused.fault is.is_fault same
+unkept_no_output is_fresh state is_refused plan (Opened fault left) is same = absurd (let other = sym is.is_refusal ∙ same in cc)
+
+pub unkept_no_network : {D F O : Type 0} (is_fresh : D → Type 0) (state : D → DiskState) (is_refused : FileFault F O → Type 0) (plan : Plan) (undone : Undone D F O) → IsUnkept is_fresh state is_refused plan undone → fault_in undone ≡ Network → ⊥
+unkept_no_network is_fresh state is_refused plan (NoBuilding fault unused) never same = absurd never
+unkept_no_network is_fresh state is_refused plan (NoImage refused) is same = image_no_network refused.fault is.is_fault same
+unkept_no_network is_fresh state is_refused plan (Opened fault left) is same = absurd (let other = sym is.is_refusal ∙ same in cc)
 
 pub output_no_network : (fault : Fault) → IsFileFault Output fault → fault ≡ Network → ⊥
 output_no_network fault (inl is) same = subst IsShowingFault (sym is ∙ same) tt
-output_no_network fault (inr is) same = subst IsBuildingFault (sym is ∙ same) tt
+output_no_network fault (inr is) same = subst IsOfBuilding (sym is ∙ same) tt
 
 pub network_no_output : (fault : Fault) → fault ≡ Network → fault ≡ File Output → ⊥
 network_no_output fault is same = subst IsServingFault (sym is ∙ same) tt

@@ -3,5 +3,6 @@ mod Commands
 mod Flushing
 mod Rows
 mod Served
+mod Telling
 mod Stages
 mod Writing

@@ -1,5 +1,5 @@
 -- What the faults of each stage are to a whole command.
-use Rattle.std.proofs.Common.{◌≡◌, ◌≢◌, ◌<◌, ◌≤◌, ◌+◌, ◌*◌, ◌∙◌, ℕ, List, [], Option, Bool, length, false, refl, sym, subst, inl, inr, arith}
+use Rattle.std.proofs.Common.{◌≡◌, ◌≢◌, ◌<◌, ◌≤◌, ◌+◌, ◌*◌, ◌∙◌, ℕ, List, [], Option, Some, None, Bool, length, false, refl, sym, subst, inl, inr, arith}
 use Rattle.lift_building.specs.Describes.{IsTextOf}
 use Rattle.lift_building.specs.Gives.{IsFirstFault}
 use Rattle.lift_building.specs.Plan.{Plan, IsBuilding, shape_of}
@@ -17,16 +17,15 @@ use Rattle.lift_keeper.specs.declared.fault.KeeperFault.{KeeperFault}
 use Rattle.lift_keeper.specs.declared.fault.KeeperFault.TheVariants.{Journal as OfJournal, OtherBuilding, BadEntry}
 use Rattle.std.specs.declared.fs.options.OpenOptions.{OpenOptions}
 use Rattle.lift_disk.specs.FileCalls.{FileCall}
-use Rattle.lift_disk.specs.Files.{IsMeasured, IsRefused, sector_file_state_of}
+use Rattle.lift_disk.specs.Files.{IsMeasured, sector_file_state_of}
 use Rattle.lift_disk.specs.declared.file.FileFault.{FileFault}
-use Rattle.lift_disk.specs.declared.file.FileFault.TheVariants.{Unopened, NotAFile, Stopped}
 use Rattle.lift_disk.specs.declared.told.ToldFile.{Ghosts as Told}
 use Rattle.lift_disk.specs.declared.sectors.SectorFile.{SectorFile}
-use Rattle.lift_program.specs.Images.{ImageFiles, IsOpened, IsUnhad, file_in}
+use Rattle.lift_program.specs.Images.{CommandFiles, ImageFiles, IsOpened}
 use Rattle.lift_program.specs.Ends.{IsFileFault, IsMadeWith, IsUnformatted, IsReplayFault, IsReportOfFault, IsShowingFault}
 use Rattle.lift_program.specs.Faults.{of_building}
-use Rattle.lift_program.specs.Showing.{IsOpeningFault, ShowsFront, ShowsPart}
-use Rattle.lift_program.specs.Stages.{HasBuilding, HasKeeperOf, HasNoKeeperOf, HasRecovered, IsBuildingFault, IsLeftAs, IsNoImage, IsUndone, IsUnkept, ReadsBuilding, StopsOver, most_text}
+use Rattle.lift_program.specs.Showing.{ShowsFront, ShowsPart}
+use Rattle.lift_program.specs.Stages.{HasBuilding, HasKeeperOf, HasNoImage, HasNoKeeperOf, HasRecovered, IsBuildingFault, IsImageFault, IsLeftAs, IsNoImage, IsOpeningFault, IsUndone, IsUnkept, ReadsBuilding, StopsOver, most_text}
 use Rattle.lift_program.specs.declared.left.Undone.{Undone}
 use Rattle.lift_program.specs.declared.left.Undone.TheVariants.{NoBuilding, NoImage, Opened}
 use Rattle.lift_program.proofs.Writing.{part_shown}
@@ -35,13 +34,13 @@ use Rattle.lift_program.specs.declared.fault.Fault.TheVariants.{Building, Journa
 use Rattle.lift_program.specs.declared.fault.Role.TheVariants.{Building as OfBuilding, Image as OfImage, Input, Output}
 
 -- the first fault of a text within the bound
-pub first_fault : (text : List ℕ) (fault : BuildingFault) → length text ≤ most_text → (fault ≢ NoRoom tt → IsFirstFault text fault) → IsBuildingFault (of_building fault)
-first_fault text NotToml short first = record { text = text; short = short; first = first (λ same. cc) }
-first_fault text (Missing field) short first = record { text = text; short = short; first = first (λ same. cc) }
-first_fault text (WrongType field) short first = record { text = text; short = short; first = first (λ same. cc) }
-first_fault text (OutOfRange field) short first = record { text = text; short = short; first = first (λ same. cc) }
-first_fault text TableShape short first = record { text = text; short = short; first = first (λ same. cc) }
-first_fault text (Detour i j k) short first = record { text = text; short = short; first = first (λ same. cc) }
+pub first_fault : (text : List ℕ) (fault : BuildingFault) → length text ≤ most_text → (fault ≢ NoRoom tt → IsFirstFault text fault) → IsBuildingFault (λ t. t ≡ text) (of_building fault)
+first_fault text NotToml short first = record { text = text; read = refl; short = short; first = first (λ same. cc) }
+first_fault text (Missing field) short first = record { text = text; read = refl; short = short; first = first (λ same. cc) }
+first_fault text (WrongType field) short first = record { text = text; read = refl; short = short; first = first (λ same. cc) }
+first_fault text (OutOfRange field) short first = record { text = text; read = refl; short = short; first = first (λ same. cc) }
+first_fault text TableShape short first = record { text = text; read = refl; short = short; first = first (λ same. cc) }
+first_fault text (Detour i j k) short first = record { text = text; read = refl; short = short; first = first (λ same. cc) }
 first_fault text (NoRoom no_memory) short first = tt
 
 -- none of them is the building's file
@@ -54,14 +53,14 @@ building_no_file TableShape same = cc
 building_no_file (Detour i j k) same = cc
 building_no_file (NoRoom no_memory) same = cc
 
-pub has_building : (plan : Plan) (text : List ℕ) → length text ≤ most_text → IsTextOf text plan → HasBuilding plan
-has_building plan text short described = record { text = text; short = short; described = described }
+pub has_building : (plan : Plan) (text : List ℕ) → length text ≤ most_text → IsTextOf text plan → HasBuilding (λ t. t ≡ text) plan
+has_building plan text short described = record { text = text; read = refl; short = short; described = described }
 
-pub has_keeper : (files : ImageFiles) (path : List ℕ) (plan : Plan) (opened : files.Served) (keeper : KeeperView files.Served) → files.is_to_be_served path opened
+pub has_keeper : (files : ImageFiles) (path : List ℕ) (plan : Plan) (opened : files.Served) (keeper told : KeeperView files.Served) → told ≡ keeper → files.is_to_be_served path opened
     → Reopens plan (files.served_state opened) (files.served_state keeper.writer.device) keeper.writer.register keeper.writer.half keeper.writer.is_second keeper.writer.used
-    → keeper.state ≡ starting keeper.writer.register → keeper.writer.is_broken ≡ false → keeper.writer.doubt ≡ [] → keeper.writer.plan ≡ plan → HasKeeperOf files path plan keeper
-has_keeper files path plan opened keeper fresh recovers starts whole no_doubt own =
-    record { opened = opened; fresh = fresh; recovers = recovers; starts = starts; whole = whole; no_doubt = no_doubt; own = own }
+    → keeper.state ≡ starting keeper.writer.register → keeper.writer.is_broken ≡ false → keeper.writer.doubt ≡ [] → keeper.writer.plan ≡ plan → HasKeeperOf files path plan told
+has_keeper files path plan opened keeper told same fresh recovers starts whole no_doubt own =
+    subst (λ (k : KeeperView files.Served). HasKeeperOf files path plan k) (sym same) (record { opened = opened; fresh = fresh; recovers = recovers; starts = starts; whole = whole; no_doubt = no_doubt; own = own })
 
 pub has_no_keeper : {D : Type 0} (is_fresh : D → Type 0) (state : D → DiskState) (plan : Plan) (opened left told : D) (refusal : KeeperFault) → told ≡ left → is_fresh opened
     → RefusesReopening plan (state opened) (state left) refusal → HasNoKeeperOf D is_fresh state plan (Journal refusal) told
@@ -69,18 +68,18 @@ has_no_keeper {D} is_fresh state plan opened left told refusal same fresh refuse
     subst (λ (d : D). HasNoKeeperOf D is_fresh state plan (Journal refusal) d) (sym same) (record { opened = opened; fresh = fresh; refusal = refusal; is_refusal = refl; refused = refused })
 
 -- what the making of a journal leaves
-pub is_made : (files : ImageFiles) (path : List ℕ) (plan : Plan) (half : ℕ) (image left : files.Made) → HasBuilding plan → IsBuilding plan
-    → files.is_just_made path (2 + 2 * half) image → RunsOn (files.made_state image) (files.made_state left)
-    → (files.made_state left).trace ≡ format_calls (shape_of plan half)
-    → (files.made_state left).size ≡ 2 + 2 * half → (files.made_state left).calls ≡ 5 → (files.made_state left).writes ≡ 3 → (files.made_state left).failures ≡ 0
-    → ((files.made_state image).is_honest → ReadsAs (shape_of plan half) [] [] (files.made_state left).image)
-    → ((files.made_state image).is_honest → IsSynced (files.made_state left))
-    → IsMadeWith files path half left
-is_made files path plan half image left has sound fresh runs made size calls writes failures reads synced =
-    record {
+pub is_made : (files : CommandFiles) (path building : List ℕ) (plan : Plan) (half : ℕ) (image left told : files.image.Made) → told ≡ left → HasBuilding (files.is_text building) plan → IsBuilding plan
+    → files.image.is_just_made path (2 + 2 * half) image → RunsOn (files.image.made_state image) (files.image.made_state left)
+    → (files.image.made_state left).trace ≡ format_calls (shape_of plan half)
+    → (files.image.made_state left).size ≡ 2 + 2 * half → (files.image.made_state left).calls ≡ 5 → (files.image.made_state left).writes ≡ 3 → (files.image.made_state left).failures ≡ 0
+    → ((files.image.made_state image).is_honest → ReadsAs (shape_of plan half) [] [] (files.image.made_state left).image)
+    → ((files.image.made_state image).is_honest → IsSynced (files.image.made_state left))
+    → IsMadeWith files path building half told
+is_made files path building plan half image left told same has sound fresh runs made size calls writes failures reads synced =
+    subst (λ (d : files.image.Made). IsMadeWith files path building half d) (sym same) (record {
       plan = plan;
-      building = has;
-      image = image;
+      described = has;
+      opened = image;
       fresh = fresh;
       made = made;
       size = size;
@@ -88,24 +87,24 @@ is_made files path plan half image left has sound fresh runs made size calls wri
       writes = writes;
       failures = failures;
       honest = runs.honest.1;
-      keeps = made_keeps files.made_state plan half left sound (λ is. reads (runs.honest.0 is)) (λ is. synced (runs.honest.0 is));
-    }
+      keeps = made_keeps files.image.made_state plan half left sound (λ is. reads (runs.honest.0 is)) (λ is. synced (runs.honest.0 is));
+    })
 
 -- the journal couldn't be made
-pub is_unformatted : (files : ImageFiles) (path : List ℕ) (plan : Plan) (half : ℕ) (image left told : files.Made) (fault : Fault) → told ≡ left → HasBuilding plan → files.is_just_made path (2 + 2 * half) image
-    → fault ≡ Journal (OfJournal Disk) → StopsIn (format_calls (shape_of plan half)) (files.made_state image) (files.made_state left) → RunsOn (files.made_state image) (files.made_state left)
-    → (files.made_state image).failures < (files.made_state left).failures → IsUnformatted files path half fault told
-is_unformatted files path plan half image left told fault same has fresh is stops runs failed =
-    subst (λ (d : files.Made). IsUnformatted files path half fault d) (sym same)
-    (record { plan = plan; building = has; image = image; fresh = fresh; is_fault = is; stops = stops; runs = runs; failed = failed })
+pub is_unformatted : (files : CommandFiles) (path building : List ℕ) (plan : Plan) (half : ℕ) (image left told : files.image.Made) (fault : Fault) → told ≡ left → HasBuilding (files.is_text building) plan → files.image.is_just_made path (2 + 2 * half) image
+    → fault ≡ Journal (OfJournal Disk) → StopsIn (format_calls (shape_of plan half)) (files.image.made_state image) (files.image.made_state left) → RunsOn (files.image.made_state image) (files.image.made_state left)
+    → (files.image.made_state image).failures < (files.image.made_state left).failures → IsUnformatted files path building half fault told
+is_unformatted files path building plan half image left told fault same has fresh is stops runs failed =
+    subst (λ (d : files.image.Made). IsUnformatted files path building half fault d) (sym same)
+    (record { plan = plan; described = has; opened = image; fresh = fresh; is_fault = is; stops = stops; runs = runs; failed = failed })
 
-pub reads_building : (plan : Plan) → HasBuilding plan → ReadsBuilding
-reads_building plan has = (plan, has)
+pub reads_building : (is_text : List ℕ → Type 0) (plan : Plan) → HasBuilding is_text plan → ReadsBuilding is_text
+reads_building is_text plan has = (plan, has)
 
 -- the building's file, or want of memory
-pub file_refuses : (fault : Fault) → IsFileFault OfBuilding fault → IsBuildingFault fault
-file_refuses fault (inl is) = subst IsBuildingFault (sym is) tt
-file_refuses fault (inr is) = subst IsBuildingFault (sym is) tt
+pub file_refuses : (is_text : List ℕ → Type 0) (fault : Fault) → IsFileFault OfBuilding fault → IsBuildingFault is_text fault
+file_refuses is_text fault (inl is) = subst (IsBuildingFault is_text) (sym is) tt
+file_refuses is_text fault (inr is) = subst (IsBuildingFault is_text) (sym is) tt
 
 opening_fault : (plan : Plan) (old new : DiskState) (fault : KeeperFault) → RefusesReopening plan old new fault → IsOpeningFault fault
 opening_fault plan old new (OfJournal Disk) refuses = tt
@@ -117,20 +116,21 @@ opening_fault plan old new OtherBuilding refuses = tt
 opening_fault plan old new (BadEntry place) refuses = tt
 
 -- a file that is refused gives no image
-pub unhad_of : {F : Type 0} (stands : Option Bool → Type 0) (opens : Option F → Type 0) (stops : F → F → Type 0) (fault : FileFault F) (left : Option F) → left ≡ file_in fault → IsRefused stands opens stops fault → IsUnhad stands opens stops left
-unhad_of stands opens stops (Unopened error) left is refused = subst (IsUnhad stands opens stops) (sym is) (inl refused)
-unhad_of stands opens stops NotAFile left is refused = subst (IsUnhad stands opens stops) (sym is) (inr refused)
-unhad_of stands opens stops (Stopped stopped) left is refused = subst (IsUnhad stands opens stops) (sym is) refused
+pub has_no_image : {F O : Type 0} (is_refused : FileFault F O → Type 0) (fault : Fault) (given cause : FileFault F O) → cause ≡ given → IsFileFault OfImage fault → IsImageFault given fault → is_refused given → HasNoImage is_refused fault cause
+has_no_image {F} {O} is_refused fault given cause same is told refused =
+    subst (λ (c : FileFault F O). HasNoImage is_refused fault c) (sym same) (record { is_fault = is; told = told; refused = refused })
 
 -- no image was had for a building that was read
-pub no_image : {F : Type 0} (is_unhad : Option F → Type 0) (plan : Plan) (fault : Fault) (left : Option F) → HasBuilding plan → IsFileFault OfImage fault → is_unhad left → IsNoImage is_unhad fault left
-no_image is_unhad plan fault left has is unhad = record { building = (plan, has); is_fault = is; unhad = unhad }
+pub no_image : {F O : Type 0} (is_text : List ℕ → Type 0) (is_refused : FileFault F O → Type 0) (plan : Plan) (fault : Fault) (cause : FileFault F O) → HasBuilding is_text plan → HasNoImage is_refused fault cause
+    → IsNoImage is_text is_refused fault cause
+no_image is_text is_refused plan fault cause has unhad = record { building = (plan, has); unhad = unhad }
 
 -- the recovery was refused, or no image could be opened
-pub keeper_undone : {D F : Type 0} (is_fresh : D → Type 0) (state : D → DiskState) (is_unhad : Option F → Type 0) (plan : Plan) (undone : Undone D F) → HasBuilding plan → IsUnkept is_fresh state is_unhad plan undone → IsUndone is_fresh state is_unhad undone
-keeper_undone is_fresh state is_unhad plan (NoBuilding fault) has never = absurd never
-keeper_undone is_fresh state is_unhad plan (NoImage refused) has is = record { building = (plan, has); is_fault = is.0; unhad = is.1 }
-keeper_undone is_fresh state is_unhad plan (Opened fault left) has is = record {
+pub keeper_undone : {D F O : Type 0} (is_text : List ℕ → Type 0) (opener : O) (is_fresh : D → Type 0) (state : D → DiskState) (is_refused : FileFault F O → Type 0) (plan : Plan) (undone : Undone D F O) → HasBuilding is_text plan
+    → IsUnkept is_fresh state is_refused plan undone → IsUndone is_text opener is_fresh state is_refused undone
+keeper_undone is_text opener is_fresh state is_refused plan (NoBuilding fault unused) has never = absurd never
+keeper_undone is_text opener is_fresh state is_refused plan (NoImage refused) has is = record { building = (plan, has); unhad = is }
+keeper_undone is_text opener is_fresh state is_refused plan (Opened fault left) has is = record {
   plan = plan;
   building = has;
   opened = is.opened;
@@ -141,10 +141,10 @@ keeper_undone is_fresh state is_unhad plan (Opened fault left) has is = record {
 }
 
 -- behind the recovery
-kept_left : (files : ImageFiles) (path : List ℕ) (plan : Plan) (keeper : KeeperView files.Served) (left : files.Served) (fault : Fault) → HasBuilding plan → HasKeeperOf files path plan keeper → left ≡ keeper.writer.device
-    → ((old new : DiskState) → HasRecovered plan old new → StopsOver plan old new fault) → IsLeftAs (files.is_to_be_served path) files.served_state fault left
-kept_left files path plan keeper left fault has opened is stops =
-    subst (λ (d : files.Served). IsLeftAs (files.is_to_be_served path) files.served_state fault d) (sym is) (record {
+kept_left : (is_text : List ℕ → Type 0) (files : ImageFiles) (path : List ℕ) (plan : Plan) (keeper : KeeperView files.Served) (left : files.Served) (fault : Fault) → HasBuilding is_text plan → HasKeeperOf files path plan keeper → left ≡ keeper.writer.device
+    → ((old new : DiskState) → HasRecovered plan old new → StopsOver plan old new fault) → IsLeftAs is_text (files.is_to_be_served path) files.served_state fault left
+kept_left is_text files path plan keeper left fault has opened is stops =
+    subst (λ (d : files.Served). IsLeftAs is_text (files.is_to_be_served path) files.served_state fault d) (sym is) (record {
       plan = plan;
       building = has;
       opened = opened.opened;
@@ -155,23 +155,23 @@ kept_left files path plan keeper left fault has opened is stops =
     })
 
 -- the port was refused
-pub port_left : (files : ImageFiles) (path : List ℕ) (plan : Plan) (keeper : KeeperView files.Served) (left : files.Served) (fault : Fault) → HasBuilding plan → HasKeeperOf files path plan keeper → left ≡ keeper.writer.device
-    → fault ≡ Network → IsLeftAs (files.is_to_be_served path) files.served_state fault left
-port_left files path plan keeper left fault has opened is network =
-    kept_left files path plan keeper left fault has opened is (λ old new recovered. subst (StopsOver plan old new) (sym network) recovered)
+pub port_left : (is_text : List ℕ → Type 0) (files : ImageFiles) (path : List ℕ) (plan : Plan) (keeper : KeeperView files.Served) (left : files.Served) (fault : Fault) → HasBuilding is_text plan → HasKeeperOf files path plan keeper → left ≡ keeper.writer.device
+    → fault ≡ Network → IsLeftAs is_text (files.is_to_be_served path) files.served_state fault left
+port_left is_text files path plan keeper left fault has opened is network =
+    kept_left is_text files path plan keeper left fault has opened is (λ old new recovered. subst (StopsOver plan old new) (sym network) recovered)
 
 -- the standard output failed, or memory was wanting
-pub output_left : (files : ImageFiles) (path : List ℕ) (plan : Plan) (keeper : KeeperView files.Served) (left : files.Served) (fault : Fault) → HasBuilding plan → HasKeeperOf files path plan keeper → left ≡ keeper.writer.device
-    → IsFileFault Output fault → IsLeftAs (files.is_to_be_served path) files.served_state fault left
-output_left files path plan keeper left fault has opened is (inl output) =
-    kept_left files path plan keeper left fault has opened is (λ old new recovered. subst (StopsOver plan old new) (sym output) recovered)
-output_left files path plan keeper left fault has opened is (inr memory) =
-    kept_left files path plan keeper left fault has opened is (λ old new recovered. subst (StopsOver plan old new) (sym memory) recovered)
+pub output_left : (is_text : List ℕ → Type 0) (files : ImageFiles) (path : List ℕ) (plan : Plan) (keeper : KeeperView files.Served) (left : files.Served) (fault : Fault) → HasBuilding is_text plan → HasKeeperOf files path plan keeper → left ≡ keeper.writer.device
+    → IsFileFault Output fault → IsLeftAs is_text (files.is_to_be_served path) files.served_state fault left
+output_left is_text files path plan keeper left fault has opened is (inl output) =
+    kept_left is_text files path plan keeper left fault has opened is (λ old new recovered. subst (StopsOver plan old new) (sym output) recovered)
+output_left is_text files path plan keeper left fault has opened is (inr memory) =
+    kept_left is_text files path plan keeper left fault has opened is (λ old new recovered. subst (StopsOver plan old new) (sym memory) recovered)
 
-recovered_left : {D : Type 0} (is_fresh : D → Type 0) (state : D → DiskState) (plan : Plan) (opened left : D) (before after : Option (List ℕ)) (fault : Fault) → HasBuilding plan
+recovered_left : {D : Type 0} (is_text : List ℕ → Type 0) (is_fresh : D → Type 0) (state : D → DiskState) (plan : Plan) (opened left : D) (before after : Option (List ℕ)) (fault : Fault) → HasBuilding is_text plan
     → is_fresh opened → (HasRecovered plan (state opened) (state left) → StopsOver plan (state opened) (state left) fault)
-    → ShowsFront plan (state opened) (state left) before after → IsLeftAs is_fresh state fault left
-recovered_left is_fresh state plan opened left before after fault has fresh stops shows =
+    → ShowsFront plan (state opened) (state left) before after → IsLeftAs is_text is_fresh state fault left
+recovered_left is_text is_fresh state plan opened left before after fault has fresh stops shows =
     let r = shows.recovers in
     record {
       plan = plan;
@@ -184,46 +184,46 @@ recovered_left is_fresh state plan opened left before after fault has fresh stop
     }
 
 -- how the showing of a journal that is undone has left its image
-shown_left : {D : Type 0} (is_fresh : D → Type 0) (state : D → DiskState) (plan : Plan) (opened left : D) (before after : Option (List ℕ)) (fault : Fault) → HasBuilding plan
+shown_left : {D : Type 0} (is_text : List ℕ → Type 0) (is_fresh : D → Type 0) (state : D → DiskState) (plan : Plan) (opened left : D) (before after : Option (List ℕ)) (fault : Fault) → HasBuilding is_text plan
     → is_fresh opened → IsShowingFault fault
     → ((refusal : KeeperFault) → fault ≡ Journal refusal → RefusesReopening plan (state opened) (state left) refusal)
-    → (IsFileFault Output fault → ShowsFront plan (state opened) (state left) before after) → IsLeftAs is_fresh state fault left
-shown_left is_fresh state plan opened left before after (Building fault) has fresh is refused front = absurd is
-shown_left is_fresh state plan opened left before after (Journal fault) has fresh is refused front =
+    → (IsFileFault Output fault → ShowsFront plan (state opened) (state left) before after) → IsLeftAs is_text is_fresh state fault left
+shown_left is_text is_fresh state plan opened left before after (Building fault) has fresh is refused front = absurd is
+shown_left is_text is_fresh state plan opened left before after (Journal fault) has fresh is refused front =
     let r = refused fault refl in
     record { plan = plan; building = has; opened = opened; fresh = fresh; stops = (is, r); moments = r.moments; unwritten = r.writes }
-shown_left is_fresh state plan opened left before after (File OfBuilding) has fresh is refused front = absurd is
-shown_left is_fresh state plan opened left before after (File OfImage) has fresh is refused front = absurd is
-shown_left is_fresh state plan opened left before after (File Input) has fresh is refused front = absurd is
-shown_left is_fresh state plan opened left before after (File Output) has fresh is refused front =
-    recovered_left is_fresh state plan opened left before after (File Output) has fresh (λ recovered. recovered) (front (inl refl))
-shown_left is_fresh state plan opened left before after Memory has fresh is refused front =
-    recovered_left is_fresh state plan opened left before after Memory has fresh (λ recovered. recovered) (front (inr refl))
-shown_left is_fresh state plan opened left before after Network has fresh is refused front = absurd is
-shown_left is_fresh state plan opened left before after Thread has fresh is refused front = absurd is
+shown_left is_text is_fresh state plan opened left before after (File OfBuilding) has fresh is refused front = absurd is
+shown_left is_text is_fresh state plan opened left before after (File OfImage) has fresh is refused front = absurd is
+shown_left is_text is_fresh state plan opened left before after (File Input) has fresh is refused front = absurd is
+shown_left is_text is_fresh state plan opened left before after (File Output) has fresh is refused front =
+    recovered_left is_text is_fresh state plan opened left before after (File Output) has fresh (λ recovered. recovered) (front (inl refl))
+shown_left is_text is_fresh state plan opened left before after Memory has fresh is refused front =
+    recovered_left is_text is_fresh state plan opened left before after Memory has fresh (λ recovered. recovered) (front (inr refl))
+shown_left is_text is_fresh state plan opened left before after Network has fresh is refused front = absurd is
+shown_left is_text is_fresh state plan opened left before after Thread has fresh is refused front = absurd is
 
-pub showing_left : {D : Type 0} (is_fresh : D → Type 0) (state : D → DiskState) (plan : Plan) (opened left told : D) (before after : Option (List ℕ)) (fault : Fault) → told ≡ left → HasBuilding plan
+pub showing_left : {D : Type 0} (is_text : List ℕ → Type 0) (is_fresh : D → Type 0) (state : D → DiskState) (plan : Plan) (opened left told : D) (before after : Option (List ℕ)) (fault : Fault) → told ≡ left → HasBuilding is_text plan
     → is_fresh opened → IsShowingFault fault
     → ((refusal : KeeperFault) → fault ≡ Journal refusal → RefusesReopening plan (state opened) (state left) refusal)
-    → (IsFileFault Output fault → ShowsFront plan (state opened) (state left) before after) → IsLeftAs is_fresh state fault told
-showing_left {D} is_fresh state plan opened left told before after fault same has fresh is refused front =
-    subst (λ (d : D). IsLeftAs is_fresh state fault d) (sym same) (shown_left is_fresh state plan opened left before after fault has fresh is refused front)
+    → (IsFileFault Output fault → ShowsFront plan (state opened) (state left) before after) → IsLeftAs is_text is_fresh state fault told
+showing_left {D} is_text is_fresh state plan opened left told before after fault same has fresh is refused front =
+    subst (λ (d : D). IsLeftAs is_text is_fresh state fault d) (sym same) (shown_left is_text is_fresh state plan opened left before after fault has fresh is refused front)
 
 -- what was written of a journal on an image whose showing is undone
-pub showing_part : (files : ImageFiles) (path : List ℕ) (plan : Plan) (text : List ℕ) (opened left : files.Shown) (before after : Option (List ℕ)) (fault : Fault) → IsTextOf text plan
-    → files.is_to_be_shown path opened → IsShowingFault fault → IsReportOfFault fault before after
-    → (IsFileFault Output fault → ShowsFront plan (files.shown_state opened) (files.shown_state left) before after) → ShowsPart files path before after
-showing_part files path plan text opened left before after (Building fault) described fresh is written front = absurd is
-showing_part files path plan text opened left before after (Journal fault) described fresh is written front = inl written
-showing_part files path plan text opened left before after (File OfBuilding) described fresh is written front = absurd is
-showing_part files path plan text opened left before after (File OfImage) described fresh is written front = absurd is
-showing_part files path plan text opened left before after (File Input) described fresh is written front = absurd is
-showing_part files path plan text opened left before after (File Output) described fresh is written front =
-    part_shown files path plan text opened left before after described fresh (front (inl refl))
-showing_part files path plan text opened left before after Memory described fresh is written front =
-    part_shown files path plan text opened left before after described fresh (front (inr refl))
-showing_part files path plan text opened left before after Network described fresh is written front = absurd is
-showing_part files path plan text opened left before after Thread described fresh is written front = absurd is
+pub showing_part : (files : CommandFiles) (path building : List ℕ) (plan : Plan) (opened left : files.image.Shown) (before after : Option (List ℕ)) (fault : Fault) → HasBuilding (files.is_text building) plan
+    → files.image.is_to_be_shown path opened → IsShowingFault fault → IsReportOfFault fault before after
+    → (IsFileFault Output fault → ShowsFront plan (files.image.shown_state opened) (files.image.shown_state left) before after) → ShowsPart files path building before after
+showing_part files path building plan opened left before after (Building fault) described fresh is written front = absurd is
+showing_part files path building plan opened left before after (Journal fault) described fresh is written front = inl written
+showing_part files path building plan opened left before after (File OfBuilding) described fresh is written front = absurd is
+showing_part files path building plan opened left before after (File OfImage) described fresh is written front = absurd is
+showing_part files path building plan opened left before after (File Input) described fresh is written front = absurd is
+showing_part files path building plan opened left before after (File Output) described fresh is written front =
+    part_shown files path building plan opened left before after described fresh (front (inl refl))
+showing_part files path building plan opened left before after Memory described fresh is written front =
+    part_shown files path building plan opened left before after described fresh (front (inr refl))
+showing_part files path building plan opened left before after Network described fresh is written front = absurd is
+showing_part files path building plan opened left before after Thread described fresh is written front = absurd is
 
 -- a script that couldn't be read has no report
 pub replay_report : (fault : Fault) (before after : Option (List ℕ)) → IsReplayFault fault → (fault ≡ File Input → after ≡ before) → IsReportOfFault fault before after
@@ -265,3 +265,12 @@ is_opened {F} {told} opens gives holds how first image file below path same unca
       measured = measured;
       honest = λ is. honest (measured.honest.1 is);
     })
+
+-- the fault that is there
+abbrev pub fault_there : Option Fault → Fault
+fault_there None = Memory
+fault_there (Some fault) = fault
+
+-- what is there isn't nothing
+pub some_none : {P : Type 0} (fault : Fault) → Some fault ≡ None → P
+some_none fault is = absurd (let other = is in cc)

@@ -3,15 +3,15 @@ use Rattle.std.proofs.Common.{Option, List, [], length, ℕ, sym, subst, inr, ar
 use Rattle.std.specs.Io.KnownBytes.{Appends, Keeps}
 use Rattle.std.proofs.KnownBytes.{Appends-kept, Appends-nil}
 use Rattle.std.proofs.lemmas.List.{append-nil, take_all}
-use Rattle.lift_building.specs.Describes.{IsTextOf}
 use Rattle.lift_building.specs.Plan.{Plan}
 use Rattle.lift_replay.specs.Replaying.{ReportsFront, ReportsInput}
 use Rattle.lift_replay.specs.Report.{register_text}
 use Rattle.lift_replay.specs.declared.lines.Verdict.{Verdict}
 use Rattle.lift_disk.specs.Disk.{DiskState}
 use Rattle.lift_program.specs.Ends.{SaysFront, serving_text}
-use Rattle.lift_program.specs.Images.{ImageFiles}
+use Rattle.lift_program.specs.Images.{CommandFiles}
 use Rattle.lift_program.specs.Showing.{ShowsRegister, ShowsFront, ShowsPart}
+use Rattle.lift_program.specs.Stages.{HasBuilding}
 
 -- where nothing was written, nothing of the port was
 pub nothing_said : (port : ℕ) (written : Option (List ℕ)) → SaysFront port written written
@@ -43,7 +43,7 @@ shown_front plan opened left old new shows =
       written = subst (Appends old new) (sym (take_all (length text) text (omega arith))) shows.written;
     }
 
-pub part_shown : (files : ImageFiles) (path : List ℕ) (plan : Plan) (text : List ℕ) (opened left : files.Shown) (old new : Option (List ℕ)) → IsTextOf text plan → files.is_to_be_shown path opened
-    → ShowsFront plan (files.shown_state opened) (files.shown_state left) old new → ShowsPart files path old new
-part_shown files path plan text opened left old new described fresh front =
-    inr (record { text = text; plan = plan; described = described; opened = opened; fresh = fresh; left = left; front = front })
+pub part_shown : (files : CommandFiles) (path building : List ℕ) (plan : Plan) (opened left : files.image.Shown) (old new : Option (List ℕ)) → HasBuilding (files.is_text building) plan → files.image.is_to_be_shown path opened
+    → ShowsFront plan (files.image.shown_state opened) (files.image.shown_state left) old new → ShowsPart files path building old new
+part_shown files path building plan opened left old new described fresh front =
+    inr (record { plan = plan; described = described; opened = opened; fresh = fresh; left = left; front = front })

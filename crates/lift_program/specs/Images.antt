@@ -1,16 +1,15 @@
 -- What is said of the devices over a journal's file.
-use Rattle.std.specs.Prelude.{◌≡◌, ◌⊎◌, ℕ, List, [], ◌∷◌, Option, Some, None, Bool, false}
+use Rattle.std.specs.Prelude.{◌≡◌, ℕ, List, [], ◌∷◌, Option, Some, Bool, IfSome}
 use Rattle.std.specs.declared.fs.options.OpenOptions.{OpenOptions}
 use Rattle.lift_disk.specs.Below.{below}
 use Rattle.lift_disk.specs.Disk.{DiskState}
 use Rattle.lift_disk.specs.FileCalls.{FileCall}
 use Rattle.lift_disk.specs.FileCalls.FileCall.{Lock}
 use Rattle.lift_disk.specs.Files.{IsMadeDevice, IsMeasured, sector_file_state_of}
-use Rattle.lift_disk.specs.Files.{stands_in_the_way, stops_making, stops_opening}
+use Rattle.lift_disk.specs.Files.{IsRefused, stands_in_the_way, stops_making, stops_opening}
 use Rattle.lift_disk.specs.Traced.{to_be_made, to_be_read, to_be_used}
 use Rattle.lift_disk.specs.declared.buffered.Buffered.{Buffered}
 use Rattle.lift_disk.specs.declared.file.FileFault.{FileFault}
-use Rattle.lift_disk.specs.declared.file.FileFault.TheVariants.{Unopened, NotAFile, Stopped}
 use Rattle.lift_disk.specs.declared.disk.Disk.{Ghosts}
 use Rattle.lift_disk.specs.declared.runs.RunDisk.{Ghosts as RunGhosts}
 use Rattle.lift_disk.specs.declared.sectors.SectorFile.{SectorFile}
@@ -18,16 +17,19 @@ use Rattle.lift_disk.specs.declared.told.ToldFile.{Ghosts as Told}
 use Rattle.lift_program.specs.Unwritten.{unwritten_file_of}
 use Rattle.lift_program.specs.declared.unwritten.UnwrittenFile.{UnwrittenFile}
 
--- What is said of the devices over the files that a runtime opens: the ones that are made, the ones
--- that are served, and the ones that are shown; and of the files of images that aren't had.
+-- What is said of the devices over the file of an image, by what opens that: of one that is made, one
+-- that is served, and one that is shown; and why none is had.
 pub record ImageFiles : Type 1 where
   pub File : Type 0
-  -- no image of so many sectors was made at this path, and the file that was opened was left so
-  pub is_unmade : List ℕ → ℕ → Option File → Type 0
-  -- no image to be served was had at this path, and so
-  pub is_unserved : List ℕ → Option File → Type 0
-  -- no image to be shown was had at this path, and so
-  pub is_unshown : List ℕ → Option File → Type 0
+  pub Opener : Type 0
+  -- what opens it
+  pub opener : Opener
+  -- no image of so many sectors was made at this path, for this
+  pub is_unmade : List ℕ → ℕ → FileFault File Opener → Type 0
+  -- no image to be served was had at this path, for this
+  pub is_unserved : List ℕ → FileFault File Opener → Type 0
+  -- no image to be shown was had at this path, for this
+  pub is_unshown : List ℕ → FileFault File Opener → Type 0
   pub Made : Type 0
   pub made_state : Made → DiskState
   -- its image, of so many sectors, was made at this path, and nothing else was done
@@ -42,6 +44,18 @@ pub record ImageFiles : Type 1 where
   pub is_to_be_shown : List ℕ → Shown → Type 0
   -- no call of its file has failed, and none was a write
   pub is_only_read : Shown → Type 0
+
+-- What is said of a command's files.
+pub record CommandFiles : Type 1 where
+  pub image : ImageFiles
+  -- this text was read from the building's file, which was opened at this path
+  pub is_text : (path text : List ℕ) → Type 0
+
+-- A file was opened, and this text was all that its reader held, where it is known what it held.
+abbrev pub IsTextRead : {R : Type 0} → (opens : Option R → Type 0)
+    → (remaining : R → Option (List ℕ)) → List ℕ → Type 0
+IsTextRead {R} opens remaining text =
+    (reader : R) × opens (Some reader) × IfSome (remaining reader) (λ all. text ≡ all)
 
 -- An image was opened at this path, in this way: its file was there and was not made, but after these
 -- calls asked for its length, which gives its sectors; no other call was made of it or of its file,
@@ -67,44 +81,34 @@ pub record IsJustMade {F : Type 0} {told : Told F}
   pub made : IsMadeDevice (opens to_be_made path) (names path) gives holds sectors image
   pub uncalled : (sector_file_state_of holds image).calls ≡ 0
 
--- the file that was opened and then refused, if one was
-abbrev pub file_in : {F : Type 0} → FileFault F → Option F
-file_in (Unopened error) = None
-file_in NotAFile = None
-file_in (Stopped stopped) = Some stopped.file
-
--- No image is had of what stands at a path. No file was opened: the system didn't tell what stands
--- there, or didn't open it, or no plain file stands there. Or one was opened, and stopped so.
-abbrev pub IsUnhad : {F : Type 0} → (stands : Option Bool → Type 0)
-    → (opens : Option F → Type 0) → (stops : F → F → Type 0) → Option F → Type 0
-IsUnhad stands opens stops None = (stands None ⊎ opens None) ⊎ stands (Some false)
-IsUnhad {F} stands opens stops (Some left) = (file : F) × opens (Some file) × stops file left
-
 -- No call of the file has failed, and none was a write.
 pub record IsOnlyRead (file : DiskState) : Type 0 where
   pub unwritten : file.writes ≡ 0
   pub unhurt : file.failures ≡ 0
 
--- the devices over files of this type: what a runtime tells of a path, what it opens and names, what a
--- call of such a file leads to, what it holds, and what is said of the devices
-abbrev pub image_files : {F : Type 0} {told : Told F} {runs : RunGhosts (SectorFile F told)}
+-- the devices over files of this type: what opens the file, what it tells of a path, what it opens and
+-- names, what a call of such a file leads to, what it holds, and what is said of the devices
+abbrev pub image_files : {F O : Type 0} {told : Told F} {runs : RunGhosts (SectorFile F told)}
     {disk : Ghosts (SectorFile F told)} {shown_runs : RunGhosts (UnwrittenFile F told)}
     {shown_disk : Ghosts (UnwrittenFile F told)}
-    → (stands : List ℕ → Option Bool → Type 0)
+    → (opener : O) → (stands : List ℕ → Option Bool → Type 0)
     → (opens : OpenOptions → List ℕ → Option F → Type 0)
     → (names unnamed : List ℕ → F → Type 0)
     → (gives fails : F → FileCall → F → Type 0) → (holds : F → DiskState)
     → (Buffered (SectorFile F told) runs disk → DiskState)
     → (Buffered (UnwrittenFile F told) shown_runs shown_disk → DiskState) → ImageFiles
-image_files {F} {told} {runs} {disk} {shown_runs} {shown_disk} stands opens names unnamed gives fails
-    holds served shown = record {
+image_files {F} {O} {told} {runs} {disk} {shown_runs} {shown_disk} opener stands opens names unnamed
+    gives fails holds served shown = record {
       File = F;
+      Opener = O;
+      opener = opener;
       is_unmade = λ path sectors.
-          IsUnhad (stands_in_the_way (stands path)) (opens to_be_made path)
+          IsRefused opener (stands_in_the_way (stands path)) (opens to_be_made path)
           (stops_making (unnamed path) gives fails sectors);
-      is_unserved = λ path.
-          IsUnhad (stands path) (opens to_be_used path) (stops_opening gives fails (Lock ∷ []));
-      is_unshown = λ path. IsUnhad (stands path) (opens to_be_read path) (stops_opening gives fails []);
+      is_unserved = λ path. IsRefused opener (stands path) (opens to_be_used path)
+          (stops_opening gives fails (Lock ∷ []));
+      is_unshown = λ path.
+          IsRefused opener (stands path) (opens to_be_read path) (stops_opening gives fails []);
       Made = SectorFile F told;
       made_state = sector_file_state_of holds;
       is_just_made = IsJustMade opens names gives holds;

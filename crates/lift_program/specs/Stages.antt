@@ -1,19 +1,27 @@
 -- How far a command came that is over a building and an image: its faults are looked for in this
 -- order, the building's file, its text, the image's file, the journal, the port.
-use Rattle.std.specs.Prelude.{ℕ, ◌≡◌, ◌≤◌, ◌⊎◌, Bool, false, List, [], length, Option}
+use Rattle.std.specs.Prelude.{ℕ, ◌≡◌, ◌≢◌, ◌≤◌, ◌⊎◌, Bool, false, List, [], length, Option}
+use Rattle.std.specs.IoError.{error_kind}
+use Rattle.std.specs.declared.io.Error.{Error}
+use Rattle.std.specs.declared.io.ErrorKind.TheVariants.{OutOfMemory}
 use Rattle.std.specs.Io.KnownBytes.{Consumes}
 use Rattle.lift_building.specs.Describes.{IsTextOf}
 use Rattle.lift_building.specs.Gives.{IsFirstFault}
 use Rattle.lift_building.specs.Plan.{Plan}
 use Rattle.lift_building.specs.declared.fault.BuildingFault.{BuildingFault}
 use Rattle.lift_disk.specs.Disk.{DiskState, LeavesOnly, MayLeave}
-use Rattle.lift_program.specs.Images.{ImageFiles}
+use Rattle.lift_disk.specs.declared.file.FileFault.{FileFault}
+use Rattle.lift_disk.specs.declared.file.FileFault.TheVariants.{Untold, NotAFile, Unopened, Stopped}
+use Rattle.lift_program.specs.Images.{CommandFiles, ImageFiles}
 use Rattle.lift_decider.specs.Decider.{starting}
+use Rattle.lift_journal.specs.declared.fault.JournalFault.TheVariants.{Disk, NotFormatted, Damaged}
+use Rattle.lift_journal.specs.declared.fault.JournalFault.TheVariants.{Full, Broken}
 use Rattle.lift_keeper.specs.Keeper.{KeeperView}
 use Rattle.lift_keeper.specs.Reopening.{RefusesReopening, Reopens}
 use Rattle.lift_keeper.specs.declared.fault.KeeperFault.{KeeperFault}
+use Rattle.lift_keeper.specs.declared.fault.KeeperFault.TheVariants.{Journal as OfJournal}
+use Rattle.lift_keeper.specs.declared.fault.KeeperFault.TheVariants.{OtherBuilding, BadEntry}
 use Rattle.lift_register.specs.Register.{RegisterState}
-use Rattle.lift_program.specs.Showing.{IsOpeningFault}
 use Rattle.lift_program.specs.declared.fault.Fault.{Fault}
 use Rattle.lift_program.specs.declared.fault.Fault.TheVariants.{Building, Journal, File, Memory}
 use Rattle.lift_program.specs.declared.fault.Fault.TheVariants.{Network, Thread}
@@ -32,14 +40,16 @@ TakesBytes count remaining old new = (bytes : List ℕ) × (length bytes ≡ cou
     × Consumes (remaining old) (remaining new) bytes
 
 -- a text within the bound was read, and it describes this building
-pub record HasBuilding (plan : Plan) : Type 0 where
+pub record HasBuilding (is_text : List ℕ → Type 0) (plan : Plan) : Type 0 where
   pub text : List ℕ
+  pub read : is_text text
   pub short : length text ≤ most_text
   pub described : IsTextOf text plan
 
 -- a text within the bound was read, and this is its first fault
-pub record HasNoBuilding (fault : BuildingFault) : Type 0 where
+pub record HasNoBuilding (is_text : List ℕ → Type 0) (fault : BuildingFault) : Type 0 where
   pub text : List ℕ
+  pub read : is_text text
   pub short : length text ≤ most_text
   pub first : IsFirstFault text fault
 
@@ -67,13 +77,24 @@ pub record HasNoKeeperOf (D : Type 0) (is_fresh : D → Type 0) (state : D
   pub refused : RefusesReopening plan (state opened) (state left) refusal
 
 -- the building was read
-abbrev pub ReadsBuilding : Type 0
-ReadsBuilding = (plan : Plan) × HasBuilding plan
+abbrev pub ReadsBuilding : (is_text : List ℕ → Type 0) → Type 0
+ReadsBuilding is_text = (plan : Plan) × HasBuilding is_text plan
 
 -- the recovery gave a register of this building
 abbrev pub HasRecovered : Plan → (old new : DiskState) → Type 0
 HasRecovered plan old new = (register : RegisterState) × (half : ℕ) × (is_second : Bool)
     × (used : ℕ) × Reopens plan old new register half is_second used
+
+-- What an opening may be refused for: what the journal's opening is, a building of another shape,
+-- or a record that doesn't fit.
+abbrev pub IsOpeningFault : KeeperFault → Type 0
+IsOpeningFault (OfJournal Disk) = Unit {0}
+IsOpeningFault (OfJournal NotFormatted) = Unit {0}
+IsOpeningFault (OfJournal (Damaged sector)) = Unit {0}
+IsOpeningFault (OfJournal Full) = ⊥
+IsOpeningFault (OfJournal Broken) = ⊥
+IsOpeningFault OtherBuilding = Unit {0}
+IsOpeningFault (BadEntry place) = Unit {0}
 
 -- Why a command went no further over a device that was opened: the recovery was refused for this; or
 -- it gave a register, and then the port was refused, or the standard output failed, or memory was
@@ -92,10 +113,10 @@ StopsOver plan old new Thread = ⊥
 -- A building was read, and an image opened as such a device. The command is undone for this, and has
 -- left the device so: nothing was written, and each image that a crash at any moment since the
 -- opening may leave is one that it might have left before. So what was kept is kept.
-pub record IsLeftAs {D : Type 0} (is_fresh : D → Type 0) (state : D
-    → DiskState) (fault : Fault) (left : D) : Type 0 where
+pub record IsLeftAs {D : Type 0} (is_text : List ℕ → Type 0) (is_fresh : D → Type 0)
+    (state : D → DiskState) (fault : Fault) (left : D) : Type 0 where
   pub plan : Plan
-  pub building : HasBuilding plan
+  pub building : HasBuilding is_text plan
   pub opened : D
   pub fresh : is_fresh opened
   pub stops : StopsOver plan (state opened) (state left) fault
@@ -103,62 +124,83 @@ pub record IsLeftAs {D : Type 0} (is_fresh : D → Type 0) (state : D
   pub unwritten : (state left).writes ≡ (state opened).writes
 
 -- what no building is had for: its file, want of memory, or its text's first fault
-abbrev pub IsBuildingFault : Fault → Type 0
-IsBuildingFault (Building fault) = HasNoBuilding fault
-IsBuildingFault (Journal fault) = ⊥
-IsBuildingFault (File OfBuilding) = Unit {0}
-IsBuildingFault (File OfImage) = ⊥
-IsBuildingFault (File Input) = ⊥
-IsBuildingFault (File Output) = ⊥
-IsBuildingFault Memory = Unit {0}
-IsBuildingFault Network = ⊥
-IsBuildingFault Thread = ⊥
+abbrev pub IsBuildingFault : (is_text : List ℕ → Type 0) → Fault → Type 0
+IsBuildingFault is_text (Building fault) = HasNoBuilding is_text fault
+IsBuildingFault is_text (Journal fault) = ⊥
+IsBuildingFault is_text (File OfBuilding) = Unit {0}
+IsBuildingFault is_text (File OfImage) = ⊥
+IsBuildingFault is_text (File Input) = ⊥
+IsBuildingFault is_text (File Output) = ⊥
+IsBuildingFault is_text Memory = Unit {0}
+IsBuildingFault is_text Network = ⊥
+IsBuildingFault is_text Thread = ⊥
 
--- A building was read, and no image was had for it: that is told as its file, or as want of memory
--- where the system told that.
-pub record IsNoImage {F : Type 0} (is_unhad : Option F → Type 0) (fault : Fault) (left : Option F)
-    : Type 0 where
-  pub building : ReadsBuilding
+-- what the system's refusal comes to: want of memory where it said so, else the image's file
+abbrev pub IsSystemFault : Error → Fault → Type 0
+IsSystemFault error fault = (error_kind error ≡ OutOfMemory → fault ≡ Memory)
+    × (error_kind error ≢ OutOfMemory → fault ≡ File OfImage)
+
+-- what a refused image comes to
+abbrev pub IsImageFault : {F O : Type 0} → FileFault F O → Fault → Type 0
+IsImageFault (Untold error opener) fault = IsSystemFault error fault
+IsImageFault (NotAFile opener) fault = fault ≡ File OfImage
+IsImageFault (Unopened error) fault = IsSystemFault error fault
+IsImageFault (Stopped stopped) fault = IsSystemFault stopped.error fault
+
+-- No image was had: that is told as its file, or as want of memory where the system told that.
+pub record HasNoImage {F O : Type 0} (is_refused : FileFault F O → Type 0) (fault : Fault)
+    (cause : FileFault F O) : Type 0 where
   pub is_fault : (fault ≡ File OfImage) ⊎ (fault ≡ Memory)
-  pub unhad : is_unhad left
+  pub told : IsImageFault cause fault
+  pub refused : is_refused cause
+
+-- A building was read, and no image was had for it.
+pub record IsNoImage {F O : Type 0} (is_text : List ℕ → Type 0)
+    (is_refused : FileFault F O → Type 0) (fault : Fault) (cause : FileFault F O) : Type 0 where
+  pub building : ReadsBuilding is_text
+  pub unhad : HasNoImage is_refused fault cause
 
 -- the fault that a command over an image is undone for
-abbrev pub fault_in : {D F : Type 0} → Undone D F → Fault
-fault_in (NoBuilding fault) = fault
+abbrev pub fault_in : {D F O : Type 0} → Undone D F O → Fault
+fault_in (NoBuilding fault unused) = fault
 fault_in (NoImage refused) = refused.fault
 fault_in (Opened fault left) = fault
 
--- Why a command over an image is undone, and how it has left the image or its file. The first of these
--- that stands: no building was had; no image was had; or one was.
-abbrev pub IsUndone : {D F : Type 0} → (is_fresh : D → Type 0) → (state : D → DiskState)
-    → (is_unhad : Option F → Type 0) → Undone D F → Type 0
-IsUndone is_fresh state is_unhad (NoBuilding fault) = IsBuildingFault fault
-IsUndone is_fresh state is_unhad (NoImage refused) = IsNoImage is_unhad refused.fault refused.left
-IsUndone is_fresh state is_unhad (Opened fault left) = IsLeftAs is_fresh state fault left
+-- Why a command over an image is undone, and how it has left the image, its file or what was to open
+-- it. The first of these that stands: no building was had; no image was had; or one was.
+abbrev pub IsUndone : {D F O : Type 0} → (is_text : List ℕ → Type 0) → (opener : O)
+    → (is_fresh : D → Type 0) → (state : D → DiskState)
+    → (is_refused : FileFault F O → Type 0) → Undone D F O → Type 0
+IsUndone is_text opener is_fresh state is_refused (NoBuilding fault unused) =
+    IsBuildingFault is_text fault × (unused ≡ opener)
+IsUndone is_text opener is_fresh state is_refused (NoImage refused) =
+    IsNoImage is_text is_refused refused.fault refused.cause
+IsUndone is_text opener is_fresh state is_refused (Opened fault left) =
+    IsLeftAs is_text is_fresh state fault left
 
 -- so it is of an image that was to be served
-abbrev pub IsUndoneServing : (files : ImageFiles) → (path : List ℕ)
-    → Undone files.Served files.File → Type 0
-IsUndoneServing files path =
-    IsUndone (files.is_to_be_served path) files.served_state (files.is_unserved path)
+abbrev pub IsUndoneServing : (files : CommandFiles) → (image building : List ℕ)
+    → Undone files.image.Served files.image.File files.image.Opener → Type 0
+IsUndoneServing files image building = IsUndone (files.is_text building) files.image.opener
+    (files.image.is_to_be_served image) files.image.served_state (files.image.is_unserved image)
 
 -- and of one that was to be shown
-abbrev pub IsUndoneShowing : (files : ImageFiles) → (path : List ℕ)
-    → Undone files.Shown files.File → Type 0
-IsUndoneShowing files path =
-    IsUndone (files.is_to_be_shown path) files.shown_state (files.is_unshown path)
+abbrev pub IsUndoneShowing : (files : CommandFiles) → (image building : List ℕ)
+    → Undone files.image.Shown files.image.File files.image.Opener → Type 0
+IsUndoneShowing files image building = IsUndone (files.is_text building) files.image.opener
+    (files.image.is_to_be_shown image) files.image.shown_state (files.image.is_unshown image)
 
 -- What no keeper of this building is had for: no image was had, or the recovery was refused.
-abbrev pub IsUnkept : {D F : Type 0} → (is_fresh : D → Type 0) → (state : D → DiskState)
-    → (is_unhad : Option F → Type 0) → Plan → Undone D F → Type 0
-IsUnkept is_fresh state is_unhad plan (NoBuilding fault) = ⊥
-IsUnkept is_fresh state is_unhad plan (NoImage refused) =
-    ((refused.fault ≡ File OfImage) ⊎ (refused.fault ≡ Memory)) × is_unhad refused.left
-IsUnkept {D} is_fresh state is_unhad plan (Opened fault left) =
+abbrev pub IsUnkept : {D F O : Type 0} → (is_fresh : D → Type 0) → (state : D → DiskState)
+    → (is_refused : FileFault F O → Type 0) → Plan → Undone D F O → Type 0
+IsUnkept is_fresh state is_refused plan (NoBuilding fault unused) = ⊥
+IsUnkept is_fresh state is_refused plan (NoImage refused) =
+    HasNoImage is_refused refused.fault refused.cause
+IsUnkept {D} is_fresh state is_refused plan (Opened fault left) =
     HasNoKeeperOf D is_fresh state plan fault left
 
 -- so it is of an image that was to be served
 abbrev pub IsUnkeptServing : (files : ImageFiles) → (path : List ℕ) → Plan
-    → Undone files.Served files.File → Type 0
+    → Undone files.Served files.File files.Opener → Type 0
 IsUnkeptServing files path =
     IsUnkept (files.is_to_be_served path) files.served_state (files.is_unserved path)

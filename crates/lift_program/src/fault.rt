@@ -166,9 +166,9 @@ fn journal_line(fault: KeeperFault) -> Line
 
 impl Fault {
     /// What a refused call on a file in this role comes to.
-    pub fn of_file(role: Role, error: io::Error) -> Fault
-        ensures memory { error_kind error ≡ ErrorKind.OutOfMemory → result ≡ Fault.Memory }
-        ensures file { error_kind error ≢ ErrorKind.OutOfMemory → result ≡ Fault.File role }
+    pub fn of_file(role: Role, error: &io::Error) -> Fault
+        ensures memory { error_kind error.now ≡ ErrorKind.OutOfMemory → result ≡ Fault.Memory }
+        ensures file { error_kind error.now ≢ ErrorKind.OutOfMemory → result ≡ Fault.File role }
     {
         if error.kind() == ErrorKind::OutOfMemory {
             Fault::Memory

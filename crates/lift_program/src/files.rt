@@ -5,30 +5,26 @@ ghost use Rattle.std.specs.Prelude.{Err, false, length, vec_len};
 ghost use Rattle.std.specs.Str.{IsUtf8};
 ghost use Rattle.lift_disk.specs.FileCalls.FileCall.{Lock};
 ghost use Rattle.lift_disk.specs.Files.{IsMeasured, making_below, sector_file_state_of};
-ghost use Rattle.lift_disk.specs.Files.{stands_in_the_way, stops_making, stops_opening};
-ghost use Rattle.lift_disk.specs.Traced.{making_calls, to_be_made, to_be_read, to_be_used};
+ghost use Rattle.lift_disk.specs.Traced.{making_calls, to_be_read, to_be_used};
 ghost use Rattle.lift_replay.specs.Reading.{TakesUpTo};
-ghost use Rattle.lift_program.specs.Ends.{IsFileFault, IsImageFault, IsUncalled, IsUnread};
-ghost use Rattle.lift_program.specs.Images.{IsJustMade, IsUnhad, file_in, image_files};
-ghost use Rattle.lift_program.specs.Stages.{HasBuilding, IsBuildingFault, TakesBytes, most_text};
+ghost use Rattle.lift_program.specs.Ends.{IsFileFault, IsUncalled, IsUnread};
+ghost use Rattle.lift_program.specs.Images.{IsJustMade, IsTextRead};
+ghost use Rattle.lift_program.specs.Stages.{HasBuilding, HasNoImage, IsBuildingFault, IsImageFault};
+ghost use Rattle.lift_program.specs.Stages.{TakesBytes, most_text};
 ghost use Rattle.lift_program.specs.declared.fault.Role.TheVariants.{Building as OfBuilding};
 ghost use Rattle.lift_program.specs.declared.fault.Role.TheVariants.{Image as OfImage};
 
 use crate::fault::{Fault, Role};
 use crate::left::{Left, Refused};
+use crate::opening::{ImageView, TextOpener};
 use crate::unwritten::{ShownImage, UnwrittenFile};
 use lift_base::text::Counted;
 use lift_building::Building;
-use lift_disk::{Buffered, BufferedFile, Disk, FileFault, SectorFile, ToldFiles};
+use lift_disk::{Buffered, FileFault, FileOpener, SectorFile};
 use lift_replay::{InputFault, read_all};
 use std::alloc::Global;
-use std::fs::{File, Files};
 use std::io::Read;
-use std::os::fd::AsRawFd;
-use std::{fs, str};
-
-/// The last descriptor of the standard streams.
-const STANDARD_ERROR: i32 = 2;
+use std::str;
 
 /// A building's text has so many bytes at most, as many as a script.
 const MOST_BYTES: usize = 1_048_576;
@@ -66,36 +62,12 @@ fn bytes_of<R: Read + Drop>(alloc: Global, reader: &mut Counted<R>) -> Result<Ve
     }
 }
 
-/// A building's file, to be read. What isn't a file, as a pipe or a terminal, isn't opened, so that
-/// nothing waits for its other end. A file that got the descriptor of a standard stream, which the
-/// program began without, is refused: what is printed would be written into it, or into the next
-/// file that is opened.
-fn building_file<F: Files<File = File>>(rt: &F, path: &str) -> Result<File, Fault>
-    ensures { IfErr result (IsFileFault OfBuilding) }
-{
-    let metadata = match fs::metadata(rt, path) {
-        Ok(metadata) => metadata,
-        Err(error) => return Err(Fault::of_file(Role::Building, error)),
-    };
-    if !metadata.is_file() {
-        return Err(Fault::File(Role::Building));
-    }
-    let file = match File::open(rt, path) {
-        Ok(file) => file,
-        Err(error) => return Err(Fault::of_file(Role::Building, error)),
-    };
-    if file.as_raw_fd() <= STANDARD_ERROR {
-        return Err(Fault::File(Role::Building));
-    }
-    Ok(file)
-}
-
 /// The building that the bytes of its file spell.
 #[tactic(auto, using(crate::proofs::Stages::building_no_file, crate::proofs::Stages::first_fault, crate::proofs::Stages::has_building))]
 fn building_of(alloc: Global, bytes: &[u8]) -> Result<Building, Fault>
     requires bound { length bytes.now ≤ most_text }
-    ensures found { IfOk result HasBuilding }
-    ensures fault { IfErr result IsBuildingFault }
+    ensures found { IfOk result (HasBuilding (λ text. text ≡ bytes.now)) }
+    ensures fault { IfErr result (IsBuildingFault (λ text. text ≡ bytes.now)) }
     // It is refused as a file just where it is no text.
     ensures no_text { ¬ IsUtf8 bytes.now → result ≡ Err (Fault.File OfBuilding) }
     ensures text { IsUtf8 bytes.now → IfErr result (λ fault. fault ≢ Fault.File OfBuilding) }
@@ -111,114 +83,116 @@ fn building_of(alloc: Global, bytes: &[u8]) -> Result<Building, Fault>
 
 /// The building that a file describes. A file of more than 1,048,576 bytes is refused as one that
 /// can't be read.
-#[tactic(auto, using(crate::proofs::Stages::file_refuses))]
-pub fn building_in<F: Files<File = File>>(
-    rt: &F,
-    alloc: Global,
-    path: &str,
-) -> Result<Building, Fault>
-    ensures found { IfOk result HasBuilding }
-    ensures fault { IfErr result IsBuildingFault }
+pub fn building_in<B: TextOpener>(opener: B, alloc: Global, path: &str) -> Result<Building, Fault>
+    ensures found { IfOk result
+        (HasBuilding (IsTextRead (B.opens opener path.now) B.Text.remaining)) }
+    ensures fault { IfErr result
+        (IsBuildingFault (IsTextRead (B.opens opener path.now) B.Text.remaining)) }
 {
-    let file = building_file(rt, path)?;
-    let bytes = bytes_of(alloc, &mut Counted::new(file))?;
+    let text = match opener.open_text(path) {
+        Ok(text) => text,
+        Err(error) => return Err(Fault::of_file(Role::Building, &error)),
+    };
+    let bytes = bytes_of(alloc, &mut Counted::new(text))?;
     building_of(alloc, &bytes)
 }
 
-/// What a file comes to that can't be an image.
-fn refused<F: Drop>(fault: FileFault<F>) -> Refused<F>
-    ensures file { IsFileFault OfImage result.fault }
-    ensures cause { IsImageFault fault result.fault }
-    ensures left { result.left ≡ file_in fault }
+/// What is told of a file that can't be an image.
+fn told_as<F: Drop, O: Drop>(cause: &FileFault<F, O>) -> Fault
+    ensures file { IsFileFault OfImage result }
+    ensures told { IsImageFault cause.now result }
 {
-    match fault {
-        FileFault::Unopened(error) => Refused {
-            fault: Fault::of_file(Role::Image, error),
-            left: None,
-        },
-        FileFault::NotAFile => Refused {
-            fault: Fault::File(Role::Image),
-            left: None,
-        },
-        FileFault::Stopped(stopped) => Refused {
-            fault: Fault::of_file(Role::Image, stopped.error),
-            left: Some(Left::new(stopped.file)),
-        },
+    match cause {
+        FileFault::Untold(error, _) => Fault::of_file(Role::Image, error),
+        FileFault::NotAFile(_) => Fault::File(Role::Image),
+        FileFault::Unopened(error) => Fault::of_file(Role::Image, error),
+        FileFault::Stopped(stopped) => Fault::of_file(Role::Image, &stopped.error),
+    }
+}
+
+/// What it comes to.
+fn refused<F: Drop, O: Drop>(cause: FileFault<F, O>) -> Refused<F, O>
+    ensures fault { IsFileFault OfImage result.fault }
+    ensures told { IsImageFault cause result.fault }
+    ensures same { result.cause ≡ cause }
+{
+    Refused {
+        fault: told_as(&cause),
+        cause: Left::new(cause),
     }
 }
 
 /// The file of a journal, made or made anew, if its lock is to be had.
-pub fn image_at<F: ToldFiles>(
-    rt: &F,
+pub fn image_at<I: FileOpener>(
+    opener: I,
     path: &str,
     sectors: u32,
-) -> Result<SectorFile<F::Told>, Refused<F::Told>>
-    ensures size { IfOk result (λ disk. (sector_file_state_of F.Told.holds disk).size ≡ sectors) }
-    ensures failures { IfOk result (λ disk. (sector_file_state_of F.Told.holds disk).failures ≡ 0) }
-    ensures calls { IfOk result (λ disk. (sector_file_state_of F.Told.holds disk).calls ≡ 0) }
-    ensures writes { IfOk result (λ disk. (sector_file_state_of F.Told.holds disk).writes ≡ 0) }
-    ensures trace { IfOk result (λ disk. (sector_file_state_of F.Told.holds disk).trace ≡ []) }
-    ensures made { IfOk result (λ disk. IsJustMade (F.opens rt.now) (F.names rt.now) F.Told.gives
-        F.Told.holds path.now sectors disk) }
+) -> Result<SectorFile<I::Told>, Refused<I::Told, I>>
+    ensures size { IfOk result (λ disk. (sector_file_state_of I.Told.holds disk).size ≡ sectors) }
+    ensures failures { IfOk result (λ disk. (sector_file_state_of I.Told.holds disk).failures ≡ 0) }
+    ensures calls { IfOk result (λ disk. (sector_file_state_of I.Told.holds disk).calls ≡ 0) }
+    ensures writes { IfOk result (λ disk. (sector_file_state_of I.Told.holds disk).writes ≡ 0) }
+    ensures trace { IfOk result (λ disk. (sector_file_state_of I.Told.holds disk).trace ≡ []) }
+    ensures made { IfOk result (IsJustMade (I.opens opener) (I.names opener) I.Told.gives
+        I.Told.holds path.now sectors) }
     ensures making { IfOk result (λ disk. making_below disk ≡ making_calls sectors) }
-    ensures fault { IfErr result (λ no. IsFileFault OfImage no.fault) }
-    ensures unhad { IfErr result (λ no. IsUnhad (stands_in_the_way (F.stands rt.now path.now))
-        (F.opens rt.now to_be_made path.now) (stops_making (F.unnamed rt.now path.now)
-        F.Told.gives F.Told.fails sectors) no.left) }
+    ensures unhad { IfErr result (λ no. HasNoImage
+        ((⟦<I as ImageView>⟧.image opener).is_unmade path.now sectors) no.fault no.cause) }
 {
-    match SectorFile::create(rt, path, sectors) {
+    match SectorFile::create(opener, path, sectors) {
         Ok(disk) => Ok(disk),
         Err(fault) => Err(refused(fault)),
     }
 }
 
 /// The file of a journal that is there, if its lock is to be had. It is not made anew.
-pub fn image_in<F: ToldFiles>(rt: &F, path: &str) -> Result<SectorFile<F::Told>, Refused<F::Told>>
-    ensures failures { IfOk result (λ disk. (sector_file_state_of F.Told.holds disk).failures ≡ 0) }
-    ensures calls { IfOk result (λ disk. (sector_file_state_of F.Told.holds disk).calls ≡ 0) }
-    ensures writes { IfOk result (λ disk. (sector_file_state_of F.Told.holds disk).writes ≡ 0) }
-    ensures measured { IfOk result (λ disk. IsMeasured (F.opens rt.now to_be_used path.now)
-        F.Told.gives F.Told.holds (Lock ∷ []) disk) }
-    ensures fault { IfErr result (λ no. IsFileFault OfImage no.fault) }
-    ensures unhad { IfErr result (λ no. IsUnhad (F.stands rt.now path.now)
-        (F.opens rt.now to_be_used path.now) (stops_opening F.Told.gives F.Told.fails (Lock ∷ [])) no.left) }
+pub fn image_in<I: FileOpener>(
+    opener: I,
+    path: &str,
+) -> Result<SectorFile<I::Told>, Refused<I::Told, I>>
+    ensures failures { IfOk result (λ disk. (sector_file_state_of I.Told.holds disk).failures ≡ 0) }
+    ensures calls { IfOk result (λ disk. (sector_file_state_of I.Told.holds disk).calls ≡ 0) }
+    ensures writes { IfOk result (λ disk. (sector_file_state_of I.Told.holds disk).writes ≡ 0) }
+    ensures measured { IfOk result (IsMeasured (I.opens opener to_be_used path.now) I.Told.gives
+        I.Told.holds (Lock ∷ [])) }
+    ensures unhad { IfErr result (λ no. HasNoImage
+        ((⟦<I as ImageView>⟧.image opener).is_unserved path.now) no.fault no.cause) }
 {
-    match SectorFile::open(rt, path) {
+    match SectorFile::open(opener, path) {
         Ok(disk) => Ok(disk),
         Err(fault) => Err(refused(fault)),
     }
 }
 
 /// The file of a journal that is there, to be read alone.
-fn image_to_read<F: ToldFiles>(rt: &F, path: &str) -> Result<SectorFile<F::Told>, Refused<F::Told>>
-    ensures failures { IfOk result (λ disk. (sector_file_state_of F.Told.holds disk).failures ≡ 0) }
-    ensures calls { IfOk result (λ disk. (sector_file_state_of F.Told.holds disk).calls ≡ 0) }
-    ensures writes { IfOk result (λ disk. (sector_file_state_of F.Told.holds disk).writes ≡ 0) }
-    ensures measured { IfOk result (λ disk. IsMeasured (F.opens rt.now to_be_read path.now)
-        F.Told.gives F.Told.holds [] disk) }
-    ensures fault { IfErr result (λ no. IsFileFault OfImage no.fault) }
-    ensures unhad { IfErr result (λ no. IsUnhad (F.stands rt.now path.now)
-        (F.opens rt.now to_be_read path.now) (stops_opening F.Told.gives F.Told.fails []) no.left) }
+fn image_to_read<I: FileOpener>(
+    opener: I,
+    path: &str,
+) -> Result<SectorFile<I::Told>, Refused<I::Told, I>>
+    ensures failures { IfOk result (λ disk. (sector_file_state_of I.Told.holds disk).failures ≡ 0) }
+    ensures calls { IfOk result (λ disk. (sector_file_state_of I.Told.holds disk).calls ≡ 0) }
+    ensures writes { IfOk result (λ disk. (sector_file_state_of I.Told.holds disk).writes ≡ 0) }
+    ensures measured { IfOk result (IsMeasured (I.opens opener to_be_read path.now) I.Told.gives
+        I.Told.holds []) }
+    ensures unhad { IfErr result (λ no. HasNoImage
+        ((⟦<I as ImageView>⟧.image opener).is_unshown path.now) no.fault no.cause) }
 {
-    match SectorFile::open_to_read(rt, path) {
+    match SectorFile::open_to_read(opener, path) {
         Ok(disk) => Ok(disk),
         Err(fault) => Err(refused(fault)),
     }
 }
 
 /// The image of a journal that is there, to be shown, also beside a group that runs over it.
-pub fn image_to_show<F: ToldFiles>(
-    rt: &F,
+pub fn image_to_show<I: FileOpener>(
+    opener: I,
     path: &str,
-) -> Result<ShownImage<F::Told>, Refused<F::Told>>
-    ensures opened { IfOk result (λ disk. (image_files (F.stands rt.now) (F.opens rt.now) (F.names rt.now) (F.unnamed rt.now) F.Told.gives F.Told.fails F.Told.holds
-        ⟦<BufferedFile<F::Told> as Disk>⟧.state ⟦<ShownImage<F::Told> as Disk>⟧.state).is_to_be_shown
-        path.now disk) }
-    ensures fault { IfErr result (λ no. IsFileFault OfImage no.fault) }
-    ensures unhad { IfErr result (λ no. IsUnhad (F.stands rt.now path.now)
-        (F.opens rt.now to_be_read path.now) (stops_opening F.Told.gives F.Told.fails []) no.left) }
+) -> Result<ShownImage<I::Told>, Refused<I::Told, I>>
+    ensures opened { IfOk result ((⟦<I as ImageView>⟧.image opener).is_to_be_shown path.now) }
+    ensures unhad { IfErr result (λ no. HasNoImage
+        ((⟦<I as ImageView>⟧.image opener).is_unshown path.now) no.fault no.cause) }
 {
-    match image_to_read(rt, path) {
+    match image_to_read(opener, path) {
         Ok(file) => Ok(Buffered::over(UnwrittenFile::over(file))),
         Err(refused) => Err(refused),
     }

@@ -2,41 +2,39 @@
 
 ghost use Rattle.std.specs.Prelude.{◌≤◌, IfOk, IfErr};
 ghost use Rattle.lift_program.specs.Ends.{IsMadeWith, IsUnmade};
-ghost use Rattle.lift_program.specs.Images.{image_files};
 
 use crate::fault::Fault;
 use crate::files::{building_in, image_at};
 use crate::left::{Left, Undone};
-use crate::unwritten::ShownImage;
-use lift_disk::{BufferedFile, Disk, SectorFile, ToldFiles};
+use crate::opening::{Files, FilesView, TextOpener};
+use lift_disk::{FileOpener, SectorFile};
 use lift_journal::JournalFault;
 use lift_keeper::KeeperFault;
 use std::alloc::Global;
-use std::fs::{File, Files};
 
 /// Makes an empty journal in the file `image`, for the building in the file `building`, with so
 /// many sectors in a half. Nothing is made for a building that is refused.
 #[inline(never)]
 #[tactic(auto, using(crate::proofs::Stages::no_image, crate::proofs::Stages::reads_building))]
-pub fn format<F: Files<File = File> + ToldFiles>(
-    rt: &F,
+pub fn format<B: TextOpener, I: FileOpener>(
+    files: Files<B, I>,
     alloc: Global,
     image: &str,
     building: &str,
     half: u32,
-) -> Result<Left<SectorFile<F::Told>>, Undone<SectorFile<F::Told>, F::Told>>
+) -> Result<Left<SectorFile<I::Told>>, Undone<SectorFile<I::Told>, I::Told, I>>
     requires least { 64 ≤ half }
     requires most { half ≤ 1000000 }
-    ensures made { IfOk result (IsMadeWith (image_files (F.stands rt.now) (F.opens rt.now) (F.names rt.now) (F.unnamed rt.now) F.Told.gives F.Told.fails F.Told.holds
-        ⟦<BufferedFile<F::Told> as Disk>⟧.state ⟦<ShownImage<F::Told> as Disk>⟧.state) image.now half) }
-    ensures undone { IfErr result (IsUnmade (image_files (F.stands rt.now) (F.opens rt.now) (F.names rt.now) (F.unnamed rt.now) F.Told.gives F.Told.fails F.Told.holds
-        ⟦<BufferedFile<F::Told> as Disk>⟧.state ⟦<ShownImage<F::Told> as Disk>⟧.state) image.now half) }
+    ensures made { IfOk result
+        (IsMadeWith (⟦<Files<B, I> as FilesView>⟧.view files) image.now building.now half) }
+    ensures undone { IfErr result
+        (IsUnmade (⟦<Files<B, I> as FilesView>⟧.view files) image.now building.now half) }
 {
-    let shape = match building_in(rt, alloc, building) {
+    let shape = match building_in(files.building, alloc, building) {
         Ok(building) => building.shape(half),
-        Err(fault) => return Err(Undone::NoBuilding(fault)),
+        Err(fault) => return Err(Undone::NoBuilding(fault, Left::new(files.image))),
     };
-    let mut disk = match image_at(rt, image, 2 + 2 * half) {
+    let mut disk = match image_at(files.image, image, 2 + 2 * half) {
         Ok(disk) => disk,
         Err(refused) => return Err(Undone::NoImage(refused)),
     };

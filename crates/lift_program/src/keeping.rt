@@ -1,39 +1,48 @@
 //! The keeper of an image, held for the serving, which can't take it apart.
 
 ghost use Rattle.std.specs.Prelude.{◌≡◌, [], IfOk, IfErr};
-ghost use Rattle.lift_program.specs.Images.{image_files};
 ghost use Rattle.lift_program.specs.Stages.{HasKeeperOf, IsUnkeptServing};
 
+use crate::at_once::AtOnce;
 use crate::fault::Fault;
 use crate::files::image_in;
 use crate::left::{Left, Undone};
-use crate::unwritten::ShownImage;
+use crate::opening::ImageView;
 use lift_building::Building;
-use lift_disk::{Buffered, BufferedFile, Disk, ToldFiles};
+use lift_disk::{Buffered, BufferedFile, Disk, FileOpener};
 use lift_keeper::Keeper;
-use lift_serve::HeldKeeper;
+use lift_serve::{HeardBy, HeldKeeper};
+use std::io::Write;
+use std::marker::PhantomData;
 
 /// What gives back the keeper of an image. Only this file makes one, in which no call waits: so what
-/// waits with such a keeper can call its device by the turns of its group alone.
+/// waits with such a keeper can call its device by the turns of its group alone, which tell an `E` of
+/// its failure.
 #[derive(Drop)]
-pub struct ImageKey {
-    made: (),
+pub struct ImageKey<E> {
+    told: PhantomData<E>,
 }
 
+/// Whoever has such a keeper tells a writer of this type, and nobody else, when its device fails. Who
+/// is generic in the type has no other writer of it than the one that it was given.
+impl<E: Write + Drop> HeardBy<AtOnce<E>> for ImageKey<E> {}
+
 /// The keeper that the recovery gives, over the journal in a file.
-pub fn keeper_in<'b, F: ToldFiles>(
-    rt: &F,
+pub fn keeper_in<'b, I: FileOpener, E: Write + Drop>(
+    opener: I,
     path: &str,
     building: &'b Building,
-) -> Result<HeldKeeper<'b, BufferedFile<F::Told>, ImageKey>, Undone<BufferedFile<F::Told>, F::Told>>
-    ensures opened { IfOk result (HasKeeperOf (image_files (F.stands rt.now) (F.opens rt.now) (F.names rt.now) (F.unnamed rt.now) F.Told.gives F.Told.fails F.Told.holds
-        ⟦<BufferedFile<F::Told> as Disk>⟧.state ⟦<ShownImage<F::Told> as Disk>⟧.state) path.now
-        building.now) }
+) -> Result<
+    HeldKeeper<'b, BufferedFile<I::Told>, ImageKey<E>>,
+    Undone<BufferedFile<I::Told>, I::Told, I>,
+>
+    ensures opened { IfOk result
+        (HasKeeperOf (⟦<I as ImageView>⟧.image opener) path.now building.now) }
     ensures settled { IfOk result (λ keeper. keeper.state.batch ≡ []) }
-    ensures undone { IfErr result (IsUnkeptServing (image_files (F.stands rt.now) (F.opens rt.now) (F.names rt.now) (F.unnamed rt.now) F.Told.gives F.Told.fails F.Told.holds
-        ⟦<BufferedFile<F::Told> as Disk>⟧.state ⟦<ShownImage<F::Told> as Disk>⟧.state) path.now building.now) }
+    ensures undone { IfErr result
+        (IsUnkeptServing (⟦<I as ImageView>⟧.image opener) path.now building.now) }
 {
-    let file = match image_in(rt, path) {
+    let file = match image_in(opener, path) {
         Ok(file) => file,
         Err(refused) => return Err(Undone::NoImage(refused)),
     };
@@ -45,8 +54,8 @@ pub fn keeper_in<'b, F: ToldFiles>(
 
 /// The image as its keeper leaves it.
 #[inline(never)]
-pub fn left_by<D: Disk + Drop>(keeper: HeldKeeper<'_, D, ImageKey>) -> Left<D>
+pub fn left_by<D: Disk + Drop, E: Write + Drop>(keeper: HeldKeeper<'_, D, ImageKey<E>>) -> Left<D>
     ensures { result ≡ keeper.entry.writer.device }
 {
-    Left::new(keeper.release(ImageKey { made: () }).into_disk())
+    Left::new(keeper.release(ImageKey { told: PhantomData }).into_disk())
 }

@@ -1,12 +1,13 @@
-//! How a command leaves the device that it was over.
+//! How a command leaves the device that it was over, or what was to open it.
 
 ghost use Rattle.std.specs.Prelude.{◌≡◌};
 
 use crate::fault::Fault;
+use lift_disk::FileFault;
 use std::marker::Model;
 
-/// A device as a command has left it. Nobody calls it any more: all that can be done with it is to let
-/// it go. So what is said of it is said of the end. Contracts see the device.
+/// A device as a command has left it, or what opens one. Nobody calls it any more: all that can be done
+/// with it is to let it go. So what is said of it is said of the end. Contracts see the device.
 #[derive(Drop)]
 pub struct Left<D> {
     device: D,
@@ -31,20 +32,20 @@ impl<D> Left<D> {
     }
 }
 
-/// Why no image was had, and the file that was opened for it, if one was, as it was left.
+/// Why no image was had: what is told, and what that comes from.
 #[derive(Drop)]
-pub struct Refused<F> {
+pub struct Refused<F: Drop, O: Drop> {
     pub fault: Fault,
-    pub left: Option<Left<F>>,
+    pub cause: Left<FileFault<F, O>>,
 }
 
 /// Why a command over an image is undone.
 #[derive(Drop)]
-pub enum Undone<D, F> {
-    /// No building was had, and nothing was asked of an image.
-    NoBuilding(Fault),
+pub enum Undone<D, F: Drop, O: Drop> {
+    /// No building was had, and nothing was asked of an image: what opens that is left.
+    NoBuilding(Fault, Left<O>),
     /// No image was had.
-    NoImage(Refused<F>),
+    NoImage(Refused<F, O>),
     /// One was, and was left so.
     Opened(Fault, Left<D>),
 }

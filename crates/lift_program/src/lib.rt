@@ -2,6 +2,7 @@
 //! hold, and serves buildings on sockets.
 #![tactic(auto)]
 
+mod at_once;
 mod end;
 mod fault;
 mod files;
@@ -11,6 +12,7 @@ mod help;
 mod keeping;
 mod left;
 mod listening;
+mod opening;
 mod output;
 mod replay;
 mod serve;
@@ -22,7 +24,8 @@ mod words;
 pub use end::End;
 pub use fault::{Fault, Role};
 pub use left::Left;
-pub use listening::Listens;
+pub use listening::{Listens, SystemSocket};
+pub use opening::{Files, FilesView, ImageView, Openers, SystemTextOpener, TextOpener};
 pub use output::Outflow;
 pub use starting::{not_given, start};
 pub use unwritten::{ShownImage, UnwrittenFile};

@@ -45,7 +45,7 @@ pub fn write_out<W: Outflow>(writer: &mut W, bytes: &[u8]) -> Result<(), Fault>
     }
     match writer.settle() {
         Ok(()) => Ok(()),
-        Err(error) => Err(Fault::of_file(Role::Output, error)),
+        Err(error) => Err(Fault::of_file(Role::Output, &error)),
     }
 }
 

@@ -40,6 +40,6 @@ pub fn replay<R: Read + Drop, W: Outflow>(
     let verdict = lift_replay::run(alloc, input, writer)?;
     match writer.settle() {
         Ok(()) => Ok(verdict),
-        Err(error) => Err(Fault::of_file(Role::Output, error)),
+        Err(error) => Err(Fault::of_file(Role::Output, &error)),
     }
 }

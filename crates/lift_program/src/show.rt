@@ -7,7 +7,6 @@ ghost use Rattle.lift_keeper.specs.declared.fault.KeeperFault.{KeeperFault as Re
 ghost use Rattle.lift_replay.specs.Report.{register_text};
 ghost use Rattle.lift_program.specs.Ends.{IsFileFault, IsReportOfFault, IsShowingFault};
 ghost use Rattle.lift_program.specs.Ends.{IsShowingUndone};
-ghost use Rattle.lift_program.specs.Images.{image_files};
 ghost use Rattle.lift_program.specs.Output.{WriterHasFailed, IsOutputSettled};
 ghost use Rattle.lift_program.specs.Showing.{IsShown, ShowsRegister, ShowsFront, ShowsPart};
 ghost use Rattle.lift_program.specs.Stages.{IsUndoneShowing, fault_in};
@@ -17,15 +16,15 @@ ghost use Rattle.lift_program.specs.declared.fault.Role.TheVariants.{Output};
 use crate::fault::Fault;
 use crate::files::{building_in, image_to_show};
 use crate::left::{Left, Undone};
+use crate::opening::{Files, FilesView, TextOpener};
 use crate::output::{Outflow, write_out};
 use crate::unwritten::ShownImage;
 use lift_building::Building;
-use lift_disk::{BufferedFile, Disk, ToldFiles};
+use lift_disk::{Disk, FileOpener};
 use lift_keeper::Keeper;
 use lift_register::Register;
 use lift_replay::report::push_rows;
 use std::alloc::Global;
-use std::fs::{File, Files};
 
 /// Writes the open calls of a register, as scripts report them.
 fn write_rows<W: Outflow>(alloc: Global, register: &Register, writer: &mut W) -> Result<(), Fault>
@@ -82,32 +81,30 @@ fn show_on<D: Disk + Drop, W: Outflow>(
 /// `building`.
 #[inline(never)]
 #[tactic(auto, using(crate::proofs::Stages::no_image, crate::proofs::Stages::nothing_written))]
-pub fn show<F: Files<File = File> + ToldFiles, W: Outflow>(
-    rt: &F,
+pub fn show<B: TextOpener, I: FileOpener, W: Outflow>(
+    files: Files<B, I>,
     alloc: Global,
     image: &str,
     building: &str,
     writer: &mut W,
-) -> Result<Left<ShownImage<F::Told>>, Undone<ShownImage<F::Told>, F::Told>>
-    ensures shown { IfOk result (λ disk. IsShown (image_files (F.stands rt.now) (F.opens rt.now) (F.names rt.now) (F.unnamed rt.now) F.Told.gives F.Told.fails F.Told.holds
-        ⟦<BufferedFile<F::Told> as Disk>⟧.state ⟦<ShownImage<F::Told> as Disk>⟧.state) image.now disk
-        (W.contents writer.old) (W.contents writer.new)) }
-    ensures only { ShowsPart (image_files (F.stands rt.now) (F.opens rt.now) (F.names rt.now) (F.unnamed rt.now) F.Told.gives F.Told.fails F.Told.holds
-        ⟦<BufferedFile<F::Told> as Disk>⟧.state ⟦<ShownImage<F::Told> as Disk>⟧.state) image.now
+) -> Result<Left<ShownImage<I::Told>>, Undone<ShownImage<I::Told>, I::Told, I>>
+    ensures shown { IfOk result (λ disk. IsShown (⟦<Files<B, I> as FilesView>⟧.view files) image.now
+        building.now disk (W.contents writer.old) (W.contents writer.new)) }
+    ensures only { ShowsPart (⟦<Files<B, I> as FilesView>⟧.view files) image.now building.now
         (W.contents writer.old) (W.contents writer.new) }
-    ensures undone { IfErr result (IsUndoneShowing (image_files (F.stands rt.now) (F.opens rt.now) (F.names rt.now) (F.unnamed rt.now) F.Told.gives F.Told.fails F.Told.holds
-        ⟦<BufferedFile<F::Told> as Disk>⟧.state ⟦<ShownImage<F::Told> as Disk>⟧.state) image.now) }
+    ensures undone { IfErr result
+        (IsUndoneShowing (⟦<Files<B, I> as FilesView>⟧.view files) image.now building.now) }
     ensures showing { IfErr result IsShowingUndone }
     ensures report { IfErr result (λ undone.
         IsReportOfFault (fault_in undone) (W.contents writer.old) (W.contents writer.new)) }
     ensures failed { IfErr result (λ undone. fault_in undone ≡ Fault.File Output
         → WriterHasFailed W.gives W.flushes writer.old writer.new) }
 {
-    let building = match building_in(rt, alloc, building) {
+    let building = match building_in(files.building, alloc, building) {
         Ok(building) => building,
-        Err(fault) => return Err(Undone::NoBuilding(fault)),
+        Err(fault) => return Err(Undone::NoBuilding(fault, Left::new(files.image))),
     };
-    let disk = match image_to_show(rt, image) {
+    let disk = match image_to_show(files.image, image) {
         Ok(disk) => disk,
         Err(refused) => return Err(Undone::NoImage(refused)),
     };

@@ -1,9 +1,9 @@
 //! A journal that keepers write, one after another, on a real file, as it is shown.
 
-use crate::streams::{Failing, Run};
+use crate::streams::{Failing, Run, openers};
 use lift_base::{Body, Dir, Floor, Letter, Number, Party, Reply, Terminal};
 use lift_building::Building;
-use lift_disk::{FileDisk, SystemFile};
+use lift_disk::{FileDisk, SystemFile, SystemOpener};
 use lift_keeper::Keeper;
 use lift_policy::Etd;
 use std::alloc::Global;
@@ -64,9 +64,9 @@ fn kept_calls_are_shown(rt: HostRuntime) -> Result<(), Fail> {
     let image = "liftd_shown.image";
     fs::write(&rt, building, DEMO)?;
     let words = ["format", image, building];
-    assert!(rt; Run::of(&rt, words.as_slice(), Failing).is(0, "", ""));
+    assert!(rt; Run::of(&rt, openers(&rt), words.as_slice(), Failing).is(0, "", ""));
     let show = ["show", image, building];
-    assert!(rt; Run::of(&rt, show.as_slice(), Failing).is(0, "rows 0 0\n", ""));
+    assert!(rt; Run::of(&rt, openers(&rt), show.as_slice(), Failing).is(0, "rows 0 0\n", ""));
     let kiosk = Terminal::of_kiosk(0).unwrap_or_default();
     let a = Terminal::of_car(Letter::default());
     let b = Terminal::of_car(Letter::new(1).unwrap_or_default());
@@ -90,11 +90,13 @@ fn kept_calls_are_shown(rt: HostRuntime) -> Result<(), Fail> {
         ),
         (leaves.as_slice(), "rows 1 1\nB K0 2 0 3 waiting\n"),
     ] {
-        let disk = FileDisk::open(&rt, image).ok().ok_or("no file")?;
+        let disk = FileDisk::open(SystemOpener::new(&rt), image)
+            .ok()
+            .ok_or("no file")?;
         assert!(rt; are_kept(rt.alloc(), disk, commands)?, "{wanted}");
         let before = fs::read(&rt, image)?;
         assert!(rt;
-            Run::of(&rt, show.as_slice(), Failing).is(0, wanted, ""),
+            Run::of(&rt, openers(&rt), show.as_slice(), Failing).is(0, wanted, ""),
             "{wanted}"
         );
         let after = fs::read(&rt, image)?;

@@ -1,12 +1,11 @@
 //! Streams that fail under a command.
 
 use lift_base::text::Watched;
-use lift_disk::ToldFiles;
-use lift_program::start;
+use lift_disk::{FileOpener, SystemOpener};
+use lift_program::{Files, Listens, Openers, SystemSocket, SystemTextOpener, TextOpener, start};
 use std::alloc::Global;
-use std::fs::{File, Files};
 use std::io::{Read, Write};
-use std::net::{Ipv4Addr, Net, SocketAddr, SocketAddrV4, TcpListener, TcpStream};
+use std::net::{Ipv4Addr, SocketAddr, SocketAddrV4, TcpListener};
 use std::sync::Wait;
 use std::test::Fail;
 use std::thread::Threads;
@@ -33,6 +32,19 @@ impl Write for Failing {
     }
 }
 
+/// What a run opens its files and its socket by.
+pub(crate) fn openers(
+    rt: &HostRuntime,
+) -> Openers<SystemTextOpener<'_>, SystemOpener<'_>, SystemSocket<'_>> {
+    Openers {
+        files: Files {
+            building: SystemTextOpener::new(rt),
+            image: SystemOpener::new(rt),
+        },
+        socket: SystemSocket::new(rt),
+    }
+}
+
 /// What a run came to.
 #[derive(Drop)]
 pub(crate) struct Run {
@@ -42,21 +54,20 @@ pub(crate) struct Run {
 }
 
 impl Run {
-    pub(crate) fn of<F, R: Read + Drop>(rt: &F, words: &[&str], reader: R) -> Run
+    pub(crate) fn of<F, B: TextOpener, I: FileOpener, L: Listens, R: Read + Drop>(
+        rt: &F,
+        openers: Openers<B, I, L>,
+        words: &[&str],
+        reader: R,
+    ) -> Run
     where
-        F: Files<File = File>
-            + ToldFiles
-            + Alloc<A = Global>
-            + Threads
-            + Wait
-            + Clock
-            + Net<Listener = TcpListener, Stream = TcpStream>
-            + Sync,
+        F: Alloc<A = Global> + Threads + Wait + Clock + Sync,
     {
         let mut report = Vec::new(rt.alloc());
         let mut errors = Vec::new(rt.alloc());
         let status = start(
             rt,
+            openers,
             rt.alloc(),
             words,
             reader,
@@ -88,13 +99,14 @@ fn outputs_that_fail(rt: HostRuntime) -> Result<(), Fail> {
     let image = "liftd_unheard.image";
     fs::write(&rt, building, SMALL)?;
     let format = ["format", image, building];
-    assert!(rt; Run::of(&rt, format.as_slice(), Failing).is(0, "", ""));
+    assert!(rt; Run::of(&rt, openers(&rt), format.as_slice(), Failing).is(0, "", ""));
     let show = ["show", image, building];
     let replay = ["replay"];
     for words in [show.as_slice(), replay.as_slice()] {
         let mut errors = Vec::new(rt.alloc());
         let status = start(
             &rt,
+            openers(&rt),
             rt.alloc(),
             words,
             b"".as_slice(),
@@ -118,13 +130,14 @@ fn inputs_that_fail(rt: HostRuntime) {
     ] {
         let words = [word];
         assert!(rt;
-            Run::of(&rt, words.as_slice(), Failing).is(wanted, "", told),
+            Run::of(&rt, openers(&rt), words.as_slice(), Failing).is(wanted, "", told),
             "{word}"
         );
         let mut report = Vec::new(rt.alloc());
         let mut errors = Watched::new(Failing);
         let status = start(
             &rt,
+            openers(&rt),
             rt.alloc(),
             words.as_slice(),
             Failing,
@@ -135,23 +148,22 @@ fn inputs_that_fail(rt: HostRuntime) {
         assert!(rt; status == wanted && is_silent, "{word}");
     }
     let nothing: [&str; 0] = [];
-    assert!(rt; Run::of(&rt, nothing.as_slice(), Failing).is(1, "", "liftd: file\n"));
+    assert!(rt; Run::of(&rt, openers(&rt), nothing.as_slice(), Failing).is(1, "", "liftd: file\n"));
 }
 
 /// Whether a group isn't served at a port, and what is told is the network.
-fn is_refused_at<F>(rt: &F, image: &str, building: &str, port: &str) -> bool
+fn is_refused_at<F, B: TextOpener, I: FileOpener, L: Listens>(
+    rt: &F,
+    openers: Openers<B, I, L>,
+    image: &str,
+    building: &str,
+    port: &str,
+) -> bool
 where
-    F: Files<File = File>
-        + ToldFiles
-        + Alloc<A = Global>
-        + Threads
-        + Wait
-        + Clock
-        + Net<Listener = TcpListener, Stream = TcpStream>
-        + Sync,
+    F: Alloc<A = Global> + Threads + Wait + Clock + Sync,
 {
     let serve = ["serve", image, building, "--port", port, "--sessions", "1"];
-    Run::of(rt, serve.as_slice(), Failing).is(1, "", "liftd: network\n")
+    Run::of(rt, openers, serve.as_slice(), Failing).is(1, "", "liftd: network\n")
 }
 
 /// A port that is taken.
@@ -161,12 +173,12 @@ fn a_port_in_use(rt: HostRuntime) -> Result<(), Fail> {
     let image = "liftd_taken.image";
     fs::write(&rt, building, SMALL)?;
     let format = ["format", image, building];
-    assert!(rt; Run::of(&rt, format.as_slice(), Failing).is(0, "", ""));
+    assert!(rt; Run::of(&rt, openers(&rt), format.as_slice(), Failing).is(0, "", ""));
     let here = SocketAddr::V4(SocketAddrV4::new(Ipv4Addr::from_octets([127, 0, 0, 1]), 0));
     let listener = TcpListener::bind(&rt, here)?;
     let number = listener.local_addr()?.port();
     let port = format!(in rt.alloc(); "{number}")?;
-    let is_refused = is_refused_at(&rt, image, building, port.as_str());
+    let is_refused = is_refused_at(&rt, openers(&rt), image, building, port.as_str());
     assert!(rt; is_refused);
     fs::remove_file(&rt, image)?;
     fs::remove_file(&rt, building)?;

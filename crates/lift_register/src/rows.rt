@@ -6,7 +6,7 @@ ghost use Rattle.lift_base.specs.History.{row_after};
 ghost use Rattle.lift_register.specs.Rows.{row_lists};
 
 use arrayvec::ArrayVec;
-use lift_base::{Last, Letter, Row, Stop};
+use lift_base::{Last, Letter, Row, Stop, count_unchanged};
 
 /// Takes a stop of a car into the car's rows, moves those that are open still to the front in their
 /// order, and answers how many these are.
@@ -14,8 +14,9 @@ fn keep_open(rows: &mut [Row], stop: &Stop) -> usize
     ensures rows { take result rows.new ≡ flat_map (row_after stop.now) rows.old }
     ensures kept { result ≤ length rows.old }
 {
-    let mut kept = 0;
-    for index in 0..rows.len() {
+    let first = count_unchanged(rows, stop);
+    let mut kept = first;
+    for index in first..rows.len() {
         if let Some(row) = rows[index].after(*stop) {
             rows[kept] = row;
             kept += 1;

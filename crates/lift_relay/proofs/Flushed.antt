@@ -1,5 +1,5 @@
 -- What a turn of the flusher answers.
-use Rattle.std.proofs.Common.{◌≡◌, ◌≢◌, ℕ, zero, suc, ◌+◌, ◌<◌, ◌≤◌, Bool, true, false, List, [], ◌∷◌, ◌++◌, take, length, get_or, Option, Some, None, refl, sym, ap, ◌∙◌, subst, arith}
+use Rattle.std.proofs.Common.{◌≡◌, ◌≢◌, ℕ, zero, suc, ◌+◌, ◌<◌, ◌≤◌, Bool, true, false, List, [], ◌∷◌, ◌++◌, take, length, get_or, Option, Some, refl, sym, ap, ◌∙◌, subst, arith}
 use Rattle.std.specs.Prelude.{IfSome, nat_eq}
 use Rattle.std.proofs.Math.Seq.{take-suc}
 use Rattle.std.proofs.lemmas.Bool.Decides.{nat_tests}
@@ -14,31 +14,38 @@ use Rattle.lift_desk.specs.Seats.{ClerkPlace, no_place, placed_at, view_at, cler
 use Rattle.lift_desk.specs.lemmas.Places.{view_at-here, view_at-else}
 use Rattle.lift_desk.specs.lemmas.WordLists.{last_of-push}
 use Rattle.lift_clerk.specs.Scanning.{reply_told}
-use Rattle.lift_clerk.specs.Visits.{Visit, FindsAt}
+use Rattle.lift_clerk.specs.Visits.{Visit, FindsAt, with_reply}
+use Rattle.lift_clerk.specs.Answered.{ask_of}
 use Rattle.lift_clerk.specs.lemmas.Visiting.{finds-at, taken-new}
 use Rattle.lift_clerk.specs.lemmas.Scanned.{Looked}
 use Rattle.lift_parts.specs.declared.taken.Taken.{Taken}
 use Rattle.lift_parts.specs.Batch.{AreBelow, commands_in, turns_of, turns_with, turns_after, IsNoted, AreNoted}
-use Rattle.lift_parts.specs.Flusher.{GivesIt, answered_at, AnswersOne, AnswersAll, Answered, IsSettled}
+use Rattle.lift_parts.specs.Flusher.{AnswersOne, Answered, IsSettled}
 use Rattle.lift_parts.specs.lemmas.Used.{is_below}
 
 finds : (places next : List ClerkPlace) (n word : ℕ) (found : Option Ask) → Looked places next n word found → FindsAt (get_or places n no_place) (record { word = word; found = found })
 finds places next n word found look = finds-at (get_or places n no_place) word found look.takes look.even look.number look.in_range look.known look.told
 
-number_given : (taken : Taken) (found : Option Ask) (n : ℕ) → IfSome found (λ (ask : Ask). n ≡ ask.number) → GivesIt found taken → n ≡ taken.command.number
-number_given taken None n is gives = absurd gives
-number_given taken (Some ask) n is gives = is ∙ gives.0
+number_given : (taken : Taken) (found : Option Ask) (n : ℕ) → IfSome found (λ (ask : Ask). n ≡ ask.number) → found ≡ Some (ask_of taken.command) → n ≡ taken.command.number
+number_given taken found n is gives = subst (λ (o : Option Ask). IfSome o (λ (ask : Ask). n ≡ ask.number)) gives is
 
 one_end : (xs : List ℕ) (x y : ℕ) → xs ++ x ∷ [] ≡ xs ++ y ∷ [] → x ≡ y
 one_end xs x y e = let same = append_cancel_left xs (x ∷ []) (y ∷ []) e in cc
 
 -- what is taken is the word that was read
-one_word : (view : ClerkView) (word other : ℕ) (found : Option Ask) (taken : Taken) → TakesOf view word found → GivesIt found taken → (with_taking view word).taken ≡ view.taken ++ other ∷ [] → word ≡ other
-one_word view word other None taken takes gives now = absurd gives
-one_word view word other (Some ask) taken takes gives now = one_end view.taken word other (sym (taken-new view word takes.0) ∙ now)
+one_word : (view : ClerkView) (word other : ℕ) (found : Option Ask) (taken : Taken) → TakesOf view word found → found ≡ Some (ask_of taken.command) → (with_taking view word).taken ≡ view.taken ++ other ∷ [] → word ≡ other
+one_word view word other found taken takes gives now =
+    let is : TakesOf view word (Some (ask_of taken.command)) = subst (TakesOf view word) gives takes in
+    one_end view.taken word other (sym (taken-new view word is.0) ∙ now)
+
+-- one place changed twice has the second view
+changed_twice : (places : List ClerkPlace) (t : ℕ) (v w : ClerkView) → clerk_with (clerk_with places t v) t w ≡ clerk_with places t w
+changed_twice [] t v w = refl
+changed_twice (p ∷ places) zero v w = refl
+changed_twice (p ∷ places) (suc t) v w = ap (λ (l : List ClerkPlace). p ∷ l) (changed_twice places t v w)
 
 -- the look gave the command, and its answer is stored
-pub gives_one : (is_safe : Bool) (places mid next : List ClerkPlace) (taken : Taken) (word : ℕ) (found : Option Ask) (reply : Reply) → Looked places mid taken.command.terminal word found → GivesIt found taken
+pub gives_one : (is_safe : Bool) (places mid next : List ClerkPlace) (taken : Taken) (word : ℕ) (found : Option Ask) (reply : Reply) → Looked places mid taken.command.terminal word found → found ≡ Some (ask_of taken.command)
     → view_at mid taken.command.terminal ≡ with_taking (view_at places taken.command.terminal) word
     → next ≡ clerk_with mid taken.command.terminal (with_answer (view_at mid taken.command.terminal)
     (reply_word (length (view_at mid taken.command.terminal).taken) (number_of (last_of (view_at mid taken.command.terminal).taken)) reply))
@@ -46,13 +53,18 @@ pub gives_one : (is_safe : Bool) (places mid next : List ClerkPlace) (taken : Ta
     → AnswersOne is_safe places taken (record { word = word; found = found }) next
 gives_one is_safe places mid next taken word found reply look gives here stored said noted =
     let t = taken.command.terminal in
+    let view : ClerkView = with_taking (view_at places t) word in
     let number : number_of (last_of (view_at mid t).taken) ≡ taken.command.number = ap (λ (w : ClerkView). number_of (last_of w.taken)) here ∙ number_given taken found _ look.number gives in
+    let told : Reply = reply_told is_safe taken.reply in
     record {
       finds = finds places mid t word found look;
       gives = gives;
       word = one_word (view_at places t) word taken.note.word found taken look.takes gives noted;
       answered = stored ∙ ap (λ (p : ℕ × Reply). clerk_with mid t (with_answer (view_at mid t) (reply_word (length (view_at mid t).taken) p.0 p.1))) (λ i. (number i, said i))
-          ∙ ap (λ (l : List ClerkPlace). answered_at l taken (reply_told is_safe taken.reply)) look.seat_is;
+          ∙ ap (λ (v : ClerkView). clerk_with mid t (with_answer v (reply_word (length v.taken) taken.command.number told))) here
+          ∙ ap (λ (l : List ClerkPlace). clerk_with l t (with_reply view (Some (ask_of taken.command)) (told ∷ []))) look.seat_is
+          ∙ changed_twice places t view (with_reply view (Some (ask_of taken.command)) (told ∷ []))
+          ∙ ap (λ (o : Option Ask). clerk_with places t (with_reply view o (told ∷ []))) (sym gives);
     }
 
 is_same : (m n : ℕ) → nat_eq m n ≡ true → m ≡ n
@@ -92,15 +104,13 @@ settles_one places mid next turns taken looked stored inside counted first takes
         let was = settled j in
         (subst (λ (v : ClerkView). ¬ Owes v) (sym still) was.0, subst (λ (v : ClerkView). turn_of (last_of v.taken) ≤ get_or (turns_with turns taken) j 0) (sym still) (omega arith))
 
-more : (is_safe : Bool) (places mid next : List ClerkPlace) (batch : List Taken) (visits : List Visit) (taken : Taken) (visit : Visit) → AnswersAll is_safe places batch visits mid
-    → AnswersOne is_safe mid taken visit next → AnswersAll is_safe places (batch ++ taken ∷ []) (visits ++ visit ∷ []) next
-more is_safe places mid next [] [] taken visit all last = (next, subst (λ (l : List ClerkPlace). AnswersOne is_safe l taken visit next) all last, refl)
-more is_safe places mid next [] (v ∷ visits) taken visit all last = absurd all
-more is_safe places mid next (t ∷ batch) [] taken visit all last = absurd all
-more is_safe places mid next (t ∷ batch) (v ∷ visits) taken visit all last = (all.0, all.1, more is_safe all.0 mid next batch visits taken visit all.2 last)
+more : (is_safe : Bool) (places mid next : List ClerkPlace) (batch : List Taken) (taken : Taken) (visit : Visit) → Answered is_safe places batch mid
+    → AnswersOne is_safe mid taken visit next → Answered is_safe places (batch ++ taken ∷ []) next
+more is_safe places mid next [] taken visit all last = (visit, next, subst (λ (l : List ClerkPlace). AnswersOne is_safe l taken visit next) all last, refl)
+more is_safe places mid next (t ∷ batch) taken visit all last = (all.0, all.1, all.2, more is_safe all.1 mid next batch taken visit all.3 last)
 
 pub answered_none : (is_safe : Bool) (places : List ClerkPlace) → Answered is_safe places [] places
-answered_none is_safe places = record { visits = []; all = refl }
+answered_none is_safe places = refl
 
 -- the commands up to one, with it
 take_one : (commands : List Taken) (n : ℕ) (taken : Taken) → n < length commands → taken ≡ get_or commands n taken → take (n + 1) commands ≡ take n commands ++ taken ∷ []
@@ -111,10 +121,8 @@ take_one commands n taken inside is =
 -- one command more
 pub answered_more : (is_safe : Bool) (places mid next : List ClerkPlace) (commands : List Taken) (n : ℕ) (taken : Taken) (visit : Visit) → n < length commands → taken ≡ get_or commands n taken
     → Answered is_safe places (take n commands) mid → AnswersOne is_safe mid taken visit next → Answered is_safe places (take (n + 1) commands) next
-answered_more is_safe places mid next commands n taken visit inside is before last = record {
-  visits = before.visits ++ visit ∷ [];
-  all = subst (λ (l : List Taken). AnswersAll is_safe places l (before.visits ++ visit ∷ []) next) (sym (take_one commands n taken inside is)) (more is_safe places mid next (take n commands) before.visits taken visit before.all last);
-}
+answered_more is_safe places mid next commands n taken visit inside is before last =
+    subst (λ (l : List Taken). Answered is_safe places l next) (sym (take_one commands n taken inside is)) (more is_safe places mid next (take n commands) taken visit before last)
 
 pub answered_all : (is_safe : Bool) (places next : List ClerkPlace) (commands : List Taken) (n : ℕ) → length commands ≤ n → Answered is_safe places (take n commands) next → Answered is_safe places commands next
 answered_all is_safe places next commands n all is = subst (λ (l : List Taken). Answered is_safe places l next) (take_all n commands all) is

@@ -8,7 +8,6 @@ pub mod Allocated
 pub mod Flushed
 pub mod Turned
 pub mod Ran
-pub mod Heard
 pub mod Told
 pub mod Crosses
 pub mod Draining

@@ -1,9 +1,8 @@
 -- What the line holds, by its two ends.
-use Rattle.std.proofs.Common.{◌≡◌, ℕ, ◌+◌, ◌≤◌, List, [], ◌∷◌, ◌++◌, length, drop, refl, sym, ap, ◌∙◌, append-nil, length-append, arith, subst}
+use Rattle.std.proofs.Common.{◌≡◌, ◌+◌, ◌≤◌, List, [], ◌∷◌, ◌++◌, length, refl, sym, ap, ◌∙◌, append-nil, length-append, arith, subst}
 use Rattle.lift_parts.specs.Batch.{BatchState}
-use Rattle.lift_parts.specs.Line.{SendState, ReceiveState, ReceivesOne, WasFull, WasEmpty, BatchesGoOn}
+use Rattle.lift_parts.specs.Line.{SendState, ReceiveState, WasFull, WasEmpty, BatchesGoOn}
 use Rattle.lift_parts.specs.Queued.{Queued}
-use Rattle.lift_parts.specs.Flusher.{count_of_entries, entries_between}
 
 no_more : {A : Type 0} (xs ys : List A) → length xs ≡ length xs + length ys → ys ≡ []
 no_more xs [] same = refl
@@ -19,23 +18,6 @@ all_received s r q same = q.in_order ∙ ap (λ l. r.received ++ l) (none_waits 
 -- the two ends are at one state then
 pub same_state : (s : SendState) (r : ReceiveState) → Queued s r → length s.sent ≡ length r.received → r.state ≡ s.state
 same_state s r q same = (subst (λ (items : List BatchState). BatchesGoOn s.building s.desk r.state r.turns items s.state s.turns) (none_waits s r q same) q.goes_on).0
-
-drop_all : (xs : List BatchState) → drop (length xs) xs ≡ []
-drop_all [] = refl
-drop_all (x ∷ xs) = drop_all xs
-
-drop_front : (xs ys : List BatchState) → drop (length xs) (xs ++ ys) ≡ ys
-drop_front [] ys = refl
-drop_front (x ∷ xs) ys = drop_front xs ys
-
-pub between_none : (r : ReceiveState) → entries_between r r ≡ 0
-between_none r = ap count_of_entries (drop_all r.received)
-
-pub between_one : (old new : ReceiveState) (batch : BatchState) → ReceivesOne old batch new → entries_between old new ≡ length batch.entries
-between_one old new batch one = ap (λ l. count_of_entries (drop (length old.received) l)) one.receives ∙ ap count_of_entries (drop_front old.received (batch ∷ [])) ∙ zero_right (length batch.entries)
-  where
-    zero_right : (n : ℕ) → n + 0 ≡ n
-    zero_right n = omega arith
 
 -- it was full of what had not left it
 pub full_by : (s : SendState) → WasFull s → length s.gone + 4 ≤ length s.sent

@@ -1,7 +1,8 @@
 -- A flusher's turn, of what it received, its commit and its answers.
-use Rattle.std.proofs.Common.{◌≡◌, ◌⊎◌, inl, inr, ⊎_elim, ℕ, ◌+◌, Bool, true, false, List, [], ◌∷◌, ◌++◌, drop, length, refl, sym, ap, ◌∙◌, subst, arith}
+use Rattle.std.proofs.Common.{◌≡◌, ◌⊎◌, inl, inr, ⊎_elim, true, false, List, [], ◌∷◌, ◌++◌, drop, length, refl, sym, ap, ◌∙◌, subst}
 use Rattle.std.specs.Prelude.{Result, Ok, Err, IfOk, OnOk}
 use Rattle.std.proofs.Math.Seq.{drop-append_seam, drop-length}
+use Rattle.std.proofs.lemmas.List.{append-nil}
 use Rattle.lift_base.specs.declared.history.Entry.{Entry}
 use Rattle.lift_disk.specs.Disk.{DiskState}
 use Rattle.lift_register.specs.Register.{register_of}
@@ -10,24 +11,24 @@ use Rattle.lift_journal.specs.declared.fault.JournalFault.TheVariants.{Disk, Bro
 use Rattle.lift_keeper.specs.declared.fault.KeeperFault.{KeeperFault}
 use Rattle.lift_keeper.specs.declared.fault.KeeperFault.TheVariants.{Journal}
 use Rattle.lift_keeper.specs.Commits.{Commits, CommitsTo}
+use Rattle.lift_keeper.specs.Calls.{CommitCalls}
 use Rattle.lift_keeper.specs.Writer.{WriterView}
 use Rattle.lift_keeper.specs.lemmas.Committed.{nothing_refused, nothing_safe, some_failed, whole_before}
 use Rattle.lift_parts.specs.declared.counts.FlushCounts.{FlushCounts}
 use Rattle.lift_building.specs.Plan.{Plan}
-use Rattle.lift_parts.specs.Batch.{BatchState, IsDecided}
+use Rattle.lift_parts.specs.Batch.{BatchState, IsDecided, entries_of_batches}
 use Rattle.lift_parts.specs.Line.{ReceiveState, ReceivesOne, FindsNone, Tries, tried}
-use Rattle.lift_parts.specs.Flusher.{FlusherState, IsFlusher, IsEmptyTurn, IsBatchTurn, count_of_entries, entries_between}
+use Rattle.lift_parts.specs.Flusher.{FlusherState, IsFlusher, IsEmptyTurn, IsBatchTurn, entries_between}
 use Rattle.lift_parts.specs.Turns.{IsFlush}
 use Rattle.lift_relay.specs.Settler.{SettlerState, SettlesBatch}
 
 pub none_between : (old new : ReceiveState) (tries : Tries) → new ≡ record old { tries = tries } → 0 ≡ entries_between old new
-none_between old new tries same = sym (ap (λ (r : ReceiveState). count_of_entries (drop (length old.received) r.received)) same ∙ ap count_of_entries (drop-length old.received))
+none_between old new tries same = sym (ap (λ (r : ReceiveState). entries_between old r) same ∙ ap (λ (l : List BatchState). length (entries_of_batches l)) (drop-length old.received))
 
 pub one_between : (old new : ReceiveState) (batch : BatchState) → new.received ≡ old.received ++ batch ∷ [] → entries_between old new ≡ length batch.entries
 one_between old new batch receives =
-    let seam : entries_between old new ≡ length batch.entries + 0 =
-    ap (λ (l : List BatchState). count_of_entries (drop (length old.received) l)) receives ∙ ap count_of_entries (drop-append_seam old.received (batch ∷ [])) in
-    omega arith
+    ap (λ (l : List BatchState). length (entries_of_batches (drop (length old.received) l))) receives
+    ∙ ap (λ (l : List BatchState). length (entries_of_batches l)) (drop-append_seam old.received (batch ∷ [])) ∙ ap length (append-nil batch.entries)
 
 module _ {D : Type 0} (state : D → DiskState) (f g : FlusherState D) (is_flusher : IsFlusher f) (desk : g.desk ≡ f.desk) where
   -- that received nothing
@@ -38,8 +39,8 @@ module _ {D : Type 0} (state : D → DiskState) (f g : FlusherState D) (is_flush
     same_flusher : g.writer ≡ f.writer → g ≡ record f { end = record f.end { tries = tried f.end.tries true } }
     same_flusher writer = λ i. record { desk = desk i; seat = seat i; writer = writer i; end = end i }
 
-    pub idle : (result : Result FlushCounts KeeperFault) → Commits {D = D} {T = FlushCounts} state f.writer [] g.writer result → IfOk result (λ counts. counts ≡ record { batches = 0; answers = 0 }) → IsFlush state f g result
-    idle (Ok counts) c zero =
+    pub idle : (result : Result FlushCounts KeeperFault) → Commits {D = D} {T = FlushCounts} state f.writer [] g.writer result → IfOk result (λ counts. counts ≡ record { batches = 0; answers = 0 }) → CommitCalls {D = D} {T = FlushCounts} state f.writer (entries_between f.end g.end) g.writer result → IsFlush state f g result
+    idle (Ok counts) c zero made =
         let nothing = nothing_safe state f.writer g.writer counts c in
         record {
           before = is_flusher;
@@ -55,9 +56,10 @@ module _ {D : Type 0} (state : D → DiskState) (f g : FlusherState D) (is_flush
             leads = λ whole. ap (λ (r : ReceiveState). r.state.register) end ∙ sym (is_flusher.safe whole) ∙ sym (ap (λ (w : WriterView D). w.register) nothing.1) ∙ c.safe.register;
             is = c;
           };
+          calls = made;
           same = (desk, ap (λ (r : ReceiveState). r.line) end);
         }
-    idle (Err fault) c zero =
+    idle (Err fault) c zero made =
         let nothing = nothing_refused state f.writer g.writer fault c in
         record {
           before = is_flusher;
@@ -73,12 +75,13 @@ module _ {D : Type 0} (state : D → DiskState) (f g : FlusherState D) (is_flush
             leads = λ whole. absurd (let broken = nothing.0 in cc);
             is = c;
           };
+          calls = made;
           same = (desk, ap (λ (r : ReceiveState). r.line) end);
         }
 
   -- that received a batch
-  pub flushed : (batch : BatchState) (answer : Result FlushCounts KeeperFault) → ReceivesOne f.end batch g.end → Commits state f.writer batch.entries g.writer answer → IsBatchTurn f g batch answer → IsFlush state f g answer
-  flushed batch answer receives c turn = record {
+  pub flushed : (batch : BatchState) (answer : Result FlushCounts KeeperFault) → ReceivesOne f.end batch g.end → Commits state f.writer batch.entries g.writer answer → IsBatchTurn f g batch answer → CommitCalls state f.writer (entries_between f.end g.end) g.writer answer → IsFlush state f g answer
+  flushed batch answer receives c turn made = record {
     before = is_flusher;
     turns = inr (batch, turn);
     commits = record {
@@ -87,6 +90,7 @@ module _ {D : Type 0} (state : D → DiskState) (f g : FlusherState D) (is_flush
       leads = λ whole. ap (λ (s : State). s.register) receives.state ∙ turn.decided.shows ∙ ap (λ r. register_of r batch.entries) (ap (λ (s : State). s.register) receives.next.on_state ∙ sym (is_flusher.safe whole));
       is = c;
     };
+    calls = made;
     same = (desk, receives.same.0);
   }
 

@@ -8,7 +8,9 @@ pub mod BatchInside
 pub mod Scanner
 pub mod ScannerInside
 pub mod AllocatorInside
+pub mod Heard
 pub mod Settler
 pub mod SettlerInside
 pub mod FlusherInside
 pub mod Pair
+pub mod lemmas

@@ -35,26 +35,6 @@ HaveTurned choice state a f (Refused b no_thread) g = (b ≡ a) × (g ≡ f)
 HaveTurned choice state a f (Done b first) g = AllocatorTurns choice a b
     × FlusherTurns state f None g first
 
--- A witness heard of the first fault when it came; else it is as it was.
-abbrev pub HeardSince : {V : Type 0} → (V → KeeperFault → V → Type 0) → Option KeeperFault
-    → Option KeeperFault → V → V → Type 0
-HeardSince hears None None old new = new ≡ old
-HeardSince hears None (Some fault) old new = hears old fault new
-HeardSince hears (Some first) None old new = ⊥
-HeardSince hears (Some first) (Some fault) old new = (fault ≡ first) × (new ≡ old)
-
--- that of both parts' turns
-abbrev pub HeardOf : {P V : Type 0} → (V → KeeperFault → V → Type 0) → Turned P → V → V → Type 0
-HeardOf hears (Refused allocator no_thread) old new = new ≡ old
-HeardOf hears (Done allocator first) old new = HeardSince hears None first old new
-
--- A witness heard of the fault that a run answers; of none it is as it was.
-abbrev pub WitnessHears : {V : Type 0} → (V → KeeperFault → V → Type 0) → Option RunFault → V → V
-    → Type 0
-WitnessHears hears None old new = new ≡ old
-WitnessHears hears (Some (Keeper fault)) old new = hears old fault new
-WitnessHears hears (Some (Spawn no_thread)) old new = new ≡ old
-
 abbrev pub fault_of : Option KeeperFault → Option RunFault
 fault_of None = None
 fault_of (Some fault) = Some (Keeper fault)

@@ -16,6 +16,7 @@ ghost use Rattle.lift_base.specs.declared.history.Entry.{Entry};
 ghost use Rattle.lift_world.specs.declared.event.Taken.{Taken as Held};
 ghost use Rattle.lift_clerk.specs.History.{History};
 ghost use Rattle.lift_parts.specs.History.{FlushStands, group_behind};
+ghost use Rattle.lift_relay.specs.Heard.{FailureHeard};
 
 use crate::allocator::Allocator;
 use crate::held::HeldClerk;
@@ -23,6 +24,7 @@ use crate::line::ReceiveEnd;
 use crate::places::with_both;
 use crate::relay::Key;
 use crate::settling::Settler;
+use crate::witness::{HeardBy, Witness};
 use lift_desk::{ClerkSeat, Desk, Seat};
 use lift_disk::Disk;
 use lift_keeper::{KeeperFault, Writer};
@@ -172,14 +174,24 @@ impl<'d, 'b, D: Disk, K> Flusher<'d, 'b, D, K> {
 
     /// One turn: receives one batch, makes it safe, then looks once more at each of its commands'
     /// terminals, and answers each command, which its look gives, with the batch's reply. After a
-    /// device fault it answers Unknown to that batch and all later ones.
+    /// device fault it answers Unknown to that batch and all later ones. The witness hears of that
+    /// fault in the call that never waits, by which the batch is settled.
     ///
     /// `Journal(Disk)` where a call of the device failed, `Journal(Broken)` while it is broken,
     /// also where the line was empty.
-    pub fn turn<R: Wait>(&mut self, rt: &R) -> Result<FlushCounts, KeeperFault>
+    pub fn turn<R: Wait, V: Witness>(
+        &mut self,
+        rt: &R,
+        witness: &mut V,
+    ) -> Result<FlushCounts, KeeperFault>
+    where
+        K: HeardBy<V>,
         ensures flushes { IsFlush D.state self.old self.new result }
         ensures calls { CommitCalls D.state self.old.writer
             (entries_between self.old.end self.new.end) self.new.writer result }
+        // Where the device failed first, the witness heard of that, once.
+        ensures heard { FailureHeard V.hears
+            self.old.writer.is_broken self.new.writer.is_broken witness.old witness.new }
         // A batch that it was told of, it receives.
         ensures finds { length self.old.end.received < length self.old.end.known
             → (batch : BatchState) × IsBatchTurn self.old self.new batch result }
@@ -196,6 +208,6 @@ impl<'d, 'b, D: Disk, K> Flusher<'d, 'b, D, K> {
             Some(batch) => batch,
             None => return self.settler.rest(),
         };
-        self.settler.settle(batch)
+        self.settler.settle(batch, witness)
     }
 }

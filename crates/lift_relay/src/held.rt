@@ -15,14 +15,17 @@ ghost use Rattle.lift_clerk.specs.Once.{TurnsOnce, TurnAdvances};
 ghost use Rattle.lift_clerk.specs.Steps.{group_of};
 ghost use Rattle.lift_parts.specs.Flusher.{IsFlusher};
 ghost use Rattle.lift_parts.specs.History.{group_behind};
-ghost use Rattle.lift_parts.specs.Parts.{AreParts, AreOfOne, IsRejoined, CannotJoin};
+ghost use Rattle.lift_parts.specs.Parts.{AreParts, AreOfOne, IsRejoined};
 ghost use Rattle.lift_parts.specs.Queued.{Queued};
+ghost use Rattle.lift_relay.specs.Heard.{FailureHeard};
 
 use crate::allocator::Allocator;
 use crate::basis::Basis;
 use crate::batch::Batch;
 use crate::flusher::Flusher;
 use crate::line::new_line;
+use crate::settling::tell_of;
+use crate::witness::{HeardBy, Witness};
 use arrayvec::ArrayVec;
 use lift_base::Memory;
 use lift_clerk::{Clerk, Counts, turn_shows_letters};
@@ -141,15 +144,21 @@ impl<'d, 'b, D: Disk, P: Policy + Drop, K> HeldClerk<'d, 'b, D, P, K> {
 
     /// It behind one turn more, and what that answers. Whatever had been answered before, each image
     /// that a crash at any moment of the turn may leave keeps, and what the turn answers is kept
-    /// from then on.
-    pub fn turn(self) -> (Self, Result<Counts, KeeperFault>)
+    /// from then on. Where the device fails first in it, the witness hears of that.
+    pub fn turn<V: Witness>(self, witness: &mut V) -> (Self, Result<Counts, KeeperFault>)
+    where
+        K: HeardBy<V>,
         ensures turn { TurnsOnce
             D.state (P.chooses self.entry.policy) self.entry result.0 result.1 }
         ensures advances { TurnAdvances
             D.state (P.chooses self.entry.policy) self.entry result.0 result.1 }
+        ensures heard { FailureHeard V.hears self.entry.keeper.writer.is_broken
+            result.0.keeper.writer.is_broken witness.old witness.new }
     {
         let mut clerk = self.clerk;
+        let was_broken = clerk.keeper().is_broken();
         let outcome = turn_shows_letters(&mut clerk);
+        tell_of(witness, was_broken, clerk.keeper().is_broken());
         (HeldClerk::new(clerk), outcome)
     }
 
@@ -239,8 +248,7 @@ pub fn rejoin_held<'d, 'b, D: Disk, P: Policy + Drop, K>(
 ) -> Result<HeldClerk<'d, 'b, D, P, K>, (Allocator<'d, 'b, P>, Flusher<'d, 'b, D, K>)>
     requires of_one { AreOfOne allocator flusher }
     ensures joined { IfOk result (λ clerk. IsRejoined allocator.entry flusher.entry clerk) }
-    ensures refused { IfErr result (λ parts. (parts.0 ≡ allocator.entry) × (parts.1 ≡ flusher.entry)
-        × CannotJoin allocator.entry flusher.entry) }
+    ensures refused { IfErr result (λ parts. (parts.0 ≡ allocator.entry) × (parts.1 ≡ flusher.entry)) }
     // Nothing is owed between the flusher's turns, and where all was received the registers don't
     // differ.
     ensures waits { OnErr result

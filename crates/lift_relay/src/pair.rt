@@ -12,7 +12,7 @@ ghost use Rattle.lift_parts.specs.Turns.{AllocatorTurns, FlusherTurns, IsFlush, 
 ghost use Rattle.lift_parts.specs.Turns.{first_of};
 ghost use Rattle.lift_relay.specs.Pair.{ComesFrom};
 ghost use Rattle.lift_relay.specs.Pair.{HaveTurned, IfDone, IfRan, IsRun, HaveRun};
-ghost use Rattle.lift_relay.specs.Pair.{WitnessHears, HeardSince, HeardOf};
+ghost use Rattle.lift_relay.specs.Heard.{FailureHeard};
 ghost use Rattle.lift_parts.specs.Turns.{IsSameAllocator, IsSameFlusher};
 ghost use Rattle.lift_clerk.specs.History.{History};
 ghost use Rattle.lift_parts.specs.History.{GoesOnTo, group_behind};
@@ -22,7 +22,7 @@ use crate::flusher::Flusher;
 use crate::gate::{Asking, Closed, Gate};
 use crate::places::with_both;
 use crate::refused::{NoThread, spawn};
-use crate::witness::Witness;
+use crate::witness::{HeardBy, Witness};
 use lift_disk::Disk;
 use lift_keeper::KeeperFault;
 use lift_parts::flushes_are_steps;
@@ -96,8 +96,8 @@ fn tell_of_flusher<R: Wait, G: Gate, D: Disk, K>(
     }
 }
 
-/// One turn. Keeps the first fault of all, and tells the witness of it.
-fn flush_once<R: Wait, D: Disk, K, V: Witness>(
+/// One turn. Keeps the first fault of all.
+fn flush_once<R: Wait, D: Disk, K: HeardBy<V>, V: Witness>(
     rt: &R,
     flusher: &mut Flusher<'_, '_, D, K>,
     first: &mut Option<KeeperFault>,
@@ -105,25 +105,26 @@ fn flush_once<R: Wait, D: Disk, K, V: Witness>(
 )
     ensures turns { (answer : Result FlushCounts KeeperFault)
         × IsFlush D.state flusher.old flusher.new answer × (first.new ≡ first_of first.old answer) }
-    ensures heard { HeardSince V.hears first.old first.new witness.old witness.new }
+    ensures heard { FailureHeard V.hears
+        flusher.old.writer.is_broken flusher.new.writer.is_broken witness.old witness.new }
 {
-    if let Err(fault) = flusher.turn(rt) {
+    if let Err(fault) = flusher.turn(rt, witness) {
         if first.is_none() {
             *first = Some(fault);
-            witness.has_failed(fault);
         }
     }
 }
 
 /// Turns while the gate goes on. The first fault, if there was one.
-fn flush<R: Wait, G: Gate, D: Disk, K, V: Witness>(
+fn flush<R: Wait, G: Gate, D: Disk, K: HeardBy<V>, V: Witness>(
     rt: &R,
     flusher: &mut Flusher<'_, '_, D, K>,
     gate: &G,
     witness: &mut V,
 ) -> Option<KeeperFault>
     ensures turns { FlusherTurns D.state flusher.old None flusher.new result }
-    ensures heard { HeardSince V.hears None result witness.old witness.new }
+    ensures heard { FailureHeard V.hears
+        flusher.old.writer.is_broken flusher.new.writer.is_broken witness.old witness.new }
     ensures closed { G.closed gate.now }
 {
     let mut first = None;
@@ -140,7 +141,7 @@ fn flush<R: Wait, G: Gate, D: Disk, K, V: Witness>(
 
 /// Sends the batch in hand and receives all that was sent, by turns of the flusher. The first fault
 /// of all turns, of which one may be there already.
-fn drain<R: Wait, D: Disk, P: Policy + Drop, K, V: Witness>(
+fn drain<R: Wait, D: Disk, P: Policy + Drop, K: HeardBy<V>, V: Witness>(
     rt: &R,
     allocator: &mut Closed<'_, '_, P>,
     flusher: &mut Flusher<'_, '_, D, K>,
@@ -150,7 +151,8 @@ fn drain<R: Wait, D: Disk, P: Policy + Drop, K, V: Witness>(
     ensures allocator { AllocatorTurns
         (P.chooses allocator.old.policy) allocator.old allocator.new }
     ensures flusher { FlusherTurns D.state flusher.old first flusher.new result }
-    ensures heard { HeardSince V.hears first result witness.old witness.new }
+    ensures heard { FailureHeard V.hears
+        flusher.old.writer.is_broken flusher.new.writer.is_broken witness.old witness.new }
     // It takes nothing.
     ensures sends { IsSending allocator.old allocator.new }
     ensures nothing_in_hand { allocator.new.hand ≡ [] }
@@ -221,11 +223,12 @@ where
     G: Gate + Sync,
     D: Disk + Drop,
     P: Policy + Drop + Send,
-    K: Drop,
+    K: HeardBy<V> + Drop,
     V: Witness + Drop,
     ensures turned { HaveTurned (P.chooses allocator.entry.policy) D.state allocator.entry
         flusher.entry result.0 result.1 }
-    ensures heard { HeardOf V.hears result.0 witness result.2 }
+    ensures heard { FailureHeard V.hears
+        flusher.entry.writer.is_broken result.1.writer.is_broken witness result.2 }
     ensures closed { IfDone (G.closed gate.now) result.0 }
 {
     let may_run = AtomicBool::new(true);
@@ -236,7 +239,8 @@ where
         move |scope| -> (Turned<P>, Flusher<D, K>, V)
             ensures turned { HaveTurned (P.chooses allocator.entry.policy) D.state
                 allocator.entry flusher.entry result.0 result.1 }
-            ensures heard { HeardOf V.hears result.0 witness result.2 }
+            ensures heard { FailureHeard V.hears
+                flusher.entry.writer.is_broken result.1.writer.is_broken witness result.2 }
             ensures closed { IfDone (G.closed gate.entry.now) result.0 }
         {
             let promise = OfPart(Snapshot::of(&allocator));
@@ -291,11 +295,12 @@ where
     G: Gate + Sync,
     D: Disk + Drop,
     P: Policy + Drop + Send,
-    K: Drop,
+    K: HeardBy<V> + Drop,
     V: Witness + Drop,
     ensures ran { IsRun (P.chooses allocator.entry.policy) D.state allocator.entry result.0
         flusher.entry result.1 result.2.1 }
-    ensures heard { WitnessHears V.hears result.2.1 witness result.2.0 }
+    ensures heard { FailureHeard V.hears
+        flusher.entry.writer.is_broken result.1.writer.is_broken witness result.2.0 }
     ensures closed { result.2.1 ≢ Some (RunFault.Spawn tt) → G.closed gate.now }
 {
     let (turned, mut flusher, mut witness) = turn_both(rt, allocator, flusher, gate, witness);
@@ -322,8 +327,8 @@ where
 /// It is generic in the key of its parts. So it can have the flusher's seats answer by turns alone,
 /// each of which ends, or waits for a batch, with nothing answered that isn't safe.
 ///
-/// A device fault doesn't end it: the flusher's first is the answer, which the witness hears of when
-/// it comes, and what was received from then on was answered Unknown. `Spawn` where the thread
+/// A device fault doesn't end it: the flusher's first is the answer, which the witness hears of in the
+/// very turn, and what was received from then on was answered Unknown. `Spawn` where the thread
 /// couldn't be started; then it returns at once. The witness is given back.
 pub fn run<'d, 'b, R, G, D, P, K, V>(
     rt: &R,
@@ -337,7 +342,7 @@ where
     G: Gate + Sync,
     D: Disk + Drop,
     P: Policy + Drop + Send,
-    K: Drop,
+    K: HeardBy<V> + Drop,
     V: Witness + Drop,
     requires of_one { AreOfOne allocator.old flusher.old }
     ensures refused { result.1 ≡ Some (RunFault.Spawn tt)
@@ -345,8 +350,10 @@ where
     ensures ran { result.1 ≢ Some (RunFault.Spawn tt)
         → HaveRun (P.chooses allocator.old.policy) D.state allocator.old allocator.new flusher.old
         flusher.new result.1 }
-    // The witness heard of just that fault, once; of none it is as it was.
-    ensures heard { WitnessHears V.hears result.1 witness result.0 }
+    // The witness heard that the device failed, once, where it did first in the run; else it is as it
+    // was.
+    ensures heard { FailureHeard V.hears
+        flusher.old.writer.is_broken flusher.new.writer.is_broken witness result.0 }
     // It ends only once the gate has said not to go on, or where no thread could be made.
     ensures closed { result.1 ≢ Some (RunFault.Spawn tt) → G.closed gate.now }
     ensures broken { (fault : KeeperFault) → result.1 ≡ Some (RunFault.Keeper fault)
@@ -376,7 +383,8 @@ where
         )
             ensures ran { IsRun (P.chooses allocator.entry.policy) D.state allocator.entry result.0
                 flusher.entry result.1 result.2.1 }
-            ensures heard { WitnessHears V.hears result.2.1 witness result.2.0 }
+            ensures heard { FailureHeard V.hears
+                flusher.entry.writer.is_broken result.1.writer.is_broken witness result.2.0 }
             ensures closed { result.2.1 ≢ Some (RunFault.Spawn tt) → G.closed gate.entry.now }
         { run_owned(rt, Asking::new(allocator), flusher, gate, witness) },
     );

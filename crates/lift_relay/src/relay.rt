@@ -8,13 +8,14 @@ ghost use Rattle.lift_world.specs.declared.event.Taken.{Taken};
 ghost use Rattle.lift_clerk.specs.History.{History};
 ghost use Rattle.lift_parts.specs.Flusher.{IsFlusher};
 ghost use Rattle.lift_parts.specs.Queued.{Queued};
-ghost use Rattle.lift_parts.specs.Parts.{AreParts, AreOfOne, IsRejoined, CannotJoin};
+ghost use Rattle.lift_parts.specs.Parts.{AreParts, AreOfOne, IsRejoined};
 ghost use Rattle.lift_clerk.specs.Steps.{group_of};
 ghost use Rattle.lift_parts.specs.History.{group_behind};
 
 use crate::allocator::Allocator;
 use crate::flusher::Flusher;
 use crate::held::{part, rejoin_held};
+use crate::witness::{HeardBy, Witness};
 use lift_base::Memory;
 use lift_clerk::Clerk;
 use lift_disk::Disk;
@@ -28,6 +29,9 @@ use std::alloc::Global;
 pub struct Key {
     made: (),
 }
+
+/// Who turns such parts by hand tells whom they like.
+impl<V: Witness> HeardBy<V> for Key {}
 
 /// A clerk's work in two parts, with a line of four batches between them. A broken clerk may be
 /// split; its batch in doubt stays so. Where memory was wanting the clerk comes back as it was.
@@ -77,8 +81,7 @@ pub fn rejoin<'d, 'b, D: Disk, P: Policy + Drop>(
 ) -> Result<Clerk<'d, 'b, D, P>, (Allocator<'d, 'b, P>, Flusher<'d, 'b, D>)>
     requires of_one { AreOfOne allocator flusher }
     ensures joined { IfOk result (λ clerk. IsRejoined allocator.entry flusher.entry clerk) }
-    ensures refused { IfErr result (λ parts. (parts.0 ≡ allocator.entry) × (parts.1 ≡ flusher.entry)
-        × CannotJoin allocator.entry flusher.entry) }
+    ensures refused { IfErr result (λ parts. (parts.0 ≡ allocator.entry) × (parts.1 ≡ flusher.entry)) }
     // Nothing is owed between the flusher's turns, and where all was received the registers don't
     // differ.
     ensures waits { OnErr result

@@ -9,10 +9,12 @@ ghost use Rattle.lift_keeper.specs.Prelude.{Commits, CommitCalls};
 ghost use Rattle.lift_clerk.specs.Visits.{Visit};
 ghost use Rattle.lift_parts.specs.Batch.{turns_behind, turns_with};
 ghost use Rattle.lift_parts.specs.Flusher.{AnswersOne, Answered, IsSettled};
+ghost use Rattle.lift_relay.specs.Heard.{FailureHeard};
 ghost use Rattle.lift_relay.specs.Settler.{SettlesBatch};
 
 use crate::batch::Batch;
 use crate::held::HeldClerk;
+use crate::witness::{HeardBy, Witness};
 use arrayvec::ArrayVec;
 use lift_base::{Reply, Terminal};
 use lift_clerk::Clerk;
@@ -124,6 +126,15 @@ fn commit_nothing<D: Disk>(writer: &mut Writer<'_, D>) -> Result<FlushCounts, Ke
     }
 }
 
+/// Tells the witness where the writer is broken now, as it wasn't before.
+pub(crate) fn tell_of<V: Witness>(witness: &mut V, was_broken: bool, is_broken: bool)
+    ensures { FailureHeard V.hears was_broken is_broken witness.old witness.new }
+{
+    if is_broken && !was_broken {
+        witness.has_failed();
+    }
+}
+
 impl<'d, 'b, D: Disk, K> Settler<'d, 'b, D, K> {
     /// The seats that answer, and the writer.
     pub(crate) fn new(desk: &'d Desk, seat: ClerkSeat, writer: Writer<'b, D>) -> Self
@@ -140,10 +151,16 @@ impl<'d, 'b, D: Disk, K> Settler<'d, 'b, D, K> {
 
     /// Makes a batch safe, then looks once more at each of its commands' terminals, and answers each
     /// command, which its look gives, with the batch's reply. After a device fault it answers Unknown
-    /// to that batch and all later ones.
+    /// to that batch and all later ones. The witness hears of that fault here.
     ///
     /// `Journal(Disk)` where a call of the device failed, `Journal(Broken)` while it is broken.
-    pub fn settle(&mut self, batch: Batch) -> Result<FlushCounts, KeeperFault>
+    pub fn settle<V: Witness>(
+        &mut self,
+        batch: Batch,
+        witness: &mut V,
+    ) -> Result<FlushCounts, KeeperFault>
+    where
+        K: HeardBy<V>,
         requires at_desk { batch.desk ≡ self.old.desk }
         requires next { self.old.writer.is_broken ≡ false
             → (batch.building ≡ self.old.writer.plan)
@@ -152,8 +169,12 @@ impl<'d, 'b, D: Disk, K> Settler<'d, 'b, D, K> {
         ensures settles { SettlesBatch D.state self.old batch self.new result }
         ensures calls { CommitCalls
             D.state self.old.writer (length batch.entries) self.new.writer result }
+        ensures heard { FailureHeard V.hears
+            self.old.writer.is_broken self.new.writer.is_broken witness.old witness.new }
     {
+        let was_broken = self.writer.is_broken();
         let committed = self.writer.commit(batch.entries());
+        tell_of(witness, was_broken, self.writer.is_broken());
         match committed {
             Ok(()) => {
                 let answers = answer_all(self.desk, &mut self.seat, batch, true);

@@ -10,8 +10,8 @@ use crate::batch::Batch;
 use crate::line::{Begins, EndView, Ends, Holds, InOrder, Names};
 use crossbeam_queue::protocol::{Join, Lesson, Outcome};
 use crossbeam_queue::{Pass, RuledArrayQueue};
-use lift_base::Memory;
-use std::alloc::{AllocError, Global};
+use lift_base::{Memory, queue_behind, two_owners};
+use std::alloc::Global;
 use std::marker::Model;
 use std::sync::{Arc, Wait};
 
@@ -46,21 +46,11 @@ impl Side {
     pub fn both(alloc: Global, first: Batch) -> Result<(Side, Side), Memory>
         ensures { IfOk result (λ sides. AreSides first sides.0 sides.1) }
     {
-        let (queue, mut pass) = Line::ruled(alloc, 4)?;
-        match queue.try_push_as::<Names>(&mut pass, first) {
-            Ok(()) => {}
-            Err(_) => return Err(Memory),
-        }
-        match queue.try_pop_as::<Begins>(&mut pass) {
-            Some(_) => {}
-            None => return Err(Memory),
-        }
+        let (queue, mut pass) = queue_behind::<Batch, EndView, InOrder, Names, Begins>(
+            alloc, 4, first,
+        )?;
         let other = queue.another::<Ends>(&mut pass);
-        let line = match Arc::new(alloc, queue) {
-            Ok(line) => line,
-            Err(refused) => return Err(AllocError::from(refused).into()),
-        };
-        let theirs = Arc::try_clone(&line)?;
+        let (line, theirs) = two_owners(alloc, queue)?;
         Ok((
             Side {
                 line,

@@ -12,8 +12,10 @@ ghost use Rattle.lift_parts.specs.Tie.{Flushes, FlushFails, FlushesBroken};
 ghost use Rattle.lift_parts.specs.Turns.{IsFlush};
 ghost use Rattle.lift_parts.specs.History.{group_behind};
 ghost use Rattle.lift_parts.specs.Past.{FlushLeadsOn};
+ghost use Rattle.lift_relay.specs.Heard.{FailureHeard};
 
 use crate::flusher::Flusher;
+use crate::witness::{HeardBy, Witness};
 use lift_disk::Disk;
 use lift_journal::JournalFault;
 use lift_keeper::KeeperFault;
@@ -21,12 +23,15 @@ use lift_parts::{FlushCounts, flushes_are_steps};
 use std::sync::Wait;
 
 /// One turn of the flusher, with what it gives for the machine's turns.
-pub fn turn_flusher_once<R: Wait, D: Disk, K>(
+pub fn turn_flusher_once<R: Wait, D: Disk, K: HeardBy<V>, V: Witness>(
     rt: &R,
     flusher: &mut Flusher<'_, '_, D, K>,
+    witness: &mut V,
 ) -> Result<FlushCounts, KeeperFault>
     // The turn of which a run tells.
     ensures turns { IsFlush D.state flusher.old flusher.new result }
+    ensures heard { FailureHeard V.hears
+        flusher.old.writer.is_broken flusher.new.writer.is_broken witness.old witness.new }
     ensures flushes { IfOk result (λ counts. IsEmptyTurn flusher.old flusher.new (Ok counts)
         ⊎ ((batch : BatchState) × Flushes flusher.old flusher.new batch counts)) }
     ensures fails { result ≡ Err (KeeperFault.Journal JournalFault.Disk)
@@ -41,5 +46,5 @@ pub fn turn_flusher_once<R: Wait, D: Disk, K>(
         → FlushLeadsOn flusher.old flusher.new result w terminals safe given }
 {
     flushes_are_steps::<D>();
-    flusher.turn(rt)
+    flusher.turn(rt, witness)
 }

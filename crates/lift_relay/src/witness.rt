@@ -1,24 +1,24 @@
-//! Who is told of a run's first fault.
+//! Who is told that the device fails, when it does.
 
-ghost use Rattle.lift_keeper.specs.declared.fault.KeeperFault.{KeeperFault};
-
-use lift_keeper::KeeperFault;
-
-/// Is told when the device first fails in a run, while the run goes on.
+/// Is told when a device fails, in the very call in which it does.
 pub trait Witness {
-    // It was told of this fault.
-    ghost hears: { Self → KeeperFault → Self → Type 0 } = { λ _ _ _. Unit {0} };
+    // It was told.
+    ghost hears: { Self → Self → Type 0 } = { λ _ _. Unit {0} };
 
-    /// A turn of the flusher has just answered this fault, as the first one of the run. It is told on
-    /// the thread that called `run`, before the gate is told of that turn, and once.
-    fn has_failed(&mut self, fault: KeeperFault)
-        ensures { hears self.old fault self.new };
+    /// A call of the device has just failed, as none had before since it was last opened. So a device
+    /// that stays broken is told once.
+    fn has_failed(&mut self)
+        ensures { hears self.old self.new };
 }
+
+/// Whom those tell who have a clerk or its parts for this key. Who is generic in both knows of no
+/// other: so whatever it waits for, no device fails there that this one isn't told of.
+pub trait HeardBy<V: Witness> {}
 
 /// Hears of nothing.
 #[derive(Clone, Copy)]
 pub struct NoWitness;
 
 impl Witness for NoWitness {
-    fn has_failed(&mut self, _fault: KeeperFault) {}
+    fn has_failed(&mut self) {}
 }

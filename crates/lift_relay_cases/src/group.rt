@@ -6,7 +6,7 @@ use lift_clerk::{Clerk, Counts};
 use lift_disk::FuseDisk;
 use lift_keeper::KeeperFault;
 use lift_policy::Etd;
-use lift_relay::{Allocator, Flusher, rejoin, split};
+use lift_relay::{Allocator, Flusher, NoWitness, rejoin, split};
 use std::alloc::Global;
 use std::sync::Wait;
 
@@ -26,7 +26,7 @@ impl<'d, 'b> Relay<'d, 'b> {
     pub(crate) fn turn<R: Wait>(&mut self, rt: &R) -> Result<Result<Counts, KeeperFault>, Trouble> {
         let counts = self.allocator.turn(rt);
         for _ in 0..MOST_FLUSHES {
-            match self.flusher.turn(rt) {
+            match self.flusher.turn(rt, &mut NoWitness) {
                 Ok(flushed) if flushed.batches == 0 && flushed.answers == 0 => {
                     return Ok(Ok(counts));
                 }

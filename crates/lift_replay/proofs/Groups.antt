@@ -1,6 +1,6 @@
 -- What a turn makes of a script's group.
 use Rattle.std.proofs.Common.{◌≡◌, ◌⊎◌, ◌↔◌, ℕ, suc, ◌+◌, ◌-◌, ◌<◌, ◌≤◌, ◌==◌, Bool, true, false, cond, List, [], ◌∷◌, ◌++◌, length, Option, Some, None, refl, sym, ap, ◌∙◌, subst, inl, inr, arith}
-use Rattle.std.specs.Prelude.{nat_le, codes, if◌then◌else◌}
+use Rattle.std.specs.Prelude.{nat_le, codes, if◌then◌else◌, MatchBool}
 use Rattle.std.proofs.lemmas.Bool.{false≢true, true≢false, eqb-true, eqb-false, ne_eqb, leb-true, le-leb}
 use Rattle.std.proofs.lemmas.Bool.Decides.{leb_tells}
 use Rattle.lift_base.specs.declared.command.Reply.{Reply}
@@ -22,7 +22,7 @@ use Rattle.lift_policy.specs.Decision.{decision_by, etd_pick}
 use Rattle.lift_policy.specs.Laws.{StepsAreDecisions}
 use Rattle.lift_policy.specs.Run.{Run, unknowns}
 use Rattle.lift_policy.specs.Step.{State}
-use Rattle.lift_keeper.specs.Cuts.{StopsAtMark, FirstIf}
+use Rattle.lift_keeper.specs.Cuts.{StopsAtMark}
 use Rattle.lift_keeper.specs.Writer.{StopsCommit, commit_calls, commit_used, commit_second, has_room}
 use Rattle.lift_disk.specs.Faults.{FusedDisk, fuse_state_of}
 use Rattle.lift_keeper.specs.Keeper.{KeeperView}
@@ -107,8 +107,18 @@ cut_whole : (disk : DiskState) (P : Image → Type 0) (image : Image) → disk.i
 cut_whole disk P image honest leaves may = leaves honest image may
 
 -- a run that a mark divides was stopped: what each cut leaves
-module _ (plan : Plan) (old new : DiskState) (P Q M O : Found) (offset mark made whole : ℕ) (honest : new.is_honest) (is : whole ≡ offset + mark)
-    (stops : StopsAtMark (IsFound plan P) (IsFound plan Q) (IsFound plan M) (IsFound plan O) whole old new) (calls : new.calls ≡ old.calls + offset + made) (most : made ≤ mark + 2) where
+module _ (plan : Plan) (old new : DiskState) (P Q : Found) (unmarks : Bool) (offset mark made whole : ℕ) (honest : new.is_honest) (is : whole ≡ offset + mark)
+    (stops : StopsAtMark (IsFound plan P) (IsFound plan Q) unmarks whole old new) (calls : new.calls ≡ old.calls + offset + made) (most : made ≤ mark + 2) where
+  abbrev M : Found
+  M = if unmarks then P else Q
+
+  abbrev O : Found
+  O = if unmarks then Q else P
+
+  one_of : (b : Bool) (first second : Found) (image : Image) → MatchBool b (IsFound plan first image) (IsFound plan second image) → IsFound plan (if b then first else second) image
+  one_of true first second image found = found
+  one_of false first second image found = found
+
   behind_mark : (outcome : Outcome) (image : Image) (b : Bool) → nat_le (mark + 2) made ≡ b → mark < made → IsLeftBy outcome new image → IsFound plan (by_mark outcome b P Q M O) image
   behind_mark Keep image true written past left = subst (IsFound plan Q) (sym left) (stops.keeps_new (let w = le_of (mark + 2) made written in omega (arith, calls, is, most, w)))
   behind_mark Keep image false written past left = subst (IsFound plan P) (sym left) (stops.keeps_old (let w = past_of (mark + 2) made written in omega (arith, calls, is, past, w)))
@@ -116,8 +126,8 @@ module _ (plan : Plan) (old new : DiskState) (P Q M O : Found) (offset mark made
   behind_mark (Fill byte) image b written past left = filled (byte == 165) refl
     where
       filled : (c : Bool) → (byte == 165) ≡ c → IsFound plan (if c then M else O) image
-      filled true e = subst (λ n. IsFilled n new image → IsFound plan M image) (sym (eqb-true byte 165 e)) (stops.fills_mark (omega (arith, calls, is, past)) image) left
-      filled false e = stops.fills_other (omega (arith, calls, is, past)) byte image (eqb-false byte 165 e) left
+      filled true e = subst (λ n. IsFilled n new image → IsFound plan M image) (sym (eqb-true byte 165 e)) (λ is_filled. one_of unmarks P Q image (stops.fills_mark (omega (arith, calls, is, past)) image is_filled)) left
+      filled false e = one_of unmarks Q P image (stops.fills_other (omega (arith, calls, is, past)) byte image (eqb-false byte 165 e) left)
 
   pub left_at_mark : (outcome : Outcome) (image : Image) → IsLeftBy outcome new image → MayLeave new image → IsFound plan (at_mark outcome mark made P Q M O) image
   left_at_mark outcome image left may = cases (nat_le made mark) refl
@@ -140,26 +150,16 @@ module _ (plan : Plan) (g : ScriptGroup) (s : Stopped) (old new : DiskState) (ho
   fold_left : (outcome : Outcome) (image : Image) → s.made ≤ room_for g s.batch → IsLeftBy outcome new image → MayLeave new image → IsFound plan (in_folding outcome g s.made) image
   fold_left outcome image early left may =
       let stop = stops.folding (omega (arith, calls, early)) in
-      by_half g.is_second stop
+      left_at_mark plan old new (found_while_whole g) (folded g) g.is_second 0 (sectors_for (length (base_records g.register)) + 2) s.made (sectors_for (length (base_records g.register)) + 2) honest (omega arith) stop
+      (omega (arith, calls)) (omega (arith, few)) outcome image left may
     where
       few : s.made ≤ sectors_for (length (base_records g.register)) + 4
       few = elim (room_is (has_room g.used half (length s.batch)) refl) [ inl none ↦ omega (arith, none, early) | inr some_room ↦ omega (arith, some_room, early) ]
 
-      by_half : (second : Bool)
-          → StopsAtMark (IsFound plan (found_while_whole g)) (IsFound plan (folded g)) (FirstIf second (IsFound plan (found_while_whole g)) (IsFound plan (folded g)))
-          (FirstIf second (IsFound plan (folded g)) (IsFound plan (found_while_whole g))) (sectors_for (length (base_records g.register)) + 2) old new
-          → IsFound plan (at_mark outcome (sectors_for (length (base_records g.register)) + 2) s.made (found_while_whole g) (folded g) (if second then found_while_whole g else folded g) (if second then folded g else found_while_whole g)) image
-      by_half true stop =
-          left_at_mark plan old new (found_while_whole g) (folded g) (found_while_whole g) (folded g) 0 (sectors_for (length (base_records g.register)) + 2) s.made (sectors_for (length (base_records g.register)) + 2) honest (omega arith) stop
-          (omega (arith, calls)) (omega (arith, few)) outcome image left may
-      by_half false stop =
-          left_at_mark plan old new (found_while_whole g) (folded g) (folded g) (found_while_whole g) 0 (sectors_for (length (base_records g.register)) + 2) s.made (sectors_for (length (base_records g.register)) + 2) honest (omega arith) stop
-          (omega (arith, calls)) (omega (arith, few)) outcome image left may
-
   append_left : (outcome : Outcome) (image : Image) → room_for g s.batch < s.made → IsLeftBy outcome new image → MayLeave new image
       → IsFound plan (in_append outcome g s.batch (s.made - room_for g s.batch)) image
   append_left outcome image late left may =
-      left_at_mark plan old new (with_room g (length s.batch)) (with_batch g s.batch) (with_batch g s.batch) (with_room g (length s.batch))
+      left_at_mark plan old new (with_room g (length s.batch)) (with_batch g s.batch) false
       (room_for g s.batch) (bodies (length s.batch) + 2) (s.made - room_for g s.batch) (room_for g s.batch + (bodies (length s.batch) + 2)) honest refl
       (stops.adding (omega (arith, calls, late))) (omega (arith, calls, late)) (omega (arith, all_calls, late)) outcome image left may
 

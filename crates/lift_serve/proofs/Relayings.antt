@@ -20,7 +20,9 @@ use Rattle.lift_clerk.specs.Steps.{group_of}
 use Rattle.lift_relay.specs.declared.pair.RunFault.{RunFault}
 use Rattle.lift_relay.specs.declared.pair.RunFault.TheVariants.{Keeper, Spawn}
 use Rattle.lift_parts.specs.Allocator.{AllocatorState}
+use Rattle.lift_relay.specs.Heard.{FailureHeard}
 use Rattle.lift_relay.specs.Pair.{HaveRun}
+use Rattle.lift_relay.specs.lemmas.Heard.{heard_on, turns_stay}
 use Rattle.lift_parts.specs.Flusher.{FlusherState, IsFlusher}
 use Rattle.lift_parts.specs.Keeping.{HaveKept, TurnsKeep}
 use Rattle.lift_parts.specs.History.{JoinedGoOn, group_behind}
@@ -164,6 +166,26 @@ not_run choice state a f of_one = record {
   same = record { line = refl; desk = refl; plan = refl; policy = refl; start = refl };
   of_one = of_one;
 }
+
+-- ---- who hears that the device fails
+module _ {D P : Type 0} (chooses : P → Choice) (choice : Choice) (state : D → DiskState) (a b : AllocatorState P) (f g : FlusherState D) where
+  run_stays : (fault : Option RunFault) → HaveRunOn choice state a b f g fault → f.writer.is_broken ≡ true → g.writer.is_broken ≡ true
+  run_stays None run = let ran = run.ran no_fault in turns_stay state f g None ran.first ran.flusher
+  run_stays (Some (Keeper of)) run = let ran = run.ran (not_spawn of) in turns_stay state f g None ran.first ran.flusher
+  run_stays (Some (Spawn no_thread)) run = λ was. ap (λ (x : FlusherState D). x.writer.is_broken) (run.refused refl).1 ∙ was
+
+  last_stays : (after : ClerkState D P) → IsLastTurn chooses state b g after → g.writer.is_broken ≡ true → after.keeper.writer.is_broken ≡ true
+  last_stays after last was =
+      let joined : last.joined.keeper.writer.is_broken ≡ true = ap (λ (w : WriterView D). w.is_broken) last.rejoined.writer ∙ was in
+      ap (λ (w : WriterView D). w.is_broken) (last.turn.commits.is.rests joined) ∙ joined
+
+  -- of a run and of the last turn behind it
+  pub heard_behind : {V : Type 0} (hears : V → V → Type 0) (before after : ClerkState D P) (fault : Option RunFault) (u v w : V) → AreParts before a f → HaveRunOn choice state a b f g fault
+      → IsLastTurn chooses state b g after → FailureHeard hears f.writer.is_broken g.writer.is_broken u v → FailureHeard hears g.writer.is_broken after.keeper.writer.is_broken v w
+      → FailureHeard hears before.keeper.writer.is_broken after.keeper.writer.is_broken u w
+  heard_behind hears before after fault u v w parts run last first then =
+      subst (λ (x : WriterView D). FailureHeard hears x.is_broken after.keeper.writer.is_broken u w) parts.writer
+      (heard_on hears f.writer.is_broken g.writer.is_broken after.keeper.writer.is_broken u v w (run_stays fault run) (last_stays after last) first then)
 
 -- ---- turns of both parts, from a clerk that was split
 pub come_first : {D P : Type 0} (chooses : P → Choice) (state : D → DiskState) (clerk : ClerkState D P) (a : AllocatorState P) (f : FlusherState D) → clerk.seat ≡ clerk_of clerk.desk → AreParts clerk a f → IsFlusher f

@@ -1,5 +1,5 @@
 -- What comes of a connection.
-use Rattle.std.specs.Prelude.{ℕ, ◌≡◌, ◌≤◌, ◌+◌, ◌⊎◌, List, [], ◌∷◌, ◌++◌, codes, length}
+use Rattle.std.specs.Prelude.{ℕ, ◌≡◌, ◌≤◌, ◌+◌, ◌⊎◌, Option, false, List, [], ◌∷◌, ◌++◌, codes, length}
 use Rattle.std.specs.Str.Lines.{strip_carriage_return}
 use Rattle.lift_base.specs.Output.{Sink, Takes, TakesFront}
 use Rattle.lift_kiosk.specs.Lines.{FailsOnce, FindsEnd, GivesLine, GivesPart, Source}
@@ -15,6 +15,14 @@ use Rattle.lift_serve.specs.declared.attending.Outcome.TheVariants.{Visited}
 abbrev pub IsSaid : List ℕ → (before after : Sink) → Type 0
 IsSaid bytes before after = Takes bytes before after
     ⊎ ((count : ℕ) × TakesFront count bytes before after)
+
+-- a reader that was not called, with what it has left where it tells that
+abbrev pub new_source : Option (List ℕ) → Source
+new_source left = record { calls = 0; failed = false; ended = false; left = left }
+
+-- a writer that was not called, with what is in it where it tells that
+abbrev pub new_sink : Option (List ℕ) → Sink
+new_sink written = record { calls = 0; failed = false; written = written }
 
 -- how often the reader is called at most for a first line
 abbrev pub first_reads : ℕ

@@ -7,18 +7,22 @@ ghost use Rattle.lift_serve.specs.Open.{AreOver, IsEndAt, one_more};
 
 use crate::attending::Attended;
 use crate::lacks::{Lack, Lacked, Lacking, Noted, push};
+use crate::shared::Shared;
+use crate::socket::{Arrival, Closer, Socket};
 use std::alloc::Global;
 use std::marker::Model;
 use std::net::{Shutdown, TcpListener, TcpStream};
 use std::snapshot::Snapshot;
-use std::sync::Arc;
+use std::sync::Wait;
 use std::sync::atomic::{AtomicBool, Ordering};
+use std::thread::JoinHandle;
+use std::time::Clock;
 
 /// An open connection.
 #[derive(Drop)]
 struct Open {
     number: u64,
-    stream: Arc<TcpStream>,
+    closer: Closer,
 }
 
 /// That a connection was let in. It asks for one seat. Only `enter` makes one.
@@ -41,6 +45,80 @@ impl Ticket {
         ensures { result ≡ self.now }
     {
         self.number
+    }
+}
+
+/// A connection that was let in, by the ticket that it was let in with. Only `enter` makes one.
+#[derive(Drop)]
+pub(crate) struct Connection {
+    ticket: Ticket,
+    socket: Socket,
+}
+
+impl Model for Connection {
+    ghost use Rattle.std.specs.Prelude.{ℕ};
+
+    ghost Value = { ℕ };
+
+    ghost view = { λ c. c.ticket };
+}
+
+impl Connection {
+    /// Its number.
+    pub(crate) fn number(&self) -> u64
+        ensures { result ≡ self.now }
+    {
+        self.ticket.number()
+    }
+
+    /// It is attended to by its own ticket, and then shut down.
+    pub(crate) fn attended<'d, R: Wait + Clock>(
+        self,
+        rt: &R,
+        alloc: Global,
+        shared: Shared<'_, 'd>,
+    ) -> Result<Attended<'d>, Lacking>
+        ensures lack { IfErr result (λ lacking. lacking.what ≡ Lack.Memory) }
+    {
+        let Connection { ticket, socket } = self;
+        socket.attended(rt, alloc, shared, ticket)
+    }
+}
+
+/// That the end of a connection that was let in is to be counted. It can't be let go: a thread whose
+/// work returns that one was counted takes it, or the count itself. Only `enter` makes one.
+pub(crate) struct Awaited {
+    number: u64,
+}
+
+impl Model for Awaited {
+    ghost use Rattle.std.specs.Prelude.{ℕ};
+
+    ghost Value = { ℕ };
+
+    ghost view = { λ a. a.number };
+}
+
+impl Awaited {
+    /// The connection's number.
+    pub(crate) fn number(&self) -> u64
+        ensures { result ≡ self.now }
+    {
+        self.number
+    }
+
+    /// The work of this thread counts the end: it returns a `Left`.
+    pub(crate) fn counted_by(self, thread: JoinHandle<Left>) {
+        let Awaited { number: _ } = self;
+        let _runs_on = thread;
+    }
+
+    /// The end was counted.
+    pub(crate) fn counted(self, left: Left)
+        requires { left.number ≡ self }
+    {
+        let Awaited { number: _ } = self;
+        let _used = left;
     }
 }
 
@@ -153,21 +231,23 @@ impl Connections {
         self.open.is_empty()
     }
 
-    /// A connection is open from now on, by the number of the ticket. Nobody is let in where so many
+    /// A connection is open from now on, by the number of its ticket. Nobody is let in where so many
     /// have ended, or all were given up.
     pub(crate) fn enter(
         &mut self,
+        alloc: Global,
         listener: &TcpListener,
         sessions: u32,
-        stream: Arc<TcpStream>,
-    ) -> Result<Result<Ticket, Over>, Lacking>
+        arrival: Arrival,
+    ) -> Result<Result<(Connection, Awaited), Over>, Lacking>
         ensures over { AreOver sessions self.old → IfOk result (λ entered. is_err entered ≡ true) }
         ensures lacks { IfErr result (λ _. ¬ AreOver sessions self.old) }
-        ensures let_in { (number : ℕ) → result ≡ Ok (Ok number) → (number ≡ self.old.next)
+        ensures let_in { IfOk result (λ entered. IfOk entered (λ came. (came.0 ≡ self.old.next)
             × (self.new ≡ record self.old {
-              numbers = self.old.numbers ++ number ∷ [];
+              numbers = self.old.numbers ++ came.0 ∷ [];
               next = (self.old.next + 1) % 2 ^ 64;
-            }) }
+            }))) }
+        ensures awaited { IfOk result (λ entered. IfOk entered (λ came. came.1 ≡ came.0)) }
         ensures left_out { IfOk result (λ entered. IfErr entered (λ over.
             AreOver sessions self.old × (self.new ≡ self.old))) }
         ensures ended { IfOk result (λ entered. IfErr entered (IsEndAt listener.now sessions)) }
@@ -175,12 +255,15 @@ impl Connections {
         ensures lack { IfErr result (λ lacking. lacking.what ≡ Lack.Memory) }
     {
         if let Some(over) = self.is_over(listener, sessions) {
+            arrival.close(&over);
             return Ok(Err(over));
         }
         let number = self.next;
-        push(&mut self.open, Open { number, stream })?;
+        let (socket, closer) = arrival.open(alloc)?;
+        push(&mut self.open, Open { number, closer })?;
         self.next = number.wrapping_add(1);
-        Ok(Ok(Ticket { number }))
+        let ticket = Ticket { number };
+        Ok(Ok((Connection { ticket, socket }, Awaited { number })))
     }
 
     /// The connection of this number has ended, and so, where so many are to end.
@@ -245,7 +328,7 @@ impl Connections {
     /// Shuts down all that are open, that way.
     fn shut(&self, how: Shutdown) {
         for open in self.open.iter() {
-            let _closed = open.stream.shutdown(how);
+            open.closer.shut(how);
         }
     }
 

@@ -11,17 +11,18 @@ ghost use Rattle.lift_clerk.specs.Steps.{group_of};
 ghost use Rattle.lift_parts.specs.Flusher.{IsFlusher};
 ghost use Rattle.lift_parts.specs.History.{group_behind};
 ghost use Rattle.lift_parts.specs.Parts.{AreParts};
+ghost use Rattle.lift_relay.specs.Heard.{FailureHeard};
 ghost use Rattle.lift_serve.specs.Open.{EndedState, IsEndAt, ended_in, given_up_for};
 ghost use Rattle.lift_serve.specs.Relaying.{HaveRunOn, first_told, told, undone};
 
-use crate::connections::{Left, Over};
+use crate::connections::{Awaited, Left, Over};
 use crate::relaying::Parts;
 use crate::serving::{ServeFault, Served, unserved};
 use lift_desk::{Desk, DeskParts};
 use lift_disk::Disk;
 use lift_policy::Policy;
 use lift_relay::{
-    Allocator, Flusher, Gate, HeldClerk, HeldKeeper, NoWitness, RunFault, run, split_held,
+    Allocator, Flusher, Gate, HeardBy, HeldClerk, HeldKeeper, RunFault, Witness, run, split_held,
 };
 use std::alloc::Global;
 use std::io::{BufReader, Read};
@@ -112,30 +113,35 @@ impl Lacking {
         Lacked { what: self.what }
     }
 
-    /// Nobody is served, for this: the keeper as it is.
-    pub(crate) fn unserved<'b, D: Disk + Drop, K: Drop>(
+    /// Nobody is served, for this: the keeper and the witness as they are.
+    pub(crate) fn unserved<'b, D: Disk + Drop, K: Drop, V: Witness + Drop>(
         self,
         keeper: HeldKeeper<'b, D, K>,
-    ) -> Served<'b, D, K>
+        witness: V,
+    ) -> Served<'b, D, K, V>
         ensures keeper { result.keeper ≡ keeper.entry }
+        ensures heard { FailureHeard V.hears keeper.entry.writer.is_broken
+            result.keeper.writer.is_broken witness result.witness }
         ensures fault { result.fault ≡ told (Some self.what) }
         ensures undone { result.fault ≢ None }
         ensures ended { result.ended ≡ None }
     {
-        unserved(keeper, self.told())
+        unserved(keeper, witness, self.told())
     }
 
     /// Both parts as they were, where no thread could be made before their run, of which this tells.
-    #[tactic(auto, using(crate::proofs::Relayings::not_run))]
-    pub(crate) fn unrun<'d, 'b, D: Disk + Drop, P: Policy + Drop, K: Drop>(
+    #[tactic(auto, using(crate::proofs::Relayings::not_run, lift_relay::specs::lemmas::Heard::heard_none))]
+    pub(crate) fn unrun<'d, 'b, D: Disk + Drop, P: Policy + Drop, K: Drop, V: Witness + Drop>(
         self,
-        parts: Parts<'d, 'b, D, P, K>,
-    ) -> Parts<'d, 'b, D, P, K>
+        parts: Parts<'d, 'b, D, P, K, V>,
+    ) -> Parts<'d, 'b, D, P, K, V>
         requires thread { self.what ≡ Lack.Thread }
         ensures unrun { HaveRunOn (P.chooses parts.entry.allocator.policy) D.state
             parts.entry.allocator result.allocator parts.entry.flusher result.flusher
             (Some (RunFault.Spawn tt)) }
         ensures told { result.refusal ≡ undone (Some (RunFault.Spawn tt)) }
+        ensures heard { FailureHeard V.hears parts.entry.flusher.writer.is_broken
+            result.flusher.writer.is_broken parts.entry.witness result.witness }
     {
         let Lacking { what } = self;
         let lacked = Lacked { what };
@@ -145,6 +151,7 @@ impl Lacking {
             clerk,
             fault: _,
             refusal: _,
+            witness,
         } = parts;
         Parts {
             allocator,
@@ -152,6 +159,7 @@ impl Lacking {
             clerk,
             fault: None,
             refusal: Some(lacked),
+            witness,
         }
     }
 }
@@ -234,13 +242,15 @@ impl Lacks {
     /// What came of a serving with this keeper, whose accepting was over so. Told is what was refused
     /// to it itself, and else why all were given up, and else the first of the rest. Where nothing
     /// was wanting, all have ended that were to end.
-    pub(crate) fn behind<'b, D: Disk + Drop, K: Drop>(
+    pub(crate) fn behind<'b, D: Disk + Drop, K: Drop, V: Witness + Drop>(
         self,
         own: Option<Lacked>,
         over: Over,
         keeper: HeldKeeper<'b, D, K>,
-    ) -> Served<'b, D, K>
+        witness: V,
+    ) -> Served<'b, D, K, V>
         ensures keeper { result.keeper ≡ keeper.entry }
+        ensures witness { result.witness ≡ witness }
         ensures fault { result.fault ≡ told (first_told own (first_told (given_up_for over) self)) }
         ensures ended { result.ended ≡ ended_in over }
     {
@@ -254,22 +264,27 @@ impl Lacks {
             keeper,
             fault: told_of(lack),
             ended,
+            witness,
         }
     }
 
-    /// Nobody was served, for this, which is told whatever else there was: the keeper as it is.
-    pub(crate) fn unserved<'b, D: Disk + Drop, K: Drop>(
+    /// Nobody was served, for this, which is told whatever else there was: the keeper and the witness
+    /// as they are.
+    pub(crate) fn unserved<'b, D: Disk + Drop, K: Drop, V: Witness + Drop>(
         self,
         lacking: Lacking,
         keeper: HeldKeeper<'b, D, K>,
-    ) -> Served<'b, D, K>
+        witness: V,
+    ) -> Served<'b, D, K, V>
         ensures keeper { result.keeper ≡ keeper.entry }
+        ensures heard { FailureHeard V.hears keeper.entry.writer.is_broken
+            result.keeper.writer.is_broken witness result.witness }
         ensures fault { result.fault ≡ told (Some lacking.what) }
         ensures undone { result.fault ≢ None }
         ensures ended { result.ended ≡ None }
     {
         let Lacks { first: _ } = self;
-        lacking.unserved(keeper)
+        lacking.unserved(keeper, witness)
     }
 }
 
@@ -330,20 +345,6 @@ pub(crate) fn push<T: Drop>(values: &mut Vec<T>, value: T) -> Result<(), Lacking
     }
 }
 
-/// A thread of a scope, for this work.
-fn start<'s, E, T: Send + Drop + 's, F: FnOnce() -> T + Send + Drop + 's>(
-    scope: &Scope<'s, E>,
-    work: F,
-) -> Result<(), Lacking>
-    requires { F.pre work }
-    ensures lack { IfErr result (λ lacking. lacking.what ≡ Lack.Thread) }
-{
-    match scope.spawn(work) {
-        Ok(_) => Ok(()),
-        Err(_) => Err(Lacking { what: Lack::Thread }),
-    }
-}
-
 /// What a thread for the accepting promises: that it returns once so many connections have ended at
 /// this socket, or all were given up.
 #[derive(Drop)]
@@ -388,15 +389,21 @@ pub(crate) fn start_accepting<'s, E, F: FnOnce() -> Over + Send + Drop + 's>(
     Ok(child)
 }
 
-/// A thread of a scope for a connection, which returns once that is counted as ended.
+/// A thread of a scope for a connection that was let in, which returns once its end is counted.
 pub(crate) fn start_session<'s, E, F: FnOnce() -> Left + Send + Drop + 's>(
     scope: &Scope<'s, E>,
+    awaited: Awaited,
     work: F,
-) -> Result<(), Lacking>
+) -> Result<(), (Awaited, Lacking)>
     requires { F.pre work }
-    ensures lack { IfErr result (λ lacking. lacking.what ≡ Lack.Thread) }
+    ensures back { IfErr result (λ refused. refused.0 ≡ awaited) }
+    ensures lack { IfErr result (λ refused. refused.1.what ≡ Lack.Thread) }
 {
-    start(scope, work)
+    let Ok(child) = scope.spawn(work) else {
+        return Err((awaited, Lacking { what: Lack::Thread }));
+    };
+    awaited.counted_by(child);
+    Ok(())
 }
 
 /// A view of a listening socket.
@@ -462,20 +469,24 @@ fn undone_by(fault: &Option<RunFault>) -> Option<Lacked>
 /// Both parts run while the gate goes on, the flusher on this thread, and are given back behind the
 /// last batch.
 #[tactic(auto, using(crate::proofs::Relayings::come_on))]
-pub fn run_parts<'d, 'b, R, G, D, P, K>(
+pub fn run_parts<'d, 'b, R, G, D, P, K, V>(
     rt: &R,
     gate: &G,
-    parts: Parts<'d, 'b, D, P, K>,
-) -> Parts<'d, 'b, D, P, K>
+    parts: Parts<'d, 'b, D, P, K, V>,
+) -> Parts<'d, 'b, D, P, K, V>
 where
     R: Threads + Wait + Sync,
     G: Gate + Sync,
     D: Disk + Drop,
     P: Policy + Drop + Send,
-    K: Drop,
+    K: HeardBy<V> + Drop,
+    V: Witness + Drop,
     ensures ran { HaveRunOn (P.chooses parts.entry.allocator.policy) D.state parts.entry.allocator
         result.allocator parts.entry.flusher result.flusher result.fault }
     ensures told { result.refusal ≡ undone result.fault }
+    // Where the device failed first in it, the witness heard of that, once.
+    ensures heard { FailureHeard V.hears parts.entry.flusher.writer.is_broken
+        result.flusher.writer.is_broken parts.entry.witness result.witness }
 {
     let Parts {
         mut allocator,
@@ -483,8 +494,9 @@ where
         clerk,
         fault: _,
         refusal: _,
+        witness,
     } = parts;
-    let (_, fault) = run(rt, &mut allocator, &mut flusher, gate, NoWitness);
+    let (witness, fault) = run(rt, &mut allocator, &mut flusher, gate, witness);
     let refusal = undone_by(&fault);
     Parts {
         allocator,
@@ -492,5 +504,6 @@ where
         clerk,
         fault,
         refusal,
+        witness,
     }
 }

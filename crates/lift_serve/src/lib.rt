@@ -17,6 +17,9 @@ mod relaying;
 mod rung;
 mod seating;
 mod serving;
+mod shared;
+mod socket;
+mod speaking;
 mod waking;
 
 pub use attending::{Attended, Outcome, attend};
@@ -25,7 +28,7 @@ pub use first_line::terminal_of;
 pub use held::Held;
 pub use keeping::journals_keep;
 pub use lacks::{Lacked, Refusal, run_parts};
-pub use lift_relay::HeldKeeper;
+pub use lift_relay::{HeardBy, HeldKeeper, NoWitness, Witness};
 pub use lobby::{Absent, Lobby, Missing, NoSeat, Returned, Vacancy};
 pub use pace::{AskBell, Bells, Pace, Rang};
 pub use pager::{Pager, Told};

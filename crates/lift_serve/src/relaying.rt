@@ -2,12 +2,13 @@
 
 ghost use Rattle.std.specs.Prelude.{◌≡◌, []};
 ghost use Rattle.lift_parts.specs.Parts.{AreOfOne};
+ghost use Rattle.lift_relay.specs.Heard.{FailureHeard};
 ghost use Rattle.lift_serve.specs.Relaying.{ComeOf, IsLastTurn};
 
 use crate::lacks::Lacked;
 use lift_disk::Disk;
 use lift_policy::Policy;
-use lift_relay::{Allocator, Flusher, HeldClerk, RunFault, rejoin_held};
+use lift_relay::{Allocator, Flusher, HeardBy, HeldClerk, RunFault, Witness, rejoin_held};
 use std::snapshot::Snapshot;
 
 /// Both parts of one clerk, which began at a new desk, and what came of their run, if they had one.
@@ -15,7 +16,7 @@ use std::snapshot::Snapshot;
 /// has a history of theirs, of which each turn kept all that was answered before it. Who is generic
 /// in their key can have them turn, and be joined to the clerk that is held for it, and no more.
 #[derive(Drop)]
-pub struct Parts<'d, 'b, D: Disk + Drop, P: Policy + Drop, K: Drop> {
+pub struct Parts<'d, 'b, D: Disk + Drop, P: Policy + Drop, K: Drop, V: Witness + Drop> {
     pub allocator: Allocator<'d, 'b, P>,
     pub flusher: Flusher<'d, 'b, D, K>,
     /// The clerk as it was when it was split.
@@ -24,24 +25,30 @@ pub struct Parts<'d, 'b, D: Disk + Drop, P: Policy + Drop, K: Drop> {
     pub fault: Option<RunFault>,
     /// What was refused to their run, or before it.
     pub refusal: Option<Lacked>,
+    /// Who hears that the device fails.
+    pub witness: V,
     ghost of_one: { AreOfOne allocator flusher },
     ghost come_of: { ∥ ComeOf P.chooses D.state clerk.value allocator flusher ∥₁ },
 }
 
 /// The clerk of both parts, between which nothing is on its way, behind one turn more: it finds
 /// what was asked at last.
-pub fn turn_rejoined<'d, 'b, D: Disk, P: Policy + Drop, K: Drop>(
+pub fn turn_rejoined<'d, 'b, D: Disk, P: Policy + Drop, K: HeardBy<V> + Drop, V: Witness>(
     allocator: Allocator<'d, 'b, P>,
     flusher: Flusher<'d, 'b, D, K>,
+    witness: &mut V,
 ) -> HeldClerk<'d, 'b, D, P, K>
     requires of_one { AreOfOne allocator flusher }
     requires none_in_hand { allocator.hand ≡ [] }
     requires all_received { allocator.end.sent ≡ flusher.end.received }
-    ensures { IsLastTurn P.chooses D.state allocator.entry flusher.entry result }
+    ensures last { IsLastTurn P.chooses D.state allocator.entry flusher.entry result }
+    // Where the device fails first in it, the witness hears of that, once.
+    ensures heard { FailureHeard V.hears flusher.entry.writer.is_broken result.keeper.writer.is_broken
+        witness.old witness.new }
 {
     match rejoin_held(allocator, flusher) {
         Ok(clerk) => {
-            let (clerk, _outcome) = clerk.turn();
+            let (clerk, _outcome) = clerk.turn(witness);
             clerk
         }
         Err(_) => unreachable!(),

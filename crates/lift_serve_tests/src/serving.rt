@@ -5,7 +5,7 @@ ghost use Rattle.std.specs.Thread.{IsSync};
 use lift_disk::Disk;
 use lift_keeper::Keeper;
 use lift_policy::Policy;
-use lift_serve::{HeldKeeper, serve};
+use lift_serve::{HeardBy, HeldKeeper, NoWitness, serve};
 use std::alloc::Global;
 use std::net::TcpListener;
 use std::process::Abort;
@@ -34,6 +34,8 @@ fn watch<R: Clock + Abort>(rt: &R, ended: &AtomicU64) {
 struct Own {
     made: (),
 }
+
+impl HeardBy<NoWitness> for Own {}
 
 /// Serves on a socket until so many connections have ended, while a thread calls and another one
 /// watches. The keeper behind it; none where there was no thread for these, or another fault than the
@@ -72,7 +74,7 @@ where
                 return None;
             }
             let held = HeldKeeper::new(keeper);
-            let served = serve(rt, alloc, listener, sessions, held, policy);
+            let served = serve(rt, alloc, listener, sessions, held, policy, NoWitness);
             ended.store(1, Ordering::SeqCst);
             if served.fault.is_some() || served.ended.is_none() {
                 return None;

@@ -2,7 +2,7 @@
 ghost use Rattle.std.specs.Prelude.{◌≡◌, ◌<◌, length, vec_len, IfOk};
 ghost use Rattle.lift_desk.specs.Seats.{IsSeatOf, IsClerkOf, AreSeatsOf};
 
-use lift_base::{Body, Dir, Floor, Letter, Memory, Number, Party, Reason, Reply, Stop, Terminal};
+use lift_base::{Body, Dir, Floor, Letter, Number, Party, Reason, Reply, Stop, Terminal};
 use lift_desk::{AskRefusal, ClerkSeat, Desk, DeskParts, Seat};
 use lift_kiosk::{DeskPort, Port};
 use std::alloc::{AllocError, Global};
@@ -171,7 +171,7 @@ pub(crate) fn open(alloc: Global) -> Result<DeskParts, AllocError>
 {
     match Desk::open(alloc, 1) {
         Ok(parts) => Ok(parts),
-        Err(Memory) => Err(AllocError),
+        Err(_) => Err(AllocError),
     }
 }
 

@@ -3,11 +3,11 @@
 ghost use Rattle.std.specs.Prelude.{◌≡◌, ◌<◌, ◌≤◌, List, [], ◌∷◌, ◌++◌, length, slice_index};
 ghost use Rattle.lift_base.specs.declared.history.Row.{Row as RowValue};
 ghost use Rattle.lift_base.specs.declared.travel.Position.{Position as PositionValue};
-ghost use Rattle.lift_stops.specs.StopList.{halt_at};
+ghost use Rattle.lift_stops.specs.StopList.{halt_at, pass_of};
 ghost use Rattle.lift_stops.specs.Leaving.{AreCounted, AreLeaving, HasParty, leaving_at, place_of};
 
 use crate::stops::pass_of;
-use lift_base::{Halt, Position, Row};
+use lift_base::{Halt, Pass, Position, Row};
 use std::marker::Model;
 
 /// Where a halt stands in a table.
@@ -20,14 +20,15 @@ fn place_of(halt: &Halt) -> usize
     64 * usize::from(halt.pass.number() - 1) + floor
 }
 
-/// Where the halt stands at which the passengers of a call leave a car at this position.
-fn goal_of(position: &Position, row: &Row) -> usize
-    ensures value { result ≡ place_of (halt_at position.now row.now row.now.to) }
+/// Where the halt stands at which the passengers of a call leave a car that makes it in this pass.
+fn goal_of(pass: Pass, row: &Row) -> usize
+    ensures value { (position : PositionValue) → pass ≡ pass_of position row.now
+        → result ≡ place_of (halt_at position row.now row.now.to) }
     ensures limit { result < 192 }
     ensures floor { row.now.to < 64 }
 {
     place_of(&Halt {
-        pass: pass_of(row, *position),
+        pass,
         floor: row.to,
     })
 }
@@ -54,14 +55,14 @@ impl Leaving {
         Leaving { persons: [0; 192] }
     }
 
-    /// Counts one call more, of a car at this position.
-    pub(crate) fn add(&mut self, position: &Position, row: &Row)
-        ensures added { (rows : List RowValue) → length rows ≤ 32
-            → AreLeaving rows position.now self.old
-            → AreLeaving (rows ++ row.now ∷ []) position.now self.new }
+    /// Counts one call more, which a car makes in this pass.
+    pub(crate) fn add(&mut self, pass: Pass, row: &Row)
+        ensures added { (rows : List RowValue) (position : PositionValue) → length rows ≤ 32
+            → pass ≡ pass_of position row.now → AreLeaving rows position self.old
+            → AreLeaving (rows ++ row.now ∷ []) position self.new }
         ensures party { HasParty row.now }
     {
-        let place = goal_of(position, row);
+        let place = goal_of(pass, row);
         let persons = u16::from(row.party.get());
         self.persons[place] = self.persons[place].saturating_add(persons);
     }
@@ -72,7 +73,7 @@ impl Leaving {
             → AreCounted (before ++ row.now ∷ behind) position.now self.old
             → AreCounted (before ++ behind) position.now self.new }
     {
-        let place = goal_of(position, row);
+        let place = goal_of(pass_of(row, *position), row);
         let party = u16::from(row.party.get());
         self.persons[place] = self.persons[place].saturating_sub(party);
     }
@@ -84,7 +85,7 @@ impl Leaving {
     {
         let mut leaving = Leaving::new();
         for row in rows {
-            leaving.add(position, row);
+            leaving.add(pass_of(row, *position), row);
         }
         leaving
     }

@@ -7,10 +7,12 @@ ghost use Rattle.lift_base.specs.History.{dir_of};
 ghost use Rattle.lift_base.specs.declared.travel.Position.{Position as PositionValue};
 ghost use Rattle.lift_base.specs.declared.history.Row.{Row as RowValue};
 ghost use Rattle.lift_stops.specs.Insertion.{floor_rank};
-ghost use Rattle.lift_stops.specs.StopList.{HasFloors, legs_of, stop_list};
+ghost use Rattle.lift_stops.specs.StopList.{HasFloors, legs_of, pass_of, stop_list};
+ghost use Rattle.lift_stops.specs.Leaving.{AreLeaving};
 ghost use Rattle.lift_stops.specs.Marks.{HasHalts, has_bit, marked, halt_on, halts_marked};
 ghost use Rattle.lift_stops.specs.Marks.{all_marked};
 
+use crate::leaving::Leaving;
 use crate::stops::pass_of;
 use arrayvec::ArrayVec;
 use lift_base::{Dir, Floor, Halt, Pass, Position, Row};
@@ -100,13 +102,14 @@ impl Marks {
         }
     }
 
-    /// These and the halts of a call of a car at this position.
-    fn with(self, position: &Position, row: &Row) -> Self
-        ensures marks { (rows : List RowValue) → HasHalts rows position.now self
-            → HasHalts (rows ++ row.now ∷ []) position.now result }
+    /// These and the halts of a call that a car makes in this pass.
+    fn with(self, pass: Pass, row: &Row) -> Self
+        ensures marks { (rows : List RowValue) (position : PositionValue)
+            → pass ≡ pass_of position row.now → HasHalts rows position self
+            → HasHalts (rows ++ row.now ∷ []) position result }
         ensures floors { HasFloors row.now }
     {
-        match pass_of(row, *position) {
+        match pass {
             Pass::First => Marks {
                 first: mark_legs(self.first, row),
                 ..self
@@ -134,27 +137,40 @@ impl Marks {
     }
 }
 
-/// The halts that a car at this position needs for these calls.
-fn marks_of(rows: &[Row], position: &Position) -> Marks
+/// The halts that a car at this position needs for these calls. Those who leave there join a table
+/// in which nobody leaves.
+fn marks_of(rows: &[Row], position: &Position, leaving: &mut Leaving) -> Marks
+    requires few { length rows.now ≤ 33 }
+    requires nobody { AreLeaving [] position.now leaving.old }
     ensures marks { HasHalts rows.now position.now result }
     ensures count { length (stop_list rows.now position.now) ≤ 2 * length rows.now }
     ensures floors { All HasFloors rows.now }
+    ensures leaving { AreLeaving rows.now position.now leaving.new }
 {
     let mut marks = Marks::new();
     for row in rows {
-        marks = marks.with(position, row);
+        let pass = pass_of(row, *position);
+        marks = marks.with(pass, row);
+        leaving.add(pass, row);
     }
     marks
 }
 
 /// Writes the halts that a car at this position still has to make for these calls, in the order in
-/// which it makes them.
-pub fn write_halts(halts: &mut ArrayVec<Halt, 66>, rows: &[Row], position: &Position)
+/// which it makes them, and who leaves there.
+pub fn write_halts(
+    halts: &mut ArrayVec<Halt, 66>,
+    leaving: &mut Leaving,
+    rows: &[Row],
+    position: &Position,
+)
     requires { length rows.now ≤ 33 }
     ensures halts { halts.new.items ≡ stop_list rows.now position.now }
     ensures count { length halts.new.items ≤ 2 * length rows.now }
     ensures floors { All HasFloors rows.now }
+    ensures leaving { AreLeaving rows.now position.now leaving.new }
 {
-    let marks = marks_of(rows, position);
+    *leaving = Leaving::new();
+    let marks = marks_of(rows, position, leaving);
     marks.write(halts, position.dir);
 }

@@ -12,9 +12,9 @@ ghost use Rattle.lift_stops.specs.Leaving.{AreCounted, AreLeaving};
 
 use crate::leaving::Leaving;
 use crate::marks::write_halts;
-use crate::stops::{drop_halts, insert_row, is_ahead, stop_of};
+use crate::stops::{drop_halts, insert_row, is_ahead, pass_of, stop_of};
 use arrayvec::ArrayVec;
-use lift_base::{Halt, Pass, Position, Row, Stop};
+use lift_base::{Halt, Pass, Position, Row, Stop, count_unchanged};
 use std::marker::Model;
 
 fn copy_of(halts: &[Halt]) -> ArrayVec<Halt, 66>
@@ -36,8 +36,9 @@ fn keep_open(rows: &mut [Row], leaving: &mut Leaving, stop: &Stop) -> usize
         leaving.new }
 {
     let position = &position_at(stop);
-    let mut kept = 0;
-    for index in 0..rows.len() {
+    let first = count_unchanged(rows, stop);
+    let mut kept = first;
+    for index in first..rows.len() {
         let row = &rows[index];
         match row.after(*stop) {
             Some(after) => {
@@ -131,7 +132,7 @@ impl Schedule {
         ensures { self.new ≡ record self.old { rows = self.old.rows ++ row ∷ [] } }
     {
         insert_row(&mut self.halts, &self.position, &row);
-        self.leaving.add(&self.position, &row);
+        self.leaving.add(pass_of(&row, self.position), &row);
         self.rows.push(row);
     }
 
@@ -174,8 +175,7 @@ impl Schedule {
     fn turn_to(&mut self, position: &Position)
         ensures { self.new ≡ record self.old { position = position.now } }
     {
-        write_halts(&mut self.halts, &self.rows, position);
-        self.leaving = Leaving::of(&self.rows, position);
+        write_halts(&mut self.halts, &mut self.leaving, &self.rows, position);
         self.position = *position;
     }
 

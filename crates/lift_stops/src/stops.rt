@@ -16,6 +16,7 @@ ghost use Rattle.lift_stops.specs.StopList.{all_halts, is_halt_of, is_needed, sa
 ghost use Rattle.lift_stops.specs.StopList.{stop_list, stop_of, next_stop};
 ghost use Rattle.lift_stops.specs.Schedule.{position_after};
 
+use crate::leaving::Leaving;
 use crate::marks::{bit_of, write_halts};
 use arrayvec::ArrayVec;
 use lift_base::{Dir, Floor, Halt, Pass, Position, Row, Stop};
@@ -221,7 +222,8 @@ pub fn stop_list(rows: &[Row], position: Position) -> ArrayVec<Halt, 66>
         → StopsInOrder rows.now row }
 {
     let mut halts = ArrayVec::new();
-    write_halts(&mut halts, rows, &position);
+    let mut leaving = Leaving::new();
+    write_halts(&mut halts, &mut leaving, rows, &position);
     halts
 }
 

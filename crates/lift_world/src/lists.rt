@@ -7,7 +7,7 @@ ghost use Rattle.lift_world.specs.World.{asks, is_answer_to, is_taken_of};
 ghost use Rattle.lift_world.specs.Next.{others, unknown_to};
 
 use crate::event::{Answer, Taken};
-use lift_base::{Memory, Terminal};
+use lift_base::{Memory, Terminal, push_all, reserve, reserve_one};
 use lift_policy::Command;
 
 /// How many of these the terminal asked.
@@ -79,15 +79,24 @@ pub fn drop_taken(taken: &mut Vec<Taken>, terminal: Terminal)
     taken.retain(|c| c.terminal != terminal);
 }
 
+/// Room for one more in each of the two.
+pub fn reserve_both<T, U>(first: &mut Vec<T>, second: &mut Vec<U>) -> Result<(), Memory>
+    ensures items { (first.new.items ≡ first.old.items) × (second.new.items ≡ second.old.items) }
+    ensures len { (vec_len first.new ≡ vec_len first.old)
+        × (vec_len second.new ≡ vec_len second.old) }
+    ensures ok { OnOk result ((vec_len first.new + 1 ≤ vec_capacity first.new)
+        × (vec_len second.new + 1 ≤ vec_capacity second.new)) }
+{
+    reserve_one(first)?;
+    reserve_one(second)
+}
+
 /// The commands become due with their replies.
 pub fn add_due(due: &mut Vec<Taken>, commands: &[Taken]) -> Result<(), Memory>
     ensures ok { OnOk result (due.new.items ≡ due.old.items ++ commands.now) }
     ensures err { OnErr result (due.new.items ≡ due.old.items) }
 {
-    match due.extend_from_slice(commands) {
-        Ok(()) => Ok(()),
-        Err(_) => Err(Memory),
-    }
+    push_all(due, commands)
 }
 
 /// The commands become due, each answered Unknown.
@@ -95,9 +104,7 @@ pub fn add_unknown(due: &mut Vec<Taken>, commands: &[Taken]) -> Result<(), Memor
     ensures ok { OnOk result (due.new.items ≡ due.old.items ++ map unknown_to commands.now) }
     ensures err { OnErr result (due.new.items ≡ due.old.items) }
 {
-    if due.reserve(commands.len()).is_err() {
-        return Err(Memory);
-    }
+    reserve(due, commands)?;
     for command in commands {
         let Ok(()) = due.push(command.unknown()) else {
             unreachable!()

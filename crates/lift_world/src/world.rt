@@ -16,9 +16,9 @@ use crate::decide::decide;
 use crate::event::{Answer, Event, Kept, Phase, Power, Taken};
 use crate::lists::{
     add_due, add_unknown, answer_after, count_answers, count_asks, drop_taken, is_taken, last_ask,
-    taken_of,
+    reserve_both, taken_of,
 };
-use lift_base::{Body, Entry, Letter, Memory, Number, Position, Terminal};
+use lift_base::{Body, Entry, Letter, Memory, Number, Position, Terminal, push, reserve_one};
 use lift_building::Building;
 use lift_policy::Command;
 use lift_register::Register;
@@ -258,9 +258,7 @@ impl<'b> World<'b> {
             number,
             body,
         };
-        if self.asked.push(command).is_err() {
-            return Err(Memory);
-        }
+        push(&mut self.asked, command)?;
         Ok(true)
     }
 
@@ -330,11 +328,11 @@ impl<'b> World<'b> {
         ensures err { OnErr result (self.new ≡ self.old) }
         ensures wants { OnErr result (IsSome (taking self.old letter command)) }
     {
-        if self.accepted.reserve(1).is_err() || self.taken.reserve(1).is_err() {
+        if let Err(memory) = reserve_both(&mut self.accepted, &mut self.taken) {
             if !self.is_decided(&command, letter) {
                 return Ok(false);
             }
-            return Err(Memory);
+            return Err(memory);
         }
         prove!(self.building.cars() <= 16);
         let Some(decided) = decide(
@@ -366,9 +364,7 @@ impl<'b> World<'b> {
         if self.power.is_off() || self.taken.is_empty() {
             return Ok(false);
         }
-        if self.queue.reserve(1).is_err() {
-            return Err(Memory);
-        }
+        reserve_one(&mut self.queue)?;
         let upto = self.accepted.len();
         let commands = mem::replace(&mut self.taken, Vec::new(self.alloc));
         let Ok(()) = self.queue.push(Sealed { commands, upto }) else {
@@ -499,9 +495,7 @@ impl<'b> World<'b> {
         let Some(command) = taken_of(&self.due, terminal) else {
             return Ok(false);
         };
-        if self.answered.reserve(1).is_err() || self.given.reserve(1).is_err() {
-            return Err(Memory);
-        }
+        reserve_both(&mut self.answered, &mut self.given)?;
         let answer = command.answer();
         let Ok(()) = self.given.push(command) else {
             unreachable!()
@@ -523,9 +517,7 @@ impl<'b> World<'b> {
         let Some(answer) = answer_after(&self.answered, terminal, heard) else {
             return Ok(false);
         };
-        if self.heard.push(answer).is_err() {
-            return Err(Memory);
-        }
+        push(&mut self.heard, answer)?;
         Ok(true)
     }
 

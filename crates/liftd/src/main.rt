@@ -3,7 +3,8 @@
 #![tactic(auto)]
 
 use lift_base::text::Watched;
-use lift_program::{not_given, start};
+use lift_disk::SystemOpener;
+use lift_program::{Files, Openers, SystemSocket, SystemTextOpener, not_given, start};
 use std::process::ExitCode;
 use std::{env, io};
 
@@ -13,11 +14,23 @@ fn given(rt: &HostRuntime) -> io::Result<Vec<String>> {
     Ok(words)
 }
 
+/// What the program opens its building, its image and its socket by.
+fn openers(rt: &HostRuntime) -> Openers<SystemTextOpener<'_>, SystemOpener<'_>, SystemSocket<'_>> {
+    Openers {
+        files: Files {
+            building: SystemTextOpener::new(rt),
+            image: SystemOpener::new(rt),
+        },
+        socket: SystemSocket::new(rt),
+    }
+}
+
 fn main(rt: HostRuntime) -> ExitCode {
     let mut errors = Watched::new(rt.stderr());
     let status = match given(&rt) {
         Ok(words) => start(
             &rt,
+            openers(&rt),
             rt.alloc(),
             words.as_slice(),
             rt.stdin(),

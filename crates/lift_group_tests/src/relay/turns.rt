@@ -275,16 +275,15 @@ fn a_closed_gate_drains(rt: HostRuntime) {
     drains(&rt, rt.alloc(), failing);
 }
 
-/// Counts the faults that it is told of, each but the device's own as a hundred.
+/// Counts how often it is told of one.
 #[derive(Drop)]
 struct Counter<'a> {
     told: &'a AtomicU64,
 }
 
 impl<'a> Witness for Counter<'a> {
-    fn has_failed(&mut self, fault: KeeperFault) {
-        let count = if fault == FAILED { 1 } else { 100 };
-        self.told.fetch_add(count, Ordering::SeqCst);
+    fn has_failed(&mut self) {
+        self.told.fetch_add(1, Ordering::SeqCst);
     }
 }
 
@@ -300,8 +299,8 @@ impl<'a> Gate for UntilTold<'a> {
     }
 }
 
-/// The fourth of five batches fails, and the fifth behind it. The witness is told of the first fault
-/// alone, and at once: the gate stays open until then.
+/// The fourth of five batches fails, and the fifth behind it. The witness is told of that once, and
+/// at once: the gate stays open until then.
 #[test]
 fn a_witness_is_told_while_the_run_goes_on(rt: HostRuntime) {
     let building = group(&rt, rt.alloc());

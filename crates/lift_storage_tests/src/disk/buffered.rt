@@ -1,8 +1,8 @@
 //! A device that reads ahead and joins writes, over a file and over a device in memory.
 use crate::disk::calls::{Call, all_come, get, put_neighbours, sync};
 use crate::disk::files::{created, looked_at};
-use lift_disk::{Buffered, Disk, MemDisk, Outcome, ToldFiles};
-use std::fs::{self, File, Files};
+use lift_disk::{Buffered, Disk, MemDisk, Outcome};
+use std::fs;
 use std::process::Abort;
 use std::test::Fail;
 
@@ -28,8 +28,8 @@ fn are_held_back<D: Disk>(disk: &mut D) -> bool {
 }
 
 /// Whether a file has what was written.
-fn is_in_file<R: Files<File = File> + ToldFiles + Abort>(rt: &R, path: &str) -> bool {
-    all_come(&mut looked_at(rt, path), &WRITTEN)
+fn is_in_file(rt: &HostRuntime, path: &str) -> Result<bool, Fail> {
+    Ok(all_come(&mut looked_at(rt, path)?, &WRITTEN))
 }
 
 /// What is held back is read at once, over what was read ahead too; it is in the file once it was
@@ -37,9 +37,9 @@ fn is_in_file<R: Files<File = File> + ToldFiles + Abort>(rt: &R, path: &str) -> 
 #[test]
 fn what_is_held_back_is_read_and_then_written(rt: HostRuntime) -> Result<(), Fail> {
     let path = "lift_disk_buffered.image";
-    let mut disk = Buffered::over(created(&rt, path, 40));
+    let mut disk = Buffered::over(created(&rt, path, 40)?);
     assert!(rt; are_held_back(&mut disk) && sync(&mut disk));
-    assert!(rt; is_in_file(&rt, path) && all_come(&mut disk, &WRITTEN));
+    assert!(rt; is_in_file(&rt, path)? && all_come(&mut disk, &WRITTEN));
     // cut short by another, it fails, since a read asks for the sectors behind too
     fs::write(&rt, path, [1u8; 1024].as_slice())?;
     assert!(rt; get(&mut disk, 1).is_none());

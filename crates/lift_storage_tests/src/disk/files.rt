@@ -1,37 +1,30 @@
 //! A device on a file.
 use crate::disk::calls::{Call, all_come, holds};
-use lift_disk::{Disk, FileDisk, FileFault, ToldFile, ToldFiles};
-use std::fs::{self, File, Files};
-use std::process::Abort;
+use lift_disk::{Disk, FileDisk, FileFault, SystemFile, SystemOpener, ToldFile};
+use std::fs::{self, File};
 use std::test::Fail;
 
 const FOLDER: &str = "lift_disk_folder";
 
+/// A device on a file of the host.
+type HostDisk = FileDisk<SystemFile<File>>;
+
 /// The device on a file that is there.
-pub(crate) fn opened<R: Files<File = File> + ToldFiles + Abort>(
-    rt: &R,
-    path: &str,
-) -> FileDisk<R::Told> {
-    FileDisk::open(rt, path).ok().expect(rt, "the file")
+fn opened(rt: &HostRuntime, path: &str) -> Result<HostDisk, Fail> {
+    let disk = FileDisk::open(SystemOpener::new(rt), path);
+    Ok(disk.ok().ok_or("the file")?)
 }
 
 /// The same beside whoever has its lock.
-pub(crate) fn looked_at<R: Files<File = File> + ToldFiles + Abort>(
-    rt: &R,
-    path: &str,
-) -> FileDisk<R::Told> {
-    FileDisk::open_to_read(rt, path).ok().expect(rt, "the file")
+pub(crate) fn looked_at(rt: &HostRuntime, path: &str) -> Result<HostDisk, Fail> {
+    let disk = FileDisk::open_to_read(SystemOpener::new(rt), path);
+    Ok(disk.ok().ok_or("the file")?)
 }
 
 /// A device on a file that is made anew.
-pub(crate) fn created<R: Files<File = File> + ToldFiles + Abort>(
-    rt: &R,
-    path: &str,
-    sectors: u32,
-) -> FileDisk<R::Told> {
-    FileDisk::create(rt, path, sectors)
-        .ok()
-        .expect(rt, "a file")
+pub(crate) fn created(rt: &HostRuntime, path: &str, sectors: u32) -> Result<HostDisk, Fail> {
+    let disk = FileDisk::create(SystemOpener::new(rt), path, sectors);
+    Ok(disk.ok().ok_or("a file")?)
 }
 
 /// Whether four sectors of zeros are written and read.
@@ -48,17 +41,14 @@ fn has_kept<D: Disk>(disk: &mut D) -> bool {
 }
 
 /// Whether a device on a file that is made anew keeps what is written.
-fn is_kept<R: Files<File = File> + ToldFiles + Abort>(rt: &R, path: &str) -> Result<bool, Fail> {
+fn is_kept(rt: &HostRuntime, path: &str) -> Result<bool, Fail> {
     fs::write(rt, path, b"something else".as_slice())?;
-    Ok(keeps(&mut created(rt, path, 4)))
+    Ok(keeps(&mut created(rt, path, 4)?))
 }
 
 /// Whether the next that opens the file has that; cut short by another, it fails and ends.
-fn is_read_again<R: Files<File = File> + ToldFiles + Abort>(
-    rt: &R,
-    path: &str,
-) -> Result<bool, Fail> {
-    let mut disk = opened(rt, path);
+fn is_read_again(rt: &HostRuntime, path: &str) -> Result<bool, Fail> {
+    let mut disk = opened(rt, path)?;
     let is_there = has_kept(&mut disk);
     fs::write(rt, path, [1u8; 512].as_slice())?;
     Ok(is_there && all_come(&mut disk, &[Call::Get(0, 1), Call::GetFails(1)]))
@@ -76,24 +66,31 @@ fn a_file_keeps_its_sectors(rt: HostRuntime) -> Result<(), Fail> {
 }
 
 /// How many sectors a device has, where there is one.
-fn sectors_of<F: ToldFile + Drop>(device: Result<FileDisk<F>, FileFault<F>>) -> Option<u32> {
+fn sectors_of<F: ToldFile + Drop, O: Drop>(
+    device: Result<FileDisk<F>, FileFault<F, O>>,
+) -> Option<u32> {
     match device {
         Ok(disk) => Some(disk.sectors()),
         Err(_) => None,
     }
 }
 
-fn is_no_file<F: ToldFile + Drop>(device: Result<FileDisk<F>, FileFault<F>>) -> bool {
-    matches!(device, Err(FileFault::NotAFile))
+fn is_no_file<F: ToldFile + Drop, O: Drop>(device: Result<FileDisk<F>, FileFault<F, O>>) -> bool {
+    matches!(device, Err(FileFault::NotAFile(_)))
+}
+
+/// Whether nothing was told of what stands there.
+fn is_untold<F: ToldFile + Drop, O: Drop>(device: Result<FileDisk<F>, FileFault<F, O>>) -> bool {
+    matches!(device, Err(FileFault::Untold(_, _)))
 }
 
 /// Whether no file was opened.
-fn is_unopened<F: ToldFile + Drop>(device: Result<FileDisk<F>, FileFault<F>>) -> bool {
+fn is_unopened<F: ToldFile + Drop, O: Drop>(device: Result<FileDisk<F>, FileFault<F, O>>) -> bool {
     matches!(device, Err(FileFault::Unopened(_)))
 }
 
 /// Whether a file was opened and came back.
-fn is_stopped<F: ToldFile + Drop>(device: Result<FileDisk<F>, FileFault<F>>) -> bool {
+fn is_stopped<F: ToldFile + Drop, O: Drop>(device: Result<FileDisk<F>, FileFault<F, O>>) -> bool {
     matches!(device, Err(FileFault::Stopped(_)))
 }
 
@@ -104,29 +101,31 @@ fn whole_sectors_count(rt: HostRuntime) -> Result<(), Fail> {
     for (bytes, sectors) in [(0u64, 0), (511, 0), (512, 1), (513, 1), (1024, 2)] {
         let file = fs::File::create(&rt, path)?;
         file.set_len(bytes)?;
-        assert!(rt; sectors_of(FileDisk::open(&rt, path)) == Some(sectors));
+        assert!(rt; sectors_of(FileDisk::open(SystemOpener::new(&rt), path)) == Some(sectors));
     }
     fs::remove_file(&rt, path)?;
-    assert!(rt; is_unopened(FileDisk::open(&rt, path)));
+    assert!(rt; is_untold(FileDisk::open(SystemOpener::new(&rt), path)));
     Ok(())
 }
 
 /// Whether a file is neither opened nor made anew while another has its lock, and is as it was.
-fn is_had_once<R: Files<File = File> + ToldFiles + Abort>(rt: &R, path: &str) -> bool {
-    let mut first = created(rt, path, 4);
+fn is_had_once(rt: &HostRuntime, path: &str) -> Result<bool, Fail> {
+    let mut first = created(rt, path, 4)?;
     let is_kept = keeps(&mut first);
-    is_stopped(FileDisk::open(rt, path))
-        && is_stopped(FileDisk::create(rt, path, 8))
-        && is_kept
-        && has_kept(&mut looked_at(rt, path))
+    Ok(
+        is_stopped(FileDisk::open(SystemOpener::new(rt), path))
+            && is_stopped(FileDisk::create(SystemOpener::new(rt), path, 8))
+            && is_kept
+            && has_kept(&mut looked_at(rt, path)?),
+    )
 }
 
 /// A file has one device that writes it at a time, and any number that read it.
 #[test]
 fn a_file_is_had_once(rt: HostRuntime) -> Result<(), Fail> {
     let path = "lift_disk_locked.image";
-    assert!(rt; is_had_once(&rt, path));
-    assert!(rt; sectors_of(FileDisk::open(&rt, path)) == Some(4));
+    assert!(rt; is_had_once(&rt, path)?);
+    assert!(rt; sectors_of(FileDisk::open(SystemOpener::new(&rt), path)) == Some(4));
     fs::remove_file(&rt, path)?;
     Ok(())
 }
@@ -137,10 +136,10 @@ fn what_is_no_device_is_refused(rt: HostRuntime) -> Result<(), Fail> {
     let _ = fs::remove_dir_all(&rt, FOLDER);
     fs::create_dir(&rt, FOLDER)?;
     for path in [FOLDER, "/dev/null"] {
-        assert!(rt; is_no_file(FileDisk::open(&rt, path)));
-        assert!(rt; is_no_file(FileDisk::create(&rt, path, 4)));
+        assert!(rt; is_no_file(FileDisk::open(SystemOpener::new(&rt), path)));
+        assert!(rt; is_no_file(FileDisk::create(SystemOpener::new(&rt), path, 4)));
     }
-    let made = FileDisk::create(&rt, "lift_disk_folder/no/file", 4);
+    let made = FileDisk::create(SystemOpener::new(&rt), "lift_disk_folder/no/file", 4);
     assert!(rt; is_unopened(made));
     fs::remove_dir_all(&rt, FOLDER)?;
     Ok(())

@@ -3,13 +3,12 @@ use crate::journal::listing::{add, make};
 use crate::keeper::journals::{allot, demo, floor, number};
 use lift_base::{Body, Dir, Letter, Record, Reply, Terminal};
 use lift_building::Building;
-use lift_disk::{Disk, FileDisk, ToldFiles};
+use lift_disk::{Disk, FileDisk, SystemFile, SystemOpener};
 use lift_journal::{Journal, JournalFault};
 use lift_keeper::{Keeper, KeeperFault};
 use lift_policy::Etd;
 use std::alloc::Global;
-use std::fs;
-use std::fs::{File, Files};
+use std::fs::{self, File};
 use std::test::Fail;
 
 const IMAGE: &str = "lift_keeper_replaced.image";
@@ -21,12 +20,14 @@ const OTHER: &str = "lift_keeper_other.image";
 const SECOND_GATE: u32 = 4;
 
 /// A file with an empty journal for a building.
-fn formatted<R: Files<File = File> + ToldFiles>(
-    rt: &R,
+fn formatted(
+    rt: &HostRuntime,
     path: &str,
     building: &Building,
-) -> Result<FileDisk<R::Told>, Fail> {
-    let mut disk = FileDisk::create(rt, path, 130).ok().ok_or("a file")?;
+) -> Result<FileDisk<SystemFile<File>>, Fail> {
+    let mut disk = FileDisk::create(SystemOpener::new(rt), path, 130)
+        .ok()
+        .ok_or("a file")?;
     if make(&mut disk, building.shape(64)) == Some(Ok(())) {
         Ok(disk)
     } else {
@@ -46,8 +47,10 @@ fn stops<D: Disk>(keeper: &mut Keeper<D>, told: u32) -> bool {
 }
 
 /// Whether the gate in this sector of the file is open.
-fn is_open<R: Files<File = File> + ToldFiles>(rt: &R, gate: u32) -> Result<bool, Fail> {
-    let mut disk = FileDisk::open_to_read(rt, IMAGE).ok().ok_or("the file")?;
+fn is_open(rt: &HostRuntime, gate: u32) -> Result<bool, Fail> {
+    let mut disk = FileDisk::open_to_read(SystemOpener::new(rt), IMAGE)
+        .ok()
+        .ok_or("the file")?;
     let mut sector = [0; 512];
     if gate >= disk.sectors() {
         return Ok(false);
@@ -57,14 +60,14 @@ fn is_open<R: Files<File = File> + ToldFiles>(rt: &R, gate: u32) -> Result<bool,
 }
 
 /// A journal of another building.
-fn make_other<R: Files<File = File> + ToldFiles>(rt: &R, alloc: Global) -> Result<(), Fail> {
+fn make_other(rt: &HostRuntime, alloc: Global) -> Result<(), Fail> {
     let one = demo(alloc, 1)?;
     drop(formatted(rt, OTHER, &one)?);
     Ok(())
 }
 
 /// A journal whose first record doesn't fit.
-fn make_misfit<R: Files<File = File> + ToldFiles>(rt: &R, building: &Building) -> Result<(), Fail> {
+fn make_misfit(rt: &HostRuntime, building: &Building) -> Result<(), Fail> {
     let mut journal = Journal::open(formatted(rt, OTHER, building)?)
         .ok()
         .ok_or("a journal")?;
@@ -77,10 +80,10 @@ fn make_misfit<R: Files<File = File> + ToldFiles>(rt: &R, building: &Building) -
 }
 
 /// A keeper of two cars, which has made a stop of car A safe.
-fn begun<'b, R: Files<File = File> + ToldFiles>(
-    rt: &R,
+fn begun<'b>(
+    rt: &HostRuntime,
     building: &'b Building,
-) -> Result<Keeper<'b, FileDisk<R::Told>>, Fail> {
+) -> Result<Keeper<'b, FileDisk<SystemFile<File>>>, Fail> {
     let mut keeper = Keeper::open(formatted(rt, IMAGE, building)?, building)
         .ok()
         .ok_or("refused")?;
@@ -92,9 +95,9 @@ fn begun<'b, R: Files<File = File> + ToldFiles>(
 }
 
 /// Whether a reopening is refused so, and the next batch goes behind the one that was written.
-fn goes_on<R: Files<File = File> + ToldFiles>(
-    rt: &R,
-    keeper: &mut Keeper<FileDisk<R::Told>>,
+fn goes_on(
+    rt: &HostRuntime,
+    keeper: &mut Keeper<FileDisk<SystemFile<File>>>,
     fault: KeeperFault,
 ) -> Result<bool, Fail> {
     let was_open = is_open(rt, SECOND_GATE)?;
@@ -119,7 +122,11 @@ fn a_refused_reopening_changes_nothing(rt: HostRuntime) -> Result<(), Fail> {
             KeeperFault::OtherBuilding => make_other(&rt, rt.alloc())?,
             KeeperFault::BadEntry(_) => make_misfit(&rt, &two)?,
             KeeperFault::Journal(_) => {
-                drop(FileDisk::create(&rt, OTHER, 130).ok().ok_or("a file")?);
+                drop(
+                    FileDisk::create(SystemOpener::new(&rt), OTHER, 130)
+                        .ok()
+                        .ok_or("a file")?,
+                );
             }
         }
         fs::copy(&rt, OTHER, IMAGE)?;

@@ -9,6 +9,7 @@ returns g c =
         fails = told.fails;
         rests = λ is. told.rests (told.commits.is.broken.0 is);
         commits = told.commits;
+        calls = told.calls;
         kept = told.same;
       };
     }

@@ -8,7 +8,8 @@ use Rattle.lift_record.specs.Header.{header_bytes}
 use Rattle.lift_record.specs.declared.version.Version.TheVariants.{Two}
 use Rattle.lift_record.specs.lemmas.Spellings.{length-header_bytes}
 use Rattle.lift_journal.specs.Layout.{filled, IsRecordIn}
-use Rattle.lift_journal.proofs.Texts.{put_more, length-spellings}
+use Rattle.lift_journal.proofs.Texts.{put_more}
+use Rattle.lift_journal.specs.lemmas.Unique.{length-spellings}
 use Rattle.lift_journal.proofs.body.put_text.Goals as goal
 
 pub loop-content-preserved : goal.loop-content-preserved

@@ -9,7 +9,8 @@ use Rattle.lift_journal.specs.Layout.{bodies, used, IsBody}
 use Rattle.lift_journal.specs.Walk.{Reaches}
 use Rattle.lift_journal.specs.Checkpoint.{in_batches, batch_count, sectors_for}
 use Rattle.lift_journal.proofs.Bases.{base_in_order}
-use Rattle.lift_journal.proofs.Checkpoints.{Drafted, drafted_touched, drafted_more, lawful_part, next_size, next_body, next_exact, next_room, draft_stops, used_most, used_within, used_checkpoint}
+use Rattle.lift_journal.proofs.Checkpoints.{Drafted, drafted_touched, drafted_more, lawful_part, next_size, next_body, next_exact, next_room, draft_stops, used_most, used_within}
+use Rattle.lift_journal.specs.lemmas.Folding.{used_checkpoint}
 use Rattle.lift_journal.specs.Calls.{batch_body, draft_calls, StopsIn}
 use Rattle.lift_journal.proofs.Following.{err_follows}
 use Rattle.lift_journal.specs.lemmas.Telling.{fails_then, err_stops}

@@ -1,4 +1,4 @@
-use Rattle.std.proofs.Common.{ℕ, List, ◌+◌, ◌++◌, [], ◌∷◌, inl, inr, refl, ap, ◌∙◌, arith, slice_set, Result, OnOk, Ok, Err, subst}
+use Rattle.std.proofs.Common.{ℕ, List, ◌+◌, [], ◌∷◌, inl, inr, refl, ap, ◌∙◌, arith, slice_set, Result, OnOk, Ok, Err, subst}
 use Rattle.std.proofs.lemmas.Result.{on_ok_weaker}
 use Rattle.lift_disk.specs.lemmas.Moments.{touches_none, touches_then_write, touches_then_rest}
 use Rattle.lift_journal.specs.Steps.{IsInRange, marked}

@@ -1,4 +1,4 @@
-use Rattle.std.proofs.Common.{inl, inr, arith, ◌∙◌, ◌++◌, [], ◌∷◌, ap, slice_set, List, ℕ, subst}
+use Rattle.std.proofs.Common.{inl, inr, arith, ◌∙◌, [], ◌∷◌, ap, slice_set, List, ℕ, subst}
 use Rattle.std.proofs.lemmas.Result.{on_ok_weaker}
 use Rattle.lift_disk.specs.Trace.Access.{Write, Sync}
 use Rattle.lift_journal.specs.Layout.{filled, stamp_bytes}

@@ -6,7 +6,7 @@ use Rattle.lift_journal.specs.declared.reads.AtGate.TheVariants.{Closed, Batch, 
 use Rattle.lift_journal.proofs.Visiting.{more_shown, has_taken}
 use Rattle.lift_journal.specs.Visits.{TakesAll}
 use Rattle.lift_journal.specs.Seen.{batch_of}
-use Rattle.lift_journal.proofs.Unique.{chain_unique}
+use Rattle.lift_journal.specs.lemmas.Unique.{chain_unique}
 use Rattle.lift_journal.proofs.Walks.{walk_begins, goes_on, reaches_end, ends, ends_early, none_here, may_not, seen_at}
 use Rattle.lift_journal.specs.lemmas.Looking.{reads_then, well_then, failed_then}
 use Rattle.lift_journal.proofs.Seeing.{bodies_few}

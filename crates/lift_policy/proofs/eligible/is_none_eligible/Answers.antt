@@ -1,6 +1,6 @@
 use Rattle.std.proofs.Common.{arith}
 use Rattle.lift_policy.specs.Eligible.{is_eligible}
-use Rattle.lift_policy.proofs.Letters.{all_cars-are, none_so_far, some_here, none_at_all}
+use Rattle.lift_policy.proofs.Letters.{all_cars-are, none_so_far, some_here, none_at_all, none_behind}
 use Rattle.lift_policy.proofs.eligible.is_none_eligible.Goals as goal
 
 pub loop-letter-init : goal.loop-letter-init
@@ -8,11 +8,12 @@ loop-letter-init c = all_cars-are c.args.building.now c.args.view.now c.args.cal
 
 pub loop-letter-preserved : goal.loop-letter-preserved
 loop-letter-preserved c =
-    none_so_far (is_eligible c.args.building.now c.args.view.now c.args.call.now) _ c.loop-letter.letter c.eligible_at.result c.loop-letter-test.true c.loop-letter.invariant c.eligible_at.ensures c.if-is_some.ensures
+    none_so_far (is_eligible c.args.building.now c.args.view.now c.args.call.now) _ c.loop-letter.letter c.eligible_at.result (omega arith) c.loop-letter.invariant c.eligible_at.ensures c.if-is_some.ensures
 
 pub returns-then-is_some : goal.returns-then-is_some
 returns-then-is_some c =
-    some_here (is_eligible c.args.building.now c.args.view.now c.args.call.now) _ c.loop-letter.letter c.eligible_at.result c.loop-letter-test.true c.loop-letter.invariant c.eligible_at.ensures c.if-is_some.ensures
+    some_here (is_eligible c.args.building.now c.args.view.now c.args.call.now) _ c.loop-letter.letter c.eligible_at.result (omega arith) c.loop-letter.invariant c.eligible_at.ensures c.if-is_some.ensures
 
 pub returns : goal.returns
-returns c = none_at_all (is_eligible c.args.building.now c.args.view.now c.args.call.now) _ c.loop-letter.letter (omega arith) c.loop-letter.invariant
+returns c =
+    none_at_all (is_eligible c.args.building.now c.args.view.now c.args.call.now) _ c.loop-letter.letter (λ car behind. none_behind c.args.building.now c.args.view.now c.args.call.now car (omega arith)) c.loop-letter.invariant

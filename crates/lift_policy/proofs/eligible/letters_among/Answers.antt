@@ -1,12 +1,11 @@
-use Rattle.std.proofs.Common.{◌≡◌, ◌∙◌, ap, sym, arith, ℕ, filter, Some, None, lit<, append-nil}
-use Rattle.std.specs.List.{range_with_len}
+use Rattle.std.proofs.Common.{◌∙◌, ap, sym, arith, Some, None, lit<, append-nil}
 use Rattle.lift_policy.specs.Eligible.{is_eligible}
-use Rattle.lift_policy.proofs.Letters.{letters_more, few_so_far, eligible_cars-is}
+use Rattle.lift_policy.proofs.Letters.{letters_more, few_so_far, eligible_so_far}
 use Rattle.lift_policy.proofs.eligible.letters_among.Goals as goal
 use Rattle.lift_policy.proofs.eligible.letters_among.Goals.{in-Some, in-None}
 
 pub push-requires : goal.push-requires
-push-requires c = (lit< tt, few_so_far (is_eligible c.args.building.now c.args.view.now c.args.call.now) c.loop-index.letters.items c.loop-index.index c.loop-index.invariant c.loop-index-test.true)
+push-requires c = (lit< tt, few_so_far (is_eligible c.args.building.now c.args.view.now c.args.call.now) c.loop-index.letters.items c.loop-index.index c.loop-index.invariant (omega arith))
 
 pub loop-index-preserved : goal.loop-index-preserved
 loop-index-preserved c =
@@ -19,7 +18,4 @@ loop-index-preserved c =
 
 pub returns : goal.returns
 returns c =
-    let e : c.loop-index.index ≡ 16 = omega arith in
-    c.loop-index.invariant
-    ∙ ap (λ (n : ℕ). filter (is_eligible c.args.building.now c.args.view.now c.args.call.now) (range_with_len 0 n)) e
-    ∙ sym (eligible_cars-is c.args.building.now c.args.view.now c.args.call.now)
+    eligible_so_far c.args.building.now c.args.view.now c.args.call.now c.loop-index.letters.items c.loop-index.index (omega arith) (omega arith) c.loop-index.invariant

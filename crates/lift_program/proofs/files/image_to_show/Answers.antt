@@ -7,7 +7,7 @@ use Rattle.lift_program.proofs.files.image_to_show.Goals as goal
 
 pub returns-in-Ok-clause-opened : goal.returns-in-Ok-clause-opened
 returns-in-Ok-clause-opened g c =
-    is_opened (g.F.ToldFiles.opens c.args.rt.now) g.F.Told.ToldFile.gives g.F.Told.ToldFile.holds _ _ _ c.in-Ok.file _ c.args.path.now
+    is_opened (g.I.FileOpener.opens c.args.opener) g.I.Told.ToldFile.gives g.I.Told.ToldFile.holds _ _ _ c.in-Ok.file _ c.args.path.now
     (ap unwritten_file_of c.over-in-Ok.ensures.below ∙ c.over.ensures.file) c.over-in-Ok.ensures.calls (c.over-in-Ok.ensures.failures ∙ c.over.ensures.failures ∙ c.in-Ok.ensures.failures)
     c.in-Ok.ensures.calls c.in-Ok.ensures.measured
-    (λ honest. c.over-in-Ok.ensures.honest (subst (λ f. (sector_file_state_of g.F.Told.ToldFile.holds f).is_honest) (sym c.over.ensures.file) honest))
+    (λ honest. c.over-in-Ok.ensures.honest (subst (λ f. (sector_file_state_of g.I.Told.ToldFile.holds f).is_honest) (sym c.over.ensures.file) honest))

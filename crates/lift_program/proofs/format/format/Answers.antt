@@ -1,10 +1,6 @@
-use Rattle.std.proofs.Common.{[], refl, rules, sym, subst}
-use Rattle.lift_disk.specs.Below.{buffered_state_of}
+use Rattle.std.proofs.Common.{[], refl, rules, subst}
 use Rattle.lift_disk.specs.Files.{sector_file_state_of}
 use Rattle.lift_journal.specs.Journal.{ReadsAs}
-use Rattle.lift_program.specs.Ends.{IsMadeWith}
-use Rattle.lift_program.specs.Images.{ImageFiles, image_files}
-use Rattle.lift_program.specs.Unwritten.{unwritten_state_of}
 use Rattle.lift_journal.specs.Calls.{StopsIn, format_calls}
 use Rattle.lift_journal.specs.declared.fault.JournalFault.TheVariants.{Disk}
 use Rattle.lift_keeper.specs.declared.fault.KeeperFault.TheVariants.{Journal as OfJournal}
@@ -14,20 +10,17 @@ use Rattle.lift_program.proofs.format.format.Goals as goal
 
 pub returns-in-Ok-format-clause-made : goal.returns-in-Ok-format-clause-made
 returns-in-Ok-format-clause-made g c =
-    let files : ImageFiles = image_files (g.F.ToldFiles.stands c.args.rt.now) (g.F.ToldFiles.opens c.args.rt.now) (g.F.ToldFiles.names c.args.rt.now) (g.F.ToldFiles.unnamed c.args.rt.now) g.F.Told.ToldFile.gives g.F.Told.ToldFile.fails g.F.Told.ToldFile.holds (buffered_state_of (sector_file_state_of g.F.Told.ToldFile.holds)) (buffered_state_of (unwritten_state_of g.F.Told.ToldFile.holds)) in
     let left = c.format.new.disk in
-    subst (λ (d : files.Made). IsMadeWith files c.args.image.now c.args.half d) (sym c.new.ensures)
-    (is_made files c.args.image.now c.in-Ok.building c.args.half c.in-Ok-image_at.disk left c.in-Ok.ensures.found c.shape-shape.ensures.lawful
+    is_made _ c.args.image.now c.args.building.now c.in-Ok.building c.args.half c.in-Ok-image_at.disk left _ c.new-in-Ok-format.ensures c.in-Ok.ensures.found c.shape-shape.ensures.lawful
     c.in-Ok-image_at.ensures.made c.in-Ok-format.ensures.runs (search rules) (search rules) (search rules) (search rules) (search rules)
-    (λ honest. subst (λ s. ReadsAs s [] [] (sector_file_state_of g.F.Told.ToldFile.holds left).image) c.shape-shape.ensures.value (c.in-Ok-format.ensures.empty honest))
-    c.in-Ok-format.ensures.synced)
+    (λ honest. subst (λ s. ReadsAs s [] [] (sector_file_state_of g.I.Told.ToldFile.holds left).image) c.shape-shape.ensures.value (c.in-Ok-format.ensures.empty honest))
+    c.in-Ok-format.ensures.synced
 
 pub returns-in-Err-format-clause-undone : goal.returns-in-Err-format-clause-undone
 returns-in-Err-format-clause-undone g c =
-    let files : ImageFiles = image_files (g.F.ToldFiles.stands c.args.rt.now) (g.F.ToldFiles.opens c.args.rt.now) (g.F.ToldFiles.names c.args.rt.now) (g.F.ToldFiles.unnamed c.args.rt.now) g.F.Told.ToldFile.gives g.F.Told.ToldFile.fails g.F.Told.ToldFile.holds (buffered_state_of (sector_file_state_of g.F.Told.ToldFile.holds)) (buffered_state_of (unwritten_state_of g.F.Told.ToldFile.holds)) in
     let image = c.in-Ok-image_at.disk in
     let left = c.format.new.disk in
     let here = c.in-Err-format.ensures in
-    let stops = subst (λ s. StopsIn (format_calls s) (sector_file_state_of g.F.Told.ToldFile.holds image) (sector_file_state_of g.F.Told.ToldFile.holds left)) c.shape-shape.ensures.value here.follows.front in
-    is_unformatted files c.args.image.now c.in-Ok.building c.args.half image left c.new-in-Err-format.result (Journal (OfJournal Disk)) c.new-in-Err-format.ensures c.in-Ok.ensures.found
+    let stops = subst (λ s. StopsIn (format_calls s) (sector_file_state_of g.I.Told.ToldFile.holds image) (sector_file_state_of g.I.Told.ToldFile.holds left)) c.shape-shape.ensures.value here.follows.front in
+    is_unformatted _ c.args.image.now c.args.building.now c.in-Ok.building c.args.half image left c.new-in-Err-format.result (Journal (OfJournal Disk)) c.new-in-Err-format.ensures c.in-Ok.ensures.found
     c.in-Ok-image_at.ensures.made refl stops here.runs here.cause.err

@@ -1,20 +1,12 @@
-use Rattle.std.proofs.Common.{sym, subst, ◌∙◌}
-use Rattle.lift_disk.specs.Below.{buffered_state_of}
-use Rattle.lift_disk.specs.Files.{sector_file_state_of}
-use Rattle.lift_keeper.specs.Keeper.{KeeperView}
-use Rattle.lift_program.specs.Images.{ImageFiles, image_files}
-use Rattle.lift_program.specs.Stages.{HasKeeperOf}
-use Rattle.lift_program.specs.Unwritten.{unwritten_state_of}
+use Rattle.std.proofs.Common.{◌∙◌}
 use Rattle.lift_program.proofs.Stages.{has_keeper, has_no_keeper, is_opened}
 use Rattle.lift_program.proofs.keeping.keeper_in.Goals as goal
 
 pub returns-in-Ok-open-clause-opened : goal.returns-in-Ok-open-clause-opened
 returns-in-Ok-open-clause-opened g c =
-    let files : ImageFiles = image_files (g.F.ToldFiles.stands c.args.rt.now) (g.F.ToldFiles.opens c.args.rt.now) (g.F.ToldFiles.names c.args.rt.now) (g.F.ToldFiles.unnamed c.args.rt.now) g.F.Told.ToldFile.gives g.F.Told.ToldFile.fails g.F.Told.ToldFile.holds (buffered_state_of (sector_file_state_of g.F.Told.ToldFile.holds)) (buffered_state_of (unwritten_state_of g.F.Told.ToldFile.holds)) in
-    subst (λ (k : KeeperView files.Served). HasKeeperOf files c.args.path.now c.args.building.now k) (sym c.new.ensures)
-    (has_keeper files c.args.path.now c.args.building.now c.over.result c.in-Ok-open.keeper
+    has_keeper _ c.args.path.now c.args.building.now c.over.result c.in-Ok-open.keeper _ c.new.ensures
     (is_opened _ _ _ _ _ _ c.in-Ok.file _ c.args.path.now c.over.ensures.below c.over.ensures.calls (c.over.ensures.failures ∙ c.in-Ok.ensures.failures) c.in-Ok.ensures.calls c.in-Ok.ensures.measured c.over.ensures.honest)
-    c.in-Ok-open.ensures.opens.reopens c.in-Ok-open.ensures.state c.in-Ok-open.ensures.opens.whole.0 c.in-Ok-open.ensures.opens.whole.1 c.in-Ok-open.ensures.opens.plan)
+    c.in-Ok-open.ensures.opens.reopens c.in-Ok-open.ensures.state c.in-Ok-open.ensures.opens.whole.0 c.in-Ok-open.ensures.opens.whole.1 c.in-Ok-open.ensures.opens.plan
 
 pub returns-in-Err-open-clause-undone : goal.returns-in-Err-open-clause-undone
 returns-in-Err-open-clause-undone g c =

@@ -4,67 +4,68 @@ use Rattle.lift_disk.specs.Below.{below, buffered_state_of}
 use Rattle.lift_program.specs.Unwritten.{unwritten_state_of}
 use Rattle.lift_program.specs.Ends.{IsFileFault, IsReportOfFault, IsShowingFault}
 use Rattle.lift_disk.specs.Files.{sector_file_state_of}
-use Rattle.lift_program.specs.Images.{ImageFiles, image_files}
+use Rattle.lift_program.specs.Images.{CommandFiles, IsTextRead, image_files}
 use Rattle.lift_program.specs.Showing.{IsShown, ShowsFront}
 use Rattle.lift_program.specs.declared.fault.Role.TheVariants.{Output}
-use Rattle.lift_program.specs.Stages.{IsBuildingFault}
-use Rattle.lift_program.proofs.Flushing.{image_no_output}
+use Rattle.lift_program.proofs.Flushing.{building_no_output, image_no_output}
 use Rattle.lift_program.proofs.Stages.{showing_left, showing_part}
 use Rattle.lift_program.proofs.Writing.{part_shown, shown_front}
 use Rattle.lift_program.proofs.show.show.Goals as goal
 
 pub returns-in-Ok-outcome-clause-shown : goal.returns-in-Ok-outcome-clause-shown
 returns-in-Ok-outcome-clause-shown g c =
-    let files : ImageFiles = image_files (g.F.ToldFiles.stands c.args.rt.now) (g.F.ToldFiles.opens c.args.rt.now) (g.F.ToldFiles.names c.args.rt.now) (g.F.ToldFiles.unnamed c.args.rt.now) g.F.Told.ToldFile.gives g.F.Told.ToldFile.fails g.F.Told.ToldFile.holds (buffered_state_of (sector_file_state_of g.F.Told.ToldFile.holds)) (buffered_state_of (unwritten_state_of g.F.Told.ToldFile.holds)) in
+    let files : CommandFiles = record {
+      image = image_files c.args.files.image (g.I.FileOpener.stands c.args.files.image) (g.I.FileOpener.opens c.args.files.image) (g.I.FileOpener.names c.args.files.image) (g.I.FileOpener.unnamed c.args.files.image) g.I.Told.ToldFile.gives g.I.Told.ToldFile.fails g.I.Told.ToldFile.holds (buffered_state_of (sector_file_state_of g.I.Told.ToldFile.holds)) (buffered_state_of (unwritten_state_of g.I.Told.ToldFile.holds));
+      is_text = λ path. IsTextRead (g.B.TextOpener.opens c.args.files.building path) g.B.Text.Read.remaining;
+    } in
     let before = g.W.Write.contents c.args.writer.now in
     let after = g.W.Write.contents c.show_on-disk.new.writer in
-    let shown : IsShown files c.args.image.now c.show_on-disk.result.0 before after = record {
-      text = c.in-Ok.ensures.found.text;
+    let shown : IsShown files c.args.image.now c.args.building.now c.show_on-disk.result.0 before after = record {
       plan = c.in-Ok.building;
-      described = c.in-Ok.ensures.found.described;
+      described = c.in-Ok.ensures.found;
       opened = c.in-Ok-image_to_show.disk;
       fresh = c.in-Ok-image_to_show.ensures.opened;
       shows = search rules;
       only_read = record {
         unwritten = (below c.show_on-disk.result.0).unwritten;
-        unhurt = let same : (unwritten_state_of g.F.Told.ToldFile.holds (below c.show_on-disk.result.0)).failures ≡ (unwritten_state_of g.F.Told.ToldFile.holds (below c.in-Ok-image_to_show.disk)).failures = search rules in
+        unhurt = let same : (unwritten_state_of g.I.Told.ToldFile.holds (below c.show_on-disk.result.0)).failures ≡ (unwritten_state_of g.I.Told.ToldFile.holds (below c.in-Ok-image_to_show.disk)).failures = search rules in
             omega (arith, same, c.in-Ok-image_to_show.ensures.opened.unhurt);
       };
     } in
-    subst (λ (d : files.Shown). IsShown files c.args.image.now d before after) (sym c.new.ensures) shown
+    subst (λ (d : files.image.Shown). IsShown files c.args.image.now c.args.building.now d before after) (sym c.new-in-Ok-outcome.ensures) shown
 
 pub returns-in-Err-outcome-clause-undone : goal.returns-in-Err-outcome-clause-undone
 returns-in-Err-outcome-clause-undone g c =
     let before = g.W.Write.contents c.args.writer.now in
     let after = g.W.Write.contents c.show_on-disk.new.writer in
-    showing_left _ _ c.in-Ok.building c.in-Ok-image_to_show.disk c.show_on-disk.result.0 _ before after c.in-Err-outcome.fault c.new-in-Err-outcome.ensures c.in-Ok.ensures.found
+    showing_left _ _ _ c.in-Ok.building c.in-Ok-image_to_show.disk c.show_on-disk.result.0 _ before after c.in-Err-outcome.fault c.new-in-Err-outcome.ensures c.in-Ok.ensures.found
     c.in-Ok-image_to_show.ensures.opened (subst (λ r. IfErr r IsShowingFault) c.in-Err-outcome.is c.show_on-disk.ensures.fault)
     (λ refusal same. c.show_on-disk.ensures.refused refusal (c.in-Err-outcome.is ∙ ap Err same))
-    (subst (λ r. IfErr r (λ fault. IsFileFault Output fault → ShowsFront c.in-Ok.building (buffered_state_of (unwritten_state_of g.F.Told.ToldFile.holds) c.in-Ok-image_to_show.disk) (buffered_state_of (unwritten_state_of g.F.Told.ToldFile.holds) c.show_on-disk.result.0) before after))
+    (subst (λ r. IfErr r (λ fault. IsFileFault Output fault → ShowsFront c.in-Ok.building (buffered_state_of (unwritten_state_of g.I.Told.ToldFile.holds) c.in-Ok-image_to_show.disk) (buffered_state_of (unwritten_state_of g.I.Told.ToldFile.holds) c.show_on-disk.result.0) before after))
     c.in-Err-outcome.is c.show_on-disk.ensures.front)
 
 pub returns-in-Ok-outcome-clause-only : goal.returns-in-Ok-outcome-clause-only
 returns-in-Ok-outcome-clause-only g c =
     let before = g.W.Write.contents c.args.writer.now in
     let after = g.W.Write.contents c.show_on-disk.new.writer in
-    part_shown _ c.args.image.now c.in-Ok.building c.in-Ok.ensures.found.text c.in-Ok-image_to_show.disk c.show_on-disk.result.0 before after c.in-Ok.ensures.found.described
-    c.in-Ok-image_to_show.ensures.opened (shown_front c.in-Ok.building (buffered_state_of (unwritten_state_of g.F.Told.ToldFile.holds) c.in-Ok-image_to_show.disk) (buffered_state_of (unwritten_state_of g.F.Told.ToldFile.holds) c.show_on-disk.result.0) before after (search rules))
+    part_shown _ c.args.image.now c.args.building.now c.in-Ok.building c.in-Ok-image_to_show.disk c.show_on-disk.result.0 before after c.in-Ok.ensures.found
+    c.in-Ok-image_to_show.ensures.opened (shown_front c.in-Ok.building (buffered_state_of (unwritten_state_of g.I.Told.ToldFile.holds) c.in-Ok-image_to_show.disk) (buffered_state_of (unwritten_state_of g.I.Told.ToldFile.holds) c.show_on-disk.result.0) before after (search rules))
 
 pub returns-in-Err-outcome-clause-only : goal.returns-in-Err-outcome-clause-only
 returns-in-Err-outcome-clause-only g c =
     let before = g.W.Write.contents c.args.writer.now in
     let after = g.W.Write.contents c.show_on-disk.new.writer in
-    showing_part _ c.args.image.now c.in-Ok.building c.in-Ok.ensures.found.text c.in-Ok-image_to_show.disk c.show_on-disk.result.0 before after c.in-Err-outcome.fault
-    c.in-Ok.ensures.found.described c.in-Ok-image_to_show.ensures.opened (subst (λ r. IfErr r IsShowingFault) c.in-Err-outcome.is c.show_on-disk.ensures.fault)
+    showing_part _ c.args.image.now c.args.building.now c.in-Ok.building c.in-Ok-image_to_show.disk c.show_on-disk.result.0 before after c.in-Err-outcome.fault
+    c.in-Ok.ensures.found c.in-Ok-image_to_show.ensures.opened (subst (λ r. IfErr r IsShowingFault) c.in-Err-outcome.is c.show_on-disk.ensures.fault)
     (subst (λ r. IfErr r (λ fault. IsReportOfFault fault before after)) c.in-Err-outcome.is c.show_on-disk.ensures.unwritten)
-    (subst (λ r. IfErr r (λ fault. IsFileFault Output fault → ShowsFront c.in-Ok.building (buffered_state_of (unwritten_state_of g.F.Told.ToldFile.holds) c.in-Ok-image_to_show.disk) (buffered_state_of (unwritten_state_of g.F.Told.ToldFile.holds) c.show_on-disk.result.0) before after))
+    (subst (λ r. IfErr r (λ fault. IsFileFault Output fault → ShowsFront c.in-Ok.building (buffered_state_of (unwritten_state_of g.I.Told.ToldFile.holds) c.in-Ok-image_to_show.disk) (buffered_state_of (unwritten_state_of g.I.Told.ToldFile.holds) c.show_on-disk.result.0) before after))
     c.in-Err-outcome.is c.show_on-disk.ensures.front)
 
 pub returns-in-Err-clause-failed : goal.returns-in-Err-clause-failed
-returns-in-Err-clause-failed g c = λ same. absurd (subst IsBuildingFault same c.in-Err.ensures.fault)
+returns-in-Err-clause-failed g c = λ same. absurd (building_no_output _ _ c.in-Err.ensures.fault same)
 
 pub returns-in-Err-image_to_show-clause-failed : goal.returns-in-Err-image_to_show-clause-failed
-returns-in-Err-image_to_show-clause-failed g c = λ same. absurd (image_no_output c.in-Ok.building _ c.in-Err-image_to_show.ensures.fault same)
+returns-in-Err-image_to_show-clause-failed g c = λ same. absurd (image_no_output _ c.in-Err-image_to_show.ensures.unhad.is_fault same)
 
 pub returns-in-Err-outcome-clause-failed : goal.returns-in-Err-outcome-clause-failed
 returns-in-Err-outcome-clause-failed g c = λ same. c.show_on-disk.ensures.failed (c.in-Err-outcome.is ∙ ap Err same)

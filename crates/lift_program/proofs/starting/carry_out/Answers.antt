@@ -1,9 +1,10 @@
 use Rattle.std.proofs.Common.{◌∙◌, rules, ap, map, sym, subst}
 use Rattle.lift_disk.specs.Below.{buffered_state_of}
 use Rattle.lift_disk.specs.Files.{sector_file_state_of}
-use Rattle.lift_program.specs.Images.{image_files}
+use Rattle.lift_program.specs.Images.{CommandFiles, IsTextRead, image_files}
 use Rattle.lift_program.specs.Unwritten.{unwritten_state_of}
-use Rattle.lift_program.specs.Ends.{IsEndOf, undone_for}
+use Rattle.lift_program.specs.Ends.{IsEndOf, TellsLine, line_at_once, undone_for}
+use Rattle.lift_program.proofs.Telling.{quiet_so, told_once}
 use Rattle.lift_program.specs.Output.{WriterHasFailed}
 use Rattle.lift_program.proofs.Asked.{asked_end}
 use Rattle.lift_program.proofs.starting.carry_out.Goals.{in-Ok-Some, in-Ok-None, in-Err}
@@ -11,7 +12,10 @@ use Rattle.lift_program.proofs.starting.carry_out.Goals as goal
 
 pub returns-clause-end : goal.returns-clause-end
 returns-clause-end g c =
-    let files = image_files (g.F.ToldFiles.stands c.args.rt.now) (g.F.ToldFiles.opens c.args.rt.now) (g.F.ToldFiles.names c.args.rt.now) (g.F.ToldFiles.unnamed c.args.rt.now) g.F.Told.ToldFile.gives g.F.Told.ToldFile.fails g.F.Told.ToldFile.holds (buffered_state_of (sector_file_state_of g.F.Told.ToldFile.holds)) (buffered_state_of (unwritten_state_of g.F.Told.ToldFile.holds)) in
+    let files : CommandFiles = record {
+      image = image_files c.args.openers.files.image (g.I.FileOpener.stands c.args.openers.files.image) (g.I.FileOpener.opens c.args.openers.files.image) (g.I.FileOpener.names c.args.openers.files.image) (g.I.FileOpener.unnamed c.args.openers.files.image) g.I.Told.ToldFile.gives g.I.Told.ToldFile.fails g.I.Told.ToldFile.holds (buffered_state_of (sector_file_state_of g.I.Told.ToldFile.holds)) (buffered_state_of (unwritten_state_of g.I.Told.ToldFile.holds));
+      is_text = λ path. IsTextRead (g.B.TextOpener.opens c.args.openers.files.building path) g.B.Text.Read.remaining;
+    } in
     let input = g.R.Read.remaining c.args.input.now.reader in
     let words = map g.S.AsStr.text c.args.words.now in
     let before = g.W.Write.contents c.args.writer.now in
@@ -46,3 +50,31 @@ returns-clause-caused g c = record {
         | in-Err w ↦ absurd (let other = ap (λ e. undone_for e) (sym w.end-is) ∙ is in cc)
       ];
 }
+
+pub returns-clause-told : goal.returns-clause-told
+returns-clause-told g c =
+    let contents = g.E.Write.contents in
+    let a = c.args.errors.now in
+    let m = c.match-request_of in
+    let first : TellsLine contents (line_at_once m.end) a m.errors =
+    elim m.branch [
+      | in-Ok-Some w ↦ subst (λ e. TellsLine contents (line_at_once e) a m.errors) (sym w.end-is)
+          (subst (λ v. TellsLine contents (line_at_once w.done-end.result) a v) (sym w.errors-is) w.done-end.ensures.at_once)
+      | in-Ok-None w ↦ subst (λ e. TellsLine contents (line_at_once e) a m.errors) (sym w.end-is) w.errors-is
+      | in-Err w ↦ subst (λ e. TellsLine contents (line_at_once e) a m.errors) (sym w.end-is) w.errors-is
+    ] in
+    told_once contents a m.errors c.tell.new.errors m.end first c.tell.ensures.told c.tell.ensures.quiet
+
+pub returns-clause-quiet : goal.returns-clause-quiet
+returns-clause-quiet g c =
+    let contents = g.E.Write.contents in
+    let a = c.args.errors.now in
+    let m = c.match-request_of in
+    let first : TellsLine contents (line_at_once m.end) a m.errors =
+    elim m.branch [
+      | in-Ok-Some w ↦ subst (λ e. TellsLine contents (line_at_once e) a m.errors) (sym w.end-is)
+          (subst (λ v. TellsLine contents (line_at_once w.done-end.result) a v) (sym w.errors-is) w.done-end.ensures.at_once)
+      | in-Ok-None w ↦ subst (λ e. TellsLine contents (line_at_once e) a m.errors) (sym w.end-is) w.errors-is
+      | in-Err w ↦ subst (λ e. TellsLine contents (line_at_once e) a m.errors) (sym w.end-is) w.errors-is
+    ] in
+    quiet_so contents a m.errors c.tell.new.errors m.end first c.tell.ensures.quiet

@@ -1,6 +1,7 @@
-use Rattle.std.proofs.Common.{rules, ap, Err, refl}
-use Rattle.lift_program.specs.Ends.{WritesFor}
-use Rattle.lift_program.proofs.Stages.{replay_report}
+use Rattle.std.proofs.Common.{◌∙◌, rules, ap, Err, refl}
+use Rattle.lift_program.specs.Ends.{WritesFor, undone_for}
+use Rattle.lift_program.specs.Stages.{fault_in}
+use Rattle.lift_program.proofs.Stages.{fault_there, replay_report, some_none}
 use Rattle.lift_program.proofs.Writing.{report_front}
 use Rattle.lift_program.proofs.starting.done.Goals as goal
 
@@ -22,3 +23,31 @@ returns-in-Ok-format-clause-end g c = rw c.in-Format.is c.in-Ok-format.ensures.m
 
 pub returns-in-Err-Opened-clause-end : goal.returns-in-Err-Opened-clause-end
 returns-in-Err-Opened-clause-end g c = rw c.in-Format.is (search rules)
+
+pub returns-in-Ok-show-clause-end : goal.returns-in-Ok-show-clause-end
+returns-in-Ok-show-clause-end g c = rw c.in-Show.is c.in-Ok-show.ensures.shown
+
+pub returns-in-Ok-show-clause-only : goal.returns-in-Ok-show-clause-only
+returns-in-Ok-show-clause-only g c = rw c.in-Show.is c.in-Ok-show.ensures.only
+
+pub returns-in-Err-NoBuilding-show-clause-only : goal.returns-in-Err-NoBuilding-show-clause-only
+returns-in-Err-NoBuilding-show-clause-only g c = rw c.in-Show.is c.in-Err-NoBuilding-show.ensures.only
+
+pub returns-in-Err-NoImage-show-clause-only : goal.returns-in-Err-NoImage-show-clause-only
+returns-in-Err-NoImage-show-clause-only g c = rw c.in-Show.is c.in-Err-NoImage-show.ensures.only
+
+pub returns-in-Err-Opened-show-clause-only : goal.returns-in-Err-Opened-show-clause-only
+returns-in-Err-Opened-show-clause-only g c = rw c.in-Show.is c.in-Err-Opened-show.ensures.only
+
+pub returns-in-Err-Opened-show-clause-end : goal.returns-in-Err-Opened-show-clause-end
+returns-in-Err-Opened-show-clause-end g c = rw c.in-Show.is (search rules)
+
+pub returns-in-Err-Opened-serve-clause-end : goal.returns-in-Err-Opened-serve-clause-end
+returns-in-Err-Opened-serve-clause-end g c = rw c.in-Serve.is (search rules)
+
+pub returns-in-Err-Opened-serve-clause-caused : goal.returns-in-Err-Opened-serve-clause-caused
+returns-in-Err-Opened-serve-clause-caused g c = record {
+  unwritten = λ is. c.in-Err-Opened-serve.ensures.failed (ap (λ u. fault_in u) c.in-Err-Opened-serve.field-0-is ∙ ap fault_there is);
+  here = λ port fault left ended is. some_none c.in-Err-Opened-serve.fault (ap (λ e. undone_for e) is);
+  refused = λ is. (c.in-Serve.port, c.in-Err-Opened-serve.ensures.refused (ap (λ u. fault_in u) c.in-Err-Opened-serve.field-0-is ∙ ap fault_there is));
+}

@@ -2,14 +2,17 @@ use Rattle.std.proofs.Common.{◌≡◌, ap, map, subst}
 use Rattle.lift_base.specs.Input.{InputState}
 use Rattle.lift_disk.specs.Below.{buffered_state_of}
 use Rattle.lift_disk.specs.Files.{sector_file_state_of}
-use Rattle.lift_program.specs.Images.{image_files}
+use Rattle.lift_program.specs.Images.{CommandFiles, IsTextRead, image_files}
 use Rattle.lift_program.specs.Unwritten.{unwritten_state_of}
 use Rattle.lift_program.specs.Ends.{IsEndOf, IsReportOfEnd}
 use Rattle.lift_program.proofs.starting.start.Goals as goal
 
 pub returns : goal.returns
 returns g c =
-    let files = image_files (g.F.ToldFiles.stands c.args.rt.now) (g.F.ToldFiles.opens c.args.rt.now) (g.F.ToldFiles.names c.args.rt.now) (g.F.ToldFiles.unnamed c.args.rt.now) g.F.Told.ToldFile.gives g.F.Told.ToldFile.fails g.F.Told.ToldFile.holds (buffered_state_of (sector_file_state_of g.F.Told.ToldFile.holds)) (buffered_state_of (unwritten_state_of g.F.Told.ToldFile.holds)) in
+    let files : CommandFiles = record {
+      image = image_files c.args.openers.files.image (g.I.FileOpener.stands c.args.openers.files.image) (g.I.FileOpener.opens c.args.openers.files.image) (g.I.FileOpener.names c.args.openers.files.image) (g.I.FileOpener.unnamed c.args.openers.files.image) g.I.Told.ToldFile.gives g.I.Told.ToldFile.fails g.I.Told.ToldFile.holds (buffered_state_of (sector_file_state_of g.I.Told.ToldFile.holds)) (buffered_state_of (unwritten_state_of g.I.Told.ToldFile.holds));
+      is_text = λ path. IsTextRead (g.B.TextOpener.opens c.args.openers.files.building path) g.B.Text.Read.remaining;
+    } in
     let words = map g.S.AsStr.text c.args.words.now in
     let before = g.W.Write.contents c.args.writer.now in
     let after = g.W.Write.contents c.carry_out-end.new.writer in

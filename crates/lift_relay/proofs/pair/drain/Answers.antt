@@ -1,13 +1,13 @@
 use Rattle.std.proofs.Common.{◌≡◌, true, inl, refl, sym, subst, rules}
 use Rattle.lift_parts.specs.Allocator.{AllocatorState}
 use Rattle.lift_parts.specs.Turns.{AllocatorTurns, NoMore, NoFlush, OneFlush, IsSending}
-use Rattle.lift_relay.proofs.Heard.{since_same, heard_on}
+use Rattle.lift_relay.specs.lemmas.Heard.{flush_stays, heard_none, heard_on, turns_stay}
 use Rattle.lift_relay.proofs.Draining.{sending_more, sent_on, sends_on, waits_by}
 use Rattle.lift_relay.proofs.pair.drain.Goals.{in-None, in-Some+then-is_sent+then-sent-received}
 use Rattle.lift_relay.proofs.pair.drain.Goals as goal
 
 pub loop-init : goal.loop-init
-loop-init g c = record { allocator = NoMore; sends = inl refl; heard = since_same g.V.Witness.hears c.args.first c.args.witness.now; flusher = NoFlush }
+loop-init g c = record { allocator = NoMore; sends = inl refl; heard = heard_none g.V.Witness.hears c.args.flusher.now.writer.is_broken c.args.witness.now; flusher = NoFlush }
 
 pub loop-preserved : goal.loop-preserved
 loop-preserved g c =
@@ -17,7 +17,8 @@ loop-preserved g c =
       allocator = sending_more (g.P.Policy.chooses c.args.allocator.now.policy) c.args.allocator.now c.loop.allocator c.send_hand-is_sent.new.self c.send_hand-is_sent.result
           i.allocator e.sent e.full;
       sends = sends_on c.args.allocator.now c.loop.allocator c.send_hand-is_sent.new.self c.send_hand-is_sent.result i.sends (λ is. (e.sent is).1) (λ no. waits_by _ _ (e.full no));
-      heard = heard_on g.V.Witness.hears c.args.first c.loop.first c.flush_once.new.first c.args.witness.now c.loop.witness c.flush_once.new.witness i.heard c.flush_once.ensures.heard;
+      heard = heard_on g.V.Witness.hears _ _ _ c.args.witness.now c.loop.witness c.flush_once.new.witness
+          (turns_stay g.D.Disk.state _ _ _ _ i.flusher) (flush_stays g.D.Disk.state _ _ _ c.flush_once.ensures.turns.1) i.heard c.flush_once.ensures.heard;
       flusher = OneFlush i.flusher c.flush_once.ensures.turns.1 c.flush_once.ensures.turns.2;
     }
 

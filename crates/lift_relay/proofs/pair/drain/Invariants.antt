@@ -1,6 +1,6 @@
 use Rattle.std.proofs.Common.{◌⊎◌}
 use Rattle.lift_parts.specs.Turns.{AllocatorTurns, FlusherTurns, IsSending}
-use Rattle.lift_relay.specs.Pair.{HeardSince}
+use Rattle.lift_relay.specs.Heard.{FailureHeard}
 use Rattle.lift_relay.proofs.Draining.{Waits}
 use Rattle.lift_relay.proofs.pair.drain.Given as goal
 
@@ -8,6 +8,6 @@ abbrev pub invariant-loop : goal.invariant-loop
 invariant-loop g l = record {
   allocator : AllocatorTurns (g.P.Policy.chooses l.fn.allocator.policy) l.fn.allocator l.allocator;
   sends : Waits l.fn.allocator l.allocator ⊎ IsSending l.fn.allocator l.allocator;
-  heard : HeardSince g.V.Witness.hears l.fn.first l.first l.fn.witness l.witness;
+  heard : FailureHeard g.V.Witness.hears l.fn.flusher.writer.is_broken l.flusher.writer.is_broken l.fn.witness l.witness;
   flusher : FlusherTurns g.D.Disk.state l.fn.flusher l.fn.first l.flusher l.first;
 }

@@ -1,26 +1,23 @@
 use Rattle.std.proofs.Common.{◌≡◌, None, inr, sym, ap, ◌∙◌, subst}
 use Rattle.lift_parts.specs.Allocator.{AllocatorState}
 use Rattle.lift_relay.specs.declared.pair.Turned.{Turned}
-use Rattle.lift_relay.specs.Pair.{HaveTurned, HeardOf, HaveRun, fault_of}
-use Rattle.lift_relay.proofs.Heard.{since_drain, heard_on}
+use Rattle.lift_relay.specs.Pair.{HaveTurned, HaveRun, fault_of}
+use Rattle.lift_relay.specs.lemmas.Heard.{heard_on, turns_stay}
 use Rattle.lift_relay.proofs.Ran.{have_run}
 use Rattle.lift_relay.proofs.pair.run_owned.Goals.{in-Some, in-None}
 use Rattle.lift_relay.proofs.pair.run_owned.Goals as goal
 
 pub returns-after-drain-clause-heard : goal.returns-after-drain-clause-heard
 returns-after-drain-clause-heard g c =
-    let hears = g.V.Witness.hears in
+    let chooses = g.P.Policy.chooses in
+    let state = g.D.Disk.state in
     let both = c.turn_both-turned in
     let drained = c.drain in
-    let u = c.args.witness in
-    let turned = subst (λ (t : Turned g.row.P.Denot). HeardOf hears t u both.result.2) c.in-Done.is both.ensures.heard in
-    let is : c.match-drain.fault ≡ fault_of drained.result =
-    elim c.match-drain.branch [
-      | in-Some w ↦ w.fault-is ∙ ap fault_of (sym w.in-Some.is)
-      | in-None w ↦ w.fault-is ∙ ap fault_of (sym w.in-None.is)
-    ] in
-    since_drain hears drained.result c.match-drain.fault u drained.new.witness is
-    (heard_on hears None c.in-Done.first drained.result u both.result.2 drained.new.witness turned drained.ensures.heard)
+    let a = c.args.allocator in
+    let f = c.args.flusher in
+    let turned = subst (λ (t : Turned g.row.P.Denot). HaveTurned (chooses a.policy) state a f t both.result.1) c.in-Done.is both.ensures.turned in
+    heard_on g.V.Witness.hears _ _ _ c.args.witness both.result.2 drained.new.witness
+    (turns_stay state _ _ _ _ turned.1) (turns_stay state _ _ _ _ drained.ensures.flusher) both.ensures.heard drained.ensures.heard
 
 pub returns-after-drain-clause-ran : goal.returns-after-drain-clause-ran
 returns-after-drain-clause-ran g c =

@@ -1,4 +1,4 @@
-use Rattle.std.proofs.Common.{◌≡◌, length, Option, sym, ap, ◌∙◌, refl, subst, arith}
+use Rattle.std.proofs.Common.{◌≡◌, length, Option, sym, ap, ◌∙◌, subst, arith}
 use Rattle.std.specs.Prelude.{IfSome}
 use Rattle.std.proofs.lemmas.List.{length-map}
 use Rattle.lift_desk.specs.declared.words.Ask.{Ask}
@@ -8,7 +8,6 @@ use Rattle.lift_desk.specs.Seats.{ClerkPlace, view_at, Owes}
 use Rattle.lift_desk.specs.lemmas.Places.{view_at-here}
 use Rattle.lift_clerk.specs.Scanning.{reply_told}
 use Rattle.lift_clerk.specs.lemmas.Scanned.{looked-at}
-use Rattle.lift_parts.specs.Flusher.{GivesIt}
 use Rattle.lift_relay.proofs.Flushed.{gives_one, settles_one}
 use Rattle.lift_relay.proofs.settling.answer.Goals.{then-is_safe, else-is_safe}
 use Rattle.lift_relay.proofs.settling.answer.Goals as goal
@@ -32,11 +31,10 @@ returns-clause-answers c =
     let look = looked-at seat c.look_for-found.new.clerk t l.looked.0 found (omega arith) l.looked.1 l.looked.2 l.tells in
     let here : view_at c.look_for-found.new.clerk t ≡ with_taking (view_at seat t) l.looked.0 = ap (λ s. view_at s t) l.looked.1 ∙ view_at-here seat t (with_taking (view_at seat t) l.looked.0) (omega arith) in
     let ask : Ask = record { number = taken.command.number; body = taken.command.body } in
-    let gives : GivesIt found taken = subst (λ (o : Option Ask). GivesIt o taken) (sym (l.noted ask c.requires.says).0) (refl, refl) in
     let said : c.if-is_safe.reply ≡ reply_told c.args.is_safe taken.reply =
     elim c.if-is_safe.branch [ then-is_safe w ↦ w.reply-is ∙ ap (λ b. reply_told b taken.reply) (sym w.if-is_safe.true) | else-is_safe w ↦ w.reply-is ∙ ap (λ b. reply_told b taken.reply) (sym w.if-is_safe.false) ] in (
       record { word = l.looked.0; found = found },
-      gives_one c.args.is_safe seat c.look_for-found.new.clerk c.answer.new.clerk taken l.looked.0 found c.if-is_safe.reply look gives here c.answer.ensures.answered said
+      gives_one c.args.is_safe seat c.look_for-found.new.clerk c.answer.new.clerk taken l.looked.0 found c.if-is_safe.reply look (l.noted ask c.requires.says).0 here c.answer.ensures.answered said
           (ap (λ v. v.taken) (sym here) ∙ (l.noted ask c.requires.says).1),
     )
 

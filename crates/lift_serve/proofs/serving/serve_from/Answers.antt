@@ -1,4 +1,6 @@
-use Rattle.std.proofs.Common.{refl, sym, ◌∙◌, inl}
+use Rattle.std.proofs.Common.{refl, sym, ◌∙◌, inl, subst}
+use Rattle.lift_keeper.specs.Keeper.{KeeperView}
+use Rattle.lift_relay.specs.Heard.{FailureHeard}
 use Rattle.lift_serve.proofs.Relayings.{all_ended, ended_so, tells_no_network, tells_spawn}
 use Rattle.lift_serve.proofs.serving.serve_from.Goals as goal
 
@@ -25,3 +27,8 @@ returns-in-Ok-clause-ended g c = ended_so c.in-Ok.over _ c.args.listener.now c.a
 
 pub returns-in-Ok-clause-counted : goal.returns-in-Ok-clause-counted
 returns-in-Ok-clause-counted g c = all_ended c.in-Ok.own _ c.in-Ok.over _ _ c.behind.ensures.fault c.behind.ensures.ended
+
+pub returns-in-Ok-clause-heard : goal.returns-in-Ok-clause-heard
+returns-in-Ok-clause-heard g c =
+    subst (λ (p : KeeperView g.row.D.Denot × g.row.V.Denot). FailureHeard g.V.Witness.hears c.args.clerk.keeper.writer.is_broken p.0.writer.is_broken c.args.witness p.1)
+    (λ i. (sym (c.behind.ensures.keeper ∙ c.leave.ensures.keeper) i, sym c.behind.ensures.witness i)) c.in-Ok.ensures.heard

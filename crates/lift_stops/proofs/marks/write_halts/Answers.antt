@@ -17,3 +17,6 @@ returns-clause-count c =
     let listed = ap (λ (halts : List Halt). length halts) (c.write.ensures ∙ marked-stops c.args.rows.now c.args.position.now c.marks_of-marks.result c.marks_of-marks.ensures.marks) in
     let count = c.marks_of-marks.ensures.count in
     omega (arith, listed, count)
+
+pub marks_of-marks-requires-clause-nobody : goal.marks_of-marks-requires-clause-nobody
+marks_of-marks-requires-clause-nobody c = c.new.ensures c.args.position.now

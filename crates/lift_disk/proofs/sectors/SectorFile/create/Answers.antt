@@ -10,9 +10,9 @@ pub returns-in-Ok-named-clause-made : goal.returns-in-Ok-named-clause-made
 returns-in-Ok-named-clause-made g c =
     let gives = g.F.ToldFile.gives in
     let holds = g.F.ToldFile.holds in
-    let opens = g.R.ToldFiles.opens c.args.rt.now to_be_made c.args.path.now in
-    let names = g.R.ToldFiles.names c.args.rt.now c.args.path.now in
-    let file = c.in-Ok.file in
+    let opens = g.O.FileOpener.opens c.args.opener to_be_made c.args.path.now in
+    let names = g.O.FileOpener.names c.args.opener c.args.path.now in
+    let file = c.in-Ok.opened.0 in
     let named = c.in-Ok-named.named in
     let same = sym c.in-Ok-named.ensures.same in
     let made = c.in-Ok-zeroed.ensures in
@@ -20,7 +20,7 @@ returns-in-Ok-named-clause-made g c =
       file = file;
       opened = search rules;
       led = subst (λ (t : TracedFile g.row.F.Denot). LeadsBy gives (making_calls c.args.sectors) file (file_of t)) same made.led;
-      named = c.in-Ok-named.ensures.named;
+      named = subst (λ (o : g.row.O.Denot). g.O.FileOpener.names o c.args.path.now (file_of named)) c.in-Ok.ensures.folder c.in-Ok-named.ensures.named;
       honest = subst (λ (t : TracedFile g.row.F.Denot). (holds (file_of t)).is_honest ↔ (holds file).is_honest) same made.honest;
       size = λ h. subst (λ (t : TracedFile g.row.F.Denot). (holds (file_of t)).size ≡ sectors_in (c.args.sectors * 512)) same (made.size h);
     } in
@@ -29,7 +29,9 @@ returns-in-Ok-named-clause-made g c =
 pub returns-in-Err-named-clause-refused : goal.returns-in-Err-named-clause-refused
 returns-in-Err-named-clause-refused g c =
     let gives = g.F.ToldFile.gives in
-    let file = c.in-Ok.file in
-    let opened : g.R.ToldFiles.opens c.args.rt.now to_be_made c.args.path.now (Some file) = search rules in
+    let file = c.in-Ok.opened.0 in
+    let opened : g.O.FileOpener.opens c.args.opener to_be_made c.args.path.now (Some file) = search rules in
+    let stopped = c.in-Err-named.stopped.file in
     let led = subst (λ (f : g.row.F.Denot). LeadsBy gives (making_calls c.args.sectors) file f) (sym c.in-Err-named.ensures.stopped) c.in-Ok-zeroed.ensures.led in
-    (file, opened, inr (led, c.in-Err-named.ensures.unnamed))
+    let unnamed = subst (λ (o : g.row.O.Denot). g.O.FileOpener.unnamed o c.args.path.now stopped) c.in-Ok.ensures.folder c.in-Err-named.ensures.unnamed in
+    (file, opened, inr (led, unnamed))

@@ -1,35 +1,19 @@
-use Rattle.std.proofs.Common.{◌≡◌, ◌⊎◌, ◌++◌, ◌+◌, ◌-◌, false, nat_lt, inl, [], ◌∷◌, List, length, take, drop, sym, ◌∙◌, ap, subst, arith}
+use Rattle.std.proofs.Common.{◌⊎◌, ◌≡◌, ◌++◌, ◌+◌, ◌-◌, nat_lt, [], ◌∷◌, List, length, take, drop, sym, ◌∙◌, ap, subst, arith}
 use Rattle.lift_base.specs.declared.history.Record.{Record}
 use Rattle.lift_disk.specs.Disk.{Image, LeavesNow, LeavesOnly}
-use Rattle.lift_disk.specs.lemmas.Moments.{leaves_none}
 use Rattle.lift_record.specs.declared.version.Version.TheVariants.{Two}
-use Rattle.lift_journal.specs.Layout.{Batch, new_batch, bodies, size_of, start_of, IsBody, Holds, Picks}
+use Rattle.lift_journal.specs.declared.fault.JournalFault.TheVariants.{Full, Broken}
+use Rattle.lift_journal.specs.Layout.{Batch, new_batch, bodies, size_of, IsBody, Holds, HoldsIn}
 use Rattle.lift_journal.specs.Stops.{StopsShort}
-use Rattle.lift_journal.specs.Journal.{ReadsAs, StandsFor, JournalView}
+use Rattle.lift_journal.specs.Journal.{JournalView, JournalHolds}
 use Rattle.lift_journal.specs.lemmas.Looking.{open_ok, open_err}
+use Rattle.lift_journal.proofs.Standing.{append_picks, gate_high, ready, same_batches, stands_then, stands_seen, seen_then, leaves_in, becomes_none}
 use Rattle.lift_journal.proofs.Seeing.{bodies_few}
-use Rattle.lift_journal.proofs.Standing.{picks_synced, append_picks, gate_high, ready, append_leaves, append_stands, lists_leave, lists_stand, same_batches, stands_then}
-use Rattle.lift_journal.specs.Told.{NoneFails, LastFails}
-use Rattle.lift_journal.specs.Calls.{half_start, append_calls, StopsIn}
+use Rattle.lift_journal.proofs.Performing.{calls_seen, device_ok, device_err, device_none, performs_body}
+use Rattle.lift_journal.specs.Calls.{half_start, append_calls, batch_body}
 use Rattle.lift_journal.specs.lemmas.Telling.{none_made}
 use Rattle.lift_journal.proofs.Following.{begins_at}
 use Rattle.lift_journal.proofs.journal.Journal.append.Goals as goal
-
-pub returns-then-is_err-clause-any_moment : goal.returns-then-is_err-clause-any_moment
-returns-then-is_err-clause-any_moment g c =
-    let j = c.self.inside in
-    let old = g.D.Disk.state j.device in
-    let new = g.D.Disk.state c.write_batch.new.disk in
-    let items = c.args.batch.now.items in
-    let batch : Batch = record { version = Two; records = items } in
-    let is : c.body_count-bodies.result ≡ size_of batch = c.body_count-bodies.ensures ∙ ap bodies c.len.ensures.value in
-    let body = subst (λ (s : Image). IsBody j.place.number batch (take (bodies (length items)) s)) (sym c.sectors_of-body.ensures.cut) (subst (λ (l : List Record). IsBody j.place.number (record { version = Two; records = l }) (take (bodies (length l)) (take 512 c.put_body.new.text ∷ drop 512 c.put_body.new.text ∷ []))) c.deref.ensures.0 c.put_body.ensures.spelled) in
-    let stands = c.self.invariant.stands c.if-self.false in
-    let leaves = append_leaves j.place.shape j.place.start j.place.gate j.place.number c.body_count-bodies.result old items new c.write_batch.ensures.performs.runs stands c.requires.entries
-    (λ honest. c.write_batch.ensures.any_moment j.place.shape (stands honest).batches batch
-    (λ _. ready j.place.shape j.place.start j.place.gate j.place.number c.body_count-bodies.result old items c.sectors_of-body.result.now (stands honest) is c.if-used-bodies.false c.sectors_of-body.ensures.length body c.requires.entries)) in
-    subst (λ (v : JournalView g.row.D.Denot). (base entries : List Record) → StandsFor v.shape base entries (g.D.Disk.state v.device)
-    → LeavesOnly (g.D.Disk.state v.device) new (λ left. ReadsAs v.shape base entries left ⊎ ReadsAs v.shape base (entries ++ items) left)) c.self.view_is leaves
 
 pub invariant_of-self-2 : goal.invariant_of-self-2
 invariant_of-self-2 g c =
@@ -63,88 +47,114 @@ invariant_of-self-2 g c =
           (ready j.place.shape j.place.start j.place.gate j.place.number c.body_count-bodies.result old items c.sectors_of-body.result.now stands is c.if-used-bodies.false c.sectors_of-body.ensures.length body c.requires.entries)));
     }
 
-pub returns-clause-acknowledged : goal.returns-clause-acknowledged
-returns-clause-acknowledged g c =
+pub returns-then-used-bodies-clause-becomes : goal.returns-then-used-bodies-clause-becomes
+returns-then-used-bodies-clause-becomes g c _ honest_seen =
     let j = c.self.inside in
-    let old = g.D.Disk.state j.device in
-    let new = g.D.Disk.state c.write_batch.new.disk in
-    let items = c.args.batch.now.items in
-    let batch : Batch = record { version = Two; records = items } in
-    let is : c.body_count-bodies.result ≡ size_of batch = c.body_count-bodies.ensures ∙ ap bodies c.len.ensures.value in
-    let body = subst (λ (s : Image). IsBody j.place.number batch (take (bodies (length items)) s)) (sym c.sectors_of-body.ensures.cut) (subst (λ (l : List Record). IsBody j.place.number (record { version = Two; records = l }) (take (bodies (length l)) (take 512 c.put_body.new.text ∷ drop 512 c.put_body.new.text ∷ []))) c.deref.ensures.0 c.put_body.ensures.spelled) in
-    let stands = c.self.invariant.stands c.if-self.false in
-    let stood = append_stands j.place.shape j.place.start j.place.gate j.place.number c.body_count-bodies.result old items new (start_of j.place.shape.half old.image) c.write_batch.ensures.performs.runs stands c.requires.entries
-    (λ honest. open_ok c.write_batch.result _ (sym c.is_err.ensures.value ∙ c.if-is_err.false) c.write_batch.ensures.written j.place.shape (stands honest).batches batch honest
-    (ready j.place.shape j.place.start j.place.gate j.place.number c.body_count-bodies.result old items c.sectors_of-body.result.now (stands honest) is c.if-used-bodies.false c.sectors_of-body.ensures.length body c.requires.entries)) in
-    subst (λ (v : JournalView g.row.D.Denot). (base entries : List Record) → StandsFor v.shape base entries (g.D.Disk.state v.device) → StandsFor j.place.shape base (entries ++ items) new) c.self.view_is stood
-
-pub returns-clause-any_moment : goal.returns-clause-any_moment
-returns-clause-any_moment g c =
-    let j = c.self.inside in
-    let old = g.D.Disk.state j.device in
-    let new = g.D.Disk.state c.write_batch.new.disk in
-    let items = c.args.batch.now.items in
-    let batch : Batch = record { version = Two; records = items } in
-    let is : c.body_count-bodies.result ≡ size_of batch = c.body_count-bodies.ensures ∙ ap bodies c.len.ensures.value in
-    let body = subst (λ (s : Image). IsBody j.place.number batch (take (bodies (length items)) s)) (sym c.sectors_of-body.ensures.cut) (subst (λ (l : List Record). IsBody j.place.number (record { version = Two; records = l }) (take (bodies (length l)) (take 512 c.put_body.new.text ∷ drop 512 c.put_body.new.text ∷ []))) c.deref.ensures.0 c.put_body.ensures.spelled) in
-    let stands = c.self.invariant.stands c.if-self.false in
-    let leaves = append_leaves j.place.shape j.place.start j.place.gate j.place.number c.body_count-bodies.result old items new c.write_batch.ensures.performs.runs stands c.requires.entries
-    (λ honest. c.write_batch.ensures.any_moment j.place.shape (stands honest).batches batch
-    (λ _. ready j.place.shape j.place.start j.place.gate j.place.number c.body_count-bodies.result old items c.sectors_of-body.result.now (stands honest) is c.if-used-bodies.false c.sectors_of-body.ensures.length body c.requires.entries)) in
-    subst (λ (v : JournalView g.row.D.Denot). (base entries : List Record) → StandsFor v.shape base entries (g.D.Disk.state v.device)
-    → LeavesOnly (g.D.Disk.state v.device) new (λ left. ReadsAs v.shape base entries left ⊎ ReadsAs v.shape base (entries ++ items) left)) c.self.view_is leaves
-
-pub returns-then-is_err-clause-any_moment_listed : goal.returns-then-is_err-clause-any_moment_listed
-returns-then-is_err-clause-any_moment_listed g c =
-    let j = c.self.inside in
-    let old = g.D.Disk.state j.device in
-    let new = g.D.Disk.state c.write_batch.new.disk in
-    let items = c.args.batch.now.items in
-    let batch : Batch = record { version = Two; records = items } in
-    let is : c.body_count-bodies.result ≡ size_of batch = c.body_count-bodies.ensures ∙ ap bodies c.len.ensures.value in
-    let body = subst (λ (s : Image). IsBody j.place.number batch (take (bodies (length items)) s)) (sym c.sectors_of-body.ensures.cut) (subst (λ (l : List Record). IsBody j.place.number (record { version = Two; records = l }) (take (bodies (length l)) (take 512 c.put_body.new.text ∷ drop 512 c.put_body.new.text ∷ []))) c.deref.ensures.0 c.put_body.ensures.spelled) in
-    let stands = c.self.invariant.stands c.if-self.false in
-    let leaves = λ (batches : List Batch) (lists : LeavesNow old (Holds j.place.shape batches)). lists_leave j.place.shape j.place.start j.place.gate j.place.number old stands batches lists batch new c.write_batch.ensures.performs.runs.honest
-    (λ honest. c.write_batch.ensures.any_moment j.place.shape (stands honest).batches batch (λ _. ready j.place.shape j.place.start j.place.gate j.place.number c.body_count-bodies.result old items c.sectors_of-body.result.now (stands honest) is c.if-used-bodies.false c.sectors_of-body.ensures.length body c.requires.entries)) in
-    subst (λ (v : JournalView g.row.D.Denot). (batches : List Batch) → LeavesNow (g.D.Disk.state v.device) (Holds v.shape batches)
-    → LeavesOnly (g.D.Disk.state v.device) new (λ left. Holds v.shape batches left ⊎ Holds v.shape (batches ++ batch ∷ []) left)) c.self.view_is leaves
-
-pub returns-clause-any_moment_listed : goal.returns-clause-any_moment_listed
-returns-clause-any_moment_listed g c =
-    let j = c.self.inside in
-    let old = g.D.Disk.state j.device in
-    let new = g.D.Disk.state c.write_batch.new.disk in
-    let items = c.args.batch.now.items in
-    let batch : Batch = record { version = Two; records = items } in
-    let is : c.body_count-bodies.result ≡ size_of batch = c.body_count-bodies.ensures ∙ ap bodies c.len.ensures.value in
-    let body = subst (λ (s : Image). IsBody j.place.number batch (take (bodies (length items)) s)) (sym c.sectors_of-body.ensures.cut) (subst (λ (l : List Record). IsBody j.place.number (record { version = Two; records = l }) (take (bodies (length l)) (take 512 c.put_body.new.text ∷ drop 512 c.put_body.new.text ∷ []))) c.deref.ensures.0 c.put_body.ensures.spelled) in
-    let stands = c.self.invariant.stands c.if-self.false in
-    let leaves = λ (batches : List Batch) (lists : LeavesNow old (Holds j.place.shape batches)). lists_leave j.place.shape j.place.start j.place.gate j.place.number old stands batches lists batch new c.write_batch.ensures.performs.runs.honest
-    (λ honest. c.write_batch.ensures.any_moment j.place.shape (stands honest).batches batch (λ _. ready j.place.shape j.place.start j.place.gate j.place.number c.body_count-bodies.result old items c.sectors_of-body.result.now (stands honest) is c.if-used-bodies.false c.sectors_of-body.ensures.length body c.requires.entries)) in
-    subst (λ (v : JournalView g.row.D.Denot). (batches : List Batch) → LeavesNow (g.D.Disk.state v.device) (Holds v.shape batches)
-    → LeavesOnly (g.D.Disk.state v.device) new (λ left. Holds v.shape batches left ⊎ Holds v.shape (batches ++ batch ∷ []) left)) c.self.view_is leaves
-
-pub returns-clause-listed : goal.returns-clause-listed
-returns-clause-listed g c =
-    let j = c.self.inside in
-    let old = g.D.Disk.state j.device in
-    let new = g.D.Disk.state c.write_batch.new.disk in
-    let items = c.args.batch.now.items in
-    let batch : Batch = record { version = Two; records = items } in
-    let is : c.body_count-bodies.result ≡ size_of batch = c.body_count-bodies.ensures ∙ ap bodies c.len.ensures.value in
-    let body = subst (λ (s : Image). IsBody j.place.number batch (take (bodies (length items)) s)) (sym c.sectors_of-body.ensures.cut) (subst (λ (l : List Record). IsBody j.place.number (record { version = Two; records = l }) (take (bodies (length l)) (take 512 c.put_body.new.text ∷ drop 512 c.put_body.new.text ∷ []))) c.deref.ensures.0 c.put_body.ensures.spelled) in
-    let stands = c.self.invariant.stands c.if-self.false in
-    let stood = λ (batches : List Batch) (lists : LeavesNow old (Holds j.place.shape batches)). lists_stand j.place.shape j.place.start j.place.gate j.place.number old stands batches lists batch new c.write_batch.ensures.performs.runs.honest
-    (start_of j.place.shape.half old.image)
-    (λ honest. open_ok c.write_batch.result _ (sym c.is_err.ensures.value ∙ c.if-is_err.false) c.write_batch.ensures.written j.place.shape (stands honest).batches batch honest
-    (ready j.place.shape j.place.start j.place.gate j.place.number c.body_count-bodies.result old items c.sectors_of-body.result.now (stands honest) is c.if-used-bodies.false c.sectors_of-body.ensures.length body c.requires.entries)) in
-    subst (λ (v : JournalView g.row.D.Denot). (batches : List Batch) → LeavesNow (g.D.Disk.state v.device) (Holds v.shape batches) → LeavesNow new (Holds j.place.shape (batches ++ batch ∷ []))) c.self.view_is stood
-
-pub returns-then-used-bodies-clause-any_moment_listed : goal.returns-then-used-bodies-clause-any_moment_listed
-returns-then-used-bodies-clause-any_moment_listed g c batches lists =
     let view = c.args.self.now in
-    leaves_none (g.D.Disk.state view.device) (λ left. Holds view.shape batches left ⊎ Holds view.shape (batches ++ new_batch c.args.batch.now.items ∷ []) left) (g.met.D.Disk.only_now view.device)
-    (λ honest left leaves. inl (lists honest left leaves))
+    let honest : (g.D.Disk.state j.device).is_honest = subst (λ (v : JournalView g.row.D.Denot). (g.D.Disk.state v.device).is_honest) (sym c.self.view_is) honest_seen in
+    let at = c.self.invariant.stands c.if-self.false honest in
+    becomes_none g.D.Disk.state view view.is_second (λ bs. bs ++ new_batch c.args.batch.now.items ∷ []) Full at.batches
+    (subst (λ (v : JournalView g.row.D.Denot). JournalHolds g.D.Disk.state v at.batches) c.self.view_is
+    (stands_seen g.D.Disk.state j.device j.place.shape j.place.start j.place.gate j.place.number j.is_broken (g.D.Disk.state j.opened.value).failures at))
+    (g.met.D.Disk.only_now view.device)
+
+pub returns-then-is_err-clause-becomes : goal.returns-then-is_err-clause-becomes
+returns-then-is_err-clause-becomes g c _ honest_seen =
+    let j = c.self.inside in
+    let old = g.D.Disk.state j.device in
+    let new = g.D.Disk.state c.write_batch.new.disk in
+    let items = c.args.batch.now.items in
+    let batch : Batch = record { version = Two; records = items } in
+    let is : c.body_count-bodies.result ≡ size_of batch = c.body_count-bodies.ensures ∙ ap bodies c.len.ensures.value in
+    let body = subst (λ (s : Image). IsBody j.place.number batch (take (bodies (length items)) s)) (sym c.sectors_of-body.ensures.cut) (subst (λ (l : List Record). IsBody j.place.number (record { version = Two; records = l }) (take (bodies (length l)) (take 512 c.put_body.new.text ∷ drop 512 c.put_body.new.text ∷ []))) c.deref.ensures.0 c.put_body.ensures.spelled) in
+    let high = j.place.gate + length (take c.body_count-bodies.result c.sectors_of-body.result.now) + 2 in
+    let honest : old.is_honest = subst (λ (v : JournalView g.row.D.Denot). (g.D.Disk.state v.device).is_honest) (sym c.self.view_is) honest_seen in
+    let at = c.self.invariant.stands c.if-self.false honest in
+    let before = ready j.place.shape j.place.start j.place.gate j.place.number c.body_count-bodies.result old items c.sectors_of-body.result.now at is c.if-used-bodies.false c.sectors_of-body.ensures.length body c.requires.entries in
+    let holds = c.write_batch.ensures.any_moment j.place.shape at.batches batch (λ _. before) in
+    let picks = append_picks j.place.shape j.place.start j.place.gate j.place.number high old new (gate_high old.size j.place.shape j.place.start j.place.gate j.place.number c.self.invariant.place) (c.self.invariant.stands c.if-self.false) c.write_batch.ensures.touched in
+    record {
+      batches = at.batches;
+      held = subst (λ (v : JournalView g.row.D.Denot). JournalHolds g.D.Disk.state v at.batches) c.self.view_is (stands_seen g.D.Disk.state j.device j.place.shape j.place.start j.place.gate j.place.number j.is_broken (g.D.Disk.state j.opened.value).failures at);
+      any_moment = subst (λ (v : JournalView g.row.D.Denot). LeavesOnly (g.D.Disk.state v.device) new (λ left. HoldsIn v.shape v.is_second at.batches left ⊎ HoldsIn v.shape v.is_second (at.batches ++ batch ∷ []) left)) c.self.view_is
+          (leaves_in old new j.place.shape (nat_lt 2 j.place.start) at.batches (at.batches ++ batch ∷ []) holds picks);
+      done = tt;
+    }
+
+pub returns-clause-becomes : goal.returns-clause-becomes
+returns-clause-becomes g c _ honest_seen =
+    let j = c.self.inside in
+    let old = g.D.Disk.state j.device in
+    let new = g.D.Disk.state c.write_batch.new.disk in
+    let items = c.args.batch.now.items in
+    let batch : Batch = record { version = Two; records = items } in
+    let is : c.body_count-bodies.result ≡ size_of batch = c.body_count-bodies.ensures ∙ ap bodies c.len.ensures.value in
+    let body = subst (λ (s : Image). IsBody j.place.number batch (take (bodies (length items)) s)) (sym c.sectors_of-body.ensures.cut) (subst (λ (l : List Record). IsBody j.place.number (record { version = Two; records = l }) (take (bodies (length l)) (take 512 c.put_body.new.text ∷ drop 512 c.put_body.new.text ∷ []))) c.deref.ensures.0 c.put_body.ensures.spelled) in
+    let high = j.place.gate + length (take c.body_count-bodies.result c.sectors_of-body.result.now) + 2 in
+    let honest : old.is_honest = subst (λ (v : JournalView g.row.D.Denot). (g.D.Disk.state v.device).is_honest) (sym c.self.view_is) honest_seen in
+    let at = c.self.invariant.stands c.if-self.false honest in
+    let before = ready j.place.shape j.place.start j.place.gate j.place.number c.body_count-bodies.result old items c.sectors_of-body.result.now at is c.if-used-bodies.false c.sectors_of-body.ensures.length body c.requires.entries in
+    let holds = c.write_batch.ensures.any_moment j.place.shape at.batches batch (λ _. before) in
+    let picks = append_picks j.place.shape j.place.start j.place.gate j.place.number high old new (gate_high old.size j.place.shape j.place.start j.place.gate j.place.number c.self.invariant.place) (c.self.invariant.stands c.if-self.false) c.write_batch.ensures.touched in
+    record {
+      batches = at.batches;
+      held = subst (λ (v : JournalView g.row.D.Denot). JournalHolds g.D.Disk.state v at.batches) c.self.view_is (stands_seen g.D.Disk.state j.device j.place.shape j.place.start j.place.gate j.place.number j.is_broken (g.D.Disk.state j.opened.value).failures at);
+      any_moment = subst (λ (v : JournalView g.row.D.Denot). LeavesOnly (g.D.Disk.state v.device) new (λ left. HoldsIn v.shape v.is_second at.batches left ⊎ HoldsIn v.shape v.is_second (at.batches ++ batch ∷ []) left)) c.self.view_is
+          (leaves_in old new j.place.shape (nat_lt 2 j.place.start) at.batches (at.batches ++ batch ∷ []) holds picks);
+      done =
+          (let settled = open_ok c.write_batch.result _ (sym c.is_err.ensures.value ∙ c.if-is_err.false) c.write_batch.ensures.written j.place.shape at.batches batch honest before in
+          seen_then g.D.Disk.state c.write_batch.new.disk j.place.shape j.place.start j.place.gate j.place.number c.body_count-bodies.result _ _ old batch at is settled);
+    }
+
+pub returns-then-self-clause-calls : goal.returns-then-self-clause-calls
+returns-then-self-clause-calls g c =
+    let view = c.args.self.now in
+    let batch = new_batch c.args.batch.now.items in
+    device_none Broken (append_calls (half_start view.is_second view.shape.half + view.used) (batch_body view.number batch)) (size_of batch + 4) (size_of batch + 2) (g.D.Disk.state view.device) (λ is. absurd (cc is)) (none_made (g.D.Disk.state view.device))
+
+pub returns-then-used-bodies-clause-calls : goal.returns-then-used-bodies-clause-calls
+returns-then-used-bodies-clause-calls g c =
+    let view = c.args.self.now in
+    let batch = new_batch c.args.batch.now.items in
+    device_none Full (append_calls (half_start view.is_second view.shape.half + view.used) (batch_body view.number batch)) (size_of batch + 4) (size_of batch + 2) (g.D.Disk.state view.device) (λ is. absurd (cc is)) (none_made (g.D.Disk.state view.device))
+
+pub returns-clause-calls : goal.returns-clause-calls
+returns-clause-calls g c =
+    let j = c.self.inside in
+    let old = g.D.Disk.state j.device in
+    let new = g.D.Disk.state c.write_batch.new.disk in
+    let items = c.args.batch.now.items in
+    let batch : Batch = record { version = Two; records = items } in
+    let is : c.body_count-bodies.result ≡ size_of batch = c.body_count-bodies.ensures ∙ ap bodies c.len.ensures.value in
+    let body = subst (λ (s : Image). IsBody j.place.number batch (take (bodies (length items)) s)) (sym c.sectors_of-body.ensures.cut) (subst (λ (l : List Record). IsBody j.place.number (record { version = Two; records = l }) (take (bodies (length l)) (take 512 c.put_body.new.text ∷ drop 512 c.put_body.new.text ∷ []))) c.deref.ensures.0 c.put_body.ensures.spelled) in
+    let sectors = c.sectors_of-body.result.now in
+    let place = c.self.invariant.place in
+    let gate : half_start (nat_lt 2 j.place.start) j.place.shape.half + (j.place.gate - j.place.start) ≡ j.place.gate = omega (arith, begins_at j.place.shape.half j.place.start (omega (arith, place.within.half.0)) place.halves, place.low) in
+    let exact : take (bodies (length items)) sectors ≡ batch_body j.place.number batch =
+    ap (take (bodies (length items))) c.sectors_of-body.ensures.cut
+    ∙ subst (λ (l : List Record). take (bodies (length l)) (take 512 c.put_body.new.text ∷ drop 512 c.put_body.new.text ∷ []) ≡ batch_body j.place.number (record { version = Two; records = l })) c.deref.ensures.0 c.put_body.ensures.exact in
+    let performed = performs_body c.write_batch.result old new j.place.gate _ c.body_count-bodies.result (length items) sectors (batch_body j.place.number batch) c.sectors_of-body.ensures.length is exact (sym gate) c.write_batch.ensures.performs in
+    calls_seen g.D.Disk.state (λ (v : JournalView g.row.D.Denot). append_calls (half_start v.is_second v.shape.half + v.used) (batch_body v.number batch)) c.self.view_is
+    (device_ok _ _ _ old new c.write_batch.result (sym c.is_err.ensures.value ∙ c.if-is_err.false) performed)
+
+pub returns-then-is_err-clause-calls : goal.returns-then-is_err-clause-calls
+returns-then-is_err-clause-calls g c =
+    let j = c.self.inside in
+    let old = g.D.Disk.state j.device in
+    let new = g.D.Disk.state c.write_batch.new.disk in
+    let items = c.args.batch.now.items in
+    let batch : Batch = record { version = Two; records = items } in
+    let is : c.body_count-bodies.result ≡ size_of batch = c.body_count-bodies.ensures ∙ ap bodies c.len.ensures.value in
+    let body = subst (λ (s : Image). IsBody j.place.number batch (take (bodies (length items)) s)) (sym c.sectors_of-body.ensures.cut) (subst (λ (l : List Record). IsBody j.place.number (record { version = Two; records = l }) (take (bodies (length l)) (take 512 c.put_body.new.text ∷ drop 512 c.put_body.new.text ∷ []))) c.deref.ensures.0 c.put_body.ensures.spelled) in
+    let sectors = c.sectors_of-body.result.now in
+    let place = c.self.invariant.place in
+    let gate : half_start (nat_lt 2 j.place.start) j.place.shape.half + (j.place.gate - j.place.start) ≡ j.place.gate = omega (arith, begins_at j.place.shape.half j.place.start (omega (arith, place.within.half.0)) place.halves, place.low) in
+    let exact : take (bodies (length items)) sectors ≡ batch_body j.place.number batch =
+    ap (take (bodies (length items))) c.sectors_of-body.ensures.cut
+    ∙ subst (λ (l : List Record). take (bodies (length l)) (take 512 c.put_body.new.text ∷ drop 512 c.put_body.new.text ∷ []) ≡ batch_body j.place.number (record { version = Two; records = l })) c.deref.ensures.0 c.put_body.ensures.exact in
+    let performed = performs_body c.write_batch.result old new j.place.gate _ c.body_count-bodies.result (length items) sectors (batch_body j.place.number batch) c.sectors_of-body.ensures.length is exact (sym gate) c.write_batch.ensures.performs in
+    calls_seen g.D.Disk.state (λ (v : JournalView g.row.D.Denot). append_calls (half_start v.is_second v.shape.half + v.used) (batch_body v.number batch)) c.self.view_is
+    (device_err _ _ _ old new c.write_batch.result (sym c.is_err.ensures.value ∙ c.if-is_err.true) performed)
 
 pub returns-then-is_err-clause-stops : goal.returns-then-is_err-clause-stops
 returns-then-is_err-clause-stops g c _ =
@@ -155,94 +165,13 @@ returns-then-is_err-clause-stops g c _ =
     let batch : Batch = record { version = Two; records = items } in
     let is : c.body_count-bodies.result ≡ size_of batch = c.body_count-bodies.ensures ∙ ap bodies c.len.ensures.value in
     let body = subst (λ (s : Image). IsBody j.place.number batch (take (bodies (length items)) s)) (sym c.sectors_of-body.ensures.cut) (subst (λ (l : List Record). IsBody j.place.number (record { version = Two; records = l }) (take (bodies (length l)) (take 512 c.put_body.new.text ∷ drop 512 c.put_body.new.text ∷ []))) c.deref.ensures.0 c.put_body.ensures.spelled) in
+    let sectors = c.sectors_of-body.result.now in
     let stands = c.self.invariant.stands c.if-self.false in
-    let made = λ (honest : old.is_honest) (inert : old.is_inert) (batches : List Batch) (lists : LeavesNow old (Holds j.place.shape batches)).
+    let stopped = λ (honest : old.is_honest) (inert : old.is_inert) (batches : List Batch) (lists : LeavesNow old (Holds j.place.shape batches)).
     (let at = stands honest in
-    let before = ready j.place.shape j.place.start j.place.gate j.place.number c.body_count-bodies.result old items c.sectors_of-body.result.now (stands honest) is c.if-used-bodies.false c.sectors_of-body.ensures.length body c.requires.entries in
+    let before = ready j.place.shape j.place.start j.place.gate j.place.number c.body_count-bodies.result old items sectors at is c.if-used-bodies.false c.sectors_of-body.ensures.length body c.requires.entries in
     let stops = open_err c.write_batch.result _ (sym c.is_err.ensures.value ∙ c.if-is_err.true) c.write_batch.ensures.stops j.place.shape at.batches batch honest inert before in
-    subst (λ (bs : List Batch). StopsShort j.place.shape bs batch (bodies (length items)) old new) (same_batches j.place.shape j.place.start j.place.gate j.place.number old stands batches lists honest)
+    subst (λ (bs : List Batch). StopsShort j.place.shape bs batch (size_of batch) old new) (same_batches j.place.shape j.place.start j.place.gate j.place.number old stands batches lists honest)
     (subst (λ n. StopsShort j.place.shape at.batches batch n old new) before.size stops)) in
     subst (λ (v : JournalView g.row.D.Denot). (g.D.Disk.state v.device).is_honest → (g.D.Disk.state v.device).is_inert → (batches : List Batch) → LeavesNow (g.D.Disk.state v.device) (Holds v.shape batches)
-    → StopsShort v.shape batches batch (bodies (length items)) (g.D.Disk.state v.device) new) c.self.view_is made
-
-pub returns-then-is_err-clause-half : goal.returns-then-is_err-clause-half
-returns-then-is_err-clause-half g c =
-    let j = c.self.inside in
-    let old = g.D.Disk.state j.device in
-    let new = g.D.Disk.state c.write_batch.new.disk in
-    let high = j.place.gate + length (take c.body_count-bodies.result c.sectors_of-body.result.now) + 2 in
-    let made = append_picks j.place.shape j.place.start j.place.gate j.place.number high old new (gate_high old.size j.place.shape j.place.start j.place.gate j.place.number c.self.invariant.place) (c.self.invariant.stands c.if-self.false) c.write_batch.ensures.touched in
-    subst (λ (v : JournalView g.row.D.Denot). v.is_broken ≡ false → LeavesOnly (g.D.Disk.state v.device) new (Picks v.is_second)) c.self.view_is (λ _. made)
-
-pub returns-clause-half : goal.returns-clause-half
-returns-clause-half g c =
-    let j = c.self.inside in
-    let old = g.D.Disk.state j.device in
-    let new = g.D.Disk.state c.write_batch.new.disk in
-    let high = j.place.gate + length (take c.body_count-bodies.result c.sectors_of-body.result.now) + 2 in
-    let made = append_picks j.place.shape j.place.start j.place.gate j.place.number high old new (gate_high old.size j.place.shape j.place.start j.place.gate j.place.number c.self.invariant.place) (c.self.invariant.stands c.if-self.false) c.write_batch.ensures.touched in
-    subst (λ (v : JournalView g.row.D.Denot). v.is_broken ≡ false → LeavesOnly (g.D.Disk.state v.device) new (Picks v.is_second)) c.self.view_is (λ _. made)
-
-pub returns-then-used-bodies-clause-half : goal.returns-then-used-bodies-clause-half
-returns-then-used-bodies-clause-half g c =
-    let j = c.self.inside in
-    let old = g.D.Disk.state j.device in
-    subst (λ (v : JournalView g.row.D.Denot). v.is_broken ≡ false → LeavesOnly (g.D.Disk.state v.device) (g.D.Disk.state v.device) (Picks v.is_second)) c.self.view_is
-    (λ whole. leaves_none old (Picks (nat_lt 2 j.place.start)) (g.met.D.Disk.only_now j.device) (picks_synced j.place.shape j.place.start j.place.gate j.place.number old (c.self.invariant.stands whole)))
-
-pub returns-then-self-clause-told : goal.returns-then-self-clause-told
-returns-then-self-clause-told g c = record { ok = tt; err = none_made (g.D.Disk.state c.args.self.now.device) }
-
-pub returns-then-used-bodies-clause-told : goal.returns-then-used-bodies-clause-told
-returns-then-used-bodies-clause-told g c = record { ok = tt; err = none_made (g.D.Disk.state c.args.self.now.device) }
-
-pub returns-then-is_err-clause-told : goal.returns-then-is_err-clause-told
-returns-then-is_err-clause-told g c = record {
-  ok = tt;
-  err = subst (λ (v : JournalView g.row.D.Denot). LastFails (g.D.Disk.state v.device) (g.D.Disk.state c.write_batch.new.disk)) c.self.view_is
-      (open_err c.write_batch.result _ (sym c.is_err.ensures.value ∙ c.if-is_err.true) c.write_batch.ensures.performs.told.err);
-}
-
-pub returns-clause-told : goal.returns-clause-told
-returns-clause-told g c = record {
-  ok = subst (λ (v : JournalView g.row.D.Denot). NoneFails (g.D.Disk.state v.device) (g.D.Disk.state c.write_batch.new.disk)) c.self.view_is
-      (open_ok c.write_batch.result _ (sym c.is_err.ensures.value ∙ c.if-is_err.false) c.write_batch.ensures.performs.told.ok);
-  err = tt;
-}
-
-pub returns-clause-calls : goal.returns-clause-calls
-returns-clause-calls g c =
-    let j = c.self.inside in
-    let old = g.D.Disk.state j.device in
-    let new = g.D.Disk.state c.write_batch.new.disk in
-    let items = c.args.batch.now.items in
-    let batch : Batch = record { version = Two; records = items } in
-    let sectors = c.sectors_of-body.result.now in
-    let is : c.body_count-bodies.result ≡ bodies (length items) = c.body_count-bodies.ensures ∙ ap bodies c.len.ensures.value in
-    let body = subst (λ (s : Image). IsBody j.place.number batch (take (bodies (length items)) s)) (sym c.sectors_of-body.ensures.cut) (subst (λ (l : List Record). IsBody j.place.number (record { version = Two; records = l }) (take (bodies (length l)) (take 512 c.put_body.new.text ∷ drop 512 c.put_body.new.text ∷ []))) c.deref.ensures.0 c.put_body.ensures.spelled) in
-    let place = c.self.invariant.place in
-    let gate : half_start (nat_lt 2 j.place.start) j.place.shape.half + (j.place.gate - j.place.start) ≡ j.place.gate = omega (arith, begins_at j.place.shape.half j.place.start (omega (arith, place.within.half.0)) place.halves, place.low) in
-    let made = open_ok c.write_batch.result (new.trace ≡ old.trace ++ append_calls j.place.gate (take c.body_count-bodies.result sectors)) (sym c.is_err.ensures.value ∙ c.if-is_err.false) c.write_batch.ensures.performs.follows.all in
-    let here : (b : Image) × IsBody j.place.number batch b × (new.trace ≡ old.trace ++ append_calls (half_start (nat_lt 2 j.place.start) j.place.shape.half + (j.place.gate - j.place.start)) b) =
-    (take (bodies (length items)) sectors, body, made ∙ ap (λ k. old.trace ++ append_calls j.place.gate (take k sectors)) is ∙ ap (λ n. old.trace ++ append_calls n (take (bodies (length items)) sectors)) (sym gate)) in
-    subst (λ (v : JournalView g.row.D.Denot). (b : Image) × IsBody v.number batch b × (new.trace ≡ (g.D.Disk.state v.device).trace ++ append_calls (half_start v.is_second v.shape.half + v.used) b)) c.self.view_is here
-
-pub returns-then-is_err-clause-calls_before : goal.returns-then-is_err-clause-calls_before
-returns-then-is_err-clause-calls_before g c _ =
-    let j = c.self.inside in
-    let old = g.D.Disk.state j.device in
-    let new = g.D.Disk.state c.write_batch.new.disk in
-    let items = c.args.batch.now.items in
-    let batch : Batch = record { version = Two; records = items } in
-    let sectors = c.sectors_of-body.result.now in
-    let is : c.body_count-bodies.result ≡ bodies (length items) = c.body_count-bodies.ensures ∙ ap bodies c.len.ensures.value in
-    let body = subst (λ (s : Image). IsBody j.place.number batch (take (bodies (length items)) s)) (sym c.sectors_of-body.ensures.cut) (subst (λ (l : List Record). IsBody j.place.number (record { version = Two; records = l }) (take (bodies (length l)) (take 512 c.put_body.new.text ∷ drop 512 c.put_body.new.text ∷ []))) c.deref.ensures.0 c.put_body.ensures.spelled) in
-    let place = c.self.invariant.place in
-    let gate : half_start (nat_lt 2 j.place.start) j.place.shape.half + (j.place.gate - j.place.start) ≡ j.place.gate = omega (arith, begins_at j.place.shape.half j.place.start (omega (arith, place.within.half.0)) place.halves, place.low) in
-    let made = open_err c.write_batch.result (StopsIn (append_calls j.place.gate (take c.body_count-bodies.result sectors)) old new) (sym c.is_err.ensures.value ∙ c.if-is_err.true) c.write_batch.ensures.performs.follows.front in
-    let here : (b : Image) × IsBody j.place.number batch b × StopsIn (append_calls (half_start (nat_lt 2 j.place.start) j.place.shape.half + (j.place.gate - j.place.start)) b) old new = (
-      take (bodies (length items)) sectors,
-      body,
-      subst (λ n. StopsIn (append_calls n (take (bodies (length items)) sectors)) old new) (sym gate) (subst (λ k. StopsIn (append_calls j.place.gate (take k sectors)) old new) is made),
-    ) in
-    subst (λ (v : JournalView g.row.D.Denot). (b : Image) × IsBody v.number batch b × StopsIn (append_calls (half_start v.is_second v.shape.half + v.used) b) (g.D.Disk.state v.device) new) c.self.view_is here
+    → StopsShort v.shape batches batch (size_of batch) (g.D.Disk.state v.device) new) c.self.view_is stopped

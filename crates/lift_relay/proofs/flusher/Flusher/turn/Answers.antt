@@ -16,7 +16,8 @@ returns-in-None-clause-flushes g c =
     let new : FlusherState g.row.D.Denot = record { desk = now.desk; seat = now.seat; writer = now.writer; end = c.receive.new.self } in
     let same = c.rest.ensures.same in
     subst (λ (v : FlusherState g.row.D.Denot). IsFlush g.D.Disk.state v new c.rest.result) c.self.view_is
-    (idle g.D.Disk.state old new c.self.invariant (ap (λ (x : SettlerState g.row.D.Denot). x.desk) same) c.in-None.ensures (ap (λ (x : SettlerState g.row.D.Denot). x.seat) same) c.rest.result c.rest.ensures.commits c.rest.ensures.counts)
+    (idle g.D.Disk.state old new c.self.invariant (ap (λ (x : SettlerState g.row.D.Denot). x.desk) same) c.in-None.ensures (ap (λ (x : SettlerState g.row.D.Denot). x.seat) same) c.rest.result c.rest.ensures.commits c.rest.ensures.counts
+    (subst (λ n. CommitCalls g.D.Disk.state s.settler.writer n now.writer c.rest.result) (none_between s.end c.receive.new.self (tried s.end.tries true) c.in-None.ensures.tries) c.rest.ensures.calls))
 
 pub returns-clause-flushes : goal.returns-clause-flushes
 returns-clause-flushes g c =
@@ -27,22 +28,14 @@ returns-clause-flushes g c =
     let new : FlusherState g.row.D.Denot = record { desk = now.desk; seat = now.seat; writer = now.writer; end = c.receive.new.self } in
     let made = c.settle.ensures.settles in
     subst (λ (v : FlusherState g.row.D.Denot). IsFlush g.D.Disk.state v new c.settle.result) c.self.view_is
-    (flushed g.D.Disk.state old new c.self.invariant made.same batch c.settle.result c.in-Some.ensures made.commits (settled_turn g.D.Disk.state old new batch c.settle.result c.in-Some.ensures made))
+    (flushed g.D.Disk.state old new c.self.invariant made.same batch c.settle.result c.in-Some.ensures made.commits (settled_turn g.D.Disk.state old new batch c.settle.result c.in-Some.ensures made)
+    (subst (λ n. CommitCalls g.D.Disk.state s.settler.writer n now.writer c.settle.result) (sym (one_between s.end c.receive.new.self batch c.in-Some.ensures.receives)) c.settle.ensures.calls))
 
 pub returns-in-None-clause-calls : goal.returns-in-None-clause-calls
-returns-in-None-clause-calls g c =
-    let s = c.self.inside in
-    let end = c.receive.new.self in
-    subst (λ (v : FlusherState g.row.D.Denot). CommitCalls g.D.Disk.state v.writer (entries_between v.end end) c.rest.new.self.writer c.rest.result) c.self.view_is
-    (subst (λ n. CommitCalls g.D.Disk.state s.settler.writer n c.rest.new.self.writer c.rest.result) (none_between s.end end (tried s.end.tries true) c.in-None.ensures.tries) c.rest.ensures.calls)
+returns-in-None-clause-calls g c = (returns-in-None-clause-flushes g c).calls
 
 pub returns-clause-calls : goal.returns-clause-calls
-returns-clause-calls g c =
-    let s = c.self.inside in
-    let end = c.receive.new.self in
-    let writer = c.settle.new.self.writer in
-    subst (λ (v : FlusherState g.row.D.Denot). CommitCalls g.D.Disk.state v.writer (entries_between v.end end) writer c.settle.result) c.self.view_is
-    (subst (λ n. CommitCalls g.D.Disk.state s.settler.writer n writer c.settle.result) (sym (one_between s.end end c.in-Some.batch c.in-Some.ensures.receives)) c.settle.ensures.calls)
+returns-clause-calls g c = (returns-clause-flushes g c).calls
 
 pub invariant_of-self-2 : goal.invariant_of-self-2
 invariant_of-self-2 g c =

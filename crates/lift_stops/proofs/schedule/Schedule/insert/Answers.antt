@@ -25,5 +25,5 @@ invariant_of-self c =
       few = omega (arith, long, few);
       floors = All-push HasFloors rows c.args.row c.self.invariant.floors c.insert_row.ensures.floors;
       parties = All-push HasParty rows c.args.row c.self.invariant.parties c.add.ensures.party;
-      leaving = c.add.ensures.added rows (omega (arith, few)) c.self.invariant.leaving;
+      leaving = c.add.ensures.added rows c.self.inside.position (omega (arith, few)) c.pass_of.ensures c.self.invariant.leaving;
     })

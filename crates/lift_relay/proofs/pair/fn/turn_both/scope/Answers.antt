@@ -9,6 +9,7 @@ use Rattle.core.specs.contracts.atomic.AtomicBool as AtomicBool
 use Rattle.core.proofs.atomic.AtomicBool.TheSendSync as flag_is
 use Rattle.lift_parts.specs.Allocator.{AllocatorState}
 use Rattle.lift_parts.specs.Turns.{AllocatorTurns, NoFlush}
+use Rattle.lift_relay.specs.lemmas.Heard.{heard_none}
 use Rattle.lift_relay.proofs.Crosses.{asking_send, allocating_send}
 use Rattle.lift_relay.proofs.pair.fn.turn_both.scope.Goals as goal
 
@@ -27,7 +28,7 @@ returns-in-Idle g c =
 pub returns-in-Idle-2 : goal.returns-in-Idle-2
 returns-in-Idle-2 g c =
     let back : c.in-Err.unmade.2 ≡ c.captures.allocator = search rules in
-    record { turned = (c.in-Idle-2.ensures.comes ∙ back, refl); heard = refl; closed = tt }
+    record { turned = (c.in-Idle-2.ensures.comes ∙ back, refl); heard = heard_none g.V.Witness.hears c.captures.flusher.writer.is_broken c.captures.witness; closed = tt }
 
 pub returns-in-Ran-2 : goal.returns-in-Ran-2
 returns-in-Ran-2 g c =
@@ -35,7 +36,7 @@ returns-in-Ran-2 g c =
     let gate : c.in-Err.unmade.3 ≡ c.captures.gate = search rules in
     record {
       turned = (subst (λ (a : AllocatorState g.row.P.Denot). AllocatorTurns (g.P.Policy.chooses a.policy) a c.in-Ran-2.allocator) back c.in-Ran-2.ensures.comes, NoFlush);
-      heard = refl;
+      heard = heard_none g.V.Witness.hears c.captures.flusher.writer.is_broken c.captures.witness;
       closed = subst (λ x. g.G.Gate.closed x.now) gate c.in-Ran-2.ensures.closed;
     }
 

@@ -1,0 +1,42 @@
+-- What an append and a checkpoint make of a journal, for whoever rests on what it holds.
+use Rattle.std.specs.Prelude.{◌≡◌, ◌⊎◌, ◌↔◌, ◌<◌, ◌+◌, ℕ, Bool, false, List}
+use Rattle.std.specs.Prelude.{Result, OnOk, OnErr, IfErr, IsErrOf}
+use Rattle.lift_disk.specs.Disk.{DiskState, LeavesOnly}
+use Rattle.lift_journal.specs.declared.fault.JournalFault.{JournalFault}
+use Rattle.lift_journal.specs.declared.fault.JournalFault.TheVariants.{Disk, Full, Broken}
+use Rattle.lift_journal.specs.Layout.{Batch, HoldsIn, bodies}
+use Rattle.lift_journal.specs.Journal.{JournalView, JournalHolds}
+
+-- The batches that a journal holds become others, in this half.
+pub record Becomes {D T : Type 0} (state : D → DiskState) (old : JournalView D) (is_second : Bool)
+    (change : List Batch → List Batch) (new : JournalView D)
+    (result : Result T JournalFault) : Type 0 where
+  -- those from before
+  pub batches : List Batch
+  pub held : JournalHolds state old batches
+  -- a crash at any moment of the call leaves just these in their half, or just the others in that
+  -- one
+  pub any_moment : LeavesOnly (state old.device) (state new.device)
+      (λ left. HoldsIn old.shape old.is_second batches left
+      ⊎ HoldsIn old.shape is_second (change batches) left)
+  -- at Ok the journal holds the others
+  pub done : OnOk result (JournalHolds state new (change batches))
+
+-- The next batch goes into this half, behind so many sectors, with this number; where the call
+-- fails, it goes where it would have gone.
+pub record GoesTo {D T : Type 0} (old : JournalView D) (is_second : Bool) (sectors next : ℕ)
+    (new : JournalView D) (result : Result T JournalFault) : Type 0 where
+  pub second : OnOk result (new.is_second ≡ is_second)
+  pub used : OnOk result (new.used ≡ sectors)
+  pub number : OnOk result (new.number ≡ next)
+  pub kept : OnErr result ((new.is_second ≡ old.is_second) × (new.used ≡ old.used)
+      × (new.number ≡ old.number))
+
+-- Beside a call of the device that failed, and a journal that is broken, a batch of so many records
+-- is refused just where it has no room, and then nothing is changed.
+pub record RefusesForRoom {D T : Type 0} (old : JournalView D) (count : ℕ) (new : JournalView D)
+    (result : Result T JournalFault) : Type 0 where
+  pub full : IsErrOf result Full
+      ↔ (old.is_broken ≡ false) × (old.shape.half < old.used + bodies count + 2)
+  pub unchanged : IsErrOf result Full → new ≡ old
+  pub causes : IfErr result (λ fault. (fault ≡ Disk) ⊎ (fault ≡ Full) ⊎ (fault ≡ Broken))

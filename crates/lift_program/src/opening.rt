@@ -1,0 +1,112 @@
+//! What a command opens its building, its image and its socket by.
+
+ghost use Rattle.std.specs.Prelude.{◌≡◌, ℕ, List, Option, Some, None, IfOk, OnErr, ⊤};
+ghost use Rattle.lift_program.specs.Images.{CommandFiles, ImageFiles, IsTextRead, image_files};
+
+use crate::left::Left;
+use crate::unwritten::ShownImage;
+use lift_disk::{BufferedFile, Disk, FileOpener};
+use std::fs::File;
+use std::io::{ErrorKind, Read};
+use std::os::fd::AsRawFd;
+use std::rt::LibcRuntime;
+use std::{fs, io};
+
+/// The last descriptor of the standard streams.
+const STANDARD_ERROR: i32 = 2;
+
+/// What opens the file of a building to read it, once: an opening takes it, whether or not it
+/// succeeds.
+pub trait TextOpener: Drop {
+    type Text: Read + Drop;
+
+    /// What was given where the file at a path was to be opened.
+    ghost opens: { Self → List ℕ → Option Self.Text → Type 0 };
+
+    /// A reader of the file at the path.
+    fn open_text(self, path: &str) -> io::Result<Self::Text>
+        ensures opened { IfOk result (λ text. opens self path.now (Some text)) }
+        ensures refused { OnErr result (opens self path.now None) };
+}
+
+/// What opens the file of a building on the host.
+#[derive(Drop)]
+pub struct SystemTextOpener<'r> {
+    rt: &'r LibcRuntime,
+}
+
+impl<'r> SystemTextOpener<'r> {
+    pub fn new(rt: &'r LibcRuntime) -> SystemTextOpener<'r> {
+        SystemTextOpener { rt }
+    }
+}
+
+impl TextOpener for SystemTextOpener<'_> {
+    type Text = File;
+
+    ghost opens = { λ _ _ _. ⊤ };
+
+    /// What isn't a file, as a pipe or a terminal, isn't opened, so that nothing waits for its other
+    /// end. A file that got the descriptor of a standard stream, which the program began without, is
+    /// refused: what is printed would be written into it, or into the next file that is opened.
+    fn open_text(self, path: &str) -> io::Result<File> {
+        if !fs::metadata(self.rt, path)?.is_file() {
+            return Err(io::Error::from(ErrorKind::InvalidInput));
+        }
+        let file = File::open(self.rt, path)?;
+        if file.as_raw_fd() <= STANDARD_ERROR {
+            return Err(io::Error::from(ErrorKind::InvalidInput));
+        }
+        Ok(file)
+    }
+}
+
+/// What a command opens its files by: each of them once.
+#[derive(Drop)]
+pub struct Files<B, I> {
+    pub building: B,
+    pub image: I,
+}
+
+/// What the program opens by: the files of its command, and a socket.
+#[derive(Drop)]
+pub struct Openers<B, I, L> {
+    pub files: Files<B, I>,
+    pub socket: L,
+}
+
+impl<B: Drop, I: Drop, L: Drop> Openers<B, I, L> {
+    /// What opens an image, where nothing is asked of it.
+    pub fn unused(self) -> Left<I>
+        ensures { result ≡ self.files.image }
+    {
+        let Files {
+            building: _unread,
+            image,
+        } = self.files;
+        Left::new(image)
+    }
+}
+
+/// How contracts see what opens an image.
+pub trait ImageView {
+    ghost image: { Self → ImageFiles };
+}
+
+impl<I: FileOpener> ImageView for I {
+    ghost image = { λ opener. image_files opener (I.stands opener) (I.opens opener) (I.names opener)
+        (I.unnamed opener) I.Told.gives I.Told.fails I.Told.holds
+        ⟦<BufferedFile<I::Told> as Disk>⟧.state ⟦<ShownImage<I::Told> as Disk>⟧.state };
+}
+
+/// How they see what opens a command's files.
+pub trait FilesView {
+    ghost view: { Self → CommandFiles };
+}
+
+impl<B: TextOpener, I: FileOpener> FilesView for Files<B, I> {
+    ghost view = { λ files. record {
+      image = ⟦<I as ImageView>⟧.image files.image;
+      is_text = λ path. IsTextRead (B.opens files.building path) B.Text.remaining;
+    } };
+}

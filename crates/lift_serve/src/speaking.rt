@@ -1,0 +1,49 @@
+//! What is said over a connection, whatever that is made of.
+
+ghost use Rattle.std.specs.Prelude.{length};
+ghost use Rattle.lift_base.specs.Output.{sink_of};
+ghost use Rattle.lift_kiosk.specs.Lines.{source_of};
+ghost use Rattle.lift_serve.specs.Connections.{Attends, new_sink, new_source};
+
+use crate::attending::{Attended, attend};
+use crate::connections::Ticket;
+use crate::reading::OpenReader;
+use crate::shared::Shared;
+use crate::waking::WakingWriter;
+use lift_base::text::{Counted, Watched};
+use std::io::{Read, Write};
+use std::sync::Wait;
+use std::time::Clock;
+
+/// Attends to whoever is read and written so. Nothing else is read, and nothing else written: reader
+/// and writer come back as that left them.
+pub(crate) fn speak<'d, 's, R: Wait + Clock, I: Read + Drop, O: Write + Drop>(
+    rt: &R,
+    shared: Shared<'s, 'd>,
+    ticket: Ticket,
+    reader: I,
+    writer: O,
+) -> (
+    Attended<'d>,
+    Counted<OpenReader<'s, I>>,
+    Watched<WakingWriter<'s, O>>,
+)
+    ensures { Attends (length shared.entry.building.now.cars) (length shared.entry.building.now.kiosks) result.0
+        (new_source (I.remaining reader))
+        (source_of (λ r. I.remaining r.reader) result.1)
+        (new_sink (O.contents writer))
+        (sink_of (λ w. O.contents w.writer) result.2) }
+{
+    let mut reader = Counted::new(OpenReader::new(reader, shared.turned_away));
+    let mut writer = Watched::new(WakingWriter::new(writer, shared.bells));
+    let attended = attend(
+        rt,
+        shared.lobby,
+        ticket,
+        shared.bells.asks(),
+        shared.building,
+        &mut reader,
+        &mut writer,
+    );
+    (attended, reader, writer)
+}
